@@ -1,0 +1,3 @@
+pub mod SameSite
+pub mod Replay
+pub mod DrawnLemmas

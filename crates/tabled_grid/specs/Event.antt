@@ -1,0 +1,60 @@
+-- Events: what is written and erased, in order, and what a list of them leaves.
+use Rattle.std.specs.Prelude.{◌≡◌, ℕ, Bool, true, false, ◌==◌, if◌then◌else◌, Option, Some, None, List, [], ◌∷◌, filter, option_and_then}
+use Rattle.std.specs.List.{list_any, last_or}
+use Rattle.tabled_grid.specs.declared.place.LineOf.{LineOf}
+use Rattle.tabled_grid.specs.Site.{Direction, Site, level, same_direction, same_line, same_site, of_line, from_end, from_start}
+
+-- what is written at a site: a character or a colour, or the bare mark that a custom line stands
+pub data Written (T : Type 0) : Type 0 where
+  sign : T → Written T
+  standing : Written T
+
+-- the sites that an erasure clears: all, those of one level, both kinds of offsets on the edges of one direction, those
+-- of one custom line, or the ones listed
+pub data Region : Type 0 where
+  every_site : Region
+  level_sites : ℕ → Region
+  offset_sites : Direction → Region
+  line_sites : LineOf → Region
+  these_sites : List Site → Region
+
+abbrev pub within : Region → Site → Bool
+within every_site q = true
+within (level_sites n) q = level q == n
+within (offset_sites d) (from_end e r c n) = same_direction d e
+within (offset_sites d) (from_start e r c n) = same_direction d e
+within (offset_sites d) _ = false
+within (line_sites l) (of_line m p) = same_line l m
+within (line_sites l) _ = false
+within (these_sites qs) q = list_any (same_site q) qs
+
+-- something is written at a site, or a region is cleared
+pub data Event (T : Type 0) : Type 0 where
+  write : Site → Written T → Event T
+  erase : Region → Event T
+
+-- whether the event decides what the site has
+abbrev pub covers : {T : Type 0} → Site → Event T → Bool
+covers q (write p w) = same_site q p
+covers q (erase region) = within region q
+
+-- whether some event of the list does
+abbrev pub covered : {T : Type 0} → List (Event T) → Site → Bool
+covered es q = list_any (covers q) es
+
+-- what the event leaves at the sites that it covers
+abbrev pub left_by : {T : Type 0} → Event T → Option (Written T)
+left_by (write p w) = Some w
+left_by (erase region) = None
+
+-- what a list of events leaves at a site: of those that cover it the last one counts
+unfoldable pub kept : {T : Type 0} → List (Event T) → Site → Option (Written T)
+kept es q = option_and_then left_by (last_or None (filter (covers q) es))
+
+-- what is kept is what the events leave, at every site
+unfoldable pub Shows : {T : Type 0} → List (Event T) → (Site → Option (Written T)) → Type 0
+Shows es keep = (q : Site) → keep q ≡ kept es q
+
+-- at each site the new keeping has what the events leave where one covers it, and else what the old one had
+unfoldable pub Changes : {T : Type 0} → List (Event T) → (Site → Option (Written T)) → (Site → Option (Written T)) → Type 0
+Changes es old new = (q : Site) → new q ≡ (if covered es q then kept es q else old q)

@@ -1,0 +1,4 @@
+pub mod Site
+pub mod Event
+pub mod Value
+pub mod Drawn

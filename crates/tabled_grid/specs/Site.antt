@@ -1,0 +1,137 @@
+-- Sites: where a table can keep something. A table of R rows and C columns has the horizontal lines 0 to R and the
+-- vertical lines 0 to C; whatever is said of horizontal lines is said of vertical ones, mirrored.
+use Rattle.std.specs.Prelude.{ℕ, Bool, true, false, ◌&&◌, ◌==◌, nat_lt, if◌then◌else◌, Option, None}
+use Rattle.tabled_grid.specs.declared.borders.Borders.{Borders}
+use Rattle.tabled_grid.specs.declared.lines.HorizontalLine.{HorizontalLine}
+use Rattle.tabled_grid.specs.declared.lines.VerticalLine.{VerticalLine}
+use Rattle.tabled_grid.specs.declared.place.LineOf.{LineOf}
+
+-- which way an edge runs: across, as part of a horizontal line, or down, as part of a vertical one
+pub data Direction : Type 0 where
+  across : Direction
+  down : Direction
+
+-- where a line stands among those of its direction: the first, the closing one, or one between
+pub data Rank : Type 0 where
+  first : Rank
+  inner : Rank
+  closing : Rank
+
+-- whether line n, of the lines 0 to count, stands there
+abbrev pub stands : Rank → ℕ → ℕ → Bool
+stands first count n = n == 0
+stands inner count n = nat_lt 0 n && nat_lt n count
+stands closing count n = n == count
+
+-- where line n stands, of the lines 0 to count
+abbrev pub rank : ℕ → ℕ → Rank
+rank count n = if n == 0 then first else (if n == count then closing else inner)
+
+-- the fifteen classes: the edges of one direction on the lines of one rank, and the crossings of a horizontal line
+-- of one rank with a vertical line of another
+pub data Class : Type 0 where
+  edges : Direction → Rank → Class
+  crossings : Rank → Rank → Class
+
+-- the parts of a custom line: the mark that it stands, its edges, and its crossings with the lines of one rank
+pub data Part : Type 0 where
+  mark : Part
+  main_edges : Part
+  meeting : Rank → Part
+
+-- an edge of row or line r and column or line c, or the crossing of horizontal line r and vertical line c
+pub data Spot : Type 0 where
+  edge : Direction → ℕ → ℕ → Spot
+  crossing : ℕ → ℕ → Spot
+
+-- where something can be kept
+pub data Site : Type 0 where
+  the_default : Site
+  of_class : Class → Site
+  of_line : LineOf → Part → Site
+  at_spot : Spot → Site
+  from_end : Direction → ℕ → ℕ → ℕ → Site
+  from_start : Direction → ℕ → ℕ → ℕ → Site
+
+-- how strong what is kept there is: 0 the default, 1 classes, 2 custom vertical lines, 3 custom horizontal lines,
+-- 4 cells, 5 offsets from an edge's end, 6 offsets from its start
+abbrev pub level : Site → ℕ
+level the_default = 0
+level (of_class _) = 1
+level (of_line (LineOf.Vertical _) _) = 2
+level (of_line (LineOf.Horizontal _) _) = 3
+level (at_spot _) = 4
+level (from_end _ _ _ _) = 5
+level (from_start _ _ _ _) = 6
+
+-- what a class record has for a class
+abbrev pub class_value : {T : Type 0} → Class → Borders T → Option T
+class_value (edges across first) borders = borders.top
+class_value (edges across inner) borders = borders.horizontal
+class_value (edges across closing) borders = borders.bottom
+class_value (edges down first) borders = borders.left
+class_value (edges down inner) borders = borders.vertical
+class_value (edges down closing) borders = borders.right
+class_value (crossings first first) borders = borders.top_left
+class_value (crossings first inner) borders = borders.top_intersection
+class_value (crossings first closing) borders = borders.top_right
+class_value (crossings inner first) borders = borders.left_intersection
+class_value (crossings inner inner) borders = borders.intersection
+class_value (crossings inner closing) borders = borders.right_intersection
+class_value (crossings closing first) borders = borders.bottom_left
+class_value (crossings closing inner) borders = borders.bottom_intersection
+class_value (crossings closing closing) borders = borders.bottom_right
+
+-- what a custom horizontal line has for its crossings with the vertical lines of a rank
+abbrev pub horizontal_meeting : {T : Type 0} → Rank → HorizontalLine T → Option T
+horizontal_meeting first line = line.left
+horizontal_meeting inner line = line.intersection
+horizontal_meeting closing line = line.right
+
+-- what a custom vertical line has for its crossings with the horizontal lines of a rank
+abbrev pub vertical_meeting : {T : Type 0} → Rank → VerticalLine T → Option T
+vertical_meeting first line = line.top
+vertical_meeting inner line = line.intersection
+vertical_meeting closing line = line.bottom
+
+abbrev pub same_direction : Direction → Direction → Bool
+same_direction across across = true
+same_direction down down = true
+same_direction _ _ = false
+
+abbrev pub same_rank : Rank → Rank → Bool
+same_rank first first = true
+same_rank inner inner = true
+same_rank closing closing = true
+same_rank _ _ = false
+
+abbrev pub same_class : Class → Class → Bool
+same_class (edges d n) (edges e m) = same_direction d e && same_rank n m
+same_class (crossings r c) (crossings s d) = same_rank r s && same_rank c d
+same_class _ _ = false
+
+abbrev pub same_line : LineOf → LineOf → Bool
+same_line (LineOf.Horizontal n) (LineOf.Horizontal m) = n == m
+same_line (LineOf.Vertical n) (LineOf.Vertical m) = n == m
+same_line _ _ = false
+
+abbrev pub same_part : Part → Part → Bool
+same_part mark mark = true
+same_part main_edges main_edges = true
+same_part (meeting n) (meeting m) = same_rank n m
+same_part _ _ = false
+
+abbrev pub same_spot : Spot → Spot → Bool
+same_spot (edge d r c) (edge e s k) = same_direction d e && (r == s) && (c == k)
+same_spot (crossing r c) (crossing s k) = (r == s) && (c == k)
+same_spot _ _ = false
+
+-- whether two sites are one
+abbrev pub same_site : Site → Site → Bool
+same_site the_default the_default = true
+same_site (of_class a) (of_class b) = same_class a b
+same_site (of_line l p) (of_line m q) = same_line l m && same_part p q
+same_site (at_spot a) (at_spot b) = same_spot a b
+same_site (from_end d r c n) (from_end e s k m) = same_direction d e && (r == s) && (c == k) && (n == m)
+same_site (from_start d r c n) (from_start e s k m) = same_direction d e && (r == s) && (c == k) && (n == m)
+same_site _ _ = false

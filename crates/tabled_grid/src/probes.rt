@@ -1,0 +1,39 @@
+//! The meter of look-ups.
+
+ghost use Rattle.std.specs.Prelude.{◌≡◌, ◌<◌, ◌≤◌, ℕ, ◌+◌, min};
+
+/// How many readings of a store were made: readings of a kept map, of a count, of the class record
+/// or of the default. It stands still at `u64::MAX`.
+#[derive(Debug, Drop)]
+pub struct Probes {
+    made: u64,
+}
+
+impl std::marker::Model for Probes {
+    ghost Value = { ℕ };
+
+    ghost view = { λ probes. probes.made };
+}
+
+impl Probes {
+    /// No reading so far.
+    pub fn new() -> Self
+        ensures { result ≡ 0 }
+    {
+        Probes { made: 0 }
+    }
+
+    /// How many readings were made, up to `u64::MAX`.
+    pub fn count(&self) -> u64
+        ensures { result ≡ self.now }
+    {
+        self.made
+    }
+
+    /// Counts one reading.
+    pub(crate) fn raise(&mut self)
+        ensures { self.new ≡ min (self.old + 1) u64.MAX }
+    {
+        self.made = self.made.saturating_add(1);
+    }
+}
