@@ -1,3 +1,6 @@
 pub mod SameSite
 pub mod Replay
 pub mod DrawnLemmas
+pub mod ClassWrites
+pub mod LookUps
+pub mod BordersLemmas

@@ -1,0 +1,86 @@
+-- What a list of events leaves, event by event and list by list.
+use Rattle.std.proofs.Common.{◌≡◌, ℕ, Bool, true, false, cond, ◌||◌, Option, Some, None, List, [], ◌∷◌, ◌++◌, refl, sym, ap, ◌∙◌, filter, option_and_then}
+use Rattle.std.specs.List.{list_any, last_or}
+use Rattle.std.proofs.lemmas.List.Folds.{list_any-append}
+use Rattle.std.proofs.lemmas.List.Elements.{filter-append}
+use Rattle.tabled_grid.specs.Site.{Site}
+use Rattle.tabled_grid.specs.Event.{Written, Region, within, Event, erase, covers, covered, left_by, kept, Shows, Changes}
+
+module _ {T : Type 0} (q : Site) where
+  -- the last of the events that cover the site decides, and else what was last before
+  last_covering : (o : Option (Event T)) (es : List (Event T)) → option_and_then left_by (last_or o (filter (covers q) es)) ≡ cond (covered es q) (kept es q) (option_and_then left_by o)
+  unfolding kept
+  last_covering o [] = refl
+  last_covering o (e ∷ es) =
+      elim (covers q e) as (λ b. option_and_then left_by (last_or o (cond b (e ∷ filter (covers q) es) (filter (covers q) es))) ≡ cond (b || covered es q) (option_and_then left_by (last_or None (cond b (e ∷ filter (covers q) es) (filter (covers q) es)))) (option_and_then left_by o)) [
+        | true ↦ refl
+        | false ↦ last_covering o es
+      ]
+
+  last_or-append : (o : Option (Event T)) (xs ys : List (Event T)) → last_or o (xs ++ ys) ≡ last_or (last_or o xs) ys
+  last_or-append o [] ys = refl
+  last_or-append o (x ∷ xs) ys = last_or-append (Some x) xs ys
+
+  pub covered-append : (es fs : List (Event T)) → covered (es ++ fs) q ≡ (covered es q || covered fs q)
+  covered-append es fs = list_any-append (covers q) es fs
+
+  pub kept-append : (es fs : List (Event T)) → kept (es ++ fs) q ≡ cond (covered fs q) (kept fs q) (kept es q)
+  unfolding kept
+  kept-append es fs =
+      ap (λ all. option_and_then left_by (last_or None all)) (filter-append (covers q) es fs)
+      ∙ ap (option_and_then left_by) (last_or-append None (filter (covers q) es) (filter (covers q) fs))
+      ∙ last_covering (last_or None (filter (covers q) es)) fs
+
+  pub kept-nil : kept {T = T} [] q ≡ None
+  unfolding kept
+  kept-nil = refl
+
+  pub kept_one : (e : Event T) → kept (e ∷ []) q ≡ cond (covers q e) (left_by e) None
+  unfolding kept
+  kept_one e = elim (covers q e) as (λ b. option_and_then left_by (last_or None (cond b (e ∷ []) [])) ≡ cond b (left_by e) None) [ true ↦ refl | false ↦ refl ]
+
+  pub kept-cons : (e : Event T) (es : List (Event T)) → kept (e ∷ es) q ≡ cond (covered es q) (kept es q) (cond (covers q e) (left_by e) None)
+  kept-cons e es = kept-append (e ∷ []) es ∙ ap (cond (covered es q) (kept es q)) (kept_one e)
+
+  pub kept_uncovered : (es : List (Event T)) → covered es q ≡ false → kept es q ≡ None
+  kept_uncovered [] h = kept-nil
+  kept_uncovered (e ∷ es) h = kept-cons e es ∙ uncovered (covers q e) (covered es q) h
+    where
+      uncovered : (b c : Bool) → (b || c) ≡ false → cond c (kept es q) (cond b (left_by e) None) ≡ None
+      uncovered true c h = absurd cc
+      uncovered false true h = absurd cc
+      uncovered false false h = refl
+
+nothing_or_none : {A : Type 0} (b c : Bool) (k : Option A) → (b ≡ false → k ≡ None) → cond b k (cond c None None) ≡ k
+nothing_or_none true c k h = refl
+nothing_or_none false true k h = sym (h refl)
+nothing_or_none false false k h = sym (h refl)
+
+-- to clear a region first changes nothing of what the events behind it leave
+pub kept_cleared : {T : Type 0} (region : Region) (es : List (Event T)) (q : Site) → kept (erase region ∷ es) q ≡ kept es q
+kept_cleared region es q = kept-cons q (erase region) es ∙ nothing_or_none (covered es q) (within region q) (kept es q) (kept_uncovered q es)
+
+chosen : {A : Type 0} (b c : Bool) (x y z : A) → cond b x (cond c y z) ≡ cond (c || b) (cond b x y) z
+chosen true true x y z = refl
+chosen true false x y z = refl
+chosen false true x y z = refl
+chosen false false x y z = refl
+
+-- a list that was shown before, followed by the events of a change, is shown after it
+pub Shows_after : {T : Type 0} (before es : List (Event T)) (old new : Site → Option (Written T)) → Changes es old new → Shows before old → Shows (before ++ es) new
+unfolding Shows Changes
+Shows_after before es old new changes shows q =
+    changes q ∙ ap (cond (covered es q) (kept es q)) (shows q) ∙ sym (kept-append q before es)
+
+-- two changes in a row are the change by both lists
+pub Changes-append : {T : Type 0} (es fs : List (Event T)) (old mid new : Site → Option (Written T)) → Changes es old mid → Changes fs mid new → Changes (es ++ fs) old new
+unfolding Changes
+Changes-append es fs old mid new by_es by_fs q =
+    by_fs q ∙ ap (cond (covered fs q) (kept fs q)) (by_es q) ∙ chosen (covered fs q) (covered es q) (kept fs q) (kept es q) (old q)
+    ∙ ap (λ b. cond b (cond (covered fs q) (kept fs q) (kept es q)) (old q)) (sym (covered-append q es fs))
+    ∙ ap (λ x. cond (covered (es ++ fs) q) x (old q)) (sym (kept-append q es fs))
+
+-- no event changes nothing
+pub Changes-nil : {T : Type 0} (keep : Site → Option (Written T)) → Changes [] keep keep
+unfolding Changes
+Changes-nil keep q = refl

@@ -2,3 +2,5 @@ pub mod Site
 pub mod Event
 pub mod Value
 pub mod Drawn
+pub mod Keeping
+pub mod Probing

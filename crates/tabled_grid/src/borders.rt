@@ -1,9 +1,9 @@
 //! The class record: one character for each kind of border place.
 
-ghost use Rattle.std.specs.Prelude.{◌≡◌};
+ghost use Rattle.std.specs.Prelude.{◌≡◌, ◌↔◌, None, IsTrue, option_copied};
 
 /// A value for each of the fifteen kinds of border place, as characters or colours of a whole table.
-#[derive(Clone, Copy, Debug, PartialEq, Eq, PartialOrd, Ord, Hash)]
+#[derive(Clone, Copy, Debug, Drop, PartialEq, Eq, PartialOrd, Ord, Hash)]
 pub struct Borders<T> {
     /// The edges of horizontal line 0.
     pub top: Option<T>,
@@ -35,4 +35,188 @@ pub struct Borders<T> {
     pub vertical: Option<T>,
     /// The crossings of the other lines.
     pub intersection: Option<T>,
+}
+
+impl<T> Borders<T> {
+    ghost use Rattle.tabled_grid.specs.Site.{across, down, first, inner, closing, edges, crossings, rank, class_value};
+    ghost use Rattle.tabled_grid.specs.Keeping.{line_classes, has_class, HasNothing};
+
+    /// A record with nothing set.
+    pub const fn empty() -> Self
+        ensures { result ≡ record {
+          top = None;
+          bottom = None;
+          left = None;
+          right = None;
+          top_left = None;
+          top_right = None;
+          bottom_left = None;
+          bottom_right = None;
+          top_intersection = None;
+          bottom_intersection = None;
+          left_intersection = None;
+          right_intersection = None;
+          horizontal = None;
+          vertical = None;
+          intersection = None;
+        } }
+    {
+        Borders {
+            top: None,
+            bottom: None,
+            left: None,
+            right: None,
+            top_left: None,
+            top_right: None,
+            bottom_left: None,
+            bottom_right: None,
+            top_intersection: None,
+            bottom_intersection: None,
+            left_intersection: None,
+            right_intersection: None,
+            horizontal: None,
+            vertical: None,
+            intersection: None,
+        }
+    }
+
+    /// Whether horizontal line 0 has something: its edges or one of its crossings.
+    pub fn has_top(&self) -> bool
+        ensures { result ≡ has_class self.now (line_classes across first) }
+    {
+        self.top.is_some()
+            || self.top_left.is_some()
+            || self.top_intersection.is_some()
+            || self.top_right.is_some()
+    }
+
+    /// Whether the closing horizontal line has something: its edges or one of its crossings.
+    pub fn has_bottom(&self) -> bool
+        ensures { result ≡ has_class self.now (line_classes across closing) }
+    {
+        self.bottom.is_some()
+            || self.bottom_left.is_some()
+            || self.bottom_intersection.is_some()
+            || self.bottom_right.is_some()
+    }
+
+    /// Whether vertical line 0 has something: its edges or one of its crossings.
+    pub fn has_left(&self) -> bool
+        ensures { result ≡ has_class self.now (line_classes down first) }
+    {
+        self.left.is_some()
+            || self.top_left.is_some()
+            || self.left_intersection.is_some()
+            || self.bottom_left.is_some()
+    }
+
+    /// Whether the closing vertical line has something: its edges or one of its crossings.
+    pub fn has_right(&self) -> bool
+        ensures { result ≡ has_class self.now (line_classes down closing) }
+    {
+        self.right.is_some()
+            || self.top_right.is_some()
+            || self.right_intersection.is_some()
+            || self.bottom_right.is_some()
+    }
+
+    /// Whether the horizontal lines between have something: its edges or one of its crossings.
+    pub fn has_horizontal(&self) -> bool
+        ensures { result ≡ has_class self.now (line_classes across inner) }
+    {
+        self.horizontal.is_some()
+            || self.left_intersection.is_some()
+            || self.intersection.is_some()
+            || self.right_intersection.is_some()
+    }
+
+    /// Whether the vertical lines between have something: its edges or one of its crossings.
+    pub fn has_vertical(&self) -> bool
+        ensures { result ≡ has_class self.now (line_classes down inner) }
+    {
+        self.vertical.is_some()
+            || self.top_intersection.is_some()
+            || self.intersection.is_some()
+            || self.bottom_intersection.is_some()
+    }
+
+    /// Whether nothing is set.
+    pub fn is_empty(&self) -> bool
+        ensures { IsTrue result ↔ HasNothing self.now }
+    {
+        let lines = [
+            self.has_top(),
+            self.has_horizontal(),
+            self.has_bottom(),
+            self.has_left(),
+            self.has_vertical(),
+            self.has_right(),
+        ];
+        !lines.contains(&true)
+    }
+
+    /// What the edges of horizontal line `row` have, of the lines 0 to `rows`.
+    pub(crate) fn at_horizontal(&self, row: usize, rows: usize) -> Option<&T>
+        ensures { option_copied result ≡ class_value (edges across (rank rows row)) self.now }
+    {
+        if row == 0 {
+            self.top.as_ref()
+        } else if row == rows {
+            self.bottom.as_ref()
+        } else {
+            self.horizontal.as_ref()
+        }
+    }
+
+    /// What the edges of vertical line `col` have, of the lines 0 to `cols`.
+    pub(crate) fn at_vertical(&self, col: usize, cols: usize) -> Option<&T>
+        ensures { option_copied result ≡ class_value (edges down (rank cols col)) self.now }
+    {
+        if col == 0 {
+            self.left.as_ref()
+        } else if col == cols {
+            self.right.as_ref()
+        } else {
+            self.vertical.as_ref()
+        }
+    }
+
+    /// What the crossing of horizontal line `row` and vertical line `col` has, of the lines 0 to
+    /// `rows` and 0 to `cols`.
+    pub(crate) fn at_crossing(&self, row: usize, col: usize, rows: usize, cols: usize) -> Option<&T>
+        ensures { option_copied result ≡ class_value (crossings (rank rows row) (rank cols col)) self.now }
+    {
+        let (first, inner, closing) = if row == 0 {
+            (&self.top_left, &self.top_intersection, &self.top_right)
+        } else if row == rows {
+            (
+                &self.bottom_left,
+                &self.bottom_intersection,
+                &self.bottom_right,
+            )
+        } else {
+            (
+                &self.left_intersection,
+                &self.intersection,
+                &self.right_intersection,
+            )
+        };
+        if col == 0 {
+            first.as_ref()
+        } else if col == cols {
+            closing.as_ref()
+        } else {
+            inner.as_ref()
+        }
+    }
+}
+
+impl<T> Default for Borders<T> {
+    ghost use Rattle.tabled_grid.specs.Keeping.{HasNothing};
+
+    ghost is_default = { HasNothing };
+
+    fn default() -> Self {
+        Borders::empty()
+    }
 }

@@ -40,6 +40,7 @@ impl FixedDimension {
 
 impl Dimension for FixedDimension {
     ghost width_of = { λ sizes col. slice_index sizes.widths.items col };
+
     ghost height_of = { λ sizes row. slice_index sizes.heights.items row };
 
     fn get_width(&self, col: usize) -> usize {

@@ -7,6 +7,8 @@
 mod borders;
 mod dimension;
 mod entity;
+mod laws;
+mod layers;
 mod lines;
 mod memory;
 mod place;
@@ -16,6 +18,8 @@ mod records;
 pub use borders::Borders;
 pub use dimension::{Dimension, FixedDimension};
 pub use entity::Entity;
+pub use laws::{changes_in_a_row, read_alike, shown_after_change, shows_its_writes};
+pub use layers::Layers;
 pub use lines::{HorizontalLine, VerticalLine};
 pub use memory::OutOfMemory;
 pub use place::{LineOf, Place};

@@ -3,7 +3,7 @@
 ghost use Rattle.std.specs.Prelude.{◌≡◌, None};
 
 /// A custom horizontal line. A character that is missing leaves the place to the levels below.
-#[derive(Clone, Copy, Debug, PartialEq, Eq, PartialOrd, Ord, Hash)]
+#[derive(Clone, Copy, Debug, Drop, PartialEq, Eq, PartialOrd, Ord, Hash)]
 pub struct HorizontalLine<T> {
     /// Along the edges.
     pub main: Option<T>,
@@ -16,7 +16,7 @@ pub struct HorizontalLine<T> {
 }
 
 /// A custom vertical line. A character that is missing leaves the place to the levels below.
-#[derive(Clone, Copy, Debug, PartialEq, Eq, PartialOrd, Ord, Hash)]
+#[derive(Clone, Copy, Debug, Drop, PartialEq, Eq, PartialOrd, Ord, Hash)]
 pub struct VerticalLine<T> {
     /// Along the edges.
     pub main: Option<T>,

@@ -1,22 +1,16 @@
 //! Where a border character stands in the picture of a table.
 
+ghost use Rattle.std.specs.Prelude.{◌≡◌};
+
 /// A place of the picture: one character of an edge, or the crossing of two lines.
 ///
 /// Horizontal lines are counted from 0 at the top, vertical lines from 0 at the left.
 #[derive(Clone, Copy, Debug, PartialEq, Eq, PartialOrd, Ord, Hash)]
 pub enum Place {
     /// Character `at` of the edge of horizontal line `row` over column `col`, counted from its left end.
-    Horizontal {
-        row: usize,
-        col: usize,
-        at: usize,
-    },
+    Horizontal { row: usize, col: usize, at: usize },
     /// Character `at` of the edge of vertical line `col` beside row `row`, counted from its upper end.
-    Vertical {
-        row: usize,
-        col: usize,
-        at: usize,
-    },
+    Vertical { row: usize, col: usize, at: usize },
     /// The crossing of horizontal line `row` and vertical line `col`.
     Cross { row: usize, col: usize },
 }
@@ -28,4 +22,36 @@ pub enum LineOf {
     Horizontal(usize),
     /// A vertical line, counted from 0 at the left.
     Vertical(usize),
+}
+
+impl Place {
+    ghost use Rattle.tabled_grid.specs.Value.{inside};
+
+    /// Whether a table of `shape.0` rows and `shape.1` columns has this place, where its edge is
+    /// `size` characters long. A table without rows or without columns has none.
+    pub(crate) fn is_inside(self, shape: (usize, usize), size: usize) -> bool
+        ensures { result ≡ inside shape size self }
+    {
+        let (rows, cols) = shape;
+        match self {
+            Place::Horizontal { row, col, at } => {
+                0 < rows && row <= rows && col < cols && at < size
+            }
+            Place::Vertical { row, col, at } => 0 < cols && row < rows && col <= cols && at < size,
+            Place::Cross { row, col } => 0 < rows && 0 < cols && row <= rows && col <= cols,
+        }
+    }
+}
+
+impl LineOf {
+    ghost use Rattle.tabled_grid.specs.Drawn.{number};
+
+    /// The line's number among those of its direction.
+    pub(crate) fn number(self) -> usize
+        ensures { result ≡ number self }
+    {
+        match self {
+            LineOf::Horizontal(line) | LineOf::Vertical(line) => line,
+        }
+    }
 }

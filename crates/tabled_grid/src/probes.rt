@@ -1,6 +1,6 @@
 //! The meter of look-ups.
 
-ghost use Rattle.std.specs.Prelude.{◌≡◌, ◌<◌, ◌≤◌, ℕ, ◌+◌, min};
+ghost use Rattle.std.specs.Prelude.{◌≡◌, ℕ};
 
 /// How many readings of a store were made: readings of a kept map, of a count, of the class record
 /// or of the default. It stands still at `u64::MAX`.
@@ -16,6 +16,8 @@ impl std::marker::Model for Probes {
 }
 
 impl Probes {
+    ghost use Rattle.tabled_grid.specs.Probing.{IsRaised};
+
     /// No reading so far.
     pub fn new() -> Self
         ensures { result ≡ 0 }
@@ -32,7 +34,7 @@ impl Probes {
 
     /// Counts one reading.
     pub(crate) fn raise(&mut self)
-        ensures { self.new ≡ min (self.old + 1) u64.MAX }
+        ensures { IsRaised 1 self.old self.new }
     {
         self.made = self.made.saturating_add(1);
     }

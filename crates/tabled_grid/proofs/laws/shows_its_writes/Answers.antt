@@ -1,0 +1,5 @@
+use Rattle.tabled_grid.proofs.ClassWrites.{Shows-writes_of}
+use Rattle.tabled_grid.proofs.laws.shows_its_writes.Goals as goal
+
+pub returns : goal.returns
+returns g c = λ keeping. Shows-writes_of keeping

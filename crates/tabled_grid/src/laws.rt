@@ -1,0 +1,36 @@
+//! The laws of events. Each is the contract of a function that does nothing, so that the gate proves it.
+
+ghost use Rattle.std.specs.Prelude.{◌≡◌, ◌↔◌, ℕ, List, ◌++◌, IsTrue, Option};
+ghost use Rattle.tabled_grid.specs.declared.place.LineOf.{LineOf as Line};
+ghost use Rattle.tabled_grid.specs.declared.place.Place.{Place as At};
+ghost use Rattle.tabled_grid.specs.Site.{Site};
+ghost use Rattle.tabled_grid.specs.Event.{Written, Event, kept, Shows, Changes};
+ghost use Rattle.tabled_grid.specs.Value.{value};
+ghost use Rattle.tabled_grid.specs.Drawn.{Drawn, drawn};
+ghost use Rattle.tabled_grid.specs.Keeping.{Keeping, keeps, writes_of};
+
+/// A list of events that was shown before a change, followed by the events of the change, is shown after it.
+pub fn shown_after_change<T>()
+    ensures { (before es : List (Event T)) (old new : Site → Option (Written T))
+        → Changes es old new → Shows before old → Shows (before ++ es) new }
+{}
+
+/// Two changes in a row are the change by the events of both.
+pub fn changes_in_a_row<T>()
+    ensures { (es fs : List (Event T)) (old between new : Site → Option (Written T))
+        → Changes es old between → Changes fs between new → Changes (es ++ fs) old new }
+{}
+
+/// What the values of places and the drawn lines read off a store is what they read off any list of
+/// events that it shows.
+pub fn read_alike<T>()
+    ensures values { (es : List (Event T)) (keep : Site → Option (Written T)) (shape : ℕ × ℕ) (size : ℕ) (place : At)
+        → Shows es keep → value keep shape size place ≡ value (kept es) shape size place }
+    ensures lines { (es : List (Event T)) (keep : Site → Option (Written T)) (count : ℕ) (line : Line)
+        → Shows es keep → Drawn keep count line ↔ IsTrue (drawn es count line) }
+{}
+
+/// Whatever a store keeps, there is a list of events that it shows: the writes of all of it.
+pub fn shows_its_writes<T>()
+    ensures { (keeping : Keeping T) → Shows (writes_of keeping) (keeps keeping) }
+{}
