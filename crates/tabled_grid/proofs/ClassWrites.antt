@@ -210,3 +210,13 @@ nothing_in borders e (crossings inner closing) = ap (λ b. b.right_intersection)
 nothing_in borders e (crossings closing first) = ap (λ b. b.bottom_left) e
 nothing_in borders e (crossings closing inner) = ap (λ b. b.bottom_intersection) e
 nothing_in borders e (crossings closing closing) = ap (λ b. b.bottom_right) e
+
+-- what a class record set whole does not cover is of no class, and nothing is kept there
+pub nothing_beside_classes : {T : Type 0} (borders : Borders T) (keeping : Keeping T) (q : Site) → covered (class_record_set borders) q ≡ false → keeps keeping q ≡ None
+unfolding class_record_set
+nothing_beside_classes borders keeping (of_class c) h = absurd cc
+nothing_beside_classes borders keeping the_default h = refl
+nothing_beside_classes borders keeping (of_line l p) h = refl
+nothing_beside_classes borders keeping (at_spot s) h = refl
+nothing_beside_classes borders keeping (from_end d r c n) h = refl
+nothing_beside_classes borders keeping (from_start d r c n) h = refl

@@ -4,7 +4,7 @@ use Rattle.std.specs.List.{list_any, last_or}
 use Rattle.std.proofs.lemmas.List.Folds.{list_any-append}
 use Rattle.std.proofs.lemmas.List.Elements.{filter-append}
 use Rattle.tabled_grid.specs.Site.{Site}
-use Rattle.tabled_grid.specs.Event.{Written, Region, within, Event, erase, covers, covered, left_by, kept, Shows, Changes}
+use Rattle.tabled_grid.specs.Event.{Written, Region, every_site, within, Event, erase, covers, covered, left_by, kept, Shows, Changes}
 
 module _ {T : Type 0} (q : Site) where
   -- the last of the events that cover the site decides, and else what was last before
@@ -84,3 +84,13 @@ Changes-append es fs old mid new by_es by_fs q =
 pub Changes-nil : {T : Type 0} (keep : Site → Option (Written T)) → Changes [] keep keep
 unfolding Changes
 Changes-nil keep q = refl
+
+-- where all that the events do not cover was empty, to clear every site first makes no difference
+pub Changes_from_nothing : {T : Type 0} (es : List (Event T)) (old new : Site → Option (Written T)) → ((q : Site) → covered es q ≡ false → old q ≡ None) → Changes es old new → Changes (erase every_site ∷ es) old new
+unfolding Changes
+Changes_from_nothing es old new nothing changes q =
+    changes q ∙ emptied (covered es q) (kept es q) (old q) (nothing q) (kept_uncovered q es) ∙ sym (kept_cleared every_site es q)
+  where
+    emptied : {A : Type 0} (b : Bool) (k o : Option A) → (b ≡ false → o ≡ None) → (b ≡ false → k ≡ None) → cond b k o ≡ k
+    emptied true k o f g = refl
+    emptied false k o f g = f refl ∙ sym (g refl)

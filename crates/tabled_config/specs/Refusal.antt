@@ -1,0 +1,34 @@
+-- Why a table is not printed.
+use Rattle.std.specs.Prelude.{ℕ, Bool, not, ◌==◌, ◌||◌, if◌then◌else◌, Option, List, [], ◌∷◌, ◌++◌, length, slice_get}
+use Rattle.std.specs.List.{flat_map, list_all, enumerate_from}
+use Rattle.tabled_config.specs.declared.print_error.PrintError.{PrintError}
+use Rattle.tabled_config.specs.Texts.{Table, pieces, width_of_text}
+
+-- the fault, unless the fact holds
+abbrev pub unless : Bool → PrintError → List PrintError
+unless holds fault = if holds then [] else fault ∷ []
+
+-- whether a text has just the lines of its row: none, that is no byte, for height 0
+abbrev pub fits_height : ℕ → List ℕ → Bool
+fits_height height text = if height == 0 then length text == 0 else length (pieces text) == height
+
+-- whether each line of a text is as wide as its column; for height 0 that is not asked
+abbrev pub fits_width : ℕ → ℕ → List ℕ → Bool
+fits_width height width text = (height == 0) || list_all (λ piece. width_of_text piece == width) (pieces text)
+
+module _ (widths heights : ℕ → ℕ) where
+  -- the faults of a cell
+  abbrev pub cell_faults : ℕ → ℕ × List ℕ → List PrintError
+  cell_faults r (c, text) = unless (fits_height (heights r) text) (PrintError.Height r c) ++ unless (fits_width (heights r) (widths c) text) (PrintError.Width r c)
+
+  -- the faults of a row of a table with that many columns
+  abbrev pub row_faults : ℕ → ℕ × List (List ℕ) → List PrintError
+  row_faults cols (r, cells) = unless (length cells == cols) (PrintError.ColumnCount r) ++ flat_map (cell_faults r) (enumerate_from 0 cells)
+
+  -- all faults of a table of that shape, in the order in which they are looked for
+  abbrev pub faults : ℕ × ℕ → Table → List PrintError
+  faults (rows, cols) cells = unless (length cells == rows) PrintError.RowCount ++ flat_map (row_faults cols) (enumerate_from 0 cells)
+
+-- the first of them, for which the table is refused
+abbrev pub first_refusal : ℕ × ℕ → (ℕ → ℕ) → (ℕ → ℕ) → Table → Option PrintError
+first_refusal shape widths heights cells = slice_get (faults widths heights shape cells) 0

@@ -1,0 +1,19 @@
+-- Cell texts: bytes that are cut at line feeds, and how wide they are on a terminal.
+use Rattle.std.specs.Prelude.{ℕ, false, ◌==◌, List, map, chars}
+use Rattle.std.specs.List.{slice_split}
+use Rattle.std.specs.String.{string_bytes}
+use Rattle.std.specs.declared.string.String.{String}
+use Rattle.std.specs.declared.vec.Vec.{Vec}
+use Rattle.unicode_width.specs.Width.{str_width}
+
+-- a table's texts: the bytes of each cell, row by row
+abbrev pub Table : Type 0
+Table = List (List (List ℕ))
+
+-- the pieces of a text between its line feeds, one more than there are line feeds
+abbrev pub pieces : List ℕ → List (List ℕ)
+pieces text = slice_split (λ byte. byte == 10) text
+
+-- how many terminal columns a text takes
+abbrev pub width_of_text : List ℕ → ℕ
+width_of_text text = str_width false (chars text)

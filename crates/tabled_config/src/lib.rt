@@ -1,0 +1,14 @@
+//! Configurations, the options that change them, and a plain printer.
+//!
+//! `docs/DEFINITIONS.md` explains the words of the contracts.
+#![tactic(auto)]
+
+mod colored_config;
+mod print_error;
+mod spanned_config;
+mod table_option;
+
+pub use colored_config::ColoredConfig;
+pub use print_error::PrintError;
+pub use spanned_config::SpannedConfig;
+pub use table_option::TableOption;
