@@ -9,3 +9,4 @@ pub mod Texts
 pub mod Along
 pub mod Picture
 pub mod Refusal
+pub mod Examples

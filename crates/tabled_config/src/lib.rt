@@ -4,6 +4,7 @@
 #![tactic(auto)]
 
 mod colored_config;
+mod examples;
 mod print_error;
 mod spanned_config;
 mod table_option;

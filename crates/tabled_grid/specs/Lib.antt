@@ -3,4 +3,5 @@ pub mod Event
 pub mod Value
 pub mod Drawn
 pub mod Keeping
+pub mod Lines
 pub mod Probing
