@@ -4,11 +4,14 @@
 #![tactic(auto)]
 
 mod colored_config;
+mod print;
 mod print_error;
+mod refusals;
 mod spanned_config;
 mod table_option;
 
 pub use colored_config::ColoredConfig;
+pub use print::print_plain;
 pub use print_error::PrintError;
 pub use spanned_config::SpannedConfig;
 pub use table_option::TableOption;
