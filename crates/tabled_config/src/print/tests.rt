@@ -142,7 +142,13 @@ fn answers_the_first_fault(rt: HostRuntime) -> Result<(), Fail> {
 #[test]
 fn prints_without_borders(rt: HostRuntime) -> Result<(), Fail> {
     let cfg = bare(rt.alloc());
-    let (answer, out) = printed(rt.alloc(), &cfg, (&[3, 3], &[1]), (1, 2), &[&[" a ", " b "]])?;
+    let (answer, out) = printed(
+        rt.alloc(),
+        &cfg,
+        (&[3, 3], &[1]),
+        (1, 2),
+        &[&[" a ", " b "]],
+    )?;
     assert_eq!(rt; answer, Ok(()));
     assert_eq!(rt; out.as_str(), "before: a  b ");
     Ok(())

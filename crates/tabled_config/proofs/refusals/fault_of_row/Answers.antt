@@ -19,7 +19,7 @@ loop-col-preserved g c =
     let faults : ℕ × List ℕ → List PrintError = cell_faults (g.D.Dimension.width_of c.args.dims.now) (g.D.Dimension.height_of c.args.dims.now) c.args.row in
     c.loop-col.invariant
     ∙ first_from_later faults string_bytes c.args.cells.now c.loop-col.col c.index-cells-col.result c.as_str.result.now c.fault_of_cell-fault.result c.loop-col-test.true
-      c.index-cells-col.is c.as_str.ensures.value c.fault_of_cell-fault.ensures (sym c.is_some.ensures ∙ c.if-is_some.false)
+    c.index-cells-col.is c.as_str.ensures.value c.fault_of_cell-fault.ensures (sym c.is_some.ensures ∙ c.if-is_some.false)
 
 pub returns : goal.returns
 returns g c =

@@ -19,4 +19,4 @@ loop-row-preserved g c =
     let faults : ℕ × List (List ℕ) → List PrintError = row_faults (g.D.Dimension.width_of c.args.dims.now) (g.D.Dimension.height_of c.args.dims.now) c.args.shape.1 in
     c.loop-row.invariant
     ∙ first_from_later faults (λ row. map string_bytes row.items) c.args.cells.now c.loop-row.row c.index-cells-row.result (map string_bytes c.deref.result.now) c.fault_of_row-fault.result
-      c.loop-row-test.true c.index-cells-row.is (ap (map string_bytes) c.deref.ensures.value) c.fault_of_row-fault.ensures (sym c.is_some.ensures ∙ c.if-is_some.false)
+    c.loop-row-test.true c.index-cells-row.is (ap (map string_bytes) c.deref.ensures.value) c.fault_of_row-fault.ensures (sym c.is_some.ensures ∙ c.if-is_some.false)
