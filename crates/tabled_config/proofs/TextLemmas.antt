@@ -1,11 +1,15 @@
 -- The bytes of a text, written part by part.
-use Rattle.std.proofs.Common.{◌≡◌, ℕ, ◌+◌, ◌-◌, ◌<◌, ◌≤◌, Bool, true, false, cond, List, [], ◌∷◌, ◌++◌, length, take, map, refl, sym, ap, ◌∙◌, arith, add-one, encode_utf8, encode_utf8_all}
+use Rattle.std.proofs.Common.{◌≡◌, ℕ, ◌+◌, ◌-◌, ◌<◌, ◌≤◌, Bool, true, false, cond, List, [], ◌∷◌, ◌++◌, length, take, map, refl, sym, ap, ◌∙◌, arith, lit<, if◌then◌else◌, get_or, encode_utf8, encode_utf8_all, Result, OnOk, String, Vec, string_bytes}
 use Rattle.std.specs.List.{flat_map, range_with_len, join_with_byte}
-use Rattle.std.proofs.lemmas.List.{append-nil, append_assoc, map-append, take_at, take_all, length-append, take-take}
+use Rattle.std.proofs.lemmas.List.{append-nil, append_assoc, map-append, take_at, take_all, length-append, take-take, get_or-map}
 use Rattle.std.proofs.lemmas.List.Concat.{flat_map-append}
 use Rattle.std.proofs.lemmas.List.FromFn.{map-range_with_len_more}
-use Rattle.std.proofs.lemmas.Str.{encodes-append}
-use Rattle.tabled_config.specs.Along.{below}
+use Rattle.std.proofs.lemmas.Str.{encodes-append, encode_ascii}
+use Rattle.std.proofs.lemmas.Result.{on_ok_weaker}
+use Rattle.tabled_grid.specs.declared.place.Place.{Place}
+use Rattle.tabled_grid.specs.declared.place.LineOf.{LineOf}
+use Rattle.tabled_config.specs.Texts.{texts}
+use Rattle.tabled_config.specs.Along.{below, is_empty, along, along_line}
 
 -- the numbers below n + 1 are those below n, and n
 pub below_push : (n : ℕ) → below (n + 1) ≡ below n ++ n ∷ []
@@ -39,6 +43,64 @@ line_more f crossing edge n =
     ∙ shown_append f (flat_map (λ k. crossing k ++ edge k) (below n)) (crossing n ++ edge n)
     ∙ ap (λ bs. encode_utf8_all (map f (flat_map (λ k. crossing k ++ edge k) (below n))) ++ bs) (shown_append f (crossing n) (edge n))
 
+-- the closing crossing
+pub line_closed : {X : Type 0} (f : X → ℕ) (step : ℕ → List X) (close : List X) (n count : ℕ) → n ≡ count → encode_utf8_all (map f (flat_map step (below count) ++ close)) ≡ encode_utf8_all (map f (flat_map step (below n))) ++ encode_utf8_all (map f close)
+line_closed f step close n count e =
+    shown_append f (flat_map step (below count)) close
+    ∙ ap (λ m. encode_utf8_all (map f (flat_map step (below m))) ++ encode_utf8_all (map f close)) (sym e)
+
+-- a horizontal line of a table that has places
+pub along_any : (f : Place → ℕ) (across down : ℕ → Bool) (shape : ℕ × ℕ) (widths heights : ℕ → ℕ) (r : ℕ) → is_empty shape ≡ false → encode_utf8_all (map f (along across down shape widths heights (LineOf.Horizontal r))) ≡ encode_utf8_all (map f (along_line down widths shape.1 (λ c. Place.Cross r c) (λ c k. Place.Horizontal r c k)))
+along_any f across down shape widths heights r any =
+    ap (λ b. encode_utf8_all (map f (cond b [] (along_line down widths shape.1 (λ c. Place.Cross r c) (λ c k. Place.Horizontal r c k))))) any
+
+-- a line feed is one byte
+pub line_fed : (middle end : List ℕ) → end ≡ middle ++ encode_utf8 10 → end ≡ middle ++ 10 ∷ []
+line_fed middle end e = e ∙ ap (λ bs. middle ++ bs) (encode_ascii 10 (lit< tt))
+
+-- a line with the line feed that ends it
+abbrev pub ended : List ℕ → List ℕ
+ended line = line ++ 10 ∷ []
+
+pub line_drawn : (b : Bool) (line start middle end places : List ℕ) → b ≡ true → line ≡ places → middle ≡ start ++ places → end ≡ middle ++ 10 ∷ [] → end ≡ start ++ flat_map ended (if b then line ∷ [] else [])
+line_drawn b line start middle end places is e p q =
+    q ∙ ap (λ bs. bs ++ 10 ∷ []) (p ∙ ap (λ bs. start ++ bs) (sym e)) ∙ append_assoc start line (10 ∷ [])
+    ∙ ap (λ bs. start ++ bs) (sym (append-nil (ended line)))
+    ∙ ap (λ c. start ++ flat_map ended (if c then line ∷ [] else [])) (sym is)
+
+pub line_not_drawn : (b : Bool) (line start : List ℕ) → b ≡ false → start ≡ start ++ flat_map ended (if b then line ∷ [] else [])
+line_not_drawn b line start is = sym (append-nil start) ∙ ap (λ c. start ++ flat_map ended (if c then line ∷ [] else [])) (sym is)
+
+-- one more side and piece of a line of text
+pub piece_more : (f : ℕ → List ℕ) (n : ℕ) (side piece : List ℕ) → f n ≡ side ++ piece → flat_map f (below (n + 1)) ≡ flat_map f (below n) ++ (side ++ piece)
+piece_more f n side piece e = flat_map_below f n ∙ ap (λ bs. flat_map f (below n) ++ bs) e
+
+-- one more line of a row
+pub ended_more : (line : ℕ → List ℕ) (n : ℕ) → flat_map ended (map line (below (n + 1))) ≡ flat_map ended (map line (below n)) ++ (line n ++ 10 ∷ [])
+ended_more line n =
+    ap (flat_map ended) (map-range_with_len_more line 0 n n (omega arith))
+    ∙ flat_map-append ended (map line (below n)) (line n ∷ [])
+    ∙ ap (λ bs. flat_map ended (map line (below n)) ++ bs) (append-nil (ended (line n)))
+
+-- the lines of one more row
+pub rows_more : (line lines : ℕ → List (List ℕ)) (n : ℕ) → flat_map ended (flat_map (λ r. line r ++ lines r) (below (n + 1))) ≡ flat_map ended (flat_map (λ r. line r ++ lines r) (below n)) ++ (flat_map ended (line n) ++ flat_map ended (lines n))
+rows_more line lines n =
+    ap (flat_map ended) (flat_map_below (λ r. line r ++ lines r) n)
+    ∙ flat_map-append ended (flat_map (λ r. line r ++ lines r) (below n)) (line n ++ lines n)
+    ∙ ap (λ bs. flat_map ended (flat_map (λ r. line r ++ lines r) (below n)) ++ bs) (flat_map-append ended (line n) (lines n))
+
+-- the closing line
+pub rows_closed : (e : Bool) (step : ℕ → List (List ℕ)) (close : List (List ℕ)) (n count : ℕ) → e ≡ false → n ≡ count → flat_map ended (if e then [] else flat_map step (below count) ++ close) ≡ flat_map ended (flat_map step (below n)) ++ flat_map ended close
+rows_closed e step close n count is same =
+    ap (λ b. flat_map ended (if b then [] else flat_map step (below count) ++ close)) is
+    ∙ flat_map-append ended (flat_map step (below count)) close
+    ∙ ap (λ m. flat_map ended (flat_map step (below m)) ++ flat_map ended close) (sym same)
+
+-- the texts of the row at a place
+pub texts_at : {Z W : Type 0} (cells : List (Vec (String Z) W)) (r : ℕ) (row : Vec (String Z) W) (items : List (String Z)) → r < length cells → row ≡ get_or cells r row → items ≡ row.items → get_or (texts cells) r [] ≡ map string_bytes items
+texts_at cells r row items within read same =
+    get_or-map (λ v. map string_bytes v.items) cells r row [] within ∙ ap (λ v. map string_bytes v.items) (sym read) ∙ ap (map string_bytes) (sym same)
+
 -- what was there at first is there where a later call kept what it found
 pub kept_after : (start more middle end : List ℕ) → middle ≡ start ++ more → take (length middle) end ≡ middle → take (length start) end ≡ start
 kept_after start more middle end e h =
@@ -47,3 +109,16 @@ kept_after start more middle end e h =
 
 pub kept_all : (start end : List ℕ) → end ≡ start → take (length start) end ≡ start
 kept_all start end e = ap (take (length start)) e ∙ take_all (length start) start (omega arith)
+
+-- parts that were written in turn are one part
+pub written_both : (start first second third x y z w : List ℕ) → first ≡ start ++ x → second ≡ first ++ y → third ≡ second ++ z → w ≡ x ++ (y ++ z) → third ≡ start ++ w
+written_both start first second third x y z w p q r e =
+    r ∙ ap (λ bs. bs ++ z) (q ∙ ap (λ bs. bs ++ y) p)
+    ∙ append_assoc (start ++ x) y z ∙ append_assoc start x (y ++ z) ∙ ap (λ bs. start ++ bs) (sym e)
+
+pub written_last : {T E : Type 0} (r : Result T E) (start first second x y w : List ℕ) → first ≡ start ++ x → w ≡ x ++ y → OnOk r (second ≡ first ++ y) → OnOk r (second ≡ start ++ w)
+written_last r start first second x y w p e =
+    on_ok_weaker r (λ q. q ∙ ap (λ bs. bs ++ y) p ∙ append_assoc start x y ∙ ap (λ bs. start ++ bs) (sym e))
+
+-- what writes a text in parts
+pub ruleset writing = (append_assoc, append-nil, kept_after, kept_all, shown_one, edge_more, line_more)

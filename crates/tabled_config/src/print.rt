@@ -27,6 +27,7 @@ struct Frame<'a, D: Dimension> {
     ghost sides_drawn: { sides.now ≡ map (look (all_writes cfg.now) shape (D.width_of dims.now) (D.height_of dims.now)).down (below (shape.1 + 1)) },
 }
 
+#[tactic(auto, using(crate::proofs::TextLemmas::writing))]
 impl<D: Dimension> Frame<'_, D> {
     /// The length of a place's edge; a crossing has none.
     fn edge_size(&self, place: Place) -> usize
