@@ -1,9 +1,12 @@
 -- The first of all faults, found in a walk over what is tested.
-use Rattle.std.proofs.Common.{◌≡◌, ℕ, ◌+◌, ◌<◌, ◌≤◌, Bool, true, false, Option, Some, None, is_some, List, [], ◌∷◌, ◌++◌, length, get_or, drop, map, refl, sym, ap, ◌∙◌, ◌==◌, eq-eqb, slice_get}
-use Rattle.std.specs.List.{flat_map, enumerate_from}
+use Rattle.std.proofs.Common.{◌≡◌, ℕ, ◌+◌, ◌<◌, ◌≤◌, Bool, true, false, Option, None, is_some, List, [], ◌∷◌, ◌++◌, length, get_or, drop, map, refl, sym, ap, ◌∙◌, ◌==◌, eq-eqb, slice_get}
+use Rattle.std.specs.List.{All, flat_map, enumerate_from}
+use Rattle.std.proofs.lemmas.Bool.{eqb-true}
+use Rattle.std.proofs.lemmas.List.Elements.{All-nil, All-cons}
 use Rattle.std.proofs.lemmas.List.{drop_more, drop_all, get_or-map, length-map}
 use Rattle.tabled_config.specs.declared.print_error.PrintError.{PrintError}
-use Rattle.tabled_config.specs.Refusal.{unless}
+use Rattle.tabled_config.specs.Texts.{Table}
+use Rattle.tabled_config.specs.Refusal.{unless, cell_faults, row_faults, faults, first_refusal}
 
 -- the first element of a list that begins with others
 first_here : {E : Type 0} (xs ys : List E) (r : Option E) → r ≡ slice_get xs 0 → is_some r ≡ true → r ≡ slice_get (xs ++ ys) 0
@@ -49,3 +52,42 @@ pub first_after_count : {A X : Type 0} (f : ℕ × X → List PrintError) (g : A
 first_after_count f g things count fault e =
     ap (λ b. slice_get (unless b fault ++ flat_map f (enumerate_from 0 (map g things))) 0)
     (sym (eq-eqb (length (map g things)) count (length-map things g ∙ e)))
+
+none_first : {E : Type 0} (xs : List E) → slice_get xs 0 ≡ None → xs ≡ []
+none_first [] e = refl
+none_first (x ∷ xs) e = absurd cc
+
+none_front : {E : Type 0} (xs ys : List E) → xs ++ ys ≡ [] → xs ≡ []
+none_front [] ys e = refl
+none_front (x ∷ xs) ys e = absurd cc
+
+none_rest : {E : Type 0} (xs ys : List E) → xs ++ ys ≡ [] → ys ≡ []
+none_rest [] ys e = e
+none_rest (x ∷ xs) ys e = absurd cc
+
+no_fault : (b : Bool) (fault : PrintError) → unless b fault ≡ [] → b ≡ true
+no_fault true fault e = refl
+no_fault false fault e = absurd cc
+
+-- a table with no fault has as many rows as it ought to
+pub right_rows : (widths heights : ℕ → ℕ) (shape : ℕ × ℕ) (cells : Table) → first_refusal shape widths heights cells ≡ None → length cells ≡ shape.0
+right_rows widths heights shape cells e =
+    eqb-true (length cells) shape.0
+    (no_fault (length cells == shape.0) PrintError.RowCount
+    (none_front (unless (length cells == shape.0) PrintError.RowCount) (flat_map (row_faults widths heights shape.1) (enumerate_from 0 cells)) (none_first (faults widths heights shape cells) e)))
+
+-- and each row has as many cells
+right_cells : (widths heights : ℕ → ℕ) (cols n : ℕ) (cells : Table) → flat_map (row_faults widths heights cols) (enumerate_from n cells) ≡ [] → All (λ row. length row ≡ cols) cells
+right_cells widths heights cols n [] e = All-nil (λ row. length row ≡ cols)
+right_cells widths heights cols n (row ∷ rows) e =
+    All-cons (λ cells. length cells ≡ cols) row rows
+    (eqb-true (length row) cols
+    (no_fault (length row == cols) (PrintError.ColumnCount n)
+    (none_front (unless (length row == cols) (PrintError.ColumnCount n)) (flat_map (cell_faults widths heights n) (enumerate_from 0 row))
+    (none_front (row_faults widths heights cols (n, row)) (flat_map (row_faults widths heights cols) (enumerate_from (n + 1) rows)) e))))
+    (right_cells widths heights cols (n + 1) rows (none_rest (row_faults widths heights cols (n, row)) (flat_map (row_faults widths heights cols) (enumerate_from (n + 1) rows)) e))
+
+pub right_columns : (widths heights : ℕ → ℕ) (shape : ℕ × ℕ) (cells : Table) → first_refusal shape widths heights cells ≡ None → All (λ row. length row ≡ shape.1) cells
+right_columns widths heights shape cells e =
+    right_cells widths heights shape.1 0 cells
+    (none_rest (unless (length cells == shape.0) PrintError.RowCount) (flat_map (row_faults widths heights shape.1) (enumerate_from 0 cells)) (none_first (faults widths heights shape cells) e))

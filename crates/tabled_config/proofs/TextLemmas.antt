@@ -1,10 +1,12 @@
 -- The bytes of a text, written part by part.
-use Rattle.std.proofs.Common.{◌≡◌, ℕ, ◌+◌, ◌-◌, ◌<◌, ◌≤◌, Bool, true, false, cond, List, [], ◌∷◌, ◌++◌, length, take, map, refl, sym, ap, ◌∙◌, arith, lit<, if◌then◌else◌, get_or, encode_utf8, encode_utf8_all, Result, OnOk, String, Vec, string_bytes}
-use Rattle.std.specs.List.{flat_map, range_with_len, join_with_byte}
-use Rattle.std.proofs.lemmas.List.{append-nil, append_assoc, map-append, take_at, take_all, length-append, take-take, get_or-map}
+use Rattle.std.proofs.Common.{◌≡◌, ℕ, ◌+◌, ◌-◌, ◌<◌, ◌≤◌, Bool, true, false, cond, List, [], ◌∷◌, ◌++◌, length, take, map, refl, sym, ap, subst, ◌∙◌, arith, lit<, if◌then◌else◌, get_or, encode_utf8, encode_utf8_all, Result, Ok, Err, OnOk, OnErr, is_err, rules, String, string_len, Vec, string_bytes}
+use Rattle.std.specs.List.{flat_map, join_with_byte}
+use Rattle.std.proofs.lemmas.List.{append-nil, append_assoc, map-append, take_at, take_all, length-append, take-take, get_or-map, get_or_at}
 use Rattle.std.proofs.lemmas.List.Concat.{flat_map-append}
 use Rattle.std.proofs.lemmas.List.FromFn.{map-range_with_len_more}
-use Rattle.std.proofs.lemmas.Str.{encodes-append, encode_ascii}
+use Rattle.std.proofs.lemmas.Str.{encodes-append, encode_ascii, IsCharBoundary-from_take, IsUtf8-string_bytes}
+use Rattle.std.specs.Str.{IsUtf8}
+use Rattle.std.specs.String.Boundary.{IsSplitPoint}
 use Rattle.std.proofs.lemmas.Result.{on_ok_weaker}
 use Rattle.tabled_grid.specs.declared.place.Place.{Place}
 use Rattle.tabled_grid.specs.declared.place.LineOf.{LineOf}
@@ -119,6 +121,81 @@ written_both start first second third x y z w p q r e =
 pub written_last : {T E : Type 0} (r : Result T E) (start first second x y w : List ℕ) → first ≡ start ++ x → w ≡ x ++ y → OnOk r (second ≡ first ++ y) → OnOk r (second ≡ start ++ w)
 written_last r start first second x y w p e =
     on_ok_weaker r (λ q. q ∙ ap (λ bs. bs ++ y) p ∙ append_assoc start x y ∙ ap (λ bs. start ++ bs) (sym e))
+
+-- lines that each end in a line feed are the joined lines and one line feed
+ended_joined : (line : List ℕ) (lines : List (List ℕ)) → flat_map ended (line ∷ lines) ≡ join_with_byte 10 (line ∷ lines) ++ 10 ∷ []
+ended_joined line [] = append-nil (ended line)
+ended_joined line (next ∷ more) =
+    ap (λ bs. ended line ++ bs) (ended_joined next more)
+    ∙ append_assoc line (10 ∷ []) (join_with_byte 10 (next ∷ more) ++ 10 ∷ [])
+    ∙ sym (append_assoc line (10 ∷ join_with_byte 10 (next ∷ more)) (10 ∷ []))
+
+-- a text that such lines lengthened ends in a line feed, and without it the lines are joined
+pub ends_joined : (start end : List ℕ) (lines : List (List ℕ)) → end ≡ start ++ flat_map ended lines → length start < length end → end ≡ (start ++ join_with_byte 10 lines) ++ 10 ∷ []
+ends_joined start end [] e h = absurd (let l : length end ≡ length start = ap length (e ∙ append-nil start) in omega arith)
+ends_joined start end (line ∷ lines) e h = e ∙ ap (λ bs. start ++ bs) (ended_joined line lines) ∙ sym (append_assoc start (join_with_byte 10 (line ∷ lines)) (10 ∷ []))
+
+pub cut_joined : (start end : List ℕ) (lines : List (List ℕ)) → end ≡ start ++ flat_map ended lines → length start < length end → take (length end - 1) end ≡ start ++ join_with_byte 10 lines
+cut_joined start end lines e h =
+    let whole = ends_joined start end lines e h in
+    let l : length (start ++ join_with_byte 10 lines) ≡ length end - 1 = omega (arith, ap length whole, length-append (start ++ join_with_byte 10 lines) (10 ∷ [])) in
+    ap (take (length end - 1)) whole ∙ take_at (start ++ join_with_byte 10 lines) (10 ∷ []) (length end - 1) l
+
+-- no line was written
+pub none_joined : (start end : List ℕ) (lines : List (List ℕ)) → end ≡ start ++ flat_map ended lines → length end ≤ length start → end ≡ start ++ join_with_byte 10 lines
+none_joined start end [] e h = e
+none_joined start end (line ∷ lines) e h =
+    absurd (let l = ap length e in omega (arith, l, length-append start (flat_map ended (line ∷ lines)), length-append (ended line) (flat_map ended lines), length-append line (10 ∷ [])))
+
+-- such a text may be cut before its last line feed
+pub cut_at_end : (start end : List ℕ) (lines : List (List ℕ)) → end ≡ start ++ flat_map ended lines → length start < length end → IsSplitPoint end (length end - 1)
+cut_at_end start end lines e h =
+    let whole = ends_joined start end lines e h in
+    let l : length (start ++ join_with_byte 10 lines) ≡ length end - 1 = omega (arith, ap length whole, length-append (start ++ join_with_byte 10 lines) (10 ∷ [])) in
+    let last : get_or end (length end - 1) 0 ≡ 10 = ap (λ bs. get_or bs (length end - 1) 0) whole ∙ get_or_at (start ++ join_with_byte 10 lines) 10 [] 0 (length end - 1) l in
+    (omega arith, λ _ _ large. absurd (omega (arith, last, large)))
+
+-- a text may be cut where a text once ended that it keeps
+pub cut_at_start : {Z : Type 0} (old new : String Z) (n : ℕ) → n ≡ length (string_bytes old) → take (length (string_bytes old)) (string_bytes new) ≡ string_bytes old → n ≤ length (string_bytes new) → IsSplitPoint (string_bytes new) n
+cut_at_start old new n same kept within =
+    let boundary = IsCharBoundary-from_take (string_bytes new) n (IsUtf8-string_bytes new) within
+    (subst IsUtf8 (sym (ap (λ k. take k (string_bytes new)) same ∙ kept)) (IsUtf8-string_bytes old)) in
+    (boundary.0, λ _ inside large. boundary.1 inside large)
+
+-- what a call that may be refused says of its answer
+pub where_ok : {T E P : Type 0} (r : Result T E) → is_err r ≡ false → OnOk r P → P
+where_ok (Ok x) e p = p
+where_ok (Err y) e p = absurd cc
+
+pub where_err : {T E P : Type 0} (r : Result T E) → is_err r ≡ true → OnErr r P → P
+where_err (Ok x) e p = absurd cc
+where_err (Err y) e p = p
+
+pub string_len-is : {Z : Type 0} (text : String Z) → string_len text ≡ length (string_bytes text)
+string_len-is text = search rules
+
+-- the same of two states of a text, by their lengths
+module _ {Z : Type 0} (old new : String Z) (n m : ℕ) (lines : List (List ℕ)) where
+  pub text_cut_at_end : n ≡ string_len old → m ≡ string_len new → n < m → string_bytes new ≡ string_bytes old ++ flat_map ended lines → IsSplitPoint (string_bytes new) (m - 1)
+  text_cut_at_end p q h e =
+      let k : m ≡ length (string_bytes new) = q ∙ string_len-is new in
+      let l : n ≡ length (string_bytes old) = p ∙ string_len-is old in
+      let longer : length (string_bytes old) < length (string_bytes new) = omega arith in
+      subst (λ j. IsSplitPoint (string_bytes new) (j - 1)) (sym k) (cut_at_end (string_bytes old) (string_bytes new) lines e longer)
+
+  pub text_cut_joined : n ≡ string_len old → m ≡ string_len new → n < m → string_bytes new ≡ string_bytes old ++ flat_map ended lines → take (m - 1) (string_bytes new) ≡ string_bytes old ++ join_with_byte 10 lines
+  text_cut_joined p q h e =
+      let k : m ≡ length (string_bytes new) = q ∙ string_len-is new in
+      let l : n ≡ length (string_bytes old) = p ∙ string_len-is old in
+      let longer : length (string_bytes old) < length (string_bytes new) = omega arith in
+      ap (λ j. take (j - 1) (string_bytes new)) k ∙ cut_joined (string_bytes old) (string_bytes new) lines e longer
+
+  pub text_none_joined : n ≡ string_len old → m ≡ string_len new → m ≤ n → string_bytes new ≡ string_bytes old ++ flat_map ended lines → string_bytes new ≡ string_bytes old ++ join_with_byte 10 lines
+  text_none_joined p q h e =
+      let k : m ≡ length (string_bytes new) = q ∙ string_len-is new in
+      let l : n ≡ length (string_bytes old) = p ∙ string_len-is old in
+      let no_longer : length (string_bytes new) ≤ length (string_bytes old) = omega arith in
+      none_joined (string_bytes old) (string_bytes new) lines e no_longer
 
 -- what writes a text in parts
 pub ruleset writing = (append_assoc, append-nil, kept_after, kept_all, shown_one, edge_more, line_more)

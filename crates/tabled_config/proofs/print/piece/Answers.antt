@@ -1,5 +1,5 @@
 -- The pieces that the walk gives are those of the text.
-use Rattle.std.proofs.Common.{◌≡◌, ℕ, suc, zero, ◌==◌, ◌∙◌, refl, sym, ap, lit<, Option, Some, None, unwrap_or, slice_get, get_or, List, [], ◌∷◌}
+use Rattle.std.proofs.Common.{◌≡◌, ℕ, suc, zero, ◌∙◌, refl, ap, lit<, Option, Some, None, unwrap_or, slice_get, get_or, List, [], ◌∷◌}
 use Rattle.std.specs.Option.{option_map}
 use Rattle.std.proofs.lemmas.Iterator.Splits.{YieldsList-from_str_split}
 use Rattle.std.proofs.lemmas.Iterator.Consumers.{nth_from_yields_List}

@@ -1,5 +1,5 @@
 -- A cell's fault is the row's, where those before it have none.
-use Rattle.std.proofs.Common.{ℕ, List, sym, ◌∙◌, string_bytes, arith}
+use Rattle.std.proofs.Common.{ℕ, List, sym, ◌∙◌, string_bytes}
 use Rattle.tabled_config.specs.declared.print_error.PrintError.{PrintError}
 use Rattle.tabled_config.specs.declared.print_error.PrintError.TheVariants.{ColumnCount}
 use Rattle.tabled_config.specs.Refusal.{cell_faults}

@@ -12,4 +12,4 @@ invariant-loop-col g l =
     let view : Look = look (all_writes l.self.cfg.now) l.self.shape (g.D.Dimension.width_of l.self.dims.now) (g.D.Dimension.height_of l.self.dims.now) in
     string_bytes l.text
     ≡ string_bytes l.initial.text
-      ++ flat_map (λ c. encode_utf8_all (side_characters view l.self.shape (g.D.Dimension.width_of l.self.dims.now) (g.D.Dimension.height_of l.self.dims.now) l.row l.at c) ++ slice_index_or (pieces (slice_index_or (map string_bytes l.cells) c [])) l.at []) (below l.col)
+    ++ flat_map (λ c. encode_utf8_all (side_characters view l.self.shape (g.D.Dimension.width_of l.self.dims.now) (g.D.Dimension.height_of l.self.dims.now) l.row l.at c) ++ slice_index_or (pieces (slice_index_or (map string_bytes l.cells) c [])) l.at []) (below l.col)

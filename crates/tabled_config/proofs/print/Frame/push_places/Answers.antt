@@ -18,6 +18,6 @@ returns-clause-written g c =
     let view : Look = look (all_writes c.args.self.now.cfg.now) c.args.self.now.shape (g.D.Dimension.width_of c.args.self.now.dims.now) (g.D.Dimension.height_of c.args.self.now.dims.now) in
     written_last c.push_crossing-2.result _ _ _ _ _ _ c.loop-col.invariant
     (line_closed view.shown
-     (λ n. crossing_at view.down (λ d. Place.Cross c.args.row d) n ++ map (λ k. Place.Horizontal c.args.row n k) (below (g.D.Dimension.width_of c.args.self.now.dims.now n)))
-     (crossing_at view.down (λ d. Place.Cross c.args.row d) c.args.self.now.shape.1) c.loop-col.col c.args.self.now.shape.1 (omega arith))
+    (λ n. crossing_at view.down (λ d. Place.Cross c.args.row d) n ++ map (λ k. Place.Horizontal c.args.row n k) (below (g.D.Dimension.width_of c.args.self.now.dims.now n)))
+    (crossing_at view.down (λ d. Place.Cross c.args.row d) c.args.self.now.shape.1) c.loop-col.col c.args.self.now.shape.1 (omega arith))
     c.push_crossing-2.ensures.written

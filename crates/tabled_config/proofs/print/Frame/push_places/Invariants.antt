@@ -12,4 +12,4 @@ invariant-loop-col g l =
     let view : Look = look (all_writes l.self.cfg.now) l.self.shape (g.D.Dimension.width_of l.self.dims.now) (g.D.Dimension.height_of l.self.dims.now) in
     string_bytes l.text
     ≡ string_bytes l.initial.text
-      ++ encode_utf8_all (map view.shown (flat_map (λ c. crossing_at view.down (λ d. Place.Cross l.row d) c ++ map (λ k. Place.Horizontal l.row c k) (below (g.D.Dimension.width_of l.self.dims.now c))) (below l.col)))
+    ++ encode_utf8_all (map view.shown (flat_map (λ c. crossing_at view.down (λ d. Place.Cross l.row d) c ++ map (λ k. Place.Horizontal l.row c k) (below (g.D.Dimension.width_of l.self.dims.now c))) (below l.col)))

@@ -11,4 +11,4 @@ invariant-loop-at g l =
     let view : Look = look (all_writes l.self.cfg.now) l.self.shape (g.D.Dimension.width_of l.self.dims.now) (g.D.Dimension.height_of l.self.dims.now) in
     string_bytes l.text
     ≡ string_bytes l.initial.text
-      ++ flat_map (λ line. line ++ 10 ∷ []) (map (cell_line view l.self.shape (g.D.Dimension.width_of l.self.dims.now) (g.D.Dimension.height_of l.self.dims.now) l.row (map string_bytes l.cells)) (below l.at))
+    ++ flat_map (λ line. line ++ 10 ∷ []) (map (cell_line view l.self.shape (g.D.Dimension.width_of l.self.dims.now) (g.D.Dimension.height_of l.self.dims.now) l.row (map string_bytes l.cells)) (below l.at))

@@ -12,6 +12,6 @@ invariant-loop-row g l =
     let view : Look = look (all_writes l.self.cfg.now) l.self.shape (g.D.Dimension.width_of l.self.dims.now) (g.D.Dimension.height_of l.self.dims.now) in
     string_bytes l.text
     ≡ string_bytes l.initial.text
-      ++ flat_map (λ line. line ++ 10 ∷ [])
-      (flat_map (λ r. line_if_drawn view l.self.shape (g.D.Dimension.width_of l.self.dims.now) (g.D.Dimension.height_of l.self.dims.now) r
-         ++ map (cell_line view l.self.shape (g.D.Dimension.width_of l.self.dims.now) (g.D.Dimension.height_of l.self.dims.now) r (slice_index_or (texts l.cells) r [])) (below (g.D.Dimension.height_of l.self.dims.now r))) (below l.row))
+    ++ flat_map (λ line. line ++ 10 ∷ [])
+    (flat_map (λ r. line_if_drawn view l.self.shape (g.D.Dimension.width_of l.self.dims.now) (g.D.Dimension.height_of l.self.dims.now) r
+    ++ map (cell_line view l.self.shape (g.D.Dimension.width_of l.self.dims.now) (g.D.Dimension.height_of l.self.dims.now) r (slice_index_or (texts l.cells) r [])) (below (g.D.Dimension.height_of l.self.dims.now r))) (below l.row))
