@@ -42,7 +42,10 @@ impl<D: Dimension> Frame<'_, D> {
 
     /// The character that shows at a place, a space where the place has none.
     fn shown(&self, place: Place) -> char
-        ensures { let view = look (all_writes self.now.cfg.now) self.now.shape (D.width_of self.now.dims.now) (D.height_of self.now.dims.now) in result ≡ view.shown place }
+        ensures { let widths = D.width_of self.now.dims.now in
+            let heights = D.height_of self.now.dims.now in
+            let view = look (all_writes self.now.cfg.now) self.now.shape widths heights in
+            result ≡ view.shown place }
     {
         let size = self.edge_size(place);
         let mut probes = Probes::new();
@@ -54,7 +57,10 @@ impl<D: Dimension> Frame<'_, D> {
     /// Whether a vertical line is drawn.
     fn has_side(&self, col: usize) -> bool
         requires { col ≤ self.now.shape.1 }
-        ensures { let view = look (all_writes self.now.cfg.now) self.now.shape (D.width_of self.now.dims.now) (D.height_of self.now.dims.now) in result ≡ view.down col }
+        ensures { let widths = D.width_of self.now.dims.now in
+            let heights = D.height_of self.now.dims.now in
+            let view = look (all_writes self.now.cfg.now) self.now.shape widths heights in
+            result ≡ view.down col }
     {
         self.sides[col]
     }
@@ -62,7 +68,10 @@ impl<D: Dimension> Frame<'_, D> {
     /// Writes the crossing of two lines, if the vertical one is drawn.
     fn push_crossing(&self, text: &mut String, row: usize, col: usize) -> Result<(), AllocError>
         requires { col ≤ self.now.shape.1 }
-        ensures written { let view = look (all_writes self.now.cfg.now) self.now.shape (D.width_of self.now.dims.now) (D.height_of self.now.dims.now) in OnOk result (string_bytes text.new ≡ string_bytes text.old ++ encode_utf8_all (map view.shown (crossing_at view.down (λ c. Place.Cross row c) col))) }
+        ensures written { let widths = D.width_of self.now.dims.now in
+            let heights = D.height_of self.now.dims.now in
+            let view = look (all_writes self.now.cfg.now) self.now.shape widths heights in
+            OnOk result (string_bytes text.new ≡ string_bytes text.old ++ encode_utf8_all (map view.shown (crossing_at view.down (λ c. Place.Cross row c) col))) }
         ensures kept { OnErr result (take (length (string_bytes text.old)) (string_bytes text.new) ≡ string_bytes text.old) }
     {
         if self.has_side(col) {
@@ -73,7 +82,10 @@ impl<D: Dimension> Frame<'_, D> {
 
     /// Writes the edge of a horizontal line over a column.
     fn push_edge(&self, text: &mut String, row: usize, col: usize) -> Result<(), AllocError>
-        ensures written { let view = look (all_writes self.now.cfg.now) self.now.shape (D.width_of self.now.dims.now) (D.height_of self.now.dims.now) in OnOk result (string_bytes text.new ≡ string_bytes text.old ++ encode_utf8_all (map view.shown (map (λ k. Place.Horizontal row col k) (below (D.width_of self.now.dims.now col))))) }
+        ensures written { let widths = D.width_of self.now.dims.now in
+            let heights = D.height_of self.now.dims.now in
+            let view = look (all_writes self.now.cfg.now) self.now.shape widths heights in
+            OnOk result (string_bytes text.new ≡ string_bytes text.old ++ encode_utf8_all (map view.shown (map (λ k. Place.Horizontal row col k) (below (widths col))))) }
         ensures kept { OnErr result (take (length (string_bytes text.old)) (string_bytes text.new) ≡ string_bytes text.old) }
     {
         for at in 0..self.dims.get_width(col) {
@@ -84,7 +96,10 @@ impl<D: Dimension> Frame<'_, D> {
 
     /// Writes a horizontal line.
     fn push_places(&self, text: &mut String, row: usize) -> Result<(), AllocError>
-        ensures written { let view = look (all_writes self.now.cfg.now) self.now.shape (D.width_of self.now.dims.now) (D.height_of self.now.dims.now) in OnOk result (string_bytes text.new ≡ string_bytes text.old ++ encode_utf8_all (map view.shown (along_line view.down (D.width_of self.now.dims.now) self.now.shape.1 (λ c. Place.Cross row c) (λ c k. Place.Horizontal row c k)))) }
+        ensures written { let widths = D.width_of self.now.dims.now in
+            let heights = D.height_of self.now.dims.now in
+            let view = look (all_writes self.now.cfg.now) self.now.shape widths heights in
+            OnOk result (string_bytes text.new ≡ string_bytes text.old ++ encode_utf8_all (map view.shown (along_line view.down widths self.now.shape.1 (λ c. Place.Cross row c) (λ c k. Place.Horizontal row c k)))) }
         ensures kept { OnErr result (take (length (string_bytes text.old)) (string_bytes text.new) ≡ string_bytes text.old) }
     {
         let (_, cols) = self.shape;
@@ -97,7 +112,10 @@ impl<D: Dimension> Frame<'_, D> {
 
     /// Writes a horizontal line and a line feed, if the line is drawn.
     fn push_line(&self, text: &mut String, row: usize) -> Result<(), AllocError>
-        ensures written { let view = look (all_writes self.now.cfg.now) self.now.shape (D.width_of self.now.dims.now) (D.height_of self.now.dims.now) in OnOk result (string_bytes text.new ≡ string_bytes text.old ++ flat_map (λ line. line ++ 10 ∷ []) (line_if_drawn view self.now.shape (D.width_of self.now.dims.now) (D.height_of self.now.dims.now) row)) }
+        ensures written { let widths = D.width_of self.now.dims.now in
+            let heights = D.height_of self.now.dims.now in
+            let view = look (all_writes self.now.cfg.now) self.now.shape widths heights in
+            OnOk result (string_bytes text.new ≡ string_bytes text.old ++ flat_map (λ line. line ++ 10 ∷ []) (line_if_drawn view self.now.shape widths heights row)) }
         ensures kept { OnErr result (take (length (string_bytes text.old)) (string_bytes text.new) ≡ string_bytes text.old) }
     {
         let (rows, _) = self.shape;
@@ -117,7 +135,10 @@ impl<D: Dimension> Frame<'_, D> {
         at: usize,
     ) -> Result<(), AllocError>
         requires { col ≤ self.now.shape.1 }
-        ensures written { let view = look (all_writes self.now.cfg.now) self.now.shape (D.width_of self.now.dims.now) (D.height_of self.now.dims.now) in OnOk result (string_bytes text.new ≡ string_bytes text.old ++ encode_utf8_all (side_characters view self.now.shape (D.width_of self.now.dims.now) (D.height_of self.now.dims.now) row at col)) }
+        ensures written { let widths = D.width_of self.now.dims.now in
+            let heights = D.height_of self.now.dims.now in
+            let view = look (all_writes self.now.cfg.now) self.now.shape widths heights in
+            OnOk result (string_bytes text.new ≡ string_bytes text.old ++ encode_utf8_all (side_characters view self.now.shape widths heights row at col)) }
         ensures kept { OnErr result (take (length (string_bytes text.old)) (string_bytes text.new) ≡ string_bytes text.old) }
     {
         if self.has_side(col) {
@@ -135,7 +156,10 @@ impl<D: Dimension> Frame<'_, D> {
         at: usize,
     ) -> Result<(), AllocError>
         requires { length cells.now ≡ self.now.shape.1 }
-        ensures written { let view = look (all_writes self.now.cfg.now) self.now.shape (D.width_of self.now.dims.now) (D.height_of self.now.dims.now) in OnOk result (string_bytes text.new ≡ string_bytes text.old ++ cell_line view self.now.shape (D.width_of self.now.dims.now) (D.height_of self.now.dims.now) row (map string_bytes cells.now) at) }
+        ensures written { let widths = D.width_of self.now.dims.now in
+            let heights = D.height_of self.now.dims.now in
+            let view = look (all_writes self.now.cfg.now) self.now.shape widths heights in
+            OnOk result (string_bytes text.new ≡ string_bytes text.old ++ cell_line view self.now.shape widths heights row (map string_bytes cells.now) at) }
         ensures kept { OnErr result (take (length (string_bytes text.old)) (string_bytes text.new) ≡ string_bytes text.old) }
     {
         let (_, cols) = self.shape;
@@ -149,7 +173,10 @@ impl<D: Dimension> Frame<'_, D> {
     /// Writes the lines of text of a row, each with a line feed.
     fn push_row(&self, text: &mut String, row: usize, cells: &[String]) -> Result<(), AllocError>
         requires { length cells.now ≡ self.now.shape.1 }
-        ensures written { let view = look (all_writes self.now.cfg.now) self.now.shape (D.width_of self.now.dims.now) (D.height_of self.now.dims.now) in OnOk result (string_bytes text.new ≡ string_bytes text.old ++ flat_map (λ line. line ++ 10 ∷ []) (map (cell_line view self.now.shape (D.width_of self.now.dims.now) (D.height_of self.now.dims.now) row (map string_bytes cells.now)) (below (D.height_of self.now.dims.now row)))) }
+        ensures written { let widths = D.width_of self.now.dims.now in
+            let heights = D.height_of self.now.dims.now in
+            let view = look (all_writes self.now.cfg.now) self.now.shape widths heights in
+            OnOk result (string_bytes text.new ≡ string_bytes text.old ++ flat_map (λ line. line ++ 10 ∷ []) (map (cell_line view self.now.shape widths heights row (map string_bytes cells.now)) (below (heights row)))) }
         ensures kept { OnErr result (take (length (string_bytes text.old)) (string_bytes text.new) ≡ string_bytes text.old) }
     {
         for at in 0..self.dims.get_height(row) {
@@ -163,7 +190,10 @@ impl<D: Dimension> Frame<'_, D> {
     fn push_table(&self, text: &mut String, cells: &[Vec<String>]) -> Result<(), AllocError>
         requires rows { length cells.now ≡ self.now.shape.0 }
         requires cols { All (λ row. length row ≡ self.now.shape.1) (texts cells.now) }
-        ensures written { let view = look (all_writes self.now.cfg.now) self.now.shape (D.width_of self.now.dims.now) (D.height_of self.now.dims.now) in OnOk result (string_bytes text.new ≡ string_bytes text.old ++ flat_map (λ line. line ++ 10 ∷ []) (text_lines view self.now.shape (D.width_of self.now.dims.now) (D.height_of self.now.dims.now) (texts cells.now))) }
+        ensures written { let widths = D.width_of self.now.dims.now in
+            let heights = D.height_of self.now.dims.now in
+            let view = look (all_writes self.now.cfg.now) self.now.shape widths heights in
+            OnOk result (string_bytes text.new ≡ string_bytes text.old ++ flat_map (λ line. line ++ 10 ∷ []) (text_lines view self.now.shape widths heights (texts cells.now))) }
         ensures kept { OnErr result (take (length (string_bytes text.old)) (string_bytes text.new) ≡ string_bytes text.old) }
     {
         let (rows, _) = self.shape;
@@ -204,7 +234,10 @@ fn push_lines<D: Dimension>(
 ) -> Result<(), OutOfMemory>
     requires rows { length cells.now ≡ shape.0 }
     requires cols { All (λ row. length row ≡ shape.1) (texts cells.now) }
-    ensures written { OnOk result (string_bytes text.new ≡ string_bytes text.old ++ flat_map (λ line. line ++ 10 ∷ []) (text_lines (look (all_writes cfg.now) shape (D.width_of dims.now) (D.height_of dims.now)) shape (D.width_of dims.now) (D.height_of dims.now) (texts cells.now))) }
+    ensures written { let widths = D.width_of dims.now in
+        let heights = D.height_of dims.now in
+        let view = look (all_writes cfg.now) shape widths heights in
+        OnOk result (string_bytes text.new ≡ string_bytes text.old ++ flat_map (λ line. line ++ 10 ∷ []) (text_lines view shape widths heights (texts cells.now))) }
     ensures kept { OnErr result (take (length (string_bytes text.old)) (string_bytes text.new) ≡ string_bytes text.old) }
 {
     let (rows, cols) = shape;
