@@ -1,1 +1,4 @@
 pub mod ConfigurationLemmas
+pub mod FaultLemmas
+pub mod LookLemmas
+pub mod TextLemmas

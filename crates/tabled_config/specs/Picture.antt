@@ -1,5 +1,5 @@
 -- The picture of a table and its text.
-use Rattle.std.specs.Prelude.{ℕ, Bool, ◌==◌, if◌then◌else◌, List, [], ◌∷◌, ◌++◌, map, unwrap_or, slice_index_or, encode_utf8, encode_utf8_all}
+use Rattle.std.specs.Prelude.{ℕ, Bool, if◌then◌else◌, List, [], ◌∷◌, ◌++◌, map, unwrap_or, slice_index_or, encode_utf8_all}
 use Rattle.std.specs.List.{flat_map, join_with_byte}
 use Rattle.tabled_grid.specs.declared.place.Place.{Place}
 use Rattle.tabled_grid.specs.declared.place.LineOf.{LineOf}

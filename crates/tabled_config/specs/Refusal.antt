@@ -1,5 +1,5 @@
 -- Why a table is not printed.
-use Rattle.std.specs.Prelude.{ℕ, Bool, not, ◌==◌, ◌||◌, if◌then◌else◌, Option, List, [], ◌∷◌, ◌++◌, length, slice_get}
+use Rattle.std.specs.Prelude.{ℕ, Bool, ◌==◌, ◌||◌, if◌then◌else◌, Option, List, [], ◌∷◌, ◌++◌, length, slice_get}
 use Rattle.std.specs.List.{flat_map, list_all, enumerate_from}
 use Rattle.tabled_config.specs.declared.print_error.PrintError.{PrintError}
 use Rattle.tabled_config.specs.Texts.{Table, pieces, width_of_text}

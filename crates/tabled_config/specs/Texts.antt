@@ -10,6 +10,10 @@ use Rattle.unicode_width.specs.Width.{str_width}
 abbrev pub Table : Type 0
 Table = List (List (List ℕ))
 
+-- the bytes of each cell of rows of texts
+abbrev pub texts : {Z W : Type 0} → List (Vec (String Z) W) → Table
+texts rows = map (λ row. map string_bytes row.items) rows
+
 -- the pieces of a text between its line feeds, one more than there are line feeds
 abbrev pub pieces : List ℕ → List (List ℕ)
 pieces text = slice_split (λ byte. byte == 10) text

@@ -6,12 +6,15 @@
 mod colored_config;
 mod examples;
 mod laws;
+mod print;
 mod print_error;
+mod refusals;
 mod spanned_config;
 mod table_option;
 
 pub use colored_config::ColoredConfig;
 pub use laws::{changes_in_a_row, shown_after_change, shows_its_writes};
+pub use print::print_plain;
 pub use print_error::PrintError;
 pub use spanned_config::SpannedConfig;
 pub use table_option::TableOption;

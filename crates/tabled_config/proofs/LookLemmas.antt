@@ -1,0 +1,68 @@
+-- How a table looks, by what its configuration answers.
+use Rattle.std.proofs.Common.{◌≡◌, ℕ, ◌+◌, ◌≤◌, ◌<◌, Bool, Option, unwrap_or, List, [], ◌∷◌, ◌++◌, length, get_or, map, refl, sym, ap, ◌∙◌, IsTrue, ◌↔◌, arith}
+use Rattle.std.proofs.lemmas.List.FromFn.{length-map-range_with_len, get_or-map-range_with_len, map-range_with_len_more}
+use Rattle.tabled_grid.specs.declared.place.Place.{Place}
+use Rattle.tabled_grid.specs.declared.place.LineOf.{LineOf}
+use Rattle.tabled_grid.specs.Site.{Site}
+use Rattle.tabled_grid.specs.Event.{Written, kept}
+use Rattle.tabled_grid.specs.Value.{value}
+use Rattle.tabled_grid.specs.Drawn.{drawn, Drawn}
+use Rattle.tabled_grid.specs.Keeping.{keeps}
+use Rattle.tabled_grid.proofs.DrawnLemmas.{drawn-answer, Drawn-drawn, kept-shown, value-shown}
+use Rattle.tabled_config.specs.Configuration.{Configuration, ConfigEvent, characters_of, Shows, all_writes}
+use Rattle.tabled_config.specs.Along.{below}
+use Rattle.tabled_config.specs.Picture.{look, edge_size}
+use Rattle.tabled_config.proofs.ConfigurationLemmas.{Shows-all_writes}
+
+-- what the configuration answers of a line is how the table looks
+pub own_across : (cfg : Configuration) (shape : ℕ × ℕ) (widths heights : ℕ → ℕ) (line : ℕ) (answer : Bool) → IsTrue answer ↔ Drawn (keeps cfg.characters) shape.0 (LineOf.Horizontal line) → answer ≡ (look (all_writes cfg) shape widths heights).across line
+unfolding look
+own_across cfg shape widths heights line answer says =
+    drawn-answer (characters_of (all_writes cfg)) (keeps cfg.characters) shape.0 (LineOf.Horizontal line) answer (Shows-all_writes cfg).characters_shown says
+
+pub own_drawn : (cfg : Configuration) (count : ℕ) (line : LineOf) (answer : Bool) → IsTrue answer ↔ Drawn (keeps cfg.characters) count line → answer ≡ drawn (characters_of (all_writes cfg)) count line
+own_drawn cfg count line answer says =
+    drawn-answer (characters_of (all_writes cfg)) (keeps cfg.characters) count line answer (Shows-all_writes cfg).characters_shown says
+
+pub own_down : (cfg : Configuration) (shape : ℕ × ℕ) (widths heights : ℕ → ℕ) → (look (all_writes cfg) shape widths heights).down ≡ (λ c. drawn (characters_of (all_writes cfg)) shape.1 (LineOf.Vertical c))
+unfolding look
+own_down cfg shape widths heights = refl
+
+-- what it answers of a place too
+pub own_shown : (cfg : Configuration) (shape : ℕ × ℕ) (widths heights : ℕ → ℕ) (place : Place) (size : ℕ) (found : Option ℕ) → size ≡ edge_size widths heights place → found ≡ value (keeps cfg.characters) shape size place → unwrap_or found 32 ≡ (look (all_writes cfg) shape widths heights).shown place
+unfolding look
+own_shown cfg shape widths heights place size found sized is =
+    ap (λ o. unwrap_or o 32)
+    (is ∙ ap (λ s. value (keeps cfg.characters) shape s place) sized
+    ∙ value-shown (characters_of (all_writes cfg)) (keeps cfg.characters) shape (edge_size widths heights place) place (Shows-all_writes cfg).characters_shown)
+
+-- the lines that are drawn, listed
+pub listed_within : {X : Type 0} (f : ℕ → X) (xs : List X) (n k : ℕ) → xs ≡ map f (below (n + 1)) → k ≤ n → k < length xs
+listed_within f xs n k e h = let l : length xs ≡ n + 1 = ap length e ∙ length-map-range_with_len f 0 (n + 1) in omega arith
+
+pub listed_at : {X : Type 0} (f : ℕ → X) (xs : List X) (n k : ℕ) (d : X) → xs ≡ map f (below (n + 1)) → k ≤ n → get_or xs k d ≡ f k
+listed_at f xs n k d e h = ap (λ l. get_or l k d) e ∙ get_or-map-range_with_len f 0 (n + 1) k k d (omega arith) (omega arith)
+
+-- one more line is listed
+pub listed_more : (cfg : Configuration) (cols n m : ℕ) (answer : Bool) (before after : List Bool) → m ≡ n → before ≡ map (λ c. drawn (characters_of (all_writes cfg)) cols (LineOf.Vertical c)) (below m) → IsTrue answer ↔ Drawn (keeps cfg.characters) cols (LineOf.Vertical n) → after ≡ before ++ answer ∷ [] → after ≡ map (λ c. drawn (characters_of (all_writes cfg)) cols (LineOf.Vertical c)) (below (n + 1))
+listed_more cfg cols n m answer before after same listed says pushed =
+    let line : ℕ → Bool = λ c. drawn (characters_of (all_writes cfg)) cols (LineOf.Vertical c) in
+    pushed ∙ ap (λ xs. xs ++ answer ∷ []) (listed ∙ ap (λ k. map line (below k)) same)
+    ∙ ap (λ b. map line (below n) ++ b ∷ []) (own_drawn cfg cols (LineOf.Vertical n) answer says)
+    ∙ sym (map-range_with_len_more line 0 n n (omega arith))
+
+-- two lists of events that a configuration shows give one look
+pub same_look : (cfg : Configuration) (es fs : List ConfigEvent) (shape : ℕ × ℕ) (widths heights : ℕ → ℕ) → Shows es cfg → Shows fs cfg → look es shape widths heights ≡ look fs shape widths heights
+unfolding look
+same_look cfg es fs shape widths heights by with =
+    let keep : Site → Option (Written ℕ) = keeps cfg.characters in
+    let same_kept : kept (characters_of es) ≡ kept (characters_of fs) = sym (kept-shown (characters_of es) keep by.characters_shown) ∙ kept-shown (characters_of fs) keep with.characters_shown in
+    let same_drawn : (count : ℕ) (line : LineOf) → drawn (characters_of es) count line ≡ drawn (characters_of fs) count line =
+    λ count line.
+    let there = Drawn-drawn (characters_of es) keep count line by.characters_shown in
+    drawn-answer (characters_of fs) keep count line (drawn (characters_of es) count line) with.characters_shown (there.1, there.0) in
+    λ i. record {
+      across = λ r. same_drawn shape.0 (LineOf.Horizontal r) i;
+      down = λ c. same_drawn shape.1 (LineOf.Vertical c) i;
+      shown = λ place. unwrap_or (value (same_kept i) shape (edge_size widths heights place) place) 32;
+    }

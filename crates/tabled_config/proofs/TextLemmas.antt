@@ -1,0 +1,201 @@
+-- The bytes of a text, written part by part.
+use Rattle.std.proofs.Common.{◌≡◌, ℕ, ◌+◌, ◌-◌, ◌<◌, ◌≤◌, Bool, true, false, cond, List, [], ◌∷◌, ◌++◌, length, take, map, refl, sym, ap, subst, ◌∙◌, arith, lit<, if◌then◌else◌, get_or, encode_utf8, encode_utf8_all, Result, Ok, Err, OnOk, OnErr, is_err, rules, String, string_len, Vec, string_bytes}
+use Rattle.std.specs.List.{flat_map, join_with_byte}
+use Rattle.std.proofs.lemmas.List.{append-nil, append_assoc, map-append, take_at, take_all, length-append, take-take, get_or-map, get_or_at}
+use Rattle.std.proofs.lemmas.List.Concat.{flat_map-append}
+use Rattle.std.proofs.lemmas.List.FromFn.{map-range_with_len_more}
+use Rattle.std.proofs.lemmas.Str.{encodes-append, encode_ascii, IsCharBoundary-from_take, IsUtf8-string_bytes}
+use Rattle.std.specs.Str.{IsUtf8}
+use Rattle.std.specs.String.Boundary.{IsSplitPoint}
+use Rattle.std.proofs.lemmas.Result.{on_ok_weaker}
+use Rattle.tabled_grid.specs.declared.place.Place.{Place}
+use Rattle.tabled_grid.specs.declared.place.LineOf.{LineOf}
+use Rattle.tabled_config.specs.Texts.{texts}
+use Rattle.tabled_config.specs.Along.{below, is_empty, along, along_line}
+
+-- the numbers below n + 1 are those below n, and n
+pub below_push : (n : ℕ) → below (n + 1) ≡ below n ++ n ∷ []
+below_push n = sym (map_same (below (n + 1))) ∙ map-range_with_len_more (λ k. k) 0 n n (omega arith) ∙ ap (λ xs. xs ++ n ∷ []) (map_same (below n))
+  where
+    map_same : (xs : List ℕ) → map (λ k. k) xs ≡ xs
+    map_same [] = refl
+    map_same (x ∷ xs) = ap (λ ys. x ∷ ys) (map_same xs)
+
+pub flat_map_below : {A : Type 0} (f : ℕ → List A) (n : ℕ) → flat_map f (below (n + 1)) ≡ flat_map f (below n) ++ f n
+flat_map_below f n = ap (flat_map f) (below_push n) ∙ flat_map-append f (below n) (n ∷ []) ∙ ap (λ xs. flat_map f (below n) ++ xs) (append-nil (f n))
+
+-- the bytes of characters that are shown one after another
+pub shown_append : {X : Type 0} (f : X → ℕ) (xs ys : List X) → encode_utf8_all (map f (xs ++ ys)) ≡ encode_utf8_all (map f xs) ++ encode_utf8_all (map f ys)
+shown_append f xs ys = ap encode_utf8_all (map-append f xs ys) ∙ encodes-append (map f xs) (map f ys)
+
+pub shown_one : (c : ℕ) → encode_utf8_all (c ∷ []) ≡ encode_utf8 c
+shown_one c = append-nil (encode_utf8 c)
+
+-- one more place of an edge
+pub edge_more : {X : Type 0} (f : X → ℕ) (place : ℕ → X) (n : ℕ) → encode_utf8_all (map f (map place (below (n + 1)))) ≡ encode_utf8_all (map f (map place (below n))) ++ encode_utf8 (f (place n))
+edge_more f place n =
+    ap (λ ps. encode_utf8_all (map f ps)) (map-range_with_len_more place 0 n n (omega arith))
+    ∙ shown_append f (map place (below n)) (place n ∷ [])
+    ∙ ap (λ bs. encode_utf8_all (map f (map place (below n))) ++ bs) (shown_one (f (place n)))
+
+-- one more crossing and edge of a line
+pub line_more : {X : Type 0} (f : X → ℕ) (crossing edge : ℕ → List X) (n : ℕ) → encode_utf8_all (map f (flat_map (λ k. crossing k ++ edge k) (below (n + 1)))) ≡ encode_utf8_all (map f (flat_map (λ k. crossing k ++ edge k) (below n))) ++ (encode_utf8_all (map f (crossing n)) ++ encode_utf8_all (map f (edge n)))
+line_more f crossing edge n =
+    ap (λ ps. encode_utf8_all (map f ps)) (flat_map_below (λ k. crossing k ++ edge k) n)
+    ∙ shown_append f (flat_map (λ k. crossing k ++ edge k) (below n)) (crossing n ++ edge n)
+    ∙ ap (λ bs. encode_utf8_all (map f (flat_map (λ k. crossing k ++ edge k) (below n))) ++ bs) (shown_append f (crossing n) (edge n))
+
+-- the closing crossing
+pub line_closed : {X : Type 0} (f : X → ℕ) (step : ℕ → List X) (close : List X) (n count : ℕ) → n ≡ count → encode_utf8_all (map f (flat_map step (below count) ++ close)) ≡ encode_utf8_all (map f (flat_map step (below n))) ++ encode_utf8_all (map f close)
+line_closed f step close n count e =
+    shown_append f (flat_map step (below count)) close
+    ∙ ap (λ m. encode_utf8_all (map f (flat_map step (below m))) ++ encode_utf8_all (map f close)) (sym e)
+
+-- a horizontal line of a table that has places
+pub along_any : (f : Place → ℕ) (across down : ℕ → Bool) (shape : ℕ × ℕ) (widths heights : ℕ → ℕ) (r : ℕ) → is_empty shape ≡ false → encode_utf8_all (map f (along across down shape widths heights (LineOf.Horizontal r))) ≡ encode_utf8_all (map f (along_line down widths shape.1 (λ c. Place.Cross r c) (λ c k. Place.Horizontal r c k)))
+along_any f across down shape widths heights r any =
+    ap (λ b. encode_utf8_all (map f (cond b [] (along_line down widths shape.1 (λ c. Place.Cross r c) (λ c k. Place.Horizontal r c k))))) any
+
+-- a line feed is one byte
+pub line_fed : (middle end : List ℕ) → end ≡ middle ++ encode_utf8 10 → end ≡ middle ++ 10 ∷ []
+line_fed middle end e = e ∙ ap (λ bs. middle ++ bs) (encode_ascii 10 (lit< tt))
+
+-- a line with the line feed that ends it
+abbrev pub ended : List ℕ → List ℕ
+ended line = line ++ 10 ∷ []
+
+pub line_drawn : (b : Bool) (line start middle end places : List ℕ) → b ≡ true → line ≡ places → middle ≡ start ++ places → end ≡ middle ++ 10 ∷ [] → end ≡ start ++ flat_map ended (if b then line ∷ [] else [])
+line_drawn b line start middle end places is e p q =
+    q ∙ ap (λ bs. bs ++ 10 ∷ []) (p ∙ ap (λ bs. start ++ bs) (sym e)) ∙ append_assoc start line (10 ∷ [])
+    ∙ ap (λ bs. start ++ bs) (sym (append-nil (ended line)))
+    ∙ ap (λ c. start ++ flat_map ended (if c then line ∷ [] else [])) (sym is)
+
+pub line_not_drawn : (b : Bool) (line start : List ℕ) → b ≡ false → start ≡ start ++ flat_map ended (if b then line ∷ [] else [])
+line_not_drawn b line start is = sym (append-nil start) ∙ ap (λ c. start ++ flat_map ended (if c then line ∷ [] else [])) (sym is)
+
+-- one more side and piece of a line of text
+pub piece_more : (f : ℕ → List ℕ) (n : ℕ) (side piece : List ℕ) → f n ≡ side ++ piece → flat_map f (below (n + 1)) ≡ flat_map f (below n) ++ (side ++ piece)
+piece_more f n side piece e = flat_map_below f n ∙ ap (λ bs. flat_map f (below n) ++ bs) e
+
+-- one more line of a row
+pub ended_more : (line : ℕ → List ℕ) (n : ℕ) → flat_map ended (map line (below (n + 1))) ≡ flat_map ended (map line (below n)) ++ (line n ++ 10 ∷ [])
+ended_more line n =
+    ap (flat_map ended) (map-range_with_len_more line 0 n n (omega arith))
+    ∙ flat_map-append ended (map line (below n)) (line n ∷ [])
+    ∙ ap (λ bs. flat_map ended (map line (below n)) ++ bs) (append-nil (ended (line n)))
+
+-- the lines of one more row
+pub rows_more : (line lines : ℕ → List (List ℕ)) (n : ℕ) → flat_map ended (flat_map (λ r. line r ++ lines r) (below (n + 1))) ≡ flat_map ended (flat_map (λ r. line r ++ lines r) (below n)) ++ (flat_map ended (line n) ++ flat_map ended (lines n))
+rows_more line lines n =
+    ap (flat_map ended) (flat_map_below (λ r. line r ++ lines r) n)
+    ∙ flat_map-append ended (flat_map (λ r. line r ++ lines r) (below n)) (line n ++ lines n)
+    ∙ ap (λ bs. flat_map ended (flat_map (λ r. line r ++ lines r) (below n)) ++ bs) (flat_map-append ended (line n) (lines n))
+
+-- the closing line
+pub rows_closed : (e : Bool) (step : ℕ → List (List ℕ)) (close : List (List ℕ)) (n count : ℕ) → e ≡ false → n ≡ count → flat_map ended (if e then [] else flat_map step (below count) ++ close) ≡ flat_map ended (flat_map step (below n)) ++ flat_map ended close
+rows_closed e step close n count is same =
+    ap (λ b. flat_map ended (if b then [] else flat_map step (below count) ++ close)) is
+    ∙ flat_map-append ended (flat_map step (below count)) close
+    ∙ ap (λ m. flat_map ended (flat_map step (below m)) ++ flat_map ended close) (sym same)
+
+-- the texts of the row at a place
+pub texts_at : {Z W : Type 0} (cells : List (Vec (String Z) W)) (r : ℕ) (row : Vec (String Z) W) (items : List (String Z)) → r < length cells → row ≡ get_or cells r row → items ≡ row.items → get_or (texts cells) r [] ≡ map string_bytes items
+texts_at cells r row items within read same =
+    get_or-map (λ v. map string_bytes v.items) cells r row [] within ∙ ap (λ v. map string_bytes v.items) (sym read) ∙ ap (map string_bytes) (sym same)
+
+-- what was there at first is there where a later call kept what it found
+pub kept_after : (start more middle end : List ℕ) → middle ≡ start ++ more → take (length middle) end ≡ middle → take (length start) end ≡ start
+kept_after start more middle end e h =
+    let longer : length start ≤ length middle = omega (arith, length-append start more, ap length e) in
+    sym (take-take (length start) (length middle) end longer) ∙ ap (take (length start)) (h ∙ e) ∙ take_at start more (length start) refl
+
+pub kept_all : (start end : List ℕ) → end ≡ start → take (length start) end ≡ start
+kept_all start end e = ap (take (length start)) e ∙ take_all (length start) start (omega arith)
+
+-- parts that were written in turn are one part
+pub written_both : (start first second third x y z w : List ℕ) → first ≡ start ++ x → second ≡ first ++ y → third ≡ second ++ z → w ≡ x ++ (y ++ z) → third ≡ start ++ w
+written_both start first second third x y z w p q r e =
+    r ∙ ap (λ bs. bs ++ z) (q ∙ ap (λ bs. bs ++ y) p)
+    ∙ append_assoc (start ++ x) y z ∙ append_assoc start x (y ++ z) ∙ ap (λ bs. start ++ bs) (sym e)
+
+pub written_last : {T E : Type 0} (r : Result T E) (start first second x y w : List ℕ) → first ≡ start ++ x → w ≡ x ++ y → OnOk r (second ≡ first ++ y) → OnOk r (second ≡ start ++ w)
+written_last r start first second x y w p e =
+    on_ok_weaker r (λ q. q ∙ ap (λ bs. bs ++ y) p ∙ append_assoc start x y ∙ ap (λ bs. start ++ bs) (sym e))
+
+-- lines that each end in a line feed are the joined lines and one line feed
+ended_joined : (line : List ℕ) (lines : List (List ℕ)) → flat_map ended (line ∷ lines) ≡ join_with_byte 10 (line ∷ lines) ++ 10 ∷ []
+ended_joined line [] = append-nil (ended line)
+ended_joined line (next ∷ more) =
+    ap (λ bs. ended line ++ bs) (ended_joined next more)
+    ∙ append_assoc line (10 ∷ []) (join_with_byte 10 (next ∷ more) ++ 10 ∷ [])
+    ∙ sym (append_assoc line (10 ∷ join_with_byte 10 (next ∷ more)) (10 ∷ []))
+
+-- a text that such lines lengthened ends in a line feed, and without it the lines are joined
+pub ends_joined : (start end : List ℕ) (lines : List (List ℕ)) → end ≡ start ++ flat_map ended lines → length start < length end → end ≡ (start ++ join_with_byte 10 lines) ++ 10 ∷ []
+ends_joined start end [] e h = absurd (let l : length end ≡ length start = ap length (e ∙ append-nil start) in omega arith)
+ends_joined start end (line ∷ lines) e h = e ∙ ap (λ bs. start ++ bs) (ended_joined line lines) ∙ sym (append_assoc start (join_with_byte 10 (line ∷ lines)) (10 ∷ []))
+
+pub cut_joined : (start end : List ℕ) (lines : List (List ℕ)) → end ≡ start ++ flat_map ended lines → length start < length end → take (length end - 1) end ≡ start ++ join_with_byte 10 lines
+cut_joined start end lines e h =
+    let whole = ends_joined start end lines e h in
+    let l : length (start ++ join_with_byte 10 lines) ≡ length end - 1 = omega (arith, ap length whole, length-append (start ++ join_with_byte 10 lines) (10 ∷ [])) in
+    ap (take (length end - 1)) whole ∙ take_at (start ++ join_with_byte 10 lines) (10 ∷ []) (length end - 1) l
+
+-- no line was written
+pub none_joined : (start end : List ℕ) (lines : List (List ℕ)) → end ≡ start ++ flat_map ended lines → length end ≤ length start → end ≡ start ++ join_with_byte 10 lines
+none_joined start end [] e h = e
+none_joined start end (line ∷ lines) e h =
+    absurd (let l = ap length e in omega (arith, l, length-append start (flat_map ended (line ∷ lines)), length-append (ended line) (flat_map ended lines), length-append line (10 ∷ [])))
+
+-- such a text may be cut before its last line feed
+pub cut_at_end : (start end : List ℕ) (lines : List (List ℕ)) → end ≡ start ++ flat_map ended lines → length start < length end → IsSplitPoint end (length end - 1)
+cut_at_end start end lines e h =
+    let whole = ends_joined start end lines e h in
+    let l : length (start ++ join_with_byte 10 lines) ≡ length end - 1 = omega (arith, ap length whole, length-append (start ++ join_with_byte 10 lines) (10 ∷ [])) in
+    let last : get_or end (length end - 1) 0 ≡ 10 = ap (λ bs. get_or bs (length end - 1) 0) whole ∙ get_or_at (start ++ join_with_byte 10 lines) 10 [] 0 (length end - 1) l in
+    (omega arith, λ _ _ large. absurd (omega (arith, last, large)))
+
+-- a text may be cut where a text once ended that it keeps
+pub cut_at_start : {Z : Type 0} (old new : String Z) (n : ℕ) → n ≡ length (string_bytes old) → take (length (string_bytes old)) (string_bytes new) ≡ string_bytes old → n ≤ length (string_bytes new) → IsSplitPoint (string_bytes new) n
+cut_at_start old new n same kept within =
+    let boundary = IsCharBoundary-from_take (string_bytes new) n (IsUtf8-string_bytes new) within
+    (subst IsUtf8 (sym (ap (λ k. take k (string_bytes new)) same ∙ kept)) (IsUtf8-string_bytes old)) in
+    (boundary.0, λ _ inside large. boundary.1 inside large)
+
+-- what a call that may be refused says of its answer
+pub where_ok : {T E P : Type 0} (r : Result T E) → is_err r ≡ false → OnOk r P → P
+where_ok (Ok x) e p = p
+where_ok (Err y) e p = absurd cc
+
+pub where_err : {T E P : Type 0} (r : Result T E) → is_err r ≡ true → OnErr r P → P
+where_err (Ok x) e p = absurd cc
+where_err (Err y) e p = p
+
+pub string_len-is : {Z : Type 0} (text : String Z) → string_len text ≡ length (string_bytes text)
+string_len-is text = search rules
+
+-- the same of two states of a text, by their lengths
+module _ {Z : Type 0} (old new : String Z) (n m : ℕ) (lines : List (List ℕ)) where
+  pub text_cut_at_end : n ≡ string_len old → m ≡ string_len new → n < m → string_bytes new ≡ string_bytes old ++ flat_map ended lines → IsSplitPoint (string_bytes new) (m - 1)
+  text_cut_at_end p q h e =
+      let k : m ≡ length (string_bytes new) = q ∙ string_len-is new in
+      let l : n ≡ length (string_bytes old) = p ∙ string_len-is old in
+      let longer : length (string_bytes old) < length (string_bytes new) = omega arith in
+      subst (λ j. IsSplitPoint (string_bytes new) (j - 1)) (sym k) (cut_at_end (string_bytes old) (string_bytes new) lines e longer)
+
+  pub text_cut_joined : n ≡ string_len old → m ≡ string_len new → n < m → string_bytes new ≡ string_bytes old ++ flat_map ended lines → take (m - 1) (string_bytes new) ≡ string_bytes old ++ join_with_byte 10 lines
+  text_cut_joined p q h e =
+      let k : m ≡ length (string_bytes new) = q ∙ string_len-is new in
+      let l : n ≡ length (string_bytes old) = p ∙ string_len-is old in
+      let longer : length (string_bytes old) < length (string_bytes new) = omega arith in
+      ap (λ j. take (j - 1) (string_bytes new)) k ∙ cut_joined (string_bytes old) (string_bytes new) lines e longer
+
+  pub text_none_joined : n ≡ string_len old → m ≡ string_len new → m ≤ n → string_bytes new ≡ string_bytes old ++ flat_map ended lines → string_bytes new ≡ string_bytes old ++ join_with_byte 10 lines
+  text_none_joined p q h e =
+      let k : m ≡ length (string_bytes new) = q ∙ string_len-is new in
+      let l : n ≡ length (string_bytes old) = p ∙ string_len-is old in
+      let no_longer : length (string_bytes new) ≤ length (string_bytes old) = omega arith in
+      none_joined (string_bytes old) (string_bytes new) lines e no_longer
+
+-- what writes a text in parts
+pub ruleset writing = (append_assoc, append-nil, kept_after, kept_all, shown_one, edge_more, line_more)
