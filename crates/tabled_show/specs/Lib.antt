@@ -1,0 +1,4 @@
+pub mod Input
+pub mod Refusal
+pub mod Style
+pub mod Table
