@@ -1,11 +1,12 @@
 -- The faults of an input, by the tests that the code makes.
-use Rattle.std.proofs.Common.{◌≡◌, ℕ, ◌≤◌, Bool, true, false, not, cond, ltb, List, length, Option, Some, None, refl, ap, ◌∙◌}
+use Rattle.std.proofs.Common.{sym, ◌≡◌, ℕ, ◌<◌, ◌≤◌, Bool, true, false, not, cond, ltb, List, length, Option, Some, None, Result, Ok, Err, IsErrAnd, IfSome, ◌⊎◌, inl, inr, ◌≢◌, refl, ap, ◌∙◌}
 use Rattle.std.specs.List.{list_all}
-use Rattle.std.proofs.lemmas.Bool.{le-ltb}
+use Rattle.std.proofs.lemmas.Bool.{le-ltb, lt-ltb}
 use Rattle.tabled_show.specs.Input.{is_allowed, rows_of, have_equal_counts, fault_of}
+use Rattle.tabled_show.specs.Refusal.{status_of, exit_status, answer_of}
 use Rattle.tabled_show.specs.declared.read.TheConstants.{INPUT_LIMIT}
 use Rattle.tabled_show.specs.declared.error.ShowError.{ShowError}
-use Rattle.tabled_show.specs.declared.error.ShowError.TheVariants.{TooLong, ByteOutOfRange, UnequalRows}
+use Rattle.tabled_show.specs.declared.error.ShowError.TheVariants.{ReadFailed, OutOfMemory, TooLong, ByteOutOfRange, UnequalRows}
 
 -- the first fault, by the three tests
 first_of_three : Bool → Bool → Bool → Option ShowError
@@ -36,3 +37,18 @@ pub fault_of-none : (input : List ℕ) → length input ≤ INPUT_LIMIT → list
     → fault_of input ≡ None
 unfolding first_of_three
 fault_of-none input room bytes counts = by_tests input false true true (within input room) bytes counts
+
+pub fault_of-long : (input : List ℕ) → INPUT_LIMIT < length input → fault_of input ≡ Some TooLong
+unfolding first_of_three
+fault_of-long input long = by_tests input true _ _ (lt-ltb INPUT_LIMIT (length input) long) refl refl
+
+-- where reading was refused, and not with the status of a failure, the input is too long
+pub reading_refused : (known : Option (List ℕ)) (e : ShowError) (r : Result (Unit {0}) ShowError) → IsErrAnd r (λ y. y ≡ e)
+    → (e ≡ ReadFailed) ⊎ ((e ≡ TooLong) ⊎ (e ≡ OutOfMemory)) → (e ≡ TooLong → IfSome known (λ bytes. INPUT_LIMIT < length bytes))
+    → exit_status r ≢ 1 → IfSome known (λ bytes. r ≡ answer_of (fault_of bytes))
+reading_refused known e (Ok x) is kinds long status = absurd is
+reading_refused known e (Err y) is (inl failed) long status = absurd (status (ap status_of (is ∙ failed)))
+reading_refused known e (Err y) is (inr (inr refused)) long status = absurd (status (ap status_of (is ∙ refused)))
+reading_refused None e (Err y) is (inr (inl too_long)) long status = tt
+reading_refused (Some bytes) e (Err y) is (inr (inl too_long)) long status =
+    ap (λ refusal. Err refusal) (is ∙ too_long) ∙ sym (ap answer_of (fault_of-long bytes (long too_long)))

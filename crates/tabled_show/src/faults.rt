@@ -1,8 +1,8 @@
 //! What an input is tested for before anything is shown of it.
 
-ghost use Rattle.std.specs.Prelude.{◌≡◌, ◌≤◌, length, OnOk};
-ghost use Rattle.std.specs.Str.{IsAscii};
-ghost use Rattle.tabled_show.specs.Input.{fault_of};
+ghost use Rattle.std.specs.Prelude.{◌≡◌, ◌≤◌, ◌⊎◌, true, length, IfErr, OnOk};
+ghost use Rattle.std.specs.List.{list_all};
+ghost use Rattle.tabled_show.specs.Input.{fault_of, is_allowed};
 ghost use Rattle.tabled_show.specs.Refusal.{answer_of};
 
 use crate::bytes::are_allowed;
@@ -14,7 +14,8 @@ use crate::table::have_equal_counts;
 pub fn test_input(input: &[u8]) -> Result<(), ShowError>
     requires { length input.now ≤ INPUT_LIMIT }
     ensures answer { result ≡ answer_of (fault_of input.now) }
-    ensures ascii { OnOk result (IsAscii input.now) }
+    ensures kinds { IfErr result (λ e. (e ≡ ShowError.ByteOutOfRange) ⊎ (e ≡ ShowError.UnequalRows)) }
+    ensures allowed { OnOk result (list_all is_allowed input.now ≡ true) }
 {
     if !are_allowed(input) {
         return Err(ShowError::ByteOutOfRange);
