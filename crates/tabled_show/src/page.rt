@@ -15,7 +15,7 @@ use crate::faults::test_input;
 use crate::read::INPUT_LIMIT;
 use crate::table::{measure, padded_rows};
 use std::alloc::Global;
-use tabled_config::{SpannedConfig, print_plain, shown_after_change};
+use tabled_config::{PrintError, SpannedConfig, print_plain, shown_after_change};
 use tabled_grid::{Borders, Dimension};
 
 /// The widths of a table's columns. Each row is one line high.
@@ -71,7 +71,8 @@ fn print_table(
             text.push('\n')?;
             Ok(text)
         }
-        Err(_) => Err(ShowError::OutOfMemory),
+        Err(PrintError::OutOfMemory) => Err(ShowError::OutOfMemory),
+        Err(_) => unreachable!("the cells fit"),
     }
 }
 
