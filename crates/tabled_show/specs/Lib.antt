@@ -1,0 +1,5 @@
+pub mod Input
+pub mod Refusal
+pub mod Style
+pub mod Table
+pub mod Page

@@ -1,0 +1,37 @@
+//! `tabled_show STYLE` reads rows of cells from standard input, and writes them as a framed table.
+//!
+//! A row is a line of the input, and its cells stand between tabs.
+#![tactic(auto)]
+
+mod bytes;
+mod error;
+mod faults;
+mod page;
+mod read;
+mod run;
+mod styles;
+mod table;
+#[cfg(test)]
+mod tests;
+mod words;
+
+use error::ShowError;
+use run::run;
+use std::process::ExitCode;
+use words::all_words;
+
+/// Runs the program over its words, its standard input and its standard output.
+fn show(rt: &HostRuntime) -> Result<(), ShowError> {
+    let words = all_words(rt.alloc(), rt)?;
+    run(rt.alloc(), &words, &mut rt.stdin(), &mut rt.stdout())
+}
+
+fn main(rt: HostRuntime) -> ExitCode {
+    match show(&rt) {
+        Ok(()) => ExitCode::SUCCESS,
+        Err(refusal) => {
+            let _ = rt.eprintln(refusal.text());
+            ExitCode::from(refusal.status())
+        }
+    }
+}
