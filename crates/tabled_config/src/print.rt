@@ -255,8 +255,8 @@ fn push_lines<D: Dimension>(
     Ok(())
 }
 
-/// Writes a table after the text that `out` has, as plain text: `shape` is the number of its rows and of
-/// its columns. No line feed ends the text. Where it is refused `out` is as before.
+/// Writes a table after the text that `out` has: `shape` is the number of its rows and of its columns.
+/// Its lines are joined by single line feeds. Where it is refused `out` is as before.
 pub fn print_plain<D: Dimension>(
     out: &mut String,
     cfg: &SpannedConfig,

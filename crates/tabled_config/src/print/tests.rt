@@ -37,7 +37,7 @@ fn printed(
     sizes: (&[usize], &[usize]),
     shape: (usize, usize),
     rows: &[&[&str]],
-) -> Result<(Result<(), PrintError>, String), Fail> {
+) -> Result<(Result<(), PrintError>, String), OutOfMemory> {
     let dims = FixedDimension::new(sizes.0.to_vec(alloc)?, sizes.1.to_vec(alloc)?);
     let mut cells = Vec::new(alloc);
     for row in rows {
@@ -160,5 +160,63 @@ fn prints_a_column_of_no_width(rt: HostRuntime) -> Result<(), Fail> {
     let (answer, out) = printed(rt.alloc(), &cfg, (&[0], &[1]), (1, 1), &[&[""]])?;
     assert_eq!(rt; answer, Ok(()));
     assert_eq!(rt; out.as_str(), "before:++\n||\n++");
+    Ok(())
+}
+
+#[test]
+fn prints_crossings_between_cells(rt: HostRuntime) -> Result<(), Fail> {
+    let cfg = ascii(rt.alloc());
+    let sizes: (&[usize], &[usize]) = (&[3, 4], &[1, 1]);
+    let rows: &[&[&str]] = &[&[" a ", " bb "], &[" c ", " dd "]];
+    let (answer, out) = printed(rt.alloc(), &cfg, sizes, (2, 2), rows)?;
+    assert_eq!(rt; answer, Ok(()));
+    assert_eq!(rt;
+        out.as_str(),
+        "before:+---+----+\n| a | bb |\n+---+----+\n| c | dd |\n+---+----+"
+    );
+    Ok(())
+}
+
+#[test]
+fn shows_spaces_where_a_drawn_line_has_no_character(rt: HostRuntime) -> Result<(), Fail> {
+    let mut cfg = bare(rt.alloc());
+    cfg.set_borders(Borders {
+        top_left: Some('+'),
+        ..Borders::empty()
+    });
+    let (answer, out) = printed(rt.alloc(), &cfg, (&[3], &[1]), (1, 1), &[&[" a "]])?;
+    assert_eq!(rt; answer, Ok(()));
+    assert_eq!(rt; out.as_str(), "before:+   \n  a ");
+    Ok(())
+}
+
+#[test]
+fn prints_empty_lines(rt: HostRuntime) -> Result<(), Fail> {
+    let mut cfg = bare(rt.alloc());
+    cfg.set_borders(Borders {
+        top: Some('-'),
+        bottom: Some('-'),
+        ..Borders::empty()
+    });
+    let (answer, out) = printed(rt.alloc(), &cfg, (&[0], &[1]), (1, 1), &[&[""]])?;
+    assert_eq!(rt; answer, Ok(()));
+    assert_eq!(rt; out.as_str(), "before:\n\n");
+    Ok(())
+}
+
+#[test]
+fn keeps_the_text_where_memory_is_refused(rt: HostRuntime) -> Result<(), Fail> {
+    let cfg = ascii(rt.alloc());
+    let made = printed(rt.alloc(), &cfg, (&[3], &[1]), (1, 1), &[&[" a "]]);
+    let Ok((answer, out)) = made else {
+        return Ok(());
+    };
+    match answer {
+        Ok(()) => assert_eq!(rt; out.as_str(), "before:+---+\n| a |\n+---+"),
+        Err(refusal) => {
+            assert_eq!(rt; refusal, PrintError::OutOfMemory);
+            assert_eq!(rt; out.as_str(), "before:");
+        }
+    }
     Ok(())
 }
