@@ -93,3 +93,6 @@ impl From<SpannedConfig> for ColoredConfig {
         ColoredConfig::new(config)
     }
 }
+
+#[cfg(test)]
+mod tests;

@@ -97,3 +97,6 @@ impl SpannedConfig {
         self.characters.at(place, shape, size, probes).copied()
     }
 }
+
+#[cfg(test)]
+mod tests;
