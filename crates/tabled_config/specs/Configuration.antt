@@ -1,5 +1,7 @@
 -- What a configuration keeps, and what changes it.
 use Rattle.std.specs.Prelude.{ℕ, List, [], ◌∷◌, map}
+use Rattle.std.specs.Coded.{Coded, codes}
+use Rattle.std.specs.FinMap as finmap
 use Rattle.tabled_grid.specs.declared.borders.Borders.{Borders}
 use Rattle.tabled_grid.specs.Event as grid
 use Rattle.tabled_grid.specs.Keeping.{Keeping, keeps, class_record_set, writes_of}
@@ -7,6 +9,10 @@ use Rattle.tabled_grid.specs.Keeping.{Keeping, keeps, class_record_set, writes_o
 -- what a configuration keeps: the border characters, as their codes
 pub record Configuration : Type 0 where
   pub characters : Keeping ℕ
+
+-- by it a proof tells two configurations apart
+pub configuration_code : Coded Configuration
+configuration_code = Prim.hlevel (codes, finmap.code)
 
 -- an event of a configuration: one of its border characters
 pub data ConfigEvent : Type 0 where

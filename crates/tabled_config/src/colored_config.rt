@@ -6,16 +6,18 @@ use crate::{SpannedConfig, TableOption};
 use std::marker::Model;
 use tabled_grid::{Borders, Entity, OutOfMemory};
 
-/// A configuration of borders, with the colours of the cells.
+/// The configuration that table options change: that of the borders.
 #[derive(Debug, Drop)]
 pub struct ColoredConfig {
     config: SpannedConfig,
 }
 
 impl Model for ColoredConfig {
-    ghost use Rattle.tabled_config.specs.Configuration.{Configuration};
+    ghost use Rattle.tabled_config.specs.Configuration.{Configuration, configuration_code};
 
     ghost Value = { Configuration };
+
+    ghost coded = { configuration_code };
 
     ghost view = { λ cfg. cfg.config };
 }
@@ -77,7 +79,7 @@ impl<R, D> TableOption<R, ColoredConfig, D> for Borders<char> {
         ensures records { _records.new ≡ _records.old }
         ensures sizes { _dims.new ≡ _dims.old }
     {
-        cfg.config.set_borders(self);
+        cfg.config.start_with(self);
         Ok(())
     }
 

@@ -13,9 +13,11 @@ pub struct SpannedConfig {
 }
 
 impl Model for SpannedConfig {
-    ghost use Rattle.tabled_config.specs.Configuration.{Configuration};
+    ghost use Rattle.tabled_config.specs.Configuration.{Configuration, configuration_code};
 
     ghost Value = { Configuration };
+
+    ghost coded = { configuration_code };
 
     ghost view = { λ cfg. record { characters = cfg.characters } };
 }
@@ -26,7 +28,7 @@ impl SpannedConfig {
     ghost use Rattle.tabled_grid.specs.Drawn.{Drawn};
     ghost use Rattle.tabled_grid.specs.Keeping.{keeps};
     ghost use Rattle.tabled_grid.specs.Probing.{IsRaised};
-    ghost use Rattle.tabled_config.specs.Configuration.{Shows, Changes, borders_set, borders_removed};
+    ghost use Rattle.tabled_config.specs.Configuration.{Shows, Changes, borders_set, borders_removed, borders_applied};
 
     /// A configuration in which nothing was set. It keeps the allocator for the calls that need memory.
     pub fn new(alloc: Global) -> Self
@@ -60,7 +62,20 @@ impl SpannedConfig {
     pub fn remove_borders(&mut self)
         ensures { Changes borders_removed self.old self.new }
     {
+        self.characters.erase_default();
         self.characters.erase_class();
+        self.characters.erase_lines();
+        self.characters.erase_cells();
+    }
+
+    /// Erases every border character of every level, offset characters too, and sets the class record.
+    pub(crate) fn start_with(&mut self, borders: Borders<char>)
+        ensures { Changes (borders_applied borders) self.old self.new }
+    {
+        self.remove_borders();
+        self.characters.erase_horizontal_offsets();
+        self.characters.erase_vertical_offsets();
+        self.set_borders(borders);
     }
 
     /// Whether horizontal line `line` is drawn in a table of `rows` rows.

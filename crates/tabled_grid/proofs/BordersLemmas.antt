@@ -1,9 +1,9 @@
 -- When a class record has nothing.
 use mathlib.Core.Bool.{beq}
-use Rattle.std.proofs.Common.{◌≡◌, subst, Bool, true, false, not, ◌||◌, cond, Option, Some, None, is_some, List, [], ◌∷◌, refl, sym, ap, ◌∙◌, ◌↔◌, IsTrue}
+use Rattle.std.proofs.Common.{◌≡◌, subst, Bool, true, false, not, ◌||◌, Option, Some, None, is_some, List, [], ◌∷◌, refl, sym, ap, ◌∙◌, ◌↔◌, IsTrue}
 use Rattle.std.specs.List.{list_any}
 use Rattle.tabled_grid.specs.declared.borders.Borders.{Borders}
-use Rattle.tabled_grid.specs.Site.{Direction, across, down, Rank, first, inner, closing, Class, edges, crossings, class_value, same_class}
+use Rattle.tabled_grid.specs.Site.{across, down, first, inner, closing, Class, edges, crossings, class_value, same_class}
 use Rattle.tabled_grid.specs.Keeping.{line_classes, has_class, HasNothing}
 use Rattle.tabled_grid.proofs.SameSite.{same_class-eq}
 

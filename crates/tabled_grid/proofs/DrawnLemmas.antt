@@ -1,10 +1,10 @@
 -- The test of drawn lines decides the fact.
-use Rattle.std.proofs.Common.{◌≡◌, ℕ, Bool, true, false, cond, ◌&&◌, ◌||◌, Option, Some, None, List, [], ◌∷◌, refl, sym, ap, subst, ◌∙◌, IsTrue, IsSome, is_some, ◌≤◌, ◌↔◌, leb, arith, ◌⊎◌, inl, inr}
+use Rattle.std.proofs.Common.{◌≡◌, ℕ, Bool, true, false, cond, ◌&&◌, ◌||◌, Option, Some, None, List, [], ◌∷◌, refl, sym, ap, ◌∙◌, IsTrue, is_some, ◌↔◌, leb, ◌⊎◌, inl, inr}
 use Rattle.std.specs.List.{list_any}
 use Rattle.std.proofs.lemmas.Bool.{leb-true, le-leb}
 use Rattle.tabled_grid.specs.declared.place.LineOf.{LineOf}
 use Rattle.tabled_grid.specs.Site.{Site, same_site}
-use Rattle.tabled_grid.specs.Event.{Written, Event, write, erase, within, covers, covered, left_by, kept, Shows}
+use Rattle.tabled_grid.specs.Event.{Written, Event, write, erase, within, covered, kept, Shows}
 use Rattle.tabled_grid.specs.declared.place.Place.{Place}
 use Rattle.tabled_grid.specs.Value.{value}
 use Rattle.tabled_grid.specs.Drawn.{number, draws, Drawn, written, drawn}

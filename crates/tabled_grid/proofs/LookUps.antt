@@ -1,17 +1,21 @@
 -- What the value of a place and the drawing of a line come to, level by level.
-use Rattle.std.proofs.Common.{◌≡◌, ℕ, Bool, true, false, cond, ◌&&◌, ◌||◌, Option, Some, None, is_some, List, [], ◌∷◌, refl, sym, ap, subst, ◌∙◌, ◌↔◌, ◌⊎◌, inl, inr, IsTrue, ◌≤◌, leb, IsSome}
+use Rattle.std.proofs.Common.{◌≡◌, ℕ, Bool, true, false, cond, ◌&&◌, ◌||◌, Option, Some, None, is_some, List, [], ◌∷◌, refl, sym, ap, ◌∙◌, ◌-◌, option_and_then, ◌⊎◌, inl, inr}
 use Rattle.std.specs.Option.{option_map}
 use Rattle.tabled_grid.specs.declared.borders.Borders.{Borders}
 use Rattle.tabled_grid.specs.declared.place.Place.{Place}
 use Rattle.tabled_grid.specs.declared.place.LineOf.{LineOf}
-use Rattle.tabled_grid.specs.Site.{Direction, across, down, Rank, first, inner, closing, stands, Class, edges, crossings, Part, Site, the_default, of_class, of_line, at_spot, from_end, from_start, class_value}
-use Rattle.tabled_grid.specs.Event.{sign, Written}
-use Rattle.tabled_grid.specs.Value.{inside, class_at, sites, sign_or, first_sign, value}
-use Rattle.tabled_grid.specs.Drawn.{number, draws, Drawn}
-use Rattle.tabled_grid.specs.Keeping.{Keeping, keeps, line_classes, has_class, rank_draws, class_draws}
+use Rattle.tabled_grid.specs.Site.{Direction, across, down, Rank, first, inner, closing, stands, Class, edges, crossings, main_edges, meeting, horizontal_meeting, vertical_meeting, rank, of_class, class_value}
+use Rattle.tabled_grid.specs.Event.{sign}
+use Rattle.tabled_grid.specs.Value.{has_spot, inside, class_at, plain_sites, sites, sign_or, first_sign, value, plain_value}
+use Rattle.tabled_grid.specs.Drawn.{draws}
+use Rattle.std.specs.FinMap.{get}
+use Rattle.tabled_grid.specs.declared.lines.HorizontalLine.{HorizontalLine}
+use Rattle.tabled_grid.specs.declared.lines.VerticalLine.{VerticalLine}
+use Rattle.tabled_grid.specs.Reading.{pick, plain_across, plain_down, plain_crossing, edge_across, edge_down}
+use Rattle.tabled_grid.specs.Keeping.{Keeping, keeps, position, edge_place, horizontal_part, vertical_part, line_classes, has_class, rank_draws}
 
 -- every class of the list draws the line
-abbrev AllDraw : ℕ → LineOf → List Class → Type 0
+abbrev pub AllDraw : ℕ → LineOf → List Class → Type 0
 AllDraw count line [] = Unit {0}
 AllDraw count line (c ∷ cs) = (draws count line (of_class c) ≡ true) × AllDraw count line cs
 
@@ -20,52 +24,108 @@ pub value_outside : {T : Type 0} (keeping : Keeping T) (shape : ℕ × ℕ) (siz
 unfolding value
 value_outside keeping shape size place h = ap (λ b. cond b (first_sign (keeps keeping) (sites shape size place)) None) h
 
-only_sign : {T : Type 0} (o : Option T) → sign_or (option_map sign o) None ≡ o
-only_sign None = refl
-only_sign (Some x) = refl
+sign_or-sign : {T : Type 0} (o r : Option T) → sign_or (option_map sign o) r ≡ pick o r
+sign_or-sign None r = refl
+sign_or-sign (Some x) r = refl
 
-kept_by_class : {T : Type 0} (keeping : Keeping T) (shape : ℕ × ℕ) (size : ℕ) (place : Place) → first_sign (keeps keeping) (sites shape size place) ≡ class_value (class_at shape place) keeping.class_record
-kept_by_class keeping (rows, cols) size (Place.Horizontal r c k) = only_sign (class_value (class_at (rows, cols) (Place.Horizontal r c k)) keeping.class_record)
-kept_by_class keeping (rows, cols) size (Place.Vertical r c k) = only_sign (class_value (class_at (rows, cols) (Place.Vertical r c k)) keeping.class_record)
-kept_by_class keeping (rows, cols) size (Place.Cross r c) = only_sign (class_value (class_at (rows, cols) (Place.Cross r c)) keeping.class_record)
+sign_or-horizontal_main : {T : Type 0} (o : Option (HorizontalLine T)) (r : Option T) → sign_or (option_and_then (horizontal_part main_edges) o) r ≡ pick (option_and_then (λ line. line.main) o) r
+sign_or-horizontal_main None r = refl
+sign_or-horizontal_main (Some line) r = sign_or-sign line.main r
 
--- a place inside has what its class has
-pub value_inside : {T : Type 0} (keeping : Keeping T) (shape : ℕ × ℕ) (size : ℕ) (place : Place) → inside shape size place ≡ true → value (keeps keeping) shape size place ≡ class_value (class_at shape place) keeping.class_record
-unfolding value
-value_inside keeping shape size place h = ap (λ b. cond b (first_sign (keeps keeping) (sites shape size place)) None) h ∙ kept_by_class keeping shape size place
+sign_or-vertical_main : {T : Type 0} (o : Option (VerticalLine T)) (r : Option T) → sign_or (option_and_then (vertical_part main_edges) o) r ≡ pick (option_and_then (λ line. line.main) o) r
+sign_or-vertical_main None r = refl
+sign_or-vertical_main (Some line) r = sign_or-sign line.main r
 
-and_parts : (a b : Bool) → (a && b) ≡ true → (a ≡ true) × (b ≡ true)
+sign_or-horizontal_meeting : {T : Type 0} (rank : Rank) (o : Option (HorizontalLine T)) (r : Option T) → sign_or (option_and_then (horizontal_part (meeting rank)) o) r ≡ pick (option_and_then (horizontal_meeting rank) o) r
+sign_or-horizontal_meeting rank None r = refl
+sign_or-horizontal_meeting rank (Some line) r = sign_or-sign (horizontal_meeting rank line) r
+
+sign_or-vertical_meeting : {T : Type 0} (rank : Rank) (o : Option (VerticalLine T)) (r : Option T) → sign_or (option_and_then (vertical_part (meeting rank)) o) r ≡ pick (option_and_then (vertical_meeting rank) o) r
+sign_or-vertical_meeting rank None r = refl
+sign_or-vertical_meeting rank (Some line) r = sign_or-sign (vertical_meeting rank line) r
+
+pick-none : {T : Type 0} (o : Option T) → pick o None ≡ o
+pick-none None = refl
+pick-none (Some x) = refl
+
+module _ {T : Type 0} (k : Keeping T) where
+  last_levels : (class_has : Option T) → sign_or (option_map sign class_has) (sign_or (option_map sign k.default_value) None) ≡ pick class_has k.default_value
+  last_levels class_has = sign_or-sign class_has (sign_or (option_map sign k.default_value) None) ∙ ap (pick class_has) (sign_or-sign k.default_value None ∙ pick-none k.default_value)
+
+  -- what the sites below the offsets have, for each kind of place
+  pub plain-across : (rows cols r c n : ℕ) → first_sign (keeps k) (plain_sites (rows, cols) (Place.Horizontal r c n)) ≡ plain_across k rows r c
+  plain-across rows cols r c n =
+      sign_or-sign (get k.edges_across (position r c)) _
+      ∙ ap (pick (get k.edges_across (position r c))) (sign_or-horizontal_main (get k.horizontal_lines r) _
+      ∙ ap (pick (option_and_then (λ line. line.main) (get k.horizontal_lines r))) (last_levels (class_value (class_at (rows, cols) (Place.Horizontal r c n)) k.class_record)))
+
+  pub plain-down : (rows cols r c n : ℕ) → first_sign (keeps k) (plain_sites (rows, cols) (Place.Vertical r c n)) ≡ plain_down k cols r c
+  plain-down rows cols r c n =
+      sign_or-sign (get k.edges_down (position r c)) _
+      ∙ ap (pick (get k.edges_down (position r c))) (sign_or-vertical_main (get k.vertical_lines c) _
+      ∙ ap (pick (option_and_then (λ line. line.main) (get k.vertical_lines c))) (last_levels (class_value (class_at (rows, cols) (Place.Vertical r c n)) k.class_record)))
+
+  pub plain-crossing : (rows cols r c : ℕ) → first_sign (keeps k) (plain_sites (rows, cols) (Place.Cross r c)) ≡ plain_crossing k rows cols r c
+  plain-crossing rows cols r c =
+      sign_or-sign (get k.crosses (position r c)) _
+      ∙ ap (pick (get k.crosses (position r c))) (sign_or-horizontal_meeting (rank cols c) (get k.horizontal_lines r) _
+      ∙ ap (pick (option_and_then (horizontal_meeting (rank cols c)) (get k.horizontal_lines r))) (sign_or-vertical_meeting (rank rows r) (get k.vertical_lines c) _
+      ∙ ap (pick (option_and_then (vertical_meeting (rank rows r)) (get k.vertical_lines c))) (last_levels (class_value (class_at (rows, cols) (Place.Cross r c)) k.class_record))))
+
+  -- the value of each kind of place inside
+  pub value-across : (rows cols size r c n : ℕ) → inside (rows, cols) size (Place.Horizontal r c n) ≡ true → value (keeps k) (rows, cols) size (Place.Horizontal r c n) ≡ edge_across k rows r c n (size - 1 - n)
+  unfolding value
+  value-across rows cols size r c n h =
+      ap (λ b. cond b (first_sign (keeps k) (sites (rows, cols) size (Place.Horizontal r c n))) None) h
+      ∙ sign_or-sign (get k.starts_across (edge_place r c n)) _
+      ∙ ap (pick (get k.starts_across (edge_place r c n))) (sign_or-sign (get k.ends_across (edge_place r c (size - 1 - n))) _
+      ∙ ap (pick (get k.ends_across (edge_place r c (size - 1 - n)))) (plain-across rows cols r c n))
+
+  pub value-down : (rows cols size r c n : ℕ) → inside (rows, cols) size (Place.Vertical r c n) ≡ true → value (keeps k) (rows, cols) size (Place.Vertical r c n) ≡ edge_down k cols r c n (size - 1 - n)
+  unfolding value
+  value-down rows cols size r c n h =
+      ap (λ b. cond b (first_sign (keeps k) (sites (rows, cols) size (Place.Vertical r c n))) None) h
+      ∙ sign_or-sign (get k.starts_down (edge_place r c n)) _
+      ∙ ap (pick (get k.starts_down (edge_place r c n))) (sign_or-sign (get k.ends_down (edge_place r c (size - 1 - n))) _
+      ∙ ap (pick (get k.ends_down (edge_place r c (size - 1 - n)))) (plain-down rows cols r c n))
+
+  pub value-crossing : (rows cols size r c : ℕ) → inside (rows, cols) size (Place.Cross r c) ≡ true → value (keeps k) (rows, cols) size (Place.Cross r c) ≡ plain_crossing k rows cols r c
+  unfolding value
+  value-crossing rows cols size r c h =
+      ap (λ b. cond b (first_sign (keeps k) (sites (rows, cols) size (Place.Cross r c))) None) h ∙ plain-crossing rows cols r c
+
+pub and_parts : (a b : Bool) → (a && b) ≡ true → (a ≡ true) × (b ≡ true)
 and_parts true b h = (refl, h)
 and_parts false b h = absurd cc
 
-and_both : (a b : Bool) → a ≡ true → b ≡ true → (a && b) ≡ true
+pub and_both : (a b : Bool) → a ≡ true → b ≡ true → (a && b) ≡ true
 and_both true b e f = f
 and_both false b e f = absurd cc
 
-or_parts : (a b : Bool) → (a || b) ≡ true → (a ≡ true) ⊎ (b ≡ true)
+pub or_parts : (a b : Bool) → (a || b) ≡ true → (a ≡ true) ⊎ (b ≡ true)
 or_parts true b h = inl refl
 or_parts false b h = inr h
 
-or_left : (a b : Bool) → a ≡ true → (a || b) ≡ true
+pub or_left : (a b : Bool) → a ≡ true → (a || b) ≡ true
 or_left true b e = refl
 or_left false b e = absurd cc
 
-or_right : (a b : Bool) → b ≡ true → (a || b) ≡ true
+pub or_right : (a b : Bool) → b ≡ true → (a || b) ≡ true
 or_right true b e = refl
 or_right false b e = e
 
-is_some-sign : {T : Type 0} (o : Option T) → is_some (option_map sign o) ≡ is_some o
+pub is_some-sign : {T : Type 0} (o : Option T) → is_some (option_map sign o) ≡ is_some o
 is_some-sign None = refl
 is_some-sign (Some x) = refl
 
 -- the line of that direction and number
-line_of : Direction → ℕ → LineOf
+unfoldable pub line_of : Direction → ℕ → LineOf
 line_of across n = LineOf.Horizontal n
 line_of down n = LineOf.Vertical n
 
 module _ {T : Type 0} (borders : Borders T) where
   -- one of the classes has a field, and they all draw the line
-  drawing : (count : ℕ) (line : LineOf) (cs : List Class) → AllDraw count line cs → has_class borders cs ≡ true → (c : Class) × (draws count line (of_class c) ≡ true) × (is_some (class_value c borders) ≡ true)
+  pub drawing : (count : ℕ) (line : LineOf) (cs : List Class) → AllDraw count line cs → has_class borders cs ≡ true → (c : Class) × (draws count line (of_class c) ≡ true) × (is_some (class_value c borders) ≡ true)
   drawing count line [] all h = absurd cc
   drawing count line (c ∷ cs) all h =
       elim (or_parts (is_some (class_value c borders)) (has_class borders cs) h) [
@@ -78,7 +138,7 @@ module _ {T : Type 0} (borders : Borders T) where
       let parts = and_parts (stands rank count n) (has_class borders (line_classes d rank)) h in
       (rank, parts.0, parts.1)
 
-  some_rank : (d : Direction) (count n : ℕ) → rank_draws borders count d n ≡ true → (rank : Rank) × (stands rank count n ≡ true) × (has_class borders (line_classes d rank) ≡ true)
+  pub some_rank : (d : Direction) (count n : ℕ) → rank_draws borders count d n ≡ true → (rank : Rank) × (stands rank count n ≡ true) × (has_class borders (line_classes d rank) ≡ true)
   some_rank d count n h =
       elim (or_parts ((stands first count n && has_class borders (line_classes d first)) || (stands closing count n && has_class borders (line_classes d closing))) (stands inner count n && has_class borders (line_classes d inner)) h) [
         | inl outer ↦ elim (or_parts (stands first count n && has_class borders (line_classes d first)) (stands closing count n && has_class borders (line_classes d closing)) outer) [
@@ -94,7 +154,7 @@ module _ {T : Type 0} (borders : Borders T) where
   by_rank d inner count n e f = or_right ((stands first count n && has_class borders (line_classes d first)) || (stands closing count n && has_class borders (line_classes d closing))) _ (and_both (stands inner count n) _ e f)
 
   -- the classes of the lines of a rank draw each of them
-  all_draw : (d : Direction) (rank : Rank) (count n : ℕ) → stands rank count n ≡ true → AllDraw count (line_of d n) (line_classes d rank)
+  pub all_draw : (d : Direction) (rank : Rank) (count n : ℕ) → stands rank count n ≡ true → AllDraw count (line_of d n) (line_classes d rank)
   unfolding line_of
   all_draw across rank count n e = (e, (e, (e, (e, tt))))
   all_draw down rank count n e = (e, (e, (e, (e, tt))))
@@ -114,7 +174,7 @@ module _ {T : Type 0} (borders : Borders T) where
   given_down closing col e = or_right (is_some (class_value (edges down col) borders)) _ (or_right (is_some (class_value (crossings first col) borders)) _ (or_right (is_some (class_value (crossings inner col) borders)) _ (or_left _ _ e)))
 
   -- a class that draws a line and has a field is one of those of the line's rank
-  class_draws_it : (d : Direction) (count n : ℕ) (c : Class) → draws count (line_of d n) (of_class c) ≡ true → is_some (class_value c borders) ≡ true → rank_draws borders count d n ≡ true
+  pub class_draws_it : (d : Direction) (count n : ℕ) (c : Class) → draws count (line_of d n) (of_class c) ≡ true → is_some (class_value c borders) ≡ true → rank_draws borders count d n ≡ true
   unfolding line_of
   class_draws_it across count n (edges across rank) e f = by_rank across rank count n e (given_edge across rank f)
   class_draws_it across count n (edges down rank) e f = absurd cc
@@ -123,34 +183,38 @@ module _ {T : Type 0} (borders : Borders T) where
   class_draws_it down count n (edges across rank) e f = absurd cc
   class_draws_it down count n (crossings row col) e f = by_rank down col count n e (given_down row col f)
 
-module _ {T : Type 0} (keeping : Keeping T) (d : Direction) (count n : ℕ) where
-  site_draws : (q : Site) → draws count (line_of d n) q ≡ true → is_some (keeps keeping q) ≡ true → rank_draws keeping.class_record count d n ≡ true
-  site_draws (of_class c) e f = class_draws_it keeping.class_record d count n c e (sym (is_some-sign (class_value c keeping.class_record)) ∙ f)
-  site_draws the_default e f = absurd cc
-  site_draws (of_line l p) e f = absurd cc
-  site_draws (at_spot s) e f = absurd cc
-  site_draws (from_end e' r c k) e f = absurd cc
-  site_draws (from_start e' r c k) e f = absurd cc
+-- an edge or a crossing outside has no plain value
+pub plain_outside : {T : Type 0} (keeping : Keeping T) (shape : ℕ × ℕ) (place : Place) → has_spot shape place ≡ false → plain_value (keeps keeping) shape place ≡ None
+unfolding plain_value
+plain_outside keeping shape place h = ap (λ b. cond b (first_sign (keeps keeping) (plain_sites shape place)) None) h
 
-  drawn_by_rank : number (line_of d n) ≤ count → (rank_draws keeping.class_record count d n ≡ true) ↔ Drawn (keeps keeping) count (line_of d n)
-  drawn_by_rank within = (
-    λ h.
-        let rank = some_rank keeping.class_record d count n h in
-        let class = drawing keeping.class_record count (line_of d n) (line_classes d rank.0) (all_draw keeping.class_record d rank.0 count n rank.1) rank.2 in
-        record { no_further = within; by = of_class class.0; draws_it = class.1; is_kept = is_some-sign (class_value class.0 keeping.class_record) ∙ class.2 },
-    λ drawn. site_draws drawn.by drawn.draws_it drawn.is_kept,
-  )
+-- one inside has what its sites have
+plain_inside : {T : Type 0} (keeping : Keeping T) (shape : ℕ × ℕ) (place : Place) → has_spot shape place ≡ true → plain_value (keeps keeping) shape place ≡ first_sign (keeps keeping) (plain_sites shape place)
+unfolding plain_value
+plain_inside keeping shape place h = ap (λ b. cond b (first_sign (keeps keeping) (plain_sites shape place)) None) h
 
--- the class record draws a line exactly where it is drawn, up to the closing one
-pub Drawn_by_class : {T : Type 0} (keeping : Keeping T) (count : ℕ) (line : LineOf) → number line ≤ count → (class_draws keeping.class_record count line ≡ true) ↔ Drawn (keeps keeping) count line
-unfolding line_of
-Drawn_by_class keeping count (LineOf.Horizontal n) within = drawn_by_rank keeping across count n within
-Drawn_by_class keeping count (LineOf.Vertical n) within = drawn_by_rank keeping down count n within
+-- the plain value of each kind, from what was read
+pub plain_at_across : {T : Type 0} (k : Keeping T) (shape : ℕ × ℕ) (place : Place) (r c n : ℕ) (o : Option T) → place ≡ Place.Horizontal r c n → has_spot shape place ≡ true → o ≡ plain_across k shape.0 r c → o ≡ plain_value (keeps k) shape place
+plain_at_across k shape place r c n o e h is =
+    is ∙ sym (plain_inside k shape place h ∙ ap (λ p. first_sign (keeps k) (plain_sites shape p)) e ∙ plain-across k shape.0 shape.1 r c n)
 
--- a line past the closing one is not drawn
-pub Drawn_past : {T : Type 0} (keep : Site → Option (Written T)) (count : ℕ) (line : LineOf) → (number line ≤ count → ⊥) → Drawn keep count line → ⊥
-Drawn_past keep count line past drawn = past drawn.no_further
+pub plain_at_down : {T : Type 0} (k : Keeping T) (shape : ℕ × ℕ) (place : Place) (r c n : ℕ) (o : Option T) → place ≡ Place.Vertical r c n → has_spot shape place ≡ true → o ≡ plain_down k shape.1 r c → o ≡ plain_value (keeps k) shape place
+plain_at_down k shape place r c n o e h is =
+    is ∙ sym (plain_inside k shape place h ∙ ap (λ p. first_sign (keeps k) (plain_sites shape p)) e ∙ plain-down k shape.0 shape.1 r c n)
 
--- the answer of the class record, where the line is tested first
-pub Drawn_answer : {T : Type 0} (keeping : Keeping T) (count : ℕ) (line : LineOf) (answer : Bool) → number line ≤ count → answer ≡ class_draws keeping.class_record count line → IsTrue answer ↔ Drawn (keeps keeping) count line
-Drawn_answer keeping count line answer within e = subst (λ b. (b ≡ true) ↔ Drawn (keeps keeping) count line) (sym e) (Drawn_by_class keeping count line within)
+pub plain_at_crossing : {T : Type 0} (k : Keeping T) (shape : ℕ × ℕ) (place : Place) (r c : ℕ) (o : Option T) → place ≡ Place.Cross r c → has_spot shape place ≡ true → o ≡ plain_crossing k shape.0 shape.1 r c → o ≡ plain_value (keeps k) shape place
+plain_at_crossing k shape place r c o e h is =
+    is ∙ sym (plain_inside k shape place h ∙ ap (λ p. first_sign (keeps k) (plain_sites shape p)) e ∙ plain-crossing k shape.0 shape.1 r c)
+
+-- the value of a place of each kind, from what was read
+pub at_across : {T : Type 0} (k : Keeping T) (shape : ℕ × ℕ) (size : ℕ) (place : Place) (r c n : ℕ) (o : Option T) → place ≡ Place.Horizontal r c n → inside shape size place ≡ true → o ≡ edge_across k shape.0 r c n (size - 1 - n) → o ≡ value (keeps k) shape size place
+at_across k shape size place r c n o e h is =
+    is ∙ sym (value-across k shape.0 shape.1 size r c n (sym (ap (inside shape size) e) ∙ h)) ∙ sym (ap (value (keeps k) shape size) e)
+
+pub at_down : {T : Type 0} (k : Keeping T) (shape : ℕ × ℕ) (size : ℕ) (place : Place) (r c n : ℕ) (o : Option T) → place ≡ Place.Vertical r c n → inside shape size place ≡ true → o ≡ edge_down k shape.1 r c n (size - 1 - n) → o ≡ value (keeps k) shape size place
+at_down k shape size place r c n o e h is =
+    is ∙ sym (value-down k shape.0 shape.1 size r c n (sym (ap (inside shape size) e) ∙ h)) ∙ sym (ap (value (keeps k) shape size) e)
+
+pub at_crossing : {T : Type 0} (k : Keeping T) (shape : ℕ × ℕ) (size : ℕ) (place : Place) (r c : ℕ) (o : Option T) → place ≡ Place.Cross r c → inside shape size place ≡ true → o ≡ plain_crossing k shape.0 shape.1 r c → o ≡ value (keeps k) shape size place
+at_crossing k shape size place r c o e h is =
+    is ∙ sym (value-crossing k shape.0 shape.1 size r c (sym (ap (inside shape size) e) ∙ h)) ∙ sym (ap (value (keeps k) shape size) e)

@@ -1,5 +1,5 @@
 -- Sites that the test calls one are equal.
-use Rattle.std.proofs.Common.{◌≡◌, ℕ, Bool, true, false, ◌&&◌, ◌==◌, refl, cond}
+use Rattle.std.proofs.Common.{◌≡◌, ℕ, Bool, true, false, ◌&&◌, ◌==◌, refl}
 use Rattle.std.proofs.lemmas.Bool.{eqb-true}
 use Rattle.tabled_grid.specs.declared.place.LineOf.{LineOf}
 use Rattle.tabled_grid.specs.Site.{Direction, across, down, Rank, first, inner, closing, Class, edges, crossings, Part, mark, main_edges, meeting, Spot, edge, crossing, Site, the_default, of_class, of_line, at_spot, from_end, from_start, same_direction, same_rank, same_class, same_line, same_part, same_spot, same_site}

@@ -1,8 +1,8 @@
 -- Which lines are drawn.
-use Rattle.std.specs.Prelude.{◌≡◌, ℕ, Bool, true, false, ◌&&◌, ◌==◌, nat_le, IsTrue, is_some, IsSome, Option, List, [], ◌∷◌, ◌≤◌}
+use Rattle.std.specs.Prelude.{ℕ, Bool, true, false, ◌&&◌, ◌==◌, nat_le, IsTrue, is_some, IsSome, Option, List, [], ◌∷◌, ◌≤◌}
 use Rattle.std.specs.List.{list_any}
 use Rattle.tabled_grid.specs.declared.place.LineOf.{LineOf}
-use Rattle.tabled_grid.specs.Site.{across, down, first, inner, closing, stands, edges, crossings, mark, meeting, edge, crossing, Site, the_default, of_class, of_line, at_spot}
+use Rattle.tabled_grid.specs.Site.{across, down, first, closing, stands, edges, crossings, mark, meeting, edge, crossing, Site, the_default, of_class, of_line, at_spot}
 use Rattle.tabled_grid.specs.Event.{Written, Event, write, erase, kept}
 
 abbrev pub number : LineOf → ℕ

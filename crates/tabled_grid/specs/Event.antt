@@ -1,5 +1,5 @@
 -- Events: what is written and erased, in order, and what a list of them leaves.
-use Rattle.std.specs.Prelude.{◌≡◌, ℕ, Bool, true, false, ◌==◌, if◌then◌else◌, Option, Some, None, List, [], ◌∷◌, filter, option_and_then}
+use Rattle.std.specs.Prelude.{◌≡◌, ℕ, Bool, true, false, ◌==◌, if◌then◌else◌, Option, Some, None, List, filter, option_and_then}
 use Rattle.std.specs.List.{list_any, last_or}
 use Rattle.tabled_grid.specs.declared.place.LineOf.{LineOf}
 use Rattle.tabled_grid.specs.Site.{Direction, Site, level, same_direction, same_line, same_site, of_line, from_end, from_start}

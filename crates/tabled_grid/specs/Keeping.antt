@@ -1,20 +1,73 @@
 -- What a store keeps, as a value, and the same as one function of the sites.
-use Rattle.std.specs.Prelude.{◌≡◌, ℕ, Bool, ◌&&◌, ◌||◌, is_some, Option, None, Some, List, [], ◌∷◌}
+use Rattle.std.specs.Prelude.{◌≡◌, ℕ, Bool, ◌&&◌, ◌||◌, is_some, Option, None, Some, List, [], ◌∷◌, ◌++◌, option_map, option_and_then}
 use Rattle.std.specs.List.{list_any, filter_map}
-use Rattle.std.specs.Option.{option_map}
+use Rattle.std.specs.Ordering.{nat_cmp}
+use Rattle.std.specs.FinMap.{FinMap, get, entries}
 use Rattle.tabled_grid.specs.declared.borders.Borders.{Borders}
+use Rattle.tabled_grid.specs.declared.lines.HorizontalLine.{HorizontalLine}
+use Rattle.tabled_grid.specs.declared.lines.VerticalLine.{VerticalLine}
 use Rattle.tabled_grid.specs.declared.place.LineOf.{LineOf}
-use Rattle.tabled_grid.specs.Site.{Direction, across, down, Rank, first, inner, closing, stands, Class, edges, crossings, class_value, Site, of_class}
-use Rattle.tabled_grid.specs.Event.{Written, sign, Event, write, erase, level_sites}
+use Rattle.tabled_grid.specs.declared.position.Position.{Position}
+use Rattle.tabled_grid.specs.declared.position.EdgePlace.{EdgePlace}
+use Rattle.tabled_grid.specs.Keys.{position_cmp, edge_place_cmp}
+use Rattle.tabled_grid.specs.Site.{Direction, across, down, Rank, first, inner, closing, stands, Class, edges, crossings, class_value, Part, mark, main_edges, meeting, horizontal_meeting, vertical_meeting, edge, crossing, Site, the_default, of_class, of_line, at_spot, from_end, from_start}
+use Rattle.tabled_grid.specs.Event.{Written, sign, standing, Event, write, erase, level_sites}
+use Rattle.tabled_grid.specs.Lines.{horizontal_line_set, vertical_line_set}
 
 -- what a store keeps, level by level
 pub record Keeping (T : Type 0) : Type 0 where
+  pub default_value : Option T
   pub class_record : Borders T
+  pub vertical_lines : FinMap nat_cmp (VerticalLine T)
+  pub horizontal_lines : FinMap nat_cmp (HorizontalLine T)
+  pub edges_across : FinMap position_cmp T
+  pub edges_down : FinMap position_cmp T
+  pub crosses : FinMap position_cmp T
+  pub ends_across : FinMap edge_place_cmp T
+  pub ends_down : FinMap edge_place_cmp T
+  pub starts_across : FinMap edge_place_cmp T
+  pub starts_down : FinMap edge_place_cmp T
+
+-- the cells' edges of one direction, and their offsets from the end and from the start
+abbrev pub edge_values : {T : Type 0} → Direction → Keeping T → FinMap position_cmp T
+edge_values across keeping = keeping.edges_across
+edge_values down keeping = keeping.edges_down
+
+abbrev pub end_values : {T : Type 0} → Direction → Keeping T → FinMap edge_place_cmp T
+end_values across keeping = keeping.ends_across
+end_values down keeping = keeping.ends_down
+
+abbrev pub start_values : {T : Type 0} → Direction → Keeping T → FinMap edge_place_cmp T
+start_values across keeping = keeping.starts_across
+start_values down keeping = keeping.starts_down
+
+abbrev pub position : ℕ → ℕ → Position
+position r c = record { row = r; col = c }
+
+abbrev pub edge_place : ℕ → ℕ → ℕ → EdgePlace
+edge_place r c n = record { row = r; col = c; number = n }
+
+-- what a custom line has for each of its parts; that it is there is its mark
+abbrev pub horizontal_part : {T : Type 0} → Part → HorizontalLine T → Option (Written T)
+horizontal_part mark line = Some standing
+horizontal_part main_edges line = option_map sign line.main
+horizontal_part (meeting rank) line = option_map sign (horizontal_meeting rank line)
+
+abbrev pub vertical_part : {T : Type 0} → Part → VerticalLine T → Option (Written T)
+vertical_part mark line = Some standing
+vertical_part main_edges line = option_map sign line.main
+vertical_part (meeting rank) line = option_map sign (vertical_meeting rank line)
 
 -- what is kept at a site
 abbrev pub keeps : {T : Type 0} → Keeping T → Site → Option (Written T)
+keeps keeping the_default = option_map sign keeping.default_value
 keeps keeping (of_class class) = option_map sign (class_value class keeping.class_record)
-keeps keeping _ = None
+keeps keeping (of_line (LineOf.Horizontal n) part) = option_and_then (horizontal_part part) (get keeping.horizontal_lines n)
+keeps keeping (of_line (LineOf.Vertical n) part) = option_and_then (vertical_part part) (get keeping.vertical_lines n)
+keeps keeping (at_spot (edge d r c)) = option_map sign (get (edge_values d keeping) (position r c))
+keeps keeping (at_spot (crossing r c)) = option_map sign (get keeping.crosses (position r c))
+keeps keeping (from_end d r c n) = option_map sign (get (end_values d keeping) (edge_place r c n))
+keeps keeping (from_start d r c n) = option_map sign (get (start_values d keeping) (edge_place r c n))
 
 -- the classes whose fields draw a line of that direction and rank
 abbrev pub line_classes : Direction → Rank → List Class
@@ -56,6 +109,27 @@ class_writes borders cs = filter_map (λ c. option_map (λ x. write (of_class c)
 unfoldable pub class_record_set : {T : Type 0} → Borders T → List (Event T)
 class_record_set borders = erase (level_sites 1) ∷ class_writes borders classes
 
--- a list of events that leaves just what is kept: the writes of all of it
+-- the events that put what is under each key, the first entry last
+abbrev pub entry_events : {K X T : Type 0} → (K → X → List (Event T)) → List (K × X) → List (Event T)
+entry_events events [] = []
+entry_events events (e ∷ es) = entry_events events es ++ events e.0 e.1
+
+abbrev pub spot_writes : {T : Type 0} → (Position → Site) → FinMap position_cmp T → List (Event T)
+spot_writes site values = entry_events (λ p x. write (site p) (sign x) ∷ []) (entries values)
+
+abbrev pub offset_writes : {T : Type 0} → (EdgePlace → Site) → FinMap edge_place_cmp T → List (Event T)
+offset_writes site values = entry_events (λ p x. write (site p) (sign x) ∷ []) (entries values)
+
+abbrev pub default_writes : {T : Type 0} → Option T → List (Event T)
+default_writes None = []
+default_writes (Some x) = write the_default (sign x) ∷ []
+
+-- a list of events that leaves just what is kept: all of it, put there
 unfoldable pub writes_of : {T : Type 0} → Keeping T → List (Event T)
-writes_of keeping = class_writes keeping.class_record classes
+writes_of keeping =
+    default_writes keeping.default_value ++ (class_writes keeping.class_record classes
+    ++ (entry_events vertical_line_set (entries keeping.vertical_lines) ++ (entry_events horizontal_line_set (entries keeping.horizontal_lines)
+    ++ (spot_writes (λ p. at_spot (edge across p.row p.col)) keeping.edges_across ++ (spot_writes (λ p. at_spot (edge down p.row p.col)) keeping.edges_down
+    ++ (spot_writes (λ p. at_spot (crossing p.row p.col)) keeping.crosses
+    ++ (offset_writes (λ p. from_end across p.row p.col p.number) keeping.ends_across ++ (offset_writes (λ p. from_end down p.row p.col p.number) keeping.ends_down
+    ++ (offset_writes (λ p. from_start across p.row p.col p.number) keeping.starts_across ++ offset_writes (λ p. from_start down p.row p.col p.number) keeping.starts_down)))))))))

@@ -5,3 +5,16 @@ pub mod Drawn
 pub mod Keeping
 pub mod Lines
 pub mod Probing
+pub mod Table
+pub mod Keys
+pub mod Counted
+pub mod Reading
+pub mod Calls
+pub mod Converting
+pub mod Border
+pub mod Texts
+pub mod LentTexts
+pub mod CustomLines
+pub mod EventList
+pub mod Same
+pub mod SameLaws

@@ -1,9 +1,9 @@
 -- Custom lines as events.
-use Rattle.std.specs.Prelude.{ℕ, Option, List, [], ◌∷◌, ◌++◌, option_map, option_to_list}
+use Rattle.std.specs.Prelude.{ℕ, Option, List, ◌∷◌, ◌++◌, option_map, option_to_list}
 use Rattle.tabled_grid.specs.declared.lines.HorizontalLine.{HorizontalLine}
 use Rattle.tabled_grid.specs.declared.lines.VerticalLine.{VerticalLine}
 use Rattle.tabled_grid.specs.declared.place.LineOf.{LineOf}
-use Rattle.tabled_grid.specs.Site.{first, inner, closing, Part, mark, main_edges, meeting, Site, of_line}
+use Rattle.tabled_grid.specs.Site.{first, inner, closing, Part, mark, main_edges, meeting, of_line}
 use Rattle.tabled_grid.specs.Event.{sign, standing, Event, write, erase, line_sites}
 
 -- the write of a field of a line, if it is given
@@ -23,7 +23,3 @@ vertical_line_set n line =
     erase (line_sites (LineOf.Vertical n)) ∷ write (of_line (LineOf.Vertical n) mark) standing
     ∷ part_write (LineOf.Vertical n) main_edges line.main ++ part_write (LineOf.Vertical n) (meeting inner) line.intersection
     ++ part_write (LineOf.Vertical n) (meeting first) line.top ++ part_write (LineOf.Vertical n) (meeting closing) line.bottom
-
--- a custom line removed
-unfoldable pub line_removed : {T : Type 0} → LineOf → List (Event T)
-line_removed line = erase (line_sites line) ∷ []

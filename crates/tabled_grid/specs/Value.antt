@@ -1,16 +1,22 @@
 -- Places and their values.
-use Rattle.std.specs.Prelude.{◌≡◌, ℕ, ◌-◌, Bool, ◌&&◌, nat_lt, nat_le, if◌then◌else◌, Option, Some, None, List, [], ◌∷◌}
+use Rattle.std.specs.Prelude.{ℕ, ◌-◌, Bool, ◌&&◌, nat_lt, nat_le, if◌then◌else◌, Option, Some, None, List, [], ◌∷◌}
 use Rattle.tabled_grid.specs.declared.place.LineOf.{LineOf}
 use Rattle.tabled_grid.specs.declared.place.Place.{Place}
 use Rattle.tabled_grid.specs.Site.{across, down, rank, Class, edges, crossings, main_edges, meeting, edge, crossing, Site, the_default, of_class, of_line, at_spot, from_end, from_start}
 use Rattle.tabled_grid.specs.Event.{Written, sign, standing}
 
--- whether a table of that many rows and columns has the place, where the edge is that long; one without rows or columns
+-- whether a table of that many rows and columns has the edge of the place, or the crossing; one without rows or columns
 -- has none
+abbrev pub has_spot : ℕ × ℕ → Place → Bool
+has_spot (rows, cols) (Place.Horizontal r c k) = nat_lt 0 rows && nat_le r rows && nat_lt c cols
+has_spot (rows, cols) (Place.Vertical r c k) = nat_lt 0 cols && nat_lt r rows && nat_le c cols
+has_spot (rows, cols) (Place.Cross r c) = nat_lt 0 rows && nat_lt 0 cols && nat_le r rows && nat_le c cols
+
+-- whether it has the place, where its edge is that long
 abbrev pub inside : ℕ × ℕ → ℕ → Place → Bool
-inside (rows, cols) size (Place.Horizontal r c k) = nat_lt 0 rows && nat_le r rows && nat_lt c cols && nat_lt k size
-inside (rows, cols) size (Place.Vertical r c k) = nat_lt 0 cols && nat_lt r rows && nat_le c cols && nat_lt k size
-inside (rows, cols) size (Place.Cross r c) = nat_lt 0 rows && nat_lt 0 cols && nat_le r rows && nat_le c cols
+inside shape size (Place.Horizontal r c k) = has_spot shape (Place.Horizontal r c k) && nat_lt k size
+inside shape size (Place.Vertical r c k) = has_spot shape (Place.Vertical r c k) && nat_lt k size
+inside shape size (Place.Cross r c) = has_spot shape (Place.Cross r c)
 
 -- the class of a place
 abbrev pub class_at : ℕ × ℕ → Place → Class
@@ -18,17 +24,23 @@ class_at (rows, cols) (Place.Horizontal r c k) = edges across (rank rows r)
 class_at (rows, cols) (Place.Vertical r c k) = edges down (rank cols c)
 class_at (rows, cols) (Place.Cross r c) = crossings (rank rows r) (rank cols c)
 
--- the sites of a place inside, from the highest level down; the size is the length of its edge
-abbrev pub sites : ℕ × ℕ → ℕ → Place → List Site
-sites (rows, cols) size (Place.Horizontal r c k) =
-    from_start across r c k ∷ from_end across r c (size - 1 - k) ∷ at_spot (edge across r c)
-    ∷ of_line (LineOf.Horizontal r) main_edges ∷ of_class (class_at (rows, cols) (Place.Horizontal r c k)) ∷ the_default ∷ []
-sites (rows, cols) size (Place.Vertical r c k) =
-    from_start down r c k ∷ from_end down r c (size - 1 - k) ∷ at_spot (edge down r c)
-    ∷ of_line (LineOf.Vertical c) main_edges ∷ of_class (class_at (rows, cols) (Place.Vertical r c k)) ∷ the_default ∷ []
-sites (rows, cols) size (Place.Cross r c) =
+-- the sites below the offsets of a place, from the highest level down
+abbrev pub plain_sites : ℕ × ℕ → Place → List Site
+plain_sites (rows, cols) (Place.Horizontal r c k) =
+    at_spot (edge across r c) ∷ of_line (LineOf.Horizontal r) main_edges
+    ∷ of_class (class_at (rows, cols) (Place.Horizontal r c k)) ∷ the_default ∷ []
+plain_sites (rows, cols) (Place.Vertical r c k) =
+    at_spot (edge down r c) ∷ of_line (LineOf.Vertical c) main_edges
+    ∷ of_class (class_at (rows, cols) (Place.Vertical r c k)) ∷ the_default ∷ []
+plain_sites (rows, cols) (Place.Cross r c) =
     at_spot (crossing r c) ∷ of_line (LineOf.Horizontal r) (meeting (rank cols c)) ∷ of_line (LineOf.Vertical c) (meeting (rank rows r))
     ∷ of_class (class_at (rows, cols) (Place.Cross r c)) ∷ the_default ∷ []
+
+-- the sites of a place inside; the size is the length of its edge
+abbrev pub sites : ℕ × ℕ → ℕ → Place → List Site
+sites shape size (Place.Horizontal r c k) = from_start across r c k ∷ from_end across r c (size - 1 - k) ∷ plain_sites shape (Place.Horizontal r c k)
+sites shape size (Place.Vertical r c k) = from_start down r c k ∷ from_end down r c (size - 1 - k) ∷ plain_sites shape (Place.Vertical r c k)
+sites shape size (Place.Cross r c) = plain_sites shape (Place.Cross r c)
 
 -- the sign, where that is what is kept, and else the other value
 abbrev pub sign_or : {T : Type 0} → Option (Written T) → Option T → Option T
@@ -44,3 +56,7 @@ first_sign keep (q ∷ qs) = sign_or (keep q) (first_sign keep qs)
 -- the value of a place: what is kept at the highest level that has something there
 unfoldable pub value : {T : Type 0} → (Site → Option (Written T)) → ℕ × ℕ → ℕ → Place → Option T
 value keep shape size place = if inside shape size place then first_sign keep (sites shape size place) else None
+
+-- the value of an edge or a crossing without the offsets, however long its edge is
+unfoldable pub plain_value : {T : Type 0} → (Site → Option (Written T)) → ℕ × ℕ → Place → Option T
+plain_value keep shape place = if has_spot shape place then first_sign keep (plain_sites shape place) else None

@@ -8,6 +8,10 @@ ghost use Rattle.tabled_grid.specs.Event.{Written, Event, kept, Shows, Changes};
 ghost use Rattle.tabled_grid.specs.Value.{value};
 ghost use Rattle.tabled_grid.specs.Drawn.{Drawn, drawn};
 ghost use Rattle.tabled_grid.specs.Keeping.{Keeping, keeps, writes_of};
+ghost use Rattle.tabled_grid.specs.Same.{same_written};
+ghost use Rattle.std.specs.Option.{option_eq};
+
+use crate::Layers;
 
 /// A list of events that was shown before a change, followed by the events of the change, is shown after it.
 pub fn shown_after_change<T>()
@@ -33,4 +37,13 @@ pub fn read_alike<T>()
 /// Whatever a store keeps, there is a list of events that it shows: the writes of all of it.
 pub fn shows_its_writes<T>()
     ensures { (keeping : Keeping T) → Shows (writes_of keeping) (keeps keeping) }
+{}
+
+/// Two stores are equal by `==` just where at every site both keep nothing, or what they keep is equal; and
+/// where `==` of the values is true of equal values alone, just where they keep the same.
+pub fn equal_where_same_is_kept<T: PartialEq>()
+    ensures sites { (a b : Keeping T) → IsTrue (⟦<Layers<T> as PartialEq>⟧.eq a b)
+        ↔ ((site : Site) → IsTrue (option_eq (same_written T.eq) (keeps a site) (keeps b site))) }
+    ensures exact { ((x y : T) → IsTrue (T.eq x y) ↔ (x ≡ y))
+        → (a b : Keeping T) → IsTrue (⟦<Layers<T> as PartialEq>⟧.eq a b) ↔ (a ≡ b) }
 {}

@@ -1,35 +1,92 @@
 //! The store of border characters or colours, level by level.
 
-ghost use Rattle.std.specs.Prelude.{◌≡◌, ◌↔◌, [], ◌∷◌, IsTrue, option_copied};
+ghost use Rattle.std.specs.Prelude.{◌≡◌, ◌↔◌, [], ◌∷◌, IsTrue, IsOk, IsSomeAnd, OnOk, OnErr, option_copied, Option, None};
 
-use crate::{Borders, LineOf, Place, Probes};
+mod copies;
+mod equality;
+mod reads;
+#[cfg(test)]
+mod tests;
+
+use crate::cells::{put, put_crossing, put_edge, take_crossing, take_edge};
+use crate::custom_lines::{put_horizontal, put_vertical, take_horizontal, take_vertical};
+use crate::kept_map::KeptMap;
+use crate::number::Number;
+use crate::position::EdgePlace;
+use crate::{
+    Borders, HorizontalLine, LineOf, Offset, OutOfMemory, Place, Position, Probes, VerticalLine,
+};
 use std::alloc::Global;
 use std::marker::Model;
 use std::mem;
 
 /// What a table keeps for its border places, of one kind of value: characters, or colours.
 ///
-/// Each call is an event, or reads what the events so far have left; `docs/DEFINITIONS.md` says how.
+/// Each call is a list of events, or reads what the events so far have left; `docs/DEFINITIONS.md` says
+/// how. A call that needs memory and is refused leaves the store as it was.
 #[derive(Debug, Drop)]
 pub struct Layers<T> {
     alloc: Global,
+    default_value: Option<T>,
     class_record: Borders<T>,
+    vertical_lines: KeptMap<usize, VerticalLine<T>>,
+    horizontal_lines: KeptMap<usize, HorizontalLine<T>>,
+    edges_across: KeptMap<Position, T>,
+    edges_down: KeptMap<Position, T>,
+    crosses: KeptMap<Position, T>,
+    ends_across: KeptMap<EdgePlace, T>,
+    ends_down: KeptMap<EdgePlace, T>,
+    starts_across: KeptMap<EdgePlace, T>,
+    starts_down: KeptMap<EdgePlace, T>,
+    on_rows: KeptMap<usize, u128>,
+    on_cols: KeptMap<usize, u128>,
+    tops: Number,
+    bottoms: Number,
+    lefts: Number,
+    rights: Number,
+    betweens: Number,
 }
 
 impl<T> Model for Layers<T> {
     ghost use Rattle.tabled_grid.specs.Keeping.{Keeping};
+    ghost use Rattle.tabled_grid.specs.Table.{table};
+    ghost use Rattle.tabled_grid.specs.Keys.{position_cmp, edge_place_cmp};
+    ghost use Rattle.tabled_grid.specs.Counted.{CellsCounted, VerticalCounted, HorizontalCounted};
+    ghost use Rattle.std.specs.Ordering.{nat_cmp};
+    ghost use Rattle.std.specs.Coded.{codes};
+    ghost use Rattle.std.specs.FinMap as map;
 
     ghost Value = { Keeping T };
 
-    ghost view = { λ layers. record { class_record = layers.class_record } };
+    ghost coded = { Prim.hlevel (codes, T.code, map.code) };
+
+    ghost view = { λ layers. record {
+      default_value = layers.default_value;
+      class_record = layers.class_record;
+      vertical_lines = table nat_cmp layers.vertical_lines;
+      horizontal_lines = table nat_cmp layers.horizontal_lines;
+      edges_across = table position_cmp layers.edges_across;
+      edges_down = table position_cmp layers.edges_down;
+      crosses = table position_cmp layers.crosses;
+      ends_across = table edge_place_cmp layers.ends_across;
+      ends_down = table edge_place_cmp layers.ends_down;
+      starts_across = table edge_place_cmp layers.starts_across;
+      starts_down = table edge_place_cmp layers.starts_down;
+    } };
+
+    ghost invariant = { λ layers.
+        CellsCounted (table nat_cmp layers.on_rows) (table nat_cmp layers.on_cols)
+        (table position_cmp layers.edges_across) (table position_cmp layers.edges_down) (table position_cmp layers.crosses)
+        × VerticalCounted layers.tops layers.bottoms (table nat_cmp layers.vertical_lines)
+        × HorizontalCounted layers.lefts layers.rights layers.betweens (table nat_cmp layers.horizontal_lines) };
 }
 
 impl<T> Layers<T> {
     ghost use Rattle.tabled_grid.specs.Event.{erase, level_sites, Shows, Changes};
-    ghost use Rattle.tabled_grid.specs.Value.{value};
-    ghost use Rattle.tabled_grid.specs.Drawn.{Drawn};
     ghost use Rattle.tabled_grid.specs.Keeping.{keeps, class_record_set};
-    ghost use Rattle.tabled_grid.specs.Probing.{IsRaised};
+    ghost use Rattle.tabled_grid.specs.Site.{across, down, mark, of_line, at_spot};
+    ghost use Rattle.tabled_grid.specs.Calls.{default_set, line_set_across, line_set_down, line_removed, spot_of, cell_set, cell_erased, edge_site, offset_site, offset_set, edge_offset, offsets_erased, lines_erased};
+    ghost use Rattle.tabled_grid.specs.declared.place.LineOf.{LineOf as Line};
 
     /// A store in which nothing was written. It keeps the allocator for the calls that need memory.
     pub fn new(alloc: Global) -> Self
@@ -37,13 +94,48 @@ impl<T> Layers<T> {
     {
         Layers {
             alloc,
+            default_value: None,
             class_record: Borders::empty(),
+            vertical_lines: KeptMap::new(alloc),
+            horizontal_lines: KeptMap::new(alloc),
+            edges_across: KeptMap::new(alloc),
+            edges_down: KeptMap::new(alloc),
+            crosses: KeptMap::new(alloc),
+            ends_across: KeptMap::new(alloc),
+            ends_down: KeptMap::new(alloc),
+            starts_across: KeptMap::new(alloc),
+            starts_down: KeptMap::new(alloc),
+            on_rows: KeptMap::new(alloc),
+            on_cols: KeptMap::new(alloc),
+            tops: Number::new(),
+            bottoms: Number::new(),
+            lefts: Number::new(),
+            rights: Number::new(),
+            betweens: Number::new(),
         }
     }
 
     /// The allocator that the store keeps.
     pub fn allocator(&self) -> Global {
         self.alloc
+    }
+
+    /// Sets the default, the weakest level, which shows wherever no other has something.
+    pub fn set_default(&mut self, value: T)
+    where
+        T: Drop,
+        ensures { Changes (default_set value) (keeps self.old) (keeps self.new) }
+    {
+        drop(mem::replace(&mut self.default_value, Some(value)));
+    }
+
+    /// Erases the default.
+    pub fn erase_default(&mut self)
+    where
+        T: Drop,
+        ensures { Changes (erase (level_sites 0) ∷ []) (keeps self.old) (keeps self.new) }
+    {
+        drop(mem::replace(&mut self.default_value, None));
     }
 
     /// Sets the class record whole: what it had before is gone, also where the new record has nothing.
@@ -55,13 +147,6 @@ impl<T> Layers<T> {
         drop(mem::replace(&mut self.class_record, borders));
     }
 
-    /// The class record.
-    pub fn get_class(&self) -> &Borders<T>
-        ensures { result.now ≡ self.now.class_record }
-    {
-        &self.class_record
-    }
-
     /// Erases the class record.
     pub fn erase_class(&mut self)
     where
@@ -71,75 +156,246 @@ impl<T> Layers<T> {
         drop(mem::replace(&mut self.class_record, Borders::empty()));
     }
 
-    /// What shows at a place of a table of `shape.0` rows and `shape.1` columns: what is kept at the
-    /// highest level that has something there. `size` is the width of a horizontal edge's column or
-    /// the height of a vertical edge's row; for a crossing it is not read. A place outside the table
-    /// has nothing. At most six readings are made.
-    pub fn at(
-        &self,
-        place: Place,
-        shape: (usize, usize),
-        size: usize,
-        probes: &mut Probes,
-    ) -> Option<&T>
-        ensures value { option_copied result ≡ value (keeps self.now) shape size place }
-        ensures probes { IsRaised 6 probes.old probes.new }
+    /// Puts a custom horizontal line at index `line`, in place of the one that stood there. Only where none
+    /// stood there can memory be refused.
+    pub fn insert_hline(
+        &mut self,
+        line: usize,
+        fields: HorizontalLine<T>,
+    ) -> Result<(), OutOfMemory>
+    where
+        T: Drop,
+        ensures ok { OnOk result (Changes (line_set_across line fields) (keeps self.old) (keeps self.new)) }
+        ensures err { OnErr result (self.new ≡ self.old) }
+        ensures absent { OnErr result (keeps self.old (of_line (Line.Horizontal line) mark) ≡ None) }
     {
-        if !place.is_inside(shape, size) {
-            return None;
-        }
-        self.class_at(place, shape, probes)
+        put_horizontal(
+            &mut self.horizontal_lines,
+            &mut self.lefts,
+            &mut self.rights,
+            &mut self.betweens,
+            line,
+            fields,
+        )
     }
 
-    /// Whether a line is drawn, of the lines 0 to `count` of its direction. At most six readings are
-    /// made.
-    pub fn draws(&self, line: LineOf, count: usize, probes: &mut Probes) -> bool
-        ensures drawn { IsTrue result ↔ Drawn (keeps self.now) count line }
-        ensures probes { IsRaised 6 probes.old probes.new }
+    /// Removes the custom horizontal line at index `line`, if one stands there.
+    pub fn remove_hline(&mut self, line: usize)
+    where
+        T: Drop,
+        ensures { Changes (line_removed (Line.Horizontal line)) (keeps self.old) (keeps self.new) }
     {
-        line.number() <= count && self.class_draws(line, count, probes)
+        take_horizontal(
+            &mut self.horizontal_lines,
+            &mut self.lefts,
+            &mut self.rights,
+            &mut self.betweens,
+            line,
+        );
     }
-}
 
-impl<T> Layers<T> {
-    ghost use Rattle.std.specs.Prelude.{◌&&◌, ◌||◌};
-    ghost use Rattle.tabled_grid.specs.Site.{class_value, stands};
-    ghost use Rattle.tabled_grid.specs.Value.{class_at};
-    ghost use Rattle.tabled_grid.specs.Keeping.{class_draws};
-    ghost use Rattle.tabled_grid.specs.Probing.{IsRaised};
-
-    /// What the class record has for a place.
-    fn class_at(&self, place: Place, shape: (usize, usize), probes: &mut Probes) -> Option<&T>
-        ensures value { option_copied result ≡ class_value (class_at shape place) self.now.class_record }
-        ensures probes { IsRaised 1 probes.old probes.new }
+    /// Puts a custom vertical line at index `line`, in place of the one that stood there. Only where none
+    /// stood there can memory be refused.
+    pub fn insert_vline(&mut self, line: usize, fields: VerticalLine<T>) -> Result<(), OutOfMemory>
+    where
+        T: Drop,
+        ensures ok { OnOk result (Changes (line_set_down line fields) (keeps self.old) (keeps self.new)) }
+        ensures err { OnErr result (self.new ≡ self.old) }
+        ensures absent { OnErr result (keeps self.old (of_line (Line.Vertical line) mark) ≡ None) }
     {
-        probes.raise();
-        let (rows, cols) = shape;
+        put_vertical(
+            &mut self.vertical_lines,
+            &mut self.tops,
+            &mut self.bottoms,
+            line,
+            fields,
+        )
+    }
+
+    /// Removes the custom vertical line at index `line`, if one stands there.
+    pub fn remove_vline(&mut self, line: usize)
+    where
+        T: Drop,
+        ensures { Changes (line_removed (Line.Vertical line)) (keeps self.old) (keeps self.new) }
+    {
+        take_vertical(
+            &mut self.vertical_lines,
+            &mut self.tops,
+            &mut self.bottoms,
+            line,
+        );
+    }
+
+    /// Erases all custom lines of both directions.
+    pub fn erase_lines(&mut self)
+    where
+        T: Drop,
+        ensures { Changes lines_erased (keeps self.old) (keeps self.new) }
+    {
+        self.vertical_lines.clear();
+        self.horizontal_lines.clear();
+        self.tops = Number::new();
+        self.bottoms = Number::new();
+        self.lefts = Number::new();
+        self.rights = Number::new();
+        self.betweens = Number::new();
+    }
+
+    /// Writes at the cell level of a place. An edge has one site there, for all its places: `at` is not
+    /// read. Only where nothing was there can memory be refused.
+    pub fn set_cell(&mut self, place: Place, value: T) -> Result<(), OutOfMemory>
+    where
+        T: Drop,
+        ensures ok { OnOk result (Changes (cell_set place value) (keeps self.old) (keeps self.new)) }
+        ensures err { OnErr result (self.new ≡ self.old) }
+        ensures absent { OnErr result (keeps self.old (at_spot (spot_of place)) ≡ None) }
+    {
         match place {
-            Place::Horizontal { row, .. } => self.class_record.at_horizontal(row, rows),
-            Place::Vertical { col, .. } => self.class_record.at_vertical(col, cols),
-            Place::Cross { row, col } => self.class_record.at_crossing(row, col, rows, cols),
+            Place::Horizontal { row, col, .. } => put_edge(
+                &mut self.edges_across,
+                &mut self.on_rows,
+                Position { row, col },
+                row,
+                value,
+            ),
+            Place::Vertical { row, col, .. } => put_edge(
+                &mut self.edges_down,
+                &mut self.on_cols,
+                Position { row, col },
+                col,
+                value,
+            ),
+            Place::Cross { row, col } => put_crossing(
+                &mut self.crosses,
+                &mut self.on_rows,
+                &mut self.on_cols,
+                Position { row, col },
+                value,
+            ),
         }
     }
 
-    /// Whether the class record draws a line.
-    fn class_draws(&self, line: LineOf, count: usize, probes: &mut Probes) -> bool
-        ensures drawn { result ≡ class_draws self.now.class_record count line }
-        ensures probes { IsRaised 1 probes.old probes.new }
+    /// Erases the cell level of a place; for an edge `at` is not read.
+    pub fn erase_cell(&mut self, place: Place)
+    where
+        T: Drop,
+        ensures { Changes (cell_erased place) (keeps self.old) (keeps self.new) }
     {
-        probes.raise();
-        let class = &self.class_record;
-        match line {
-            LineOf::Horizontal(row) => {
-                (row == 0 && class.has_top())
-                    || (row == count && class.has_bottom())
-                    || (0 < row && row < count && class.has_horizontal())
-            }
-            LineOf::Vertical(col) => {
-                (col == 0 && class.has_left())
-                    || (col == count && class.has_right())
-                    || (0 < col && col < count && class.has_vertical())
+        match place {
+            Place::Horizontal { row, col, .. } => take_edge(
+                &mut self.edges_across,
+                &mut self.on_rows,
+                Position { row, col },
+                row,
+            ),
+            Place::Vertical { row, col, .. } => take_edge(
+                &mut self.edges_down,
+                &mut self.on_cols,
+                Position { row, col },
+                col,
+            ),
+            Place::Cross { row, col } => take_crossing(
+                &mut self.crosses,
+                &mut self.on_rows,
+                &mut self.on_cols,
+                Position { row, col },
+            ),
+        }
+    }
+
+    /// Erases the whole cell level.
+    pub fn erase_cells(&mut self)
+    where
+        T: Drop,
+        ensures { Changes (erase (level_sites 4) ∷ []) (keeps self.old) (keeps self.new) }
+    {
+        self.edges_across.clear();
+        self.edges_down.clear();
+        self.crosses.clear();
+        self.on_rows.clear();
+        self.on_cols.clear();
+    }
+
+    /// Writes at a numbered place of an edge, counted from its start or back from its end. `at` is not
+    /// read; a crossing has no such place and is passed over. Only where nothing was there can memory be
+    /// refused.
+    pub fn set_offset(&mut self, place: Place, offset: Offset, value: T) -> Result<(), OutOfMemory>
+    where
+        T: Drop,
+        ensures ok { OnOk result (Changes (offset_set place offset value) (keeps self.old) (keeps self.new)) }
+        ensures err { OnErr result (self.new ≡ self.old) }
+        ensures absent { OnErr result (IsSomeAnd (offset_site place offset) (λ site. keeps self.old site ≡ None)) }
+    {
+        match place {
+            Place::Horizontal { row, col, .. } => self.set_offset_across(row, col, offset, value),
+            Place::Vertical { row, col, .. } => self.set_offset_down(row, col, offset, value),
+            Place::Cross { .. } => Ok(()),
+        }
+    }
+
+    fn set_offset_across(
+        &mut self,
+        row: usize,
+        col: usize,
+        offset: Offset,
+        value: T,
+    ) -> Result<(), OutOfMemory>
+    where
+        T: Drop,
+        ensures ok { OnOk result (Changes (edge_offset across row col offset value) (keeps self.old) (keeps self.new)) }
+        ensures err { OnErr result (self.new ≡ self.old) }
+        ensures absent { OnErr result (keeps self.old (edge_site across row col offset) ≡ None) }
+    {
+        match offset {
+            Offset::Start(number) => put(
+                &mut self.starts_across,
+                EdgePlace { row, col, number },
+                value,
+            ),
+            Offset::End(number) => {
+                put(&mut self.ends_across, EdgePlace { row, col, number }, value)
             }
         }
+    }
+
+    fn set_offset_down(
+        &mut self,
+        row: usize,
+        col: usize,
+        offset: Offset,
+        value: T,
+    ) -> Result<(), OutOfMemory>
+    where
+        T: Drop,
+        ensures ok { OnOk result (Changes (edge_offset down row col offset value) (keeps self.old) (keeps self.new)) }
+        ensures err { OnErr result (self.new ≡ self.old) }
+        ensures absent { OnErr result (keeps self.old (edge_site down row col offset) ≡ None) }
+    {
+        match offset {
+            Offset::Start(number) => {
+                put(&mut self.starts_down, EdgePlace { row, col, number }, value)
+            }
+            Offset::End(number) => put(&mut self.ends_down, EdgePlace { row, col, number }, value),
+        }
+    }
+
+    /// Erases all offsets on the edges of horizontal lines.
+    pub fn erase_horizontal_offsets(&mut self)
+    where
+        T: Drop,
+        ensures { Changes (offsets_erased across) (keeps self.old) (keeps self.new) }
+    {
+        self.ends_across.clear();
+        self.starts_across.clear();
+    }
+
+    /// Erases all offsets on the edges of vertical lines.
+    pub fn erase_vertical_offsets(&mut self)
+    where
+        T: Drop,
+        ensures { Changes (offsets_erased down) (keeps self.old) (keeps self.new) }
+    {
+        self.ends_down.clear();
+        self.starts_down.clear();
     }
 }

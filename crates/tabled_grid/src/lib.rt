@@ -4,24 +4,42 @@
 //! to C; the lines R and C close the table. `docs/DEFINITIONS.md` explains the words of the contracts.
 #![tactic(auto)]
 
+mod ansi;
+mod border;
 mod borders;
+mod cells;
+mod custom_lines;
 mod dimension;
 mod entity;
+mod event_list;
+mod keep;
+mod kept_map;
 mod laws;
 mod layers;
 mod lines;
 mod memory;
+mod number;
+mod offset;
 mod place;
+mod position;
 mod probes;
 mod records;
+mod tally;
 
+pub use ansi::{ANSIBuf, ANSIFmt, ANSIStr, AnsiText};
+pub use border::Border;
 pub use borders::Borders;
 pub use dimension::{Dimension, FixedDimension};
 pub use entity::Entity;
-pub use laws::{changes_in_a_row, read_alike, shown_after_change, shows_its_writes};
+pub use keep::Keep;
+pub use laws::{
+    changes_in_a_row, equal_where_same_is_kept, read_alike, shown_after_change, shows_its_writes,
+};
 pub use layers::Layers;
 pub use lines::{HorizontalLine, VerticalLine};
 pub use memory::OutOfMemory;
+pub use offset::Offset;
 pub use place::{LineOf, Place};
+pub use position::Position;
 pub use probes::Probes;
 pub use records::{ExactRecords, Records, Shape};

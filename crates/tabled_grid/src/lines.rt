@@ -1,6 +1,7 @@
 //! Custom lines, which stand at one index in place of what the class record says there.
 
-ghost use Rattle.std.specs.Prelude.{◌≡◌, None};
+ghost use Rattle.std.specs.Prelude.{◌≡◌, is_some, option_copied};
+ghost use Rattle.tabled_grid.specs.Table.{passes};
 
 /// A custom horizontal line. A character that is missing leaves the place to the levels below.
 #[derive(Clone, Copy, Debug, Drop, PartialEq, Eq, PartialOrd, Ord, Hash)]
@@ -26,4 +27,158 @@ pub struct VerticalLine<T> {
     pub top: Option<T>,
     /// At the crossing with the closing horizontal line.
     pub bottom: Option<T>,
+}
+
+/// Whether there is a line with a left.
+pub(crate) fn has_left<T>(line: &Option<HorizontalLine<T>>) -> bool
+    ensures { result ≡ passes (λ x. is_some x.left) line.now }
+{
+    match line {
+        Some(line) => line.left.is_some(),
+        None => false,
+    }
+}
+
+/// Whether there is a line with a right.
+pub(crate) fn has_right<T>(line: &Option<HorizontalLine<T>>) -> bool
+    ensures { result ≡ passes (λ x. is_some x.right) line.now }
+{
+    match line {
+        Some(line) => line.right.is_some(),
+        None => false,
+    }
+}
+
+/// Whether there is a line with an intersection.
+pub(crate) fn has_between<T>(line: &Option<HorizontalLine<T>>) -> bool
+    ensures { result ≡ passes (λ x. is_some x.intersection) line.now }
+{
+    match line {
+        Some(line) => line.intersection.is_some(),
+        None => false,
+    }
+}
+
+/// Whether there is a line with a top.
+pub(crate) fn has_top<T>(line: &Option<VerticalLine<T>>) -> bool
+    ensures { result ≡ passes (λ x. is_some x.top) line.now }
+{
+    match line {
+        Some(line) => line.top.is_some(),
+        None => false,
+    }
+}
+
+/// Whether there is a line with a bottom.
+pub(crate) fn has_bottom<T>(line: &Option<VerticalLine<T>>) -> bool
+    ensures { result ≡ passes (λ x. is_some x.bottom) line.now }
+{
+    match line {
+        Some(line) => line.bottom.is_some(),
+        None => false,
+    }
+}
+
+impl<T> HorizontalLine<T> {
+    ghost use Rattle.tabled_grid.specs.Site.{rank, horizontal_meeting};
+    ghost use Rattle.tabled_grid.specs.CustomLines.{no_horizontal};
+
+    /// A line of these characters: along its edges, at its crossings between, and at its two ends.
+    pub const fn new(
+        main: Option<T>,
+        intersection: Option<T>,
+        left: Option<T>,
+        right: Option<T>,
+    ) -> Self
+        ensures { result ≡ record { main = main; intersection = intersection; left = left; right = right } }
+    {
+        HorizontalLine {
+            main,
+            intersection,
+            left,
+            right,
+        }
+    }
+
+    /// A line with nothing set.
+    pub const fn empty() -> Self
+        ensures { result ≡ no_horizontal }
+    {
+        HorizontalLine::new(None, None, None, None)
+    }
+
+    /// What the line has for its crossing with line `col` of the other direction, of the lines 0 to `cols`.
+    pub(crate) fn at_crossing(&self, col: usize, cols: usize) -> Option<&T>
+        ensures { option_copied result ≡ horizontal_meeting (rank cols col) self.now }
+    {
+        if col == 0 {
+            self.left.as_ref()
+        } else if col == cols {
+            self.right.as_ref()
+        } else {
+            self.intersection.as_ref()
+        }
+    }
+}
+
+impl<T> VerticalLine<T> {
+    ghost use Rattle.tabled_grid.specs.Site.{rank, vertical_meeting};
+    ghost use Rattle.tabled_grid.specs.CustomLines.{no_vertical};
+
+    /// A line of these characters: along its edges, at its crossings between, and at its two ends.
+    pub const fn new(
+        main: Option<T>,
+        intersection: Option<T>,
+        top: Option<T>,
+        bottom: Option<T>,
+    ) -> Self
+        ensures { result ≡ record { main = main; intersection = intersection; top = top; bottom = bottom } }
+    {
+        VerticalLine {
+            main,
+            intersection,
+            top,
+            bottom,
+        }
+    }
+
+    /// A line with nothing set.
+    pub const fn empty() -> Self
+        ensures { result ≡ no_vertical }
+    {
+        VerticalLine::new(None, None, None, None)
+    }
+
+    /// What the line has for its crossing with line `row` of the other direction, of the lines 0 to `rows`.
+    pub(crate) fn at_crossing(&self, row: usize, rows: usize) -> Option<&T>
+        ensures { option_copied result ≡ vertical_meeting (rank rows row) self.now }
+    {
+        if row == 0 {
+            self.top.as_ref()
+        } else if row == rows {
+            self.bottom.as_ref()
+        } else {
+            self.intersection.as_ref()
+        }
+    }
+}
+
+impl<T> Default for HorizontalLine<T> {
+    ghost use Rattle.tabled_grid.specs.CustomLines.{no_horizontal};
+
+    ghost is_default = { λ line. line ≡ no_horizontal };
+
+    fn default() -> Self {
+        HorizontalLine::empty()
+    }
+}
+
+impl<T> Default for VerticalLine<T> {
+    ghost use Rattle.tabled_grid.specs.CustomLines.{no_vertical};
+
+    ghost is_default = { λ line. line ≡ no_vertical };
+
+    fn default() -> Self {
+        VerticalLine::empty()
+    }
 }

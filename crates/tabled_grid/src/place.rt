@@ -25,20 +25,30 @@ pub enum LineOf {
 }
 
 impl Place {
-    ghost use Rattle.tabled_grid.specs.Value.{inside};
+    ghost use Rattle.tabled_grid.specs.Value.{has_spot, inside};
 
-    /// Whether a table of `shape.0` rows and `shape.1` columns has this place, where its edge is
-    /// `size` characters long. A table without rows or without columns has none.
-    pub(crate) fn is_inside(self, shape: (usize, usize), size: usize) -> bool
-        ensures { result ≡ inside shape size self }
+    /// Whether a table of `shape.0` rows and `shape.1` columns has this place's edge, or this crossing.
+    /// A table without rows or without columns has none.
+    pub(crate) fn has_spot(self, shape: (usize, usize)) -> bool
+        ensures { result ≡ has_spot shape self }
     {
         let (rows, cols) = shape;
         match self {
-            Place::Horizontal { row, col, at } => {
-                0 < rows && row <= rows && col < cols && at < size
-            }
-            Place::Vertical { row, col, at } => 0 < cols && row < rows && col <= cols && at < size,
+            Place::Horizontal { row, col, .. } => 0 < rows && row <= rows && col < cols,
+            Place::Vertical { row, col, .. } => 0 < cols && row < rows && col <= cols,
             Place::Cross { row, col } => 0 < rows && 0 < cols && row <= rows && col <= cols,
+        }
+    }
+
+    /// Whether it has this place, where its edge is `size` characters long.
+    pub(crate) fn is_inside(self, shape: (usize, usize), size: usize) -> bool
+        ensures { result ≡ inside shape size self }
+    {
+        match self {
+            Place::Horizontal { at, .. } | Place::Vertical { at, .. } => {
+                self.has_spot(shape) && at < size
+            }
+            Place::Cross { .. } => self.has_spot(shape),
         }
     }
 }

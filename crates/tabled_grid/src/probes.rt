@@ -16,7 +16,7 @@ impl std::marker::Model for Probes {
 }
 
 impl Probes {
-    ghost use Rattle.tabled_grid.specs.Probing.{IsRaised};
+    ghost use Rattle.tabled_grid.specs.Probing.{IsCounted, IsRaised};
 
     /// No reading so far.
     pub fn new() -> Self
@@ -33,8 +33,10 @@ impl Probes {
     }
 
     /// Counts one reading.
+    #[tactic(auto, unfolding(crate::specs::Probing::IsCounted))]
     pub(crate) fn raise(&mut self)
-        ensures { IsRaised 1 self.old self.new }
+        ensures counted { IsCounted self.old self.new }
+        ensures raised { IsRaised 1 self.old self.new }
     {
         self.made = self.made.saturating_add(1);
     }

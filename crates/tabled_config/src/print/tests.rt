@@ -30,8 +30,20 @@ fn ascii(alloc: Global) -> SpannedConfig {
     cfg
 }
 
-/// What a call answers and what it leaves in a text that begins with `before`.
+/// What a call answers and what it leaves in a text that begins with `before:`.
 fn printed(
+    alloc: Global,
+    cfg: SpannedConfig,
+    sizes: (&[usize], &[usize]),
+    shape: (usize, usize),
+    rows: &[&[&str]],
+) -> Result<(Result<(), PrintError>, String), OutOfMemory> {
+    printed_by(alloc, &cfg, sizes, shape, rows)
+}
+
+/// The same, by a configuration that is lent. Tests give theirs up, so that they need not let it go at
+/// each of their exits.
+fn printed_by(
     alloc: Global,
     cfg: &SpannedConfig,
     sizes: (&[usize], &[usize]),
@@ -54,8 +66,13 @@ fn printed(
 
 #[test]
 fn prints_one_cell(rt: HostRuntime) -> Result<(), Fail> {
-    let cfg = ascii(rt.alloc());
-    let (answer, out) = printed(rt.alloc(), &cfg, (&[3], &[1]), (1, 1), &[&[" a "]])?;
+    let (answer, out) = printed(
+        rt.alloc(),
+        ascii(rt.alloc()),
+        (&[3], &[1]),
+        (1, 1),
+        &[&[" a "]],
+    )?;
     assert_eq!(rt; answer, Ok(()));
     assert_eq!(rt; out.as_str(), "before:+---+\n| a |\n+---+");
     Ok(())
@@ -63,11 +80,22 @@ fn prints_one_cell(rt: HostRuntime) -> Result<(), Fail> {
 
 #[test]
 fn prints_two_lines(rt: HostRuntime) -> Result<(), Fail> {
-    let cfg = ascii(rt.alloc());
-    let (answer, out) = printed(rt.alloc(), &cfg, (&[3], &[2]), (1, 1), &[&[" a \n b "]])?;
+    let (answer, out) = printed(
+        rt.alloc(),
+        ascii(rt.alloc()),
+        (&[3], &[2]),
+        (1, 1),
+        &[&[" a \n b "]],
+    )?;
     assert_eq!(rt; answer, Ok(()));
     assert_eq!(rt; out.as_str(), "before:+---+\n| a |\n| b |\n+---+");
-    let (answer, out) = printed(rt.alloc(), &cfg, (&[3], &[1]), (1, 1), &[&[" a \n b "]])?;
+    let (answer, out) = printed(
+        rt.alloc(),
+        ascii(rt.alloc()),
+        (&[3], &[1]),
+        (1, 1),
+        &[&[" a \n b "]],
+    )?;
     assert_eq!(rt; answer, Err(PrintError::Height(0, 0)));
     assert_eq!(rt; out.as_str(), "before:");
     Ok(())
@@ -75,11 +103,22 @@ fn prints_two_lines(rt: HostRuntime) -> Result<(), Fail> {
 
 #[test]
 fn prints_no_line_at_height_zero(rt: HostRuntime) -> Result<(), Fail> {
-    let cfg = ascii(rt.alloc());
-    let (answer, out) = printed(rt.alloc(), &cfg, (&[3], &[0]), (1, 1), &[&[""]])?;
+    let (answer, out) = printed(
+        rt.alloc(),
+        ascii(rt.alloc()),
+        (&[3], &[0]),
+        (1, 1),
+        &[&[""]],
+    )?;
     assert_eq!(rt; answer, Ok(()));
     assert_eq!(rt; out.as_str(), "before:+---+\n+---+");
-    let (answer, out) = printed(rt.alloc(), &cfg, (&[3], &[0]), (1, 1), &[&[" a "]])?;
+    let (answer, out) = printed(
+        rt.alloc(),
+        ascii(rt.alloc()),
+        (&[3], &[0]),
+        (1, 1),
+        &[&[" a "]],
+    )?;
     assert_eq!(rt; answer, Err(PrintError::Height(0, 0)));
     assert_eq!(rt; out.as_str(), "before:");
     Ok(())
@@ -87,8 +126,13 @@ fn prints_no_line_at_height_zero(rt: HostRuntime) -> Result<(), Fail> {
 
 #[test]
 fn refuses_a_wrong_width(rt: HostRuntime) -> Result<(), Fail> {
-    let cfg = ascii(rt.alloc());
-    let (answer, out) = printed(rt.alloc(), &cfg, (&[3], &[1]), (1, 1), &[&[" ab "]])?;
+    let (answer, out) = printed(
+        rt.alloc(),
+        ascii(rt.alloc()),
+        (&[3], &[1]),
+        (1, 1),
+        &[&[" ab "]],
+    )?;
     assert_eq!(rt; answer, Err(PrintError::Width(0, 0)));
     assert_eq!(rt; out.as_str(), "before:");
     Ok(())
@@ -96,8 +140,13 @@ fn refuses_a_wrong_width(rt: HostRuntime) -> Result<(), Fail> {
 
 #[test]
 fn measures_wide_characters(rt: HostRuntime) -> Result<(), Fail> {
-    let cfg = ascii(rt.alloc());
-    let (answer, out) = printed(rt.alloc(), &cfg, (&[4], &[1]), (1, 1), &[&[" 漢 "]])?;
+    let (answer, out) = printed(
+        rt.alloc(),
+        ascii(rt.alloc()),
+        (&[4], &[1]),
+        (1, 1),
+        &[&[" 漢 "]],
+    )?;
     assert_eq!(rt; answer, Ok(()));
     assert_eq!(rt; out.as_str(), "before:+----+\n| 漢 |\n+----+");
     Ok(())
@@ -105,14 +154,25 @@ fn measures_wide_characters(rt: HostRuntime) -> Result<(), Fail> {
 
 #[test]
 fn prints_nothing_of_an_empty_table(rt: HostRuntime) -> Result<(), Fail> {
-    let cfg = ascii(rt.alloc());
-    let (answer, out) = printed(rt.alloc(), &cfg, (&[], &[]), (0, 0), &[])?;
+    let (answer, out) = printed(rt.alloc(), ascii(rt.alloc()), (&[], &[]), (0, 0), &[])?;
     assert_eq!(rt; answer, Ok(()));
     assert_eq!(rt; out.as_str(), "before:");
-    let (answer, out) = printed(rt.alloc(), &cfg, (&[], &[1, 1]), (2, 0), &[&[]])?;
+    let (answer, out) = printed(
+        rt.alloc(),
+        ascii(rt.alloc()),
+        (&[], &[1, 1]),
+        (2, 0),
+        &[&[]],
+    )?;
     assert_eq!(rt; answer, Err(PrintError::RowCount));
     assert_eq!(rt; out.as_str(), "before:");
-    let (answer, out) = printed(rt.alloc(), &cfg, (&[], &[1, 1]), (2, 0), &[&[], &[]])?;
+    let (answer, out) = printed(
+        rt.alloc(),
+        ascii(rt.alloc()),
+        (&[], &[1, 1]),
+        (2, 0),
+        &[&[], &[]],
+    )?;
     assert_eq!(rt; answer, Ok(()));
     assert_eq!(rt; out.as_str(), "before:");
     Ok(())
@@ -120,20 +180,37 @@ fn prints_nothing_of_an_empty_table(rt: HostRuntime) -> Result<(), Fail> {
 
 #[test]
 fn answers_the_first_fault(rt: HostRuntime) -> Result<(), Fail> {
-    let cfg = ascii(rt.alloc());
     let sizes: (&[usize], &[usize]) = (&[3, 3], &[1, 1]);
     let shape = (2, 2);
     let wrong_width: &[&str] = &[" a ", " bb "];
     let wrong_height: &[&str] = &[" c\n"];
-    let (answer, _) = printed(rt.alloc(), &cfg, sizes, shape, &[wrong_width, &[" c "]])?;
+    let (answer, _) = printed(
+        rt.alloc(),
+        ascii(rt.alloc()),
+        sizes,
+        shape,
+        &[wrong_width, &[" c "]],
+    )?;
     assert_eq!(rt; answer, Err(PrintError::Width(0, 1)));
     let good: &[&str] = &[" a ", " b "];
-    let (answer, _) = printed(rt.alloc(), &cfg, sizes, shape, &[good, wrong_height])?;
+    let (answer, _) = printed(
+        rt.alloc(),
+        ascii(rt.alloc()),
+        sizes,
+        shape,
+        &[good, wrong_height],
+    )?;
     assert_eq!(rt; answer, Err(PrintError::ColumnCount(1)));
     let both: &[&str] = &["aaaa\n", " b "];
-    let (answer, _) = printed(rt.alloc(), &cfg, sizes, shape, &[both, good])?;
+    let (answer, _) = printed(rt.alloc(), ascii(rt.alloc()), sizes, shape, &[both, good])?;
     assert_eq!(rt; answer, Err(PrintError::Height(0, 0)));
-    let (answer, out) = printed(rt.alloc(), &cfg, sizes, shape, &[both, wrong_height, good])?;
+    let (answer, out) = printed(
+        rt.alloc(),
+        ascii(rt.alloc()),
+        sizes,
+        shape,
+        &[both, wrong_height, good],
+    )?;
     assert_eq!(rt; answer, Err(PrintError::RowCount));
     assert_eq!(rt; out.as_str(), "before:");
     Ok(())
@@ -141,10 +218,9 @@ fn answers_the_first_fault(rt: HostRuntime) -> Result<(), Fail> {
 
 #[test]
 fn prints_without_borders(rt: HostRuntime) -> Result<(), Fail> {
-    let cfg = bare(rt.alloc());
     let (answer, out) = printed(
         rt.alloc(),
-        &cfg,
+        bare(rt.alloc()),
         (&[3, 3], &[1]),
         (1, 2),
         &[&[" a ", " b "]],
@@ -156,8 +232,13 @@ fn prints_without_borders(rt: HostRuntime) -> Result<(), Fail> {
 
 #[test]
 fn prints_a_column_of_no_width(rt: HostRuntime) -> Result<(), Fail> {
-    let cfg = ascii(rt.alloc());
-    let (answer, out) = printed(rt.alloc(), &cfg, (&[0], &[1]), (1, 1), &[&[""]])?;
+    let (answer, out) = printed(
+        rt.alloc(),
+        ascii(rt.alloc()),
+        (&[0], &[1]),
+        (1, 1),
+        &[&[""]],
+    )?;
     assert_eq!(rt; answer, Ok(()));
     assert_eq!(rt; out.as_str(), "before:++\n||\n++");
     Ok(())
@@ -165,10 +246,9 @@ fn prints_a_column_of_no_width(rt: HostRuntime) -> Result<(), Fail> {
 
 #[test]
 fn prints_crossings_between_cells(rt: HostRuntime) -> Result<(), Fail> {
-    let cfg = ascii(rt.alloc());
     let sizes: (&[usize], &[usize]) = (&[3, 4], &[1, 1]);
     let rows: &[&[&str]] = &[&[" a ", " bb "], &[" c ", " dd "]];
-    let (answer, out) = printed(rt.alloc(), &cfg, sizes, (2, 2), rows)?;
+    let (answer, out) = printed(rt.alloc(), ascii(rt.alloc()), sizes, (2, 2), rows)?;
     assert_eq!(rt; answer, Ok(()));
     assert_eq!(rt;
         out.as_str(),
@@ -184,7 +264,7 @@ fn shows_spaces_where_a_drawn_line_has_no_character(rt: HostRuntime) -> Result<(
         top_left: Some('+'),
         ..Borders::empty()
     });
-    let (answer, out) = printed(rt.alloc(), &cfg, (&[3], &[1]), (1, 1), &[&[" a "]])?;
+    let (answer, out) = printed(rt.alloc(), cfg, (&[3], &[1]), (1, 1), &[&[" a "]])?;
     assert_eq!(rt; answer, Ok(()));
     assert_eq!(rt; out.as_str(), "before:+   \n  a ");
     Ok(())
@@ -198,7 +278,7 @@ fn prints_empty_lines(rt: HostRuntime) -> Result<(), Fail> {
         bottom: Some('-'),
         ..Borders::empty()
     });
-    let (answer, out) = printed(rt.alloc(), &cfg, (&[0], &[1]), (1, 1), &[&[""]])?;
+    let (answer, out) = printed(rt.alloc(), cfg, (&[0], &[1]), (1, 1), &[&[""]])?;
     assert_eq!(rt; answer, Ok(()));
     assert_eq!(rt; out.as_str(), "before:\n\n");
     Ok(())
@@ -206,8 +286,13 @@ fn prints_empty_lines(rt: HostRuntime) -> Result<(), Fail> {
 
 #[test]
 fn keeps_the_text_where_memory_is_refused(rt: HostRuntime) -> Result<(), Fail> {
-    let cfg = ascii(rt.alloc());
-    let made = printed(rt.alloc(), &cfg, (&[3], &[1]), (1, 1), &[&[" a "]]);
+    let made = printed(
+        rt.alloc(),
+        ascii(rt.alloc()),
+        (&[3], &[1]),
+        (1, 1),
+        &[&[" a "]],
+    );
     let Ok((answer, out)) = made else {
         return Ok(());
     };

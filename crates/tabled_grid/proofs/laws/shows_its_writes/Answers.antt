@@ -1,4 +1,4 @@
-use Rattle.tabled_grid.proofs.ClassWrites.{Shows-writes_of}
+use Rattle.tabled_grid.proofs.Writing.{Shows-writes_of}
 use Rattle.tabled_grid.proofs.laws.shows_its_writes.Goals as goal
 
 pub returns : goal.returns

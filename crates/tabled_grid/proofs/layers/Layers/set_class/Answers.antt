@@ -1,6 +1,6 @@
-use Rattle.std.proofs.Common.{refl}
-use Rattle.tabled_grid.proofs.ClassWrites.{Changes_class_record_set}
+use Rattle.tabled_grid.proofs.Changing.{class_put}
+use Rattle.tabled_grid.proofs.Seen.{seen, changed, with_class}
 use Rattle.tabled_grid.proofs.layers.Layers.set_class.Goals as goal
 
 pub returns : goal.returns
-returns g c = Changes_class_record_set c.args.borders c.args.self.now _ c.replace.ensures.after
+returns g c = changed _ (seen c.self.inside) c.args.self.now _ _ c.self.view_is (with_class (seen c.self.inside) c.replace.new.dest c.args.borders c.replace.ensures.after) (class_put (seen c.self.inside) c.args.borders)

@@ -1,0 +1,273 @@
+-- Two stores keep the same at every level just where they do at every site.
+use Rattle.std.proofs.Common.{◌≡◌, Bool, true, false, cond, ◌&&◌, Option, Some, None, List, [], ◌∷◌, refl, sym, ap, ◌∙◌, option_map, option_and_then}
+use Rattle.std.specs.Option.{option_eq}
+use Rattle.std.specs.Prelude.{T}
+use Rattle.std.specs.Ordering.{eq_by_cmp, is_eq, is_lt, ordering_reverse}
+use Rattle.std.specs.Cmp.{IsTotalOrder, Equal-is, alike_right, tied_itself, nat_cmp_total}
+use Rattle.std.specs.Cmp.Lexicographic.{pointwise}
+use Rattle.std.specs.declared.cmp.Ordering.{Ordering}
+use Rattle.std.specs.declared.cmp.Ordering.TheVariants.{Less, Equal, Greater}
+use Rattle.std.specs.FinMap as map
+use Rattle.std.specs.FinMap.Entries.{below_all, is_sorted}
+use Rattle.tabled_grid.specs.declared.borders.Borders.{Borders}
+use Rattle.tabled_grid.specs.declared.lines.HorizontalLine.{HorizontalLine}
+use Rattle.tabled_grid.specs.declared.lines.VerticalLine.{VerticalLine}
+use Rattle.tabled_grid.specs.declared.place.LineOf.{LineOf}
+use Rattle.tabled_grid.specs.Keys.{positions_total, edge_places_total}
+use Rattle.tabled_grid.specs.Site.{across, down, first, inner, closing, Class, edges, crossings, class_value, Part, mark, main_edges, meeting, edge, crossing, Site, the_default, of_class, of_line, at_spot, from_end, from_start}
+use Rattle.tabled_grid.specs.Event.{Written, sign}
+use Rattle.tabled_grid.specs.Keeping.{Keeping, keeps, position, edge_place, horizontal_part, vertical_part}
+use Rattle.tabled_grid.proofs.SameLemmas.{both}
+use Rattle.tabled_grid.specs.Same.{same_map, same_horizontal, same_vertical, same_borders, same_below, same_lines, same_cells, same_offsets, same_keeping, same_written}
+
+all_of : {a b : Bool} → a ≡ true → b ≡ true → (a && b) ≡ true
+all_of p q = λ i. p i && q i
+
+holds : (b : Bool) → T b → b ≡ true
+holds true h = refl
+holds false h = absurd h
+
+less : (o : Ordering) → is_lt o ≡ true → o ≡ Less
+less Less h = refl
+less Equal h = absurd cc
+less Greater h = absurd cc
+
+module _ {K X : Type 0} {R : K → K → Ordering} (o : IsTotalOrder R) (E : X → X → Bool) where
+  abbrev alike : K × X → K × X → Bool
+  alike a b = eq_by_cmp R a.0 b.0 && E a.1 b.1
+
+  -- a key that is before one which is before all
+  lower : (q x : K) (es : List (K × X)) → R q x ≡ Less → below_all R x es ≡ true → below_all R q es ≡ true
+  lower q x [] before h = refl
+  lower q x (e ∷ es) before h =
+      let f = both (is_lt (R x e.0)) (below_all R x es) h in
+      all_of (ap is_lt (o.trans q x e.0 before (less (R x e.0) f.0))) (lower q x es before f.1)
+
+  level_with : (q x : K) (es : List (K × X)) → R q x ≡ Equal → below_all R x es ≡ true → below_all R q es ≡ true
+  level_with q x [] tied h = refl
+  level_with q x (e ∷ es) tied h =
+      let f = both (is_lt (R x e.0)) (below_all R x es) h in
+      all_of (ap is_lt (o.congr q x e.0 tied) ∙ f.0) (level_with q x es tied f.1)
+
+  -- a key before all is not there
+  none_found : (q : K) (es : List (K × X)) → below_all R q es ≡ true → map.find R q es ≡ None
+  none_found q [] h = refl
+  none_found q (e ∷ es) h =
+      let f = both (is_lt (R q e.0)) (below_all R q es) h in
+      ap (λ r. cond (is_eq r) (Some e.1) (map.find R q es)) (less (R q e.0) f.0) ∙ none_found q es f.1
+
+  found_first : (e : K × X) (es : List (K × X)) → map.find R e.0 (e ∷ es) ≡ Some e.1
+  found_first e es = ap (λ r. cond (is_eq r) (Some e.1) (map.find R e.0 es)) (tied_itself o e.0)
+
+  -- entries that are alike, pair by pair, are found alike
+  found_alike : (es fs : List (K × X)) → pointwise alike es fs ≡ true → (q : K) → option_eq E (map.find R q es) (map.find R q fs) ≡ true
+  found_alike [] [] h q = refl
+  found_alike [] (f ∷ fs) h q = absurd cc
+  found_alike (e ∷ es) [] h q = absurd cc
+  found_alike (e ∷ es) (f ∷ fs) h q =
+      let heads = both (alike e f) (pointwise alike es fs) h in
+      let entry = both (eq_by_cmp R e.0 f.0) (E e.1 f.1) heads.0 in
+      let tests : eq_by_cmp R q f.0 ≡ eq_by_cmp R q e.0 = sym (ap is_eq (alike_right o e.0 f.0 q ((Equal-is (R e.0 f.0)).0 entry.0))) in
+      ap (λ b. option_eq E (map.find R q (e ∷ es)) (cond b (Some f.1) (map.find R q fs))) tests
+      ∙ by_test (eq_by_cmp R q e.0) entry.1 (found_alike es fs heads.1 q)
+    where
+      by_test : (b : Bool) → E e.1 f.1 ≡ true → option_eq E (map.find R q es) (map.find R q fs) ≡ true → option_eq E (cond b (Some e.1) (map.find R q es)) (cond b (Some f.1) (map.find R q fs)) ≡ true
+      by_test true here rest = here
+      by_test false here rest = rest
+
+  some_none : (x : X) (a b : Option X) → a ≡ Some x → b ≡ None → option_eq E a b ≡ false
+  some_none x a b p q = λ i. option_eq E (p i) (q i)
+
+  none_some : (x : X) (a b : Option X) → a ≡ None → b ≡ Some x → option_eq E a b ≡ false
+  none_some x a b p q = λ i. option_eq E (p i) (q i)
+
+  -- entries in order that are found alike are alike, pair by pair
+  alike_found : (es fs : List (K × X)) → is_sorted R es ≡ true → is_sorted R fs ≡ true → ((q : K) → option_eq E (map.find R q es) (map.find R q fs) ≡ true) → pointwise alike es fs ≡ true
+  alike_found [] [] s t h = refl
+  alike_found [] (f ∷ fs) s t h = absurd (let e = sym (h f.0) ∙ none_some f.1 None (map.find R f.0 (f ∷ fs)) refl (found_first f fs) in cc)
+  alike_found (e ∷ es) [] s t h = absurd (let f = sym (h e.0) ∙ some_none e.1 (map.find R e.0 (e ∷ es)) None (found_first e es) refl in cc)
+  alike_found (e ∷ es) (f ∷ fs) s t h =
+      let s' = both (below_all R e.0 es) (is_sorted R es) s in
+      let t' = both (below_all R f.0 fs) (is_sorted R fs) t in
+      by_order (R e.0 f.0) refl s'.0 t'.0 (λ tied. alike_found es fs s'.1 t'.1 (others tied s'.0 t'.0))
+    where
+      others : R e.0 f.0 ≡ Equal → below_all R e.0 es ≡ true → below_all R f.0 fs ≡ true → (q : K) → option_eq E (map.find R q es) (map.find R q fs) ≡ true
+      others tied of_es of_fs q = by_test (eq_by_cmp R q e.0) refl
+        where
+          by_test : (b : Bool) → eq_by_cmp R q e.0 ≡ b → option_eq E (map.find R q es) (map.find R q fs) ≡ true
+          by_test true here =
+              let to_e : R q e.0 ≡ Equal = (Equal-is (R q e.0)).0 here in
+              let to_f : R q f.0 ≡ Equal = sym (alike_right o e.0 f.0 q tied) ∙ to_e in
+              λ i. option_eq E (none_found q es (level_with q e.0 es to_e of_es) i) (none_found q fs (level_with q f.0 fs to_f of_fs) i)
+          by_test false away =
+              let away' : eq_by_cmp R q f.0 ≡ false = sym (ap is_eq (alike_right o e.0 f.0 q tied)) ∙ away in
+              sym (λ i. option_eq E (cond (away i) (Some e.1) (map.find R q es)) (cond (away' i) (Some f.1) (map.find R q fs))) ∙ h q
+
+      by_order : (r : Ordering) → R e.0 f.0 ≡ r → below_all R e.0 es ≡ true → below_all R f.0 fs ≡ true → (R e.0 f.0 ≡ Equal → pointwise alike es fs ≡ true) → pointwise alike (e ∷ es) (f ∷ fs) ≡ true
+      by_order Less is of_es of_fs rest = absurd (let g = sym (h e.0) ∙ some_none e.1 (map.find R e.0 (e ∷ es)) (map.find R e.0 (f ∷ fs)) (found_first e es) (none_found e.0 (f ∷ fs) (all_of (ap is_lt is) (lower e.0 f.0 fs is of_fs))) in cc)
+      by_order Greater is of_es of_fs rest =
+          let back : R f.0 e.0 ≡ Less = o.antisymm f.0 e.0 ∙ ap ordering_reverse is in
+          absurd (let g = sym (h f.0) ∙ none_some f.1 (map.find R f.0 (e ∷ es)) (map.find R f.0 (f ∷ fs)) (none_found f.0 (e ∷ es) (all_of (ap is_lt back) (lower f.0 e.0 es back of_es))) (found_first f fs) in cc)
+      by_order Equal is of_es of_fs rest =
+          let here : E e.1 f.1 ≡ true = sym (λ i. option_eq E (found_first e es i) (cond (is_eq (is i)) (Some f.1) (map.find R e.0 fs))) ∙ h e.0 in
+          all_of (all_of (ap is_eq is) here) (rest is)
+
+  pub get_alike : (m n : map.FinMap R X) → same_map E m n ≡ true → (q : K) → option_eq E (map.get m q) (map.get n q) ≡ true
+  get_alike m n h q = (λ i. option_eq E (map.get-entries m q i) (map.get-entries n q i)) ∙ found_alike (map.entries m) (map.entries n) h q
+
+  pub alike_get : (m n : map.FinMap R X) → ((q : K) → option_eq E (map.get m q) (map.get n q) ≡ true) → same_map E m n ≡ true
+  alike_get m n h =
+      alike_found (map.entries m) (map.entries n) (holds (is_sorted R (map.entries m)) (map.entries_sorted m)) (holds (is_sorted R (map.entries n)) (map.entries_sorted n))
+      (λ q. sym (λ i. option_eq E (map.get-entries m q i) (map.get-entries n q i)) ∙ h q)
+
+abbrev SameValues : {V : Type 0} → (V → V → Bool) → Option V → Option V → Type 0
+SameValues E a b = option_eq E a b ≡ true
+
+abbrev SameKept : {V : Type 0} → (V → V → Bool) → Option (Written V) → Option (Written V) → Type 0
+SameKept E a b = option_eq (same_written E) a b ≡ true
+
+module _ {V : Type 0} (E : V → V → Bool) where
+  as_signs : (a b : Option V) → SameValues E a b → SameKept E (option_map sign a) (option_map sign b)
+  as_signs None None h = refl
+  as_signs None (Some y) h = h
+  as_signs (Some x) None h = h
+  as_signs (Some x) (Some y) h = h
+
+  of_signs : (a b : Option V) → SameKept E (option_map sign a) (option_map sign b) → SameValues E a b
+  of_signs None None h = refl
+  of_signs None (Some y) h = h
+  of_signs (Some x) None h = h
+  of_signs (Some x) (Some y) h = h
+
+  horizontal_fields : (x y : HorizontalLine V) → same_horizontal E x y ≡ true → SameValues E x.main y.main × (SameValues E x.intersection y.intersection × (SameValues E x.left y.left × SameValues E x.right y.right))
+  horizontal_fields x y h =
+      let f = both _ _ h in
+      let g = both _ _ f.1 in
+      (f.0, (g.0, both _ _ g.1))
+
+  horizontal_parts : (a b : Option (HorizontalLine V)) → option_eq (same_horizontal E) a b ≡ true → (part : Part) → SameKept E (option_and_then (horizontal_part part) a) (option_and_then (horizontal_part part) b)
+  horizontal_parts None None h part = refl
+  horizontal_parts None (Some y) h part = absurd cc
+  horizontal_parts (Some x) None h part = absurd cc
+  horizontal_parts (Some x) (Some y) h mark = refl
+  horizontal_parts (Some x) (Some y) h main_edges = as_signs x.main y.main (horizontal_fields x y h).0
+  horizontal_parts (Some x) (Some y) h (meeting inner) = as_signs x.intersection y.intersection (horizontal_fields x y h).1.0
+  horizontal_parts (Some x) (Some y) h (meeting first) = as_signs x.left y.left (horizontal_fields x y h).1.1.0
+  horizontal_parts (Some x) (Some y) h (meeting closing) = as_signs x.right y.right (horizontal_fields x y h).1.1.1
+
+  vertical_fields : (x y : VerticalLine V) → same_vertical E x y ≡ true → SameValues E x.main y.main × (SameValues E x.intersection y.intersection × (SameValues E x.top y.top × SameValues E x.bottom y.bottom))
+  vertical_fields x y h =
+      let f = both _ _ h in
+      let g = both _ _ f.1 in
+      (f.0, (g.0, both _ _ g.1))
+
+  vertical_parts : (a b : Option (VerticalLine V)) → option_eq (same_vertical E) a b ≡ true → (part : Part) → SameKept E (option_and_then (vertical_part part) a) (option_and_then (vertical_part part) b)
+  vertical_parts None None h part = refl
+  vertical_parts None (Some y) h part = absurd cc
+  vertical_parts (Some x) None h part = absurd cc
+  vertical_parts (Some x) (Some y) h mark = refl
+  vertical_parts (Some x) (Some y) h main_edges = as_signs x.main y.main (vertical_fields x y h).0
+  vertical_parts (Some x) (Some y) h (meeting inner) = as_signs x.intersection y.intersection (vertical_fields x y h).1.0
+  vertical_parts (Some x) (Some y) h (meeting first) = as_signs x.top y.top (vertical_fields x y h).1.1.0
+  vertical_parts (Some x) (Some y) h (meeting closing) = as_signs x.bottom y.bottom (vertical_fields x y h).1.1.1
+
+  whole_horizontal : (a b : Option (HorizontalLine V)) → ((part : Part) → SameKept E (option_and_then (horizontal_part part) a) (option_and_then (horizontal_part part) b)) → option_eq (same_horizontal E) a b ≡ true
+  whole_horizontal None None h = refl
+  whole_horizontal None (Some y) h = h mark
+  whole_horizontal (Some x) None h = h mark
+  whole_horizontal (Some x) (Some y) h =
+      all_of (of_signs x.main y.main (h main_edges)) (all_of (of_signs x.intersection y.intersection (h (meeting inner))) (all_of (of_signs x.left y.left (h (meeting first))) (of_signs x.right y.right (h (meeting closing)))))
+
+  whole_vertical : (a b : Option (VerticalLine V)) → ((part : Part) → SameKept E (option_and_then (vertical_part part) a) (option_and_then (vertical_part part) b)) → option_eq (same_vertical E) a b ≡ true
+  whole_vertical None None h = refl
+  whole_vertical None (Some y) h = h mark
+  whole_vertical (Some x) None h = h mark
+  whole_vertical (Some x) (Some y) h =
+      all_of (of_signs x.main y.main (h main_edges)) (all_of (of_signs x.intersection y.intersection (h (meeting inner))) (all_of (of_signs x.top y.top (h (meeting first))) (of_signs x.bottom y.bottom (h (meeting closing)))))
+
+  whole_borders : (a b : Borders V) → ((class : Class) → SameValues E (class_value class a) (class_value class b)) → same_borders E a b ≡ true
+  whole_borders a b h =
+      all_of (h (edges across first)) (all_of (h (edges across closing)) (all_of (h (edges down first)) (all_of (h (edges down closing))
+      (all_of (h (crossings first first)) (all_of (h (crossings first closing)) (all_of (h (crossings closing first)) (all_of (h (crossings closing closing))
+      (all_of (h (crossings first inner)) (all_of (h (crossings closing inner)) (all_of (h (crossings inner first)) (all_of (h (crossings inner closing))
+      (all_of (h (edges across inner)) (all_of (h (edges down inner)) (h (crossings inner inner)))))))))))))))
+
+  borders_parts : (a b : Borders V) → same_borders E a b ≡ true → (class : Class) → SameValues E (class_value class a) (class_value class b)
+  borders_parts a b h class =
+      let f1 = both _ _ h in
+      let f2 = both _ _ f1.1 in
+      let f3 = both _ _ f2.1 in
+      let f4 = both _ _ f3.1 in
+      let f5 = both _ _ f4.1 in
+      let f6 = both _ _ f5.1 in
+      let f7 = both _ _ f6.1 in
+      let f8 = both _ _ f7.1 in
+      let f9 = both _ _ f8.1 in
+      let f10 = both _ _ f9.1 in
+      let f11 = both _ _ f10.1 in
+      let f12 = both _ _ f11.1 in
+      let f13 = both _ _ f12.1 in
+      let f14 = both _ _ f13.1 in
+      of_fields class f1.0 f2.0 f3.0 f4.0 f5.0 f6.0 f7.0 f8.0 f9.0 f10.0 f11.0 f12.0 f13.0 f14.0 f14.1
+    where
+      of_fields : (class : Class) → SameValues E a.top b.top → SameValues E a.bottom b.bottom → SameValues E a.left b.left → SameValues E a.right b.right → SameValues E a.top_left b.top_left → SameValues E a.top_right b.top_right → SameValues E a.bottom_left b.bottom_left → SameValues E a.bottom_right b.bottom_right → SameValues E a.top_intersection b.top_intersection → SameValues E a.bottom_intersection b.bottom_intersection → SameValues E a.left_intersection b.left_intersection → SameValues E a.right_intersection b.right_intersection → SameValues E a.horizontal b.horizontal → SameValues E a.vertical b.vertical → SameValues E a.intersection b.intersection → SameValues E (class_value class a) (class_value class b)
+      of_fields (edges across first) t b' l r tl tr bl br ti bi li ri h v i = t
+      of_fields (edges across inner) t b' l r tl tr bl br ti bi li ri h v i = h
+      of_fields (edges across closing) t b' l r tl tr bl br ti bi li ri h v i = b'
+      of_fields (edges down first) t b' l r tl tr bl br ti bi li ri h v i = l
+      of_fields (edges down inner) t b' l r tl tr bl br ti bi li ri h v i = v
+      of_fields (edges down closing) t b' l r tl tr bl br ti bi li ri h v i = r
+      of_fields (crossings first first) t b' l r tl tr bl br ti bi li ri h v i = tl
+      of_fields (crossings first inner) t b' l r tl tr bl br ti bi li ri h v i = ti
+      of_fields (crossings first closing) t b' l r tl tr bl br ti bi li ri h v i = tr
+      of_fields (crossings inner first) t b' l r tl tr bl br ti bi li ri h v i = li
+      of_fields (crossings inner inner) t b' l r tl tr bl br ti bi li ri h v i = i
+      of_fields (crossings inner closing) t b' l r tl tr bl br ti bi li ri h v i = ri
+      of_fields (crossings closing first) t b' l r tl tr bl br ti bi li ri h v i = bl
+      of_fields (crossings closing inner) t b' l r tl tr bl br ti bi li ri h v i = bi
+      of_fields (crossings closing closing) t b' l r tl tr bl br ti bi li ri h v i = br
+
+-- two stores that are the same by that equality keep the same at every site
+pub same_at_sites : {V : Type 0} (E : V → V → Bool) (a b : Keeping V) → same_keeping E a b ≡ true → (site : Site) → option_eq (same_written E) (keeps a site) (keeps b site) ≡ true
+unfolding same_below same_lines same_cells same_offsets same_keeping
+same_at_sites E a b h =
+    let upper = both _ _ h in
+    let middle = both _ _ upper.0 in
+    let lower = both _ _ middle.0 in
+    let below = both _ _ lower.0 in
+    let lines = both _ _ lower.1 in
+    let cells = both _ _ middle.1 in
+    let edges' = both _ _ cells.0 in
+    let starts = both _ _ upper.1 in
+    let ends = both _ _ starts.0 in
+    let more = both _ _ ends.0 in
+    at_site below.0 below.1 lines.0 lines.1 edges'.0 edges'.1 cells.1 more.0 more.1 ends.1 starts.1
+  where
+    at_site : option_eq E a.default_value b.default_value ≡ true → same_borders E a.class_record b.class_record ≡ true → same_map (same_vertical E) a.vertical_lines b.vertical_lines ≡ true → same_map (same_horizontal E) a.horizontal_lines b.horizontal_lines ≡ true → same_map E a.edges_across b.edges_across ≡ true → same_map E a.edges_down b.edges_down ≡ true → same_map E a.crosses b.crosses ≡ true → same_map E a.ends_across b.ends_across ≡ true → same_map E a.ends_down b.ends_down ≡ true → same_map E a.starts_across b.starts_across ≡ true → same_map E a.starts_down b.starts_down ≡ true → (site : Site) → option_eq (same_written E) (keeps a site) (keeps b site) ≡ true
+    at_site d r vl hl ea ed cr na nd sa sd the_default = as_signs E a.default_value b.default_value d
+    at_site d r vl hl ea ed cr na nd sa sd (of_class class) = as_signs E _ _ (borders_parts E a.class_record b.class_record r class)
+    at_site d r vl hl ea ed cr na nd sa sd (of_line (LineOf.Horizontal n) part) = horizontal_parts E _ _ (get_alike nat_cmp_total (same_horizontal E) a.horizontal_lines b.horizontal_lines hl n) part
+    at_site d r vl hl ea ed cr na nd sa sd (of_line (LineOf.Vertical n) part) = vertical_parts E _ _ (get_alike nat_cmp_total (same_vertical E) a.vertical_lines b.vertical_lines vl n) part
+    at_site d r vl hl ea ed cr na nd sa sd (at_spot (edge across i j)) = as_signs E _ _ (get_alike positions_total E a.edges_across b.edges_across ea (position i j))
+    at_site d r vl hl ea ed cr na nd sa sd (at_spot (edge down i j)) = as_signs E _ _ (get_alike positions_total E a.edges_down b.edges_down ed (position i j))
+    at_site d r vl hl ea ed cr na nd sa sd (at_spot (crossing i j)) = as_signs E _ _ (get_alike positions_total E a.crosses b.crosses cr (position i j))
+    at_site d r vl hl ea ed cr na nd sa sd (from_end across i j n) = as_signs E _ _ (get_alike edge_places_total E a.ends_across b.ends_across na (edge_place i j n))
+    at_site d r vl hl ea ed cr na nd sa sd (from_end down i j n) = as_signs E _ _ (get_alike edge_places_total E a.ends_down b.ends_down nd (edge_place i j n))
+    at_site d r vl hl ea ed cr na nd sa sd (from_start across i j n) = as_signs E _ _ (get_alike edge_places_total E a.starts_across b.starts_across sa (edge_place i j n))
+    at_site d r vl hl ea ed cr na nd sa sd (from_start down i j n) = as_signs E _ _ (get_alike edge_places_total E a.starts_down b.starts_down sd (edge_place i j n))
+
+-- and those that keep the same at every site are the same by it
+pub same_by_sites : {V : Type 0} (E : V → V → Bool) (a b : Keeping V) → ((site : Site) → option_eq (same_written E) (keeps a site) (keeps b site) ≡ true) → same_keeping E a b ≡ true
+unfolding same_below same_lines same_cells same_offsets same_keeping
+same_by_sites E a b h =
+    all_of (all_of (all_of
+    (all_of (of_signs E a.default_value b.default_value (h the_default)) (whole_borders E a.class_record b.class_record (λ class. of_signs E _ _ (h (of_class class)))))
+    (all_of (alike_get nat_cmp_total (same_vertical E) a.vertical_lines b.vertical_lines (λ n. whole_vertical E _ _ (λ part. h (of_line (LineOf.Vertical n) part))))
+    (alike_get nat_cmp_total (same_horizontal E) a.horizontal_lines b.horizontal_lines (λ n. whole_horizontal E _ _ (λ part. h (of_line (LineOf.Horizontal n) part))))))
+    (all_of (all_of (alike_get positions_total E a.edges_across b.edges_across (λ p. of_signs E _ _ (h (at_spot (edge across p.row p.col)))))
+    (alike_get positions_total E a.edges_down b.edges_down (λ p. of_signs E _ _ (h (at_spot (edge down p.row p.col))))))
+    (alike_get positions_total E a.crosses b.crosses (λ p. of_signs E _ _ (h (at_spot (crossing p.row p.col)))))))
+    (all_of (all_of (all_of (alike_get edge_places_total E a.ends_across b.ends_across (λ p. of_signs E _ _ (h (from_end across p.row p.col p.number))))
+    (alike_get edge_places_total E a.ends_down b.ends_down (λ p. of_signs E _ _ (h (from_end down p.row p.col p.number)))))
+    (alike_get edge_places_total E a.starts_across b.starts_across (λ p. of_signs E _ _ (h (from_start across p.row p.col p.number)))))
+    (alike_get edge_places_total E a.starts_down b.starts_down (λ p. of_signs E _ _ (h (from_start down p.row p.col p.number)))))

@@ -1,0 +1,18 @@
+use Rattle.std.proofs.Common.{sym, ◌∙◌}
+use Rattle.tabled_grid.proofs.LookUps.{plain_outside, plain_at_across, plain_at_down, plain_at_crossing}
+use Rattle.tabled_grid.proofs.layers.Layers.plain_at.Goals as goal
+
+pub returns-then-not-has_spot : goal.returns-then-not-has_spot
+returns-then-not-has_spot g c = sym (plain_outside c.args.self.now c.args.shape c.args.place (sym c.has_spot.ensures ∙ c.if-not-has_spot.true))
+
+pub returns-in-Horizontal : goal.returns-in-Horizontal
+returns-in-Horizontal g c =
+    plain_at_across c.args.self.now c.args.shape c.args.place c.in-Horizontal.row c.in-Horizontal.col c.in-Horizontal.at _ c.in-Horizontal.is (sym c.has_spot.ensures ∙ c.if-not-has_spot.false) c.plain_edge_across.ensures.value
+
+pub returns-in-Vertical : goal.returns-in-Vertical
+returns-in-Vertical g c =
+    plain_at_down c.args.self.now c.args.shape c.args.place c.in-Vertical.row c.in-Vertical.col c.in-Vertical.at _ c.in-Vertical.is (sym c.has_spot.ensures ∙ c.if-not-has_spot.false) c.plain_edge_down.ensures.value
+
+pub returns-in-Cross : goal.returns-in-Cross
+returns-in-Cross g c =
+    plain_at_crossing c.args.self.now c.args.shape c.args.place c.in-Cross.row c.in-Cross.col _ c.in-Cross.is (sym c.has_spot.ensures ∙ c.if-not-has_spot.false) c.plain_crossing.ensures.value

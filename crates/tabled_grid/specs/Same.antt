@@ -1,0 +1,61 @@
+-- Whether two stores keep the same, where an equality of the values says which of those are the same.
+use Rattle.std.specs.Prelude.{Bool, true, false, ◌&&◌}
+use Rattle.std.specs.Option.{option_eq}
+use Rattle.std.specs.Ordering.{eq_by_cmp}
+use Rattle.std.specs.Cmp.Lexicographic.{pointwise}
+use Rattle.std.specs.declared.cmp.Ordering.{Ordering}
+use Rattle.std.specs.FinMap.{FinMap, entries}
+use Rattle.tabled_grid.specs.declared.borders.Borders.{Borders}
+use Rattle.tabled_grid.specs.declared.lines.HorizontalLine.{HorizontalLine}
+use Rattle.tabled_grid.specs.declared.lines.VerticalLine.{VerticalLine}
+use Rattle.tabled_grid.specs.Event.{Written, sign, standing}
+use Rattle.tabled_grid.specs.Keeping.{Keeping}
+
+-- two maps: the same keys, and under each the same value
+abbrev pub same_map : {K X : Type 0} {R : K → K → Ordering} → (X → X → Bool) → FinMap R X → FinMap R X → Bool
+same_map {R = R} same m n = pointwise (λ a b. eq_by_cmp R a.0 b.0 && same a.1 b.1) (entries m) (entries n)
+
+-- two records: in each field the same, or nothing in both
+abbrev pub same_horizontal : {T : Type 0} → (T → T → Bool) → HorizontalLine T → HorizontalLine T → Bool
+same_horizontal same a b =
+    option_eq same a.main b.main && (option_eq same a.intersection b.intersection && (option_eq same a.left b.left && option_eq same a.right b.right))
+
+abbrev pub same_vertical : {T : Type 0} → (T → T → Bool) → VerticalLine T → VerticalLine T → Bool
+same_vertical same a b =
+    option_eq same a.main b.main && (option_eq same a.intersection b.intersection && (option_eq same a.top b.top && option_eq same a.bottom b.bottom))
+
+abbrev pub same_borders : {T : Type 0} → (T → T → Bool) → Borders T → Borders T → Bool
+same_borders same a b =
+    option_eq same a.top b.top && (option_eq same a.bottom b.bottom && (option_eq same a.left b.left && (option_eq same a.right b.right
+    && (option_eq same a.top_left b.top_left && (option_eq same a.top_right b.top_right
+    && (option_eq same a.bottom_left b.bottom_left && (option_eq same a.bottom_right b.bottom_right
+    && (option_eq same a.top_intersection b.top_intersection && (option_eq same a.bottom_intersection b.bottom_intersection
+    && (option_eq same a.left_intersection b.left_intersection && (option_eq same a.right_intersection b.right_intersection
+    && (option_eq same a.horizontal b.horizontal && (option_eq same a.vertical b.vertical && option_eq same a.intersection b.intersection)))))))))))))
+
+-- two stores, level by level
+unfoldable pub same_below : {T : Type 0} → (T → T → Bool) → Keeping T → Keeping T → Bool
+same_below same a b = option_eq same a.default_value b.default_value && same_borders same a.class_record b.class_record
+
+unfoldable pub same_lines : {T : Type 0} → (T → T → Bool) → Keeping T → Keeping T → Bool
+same_lines same a b =
+    same_map (same_vertical same) a.vertical_lines b.vertical_lines && same_map (same_horizontal same) a.horizontal_lines b.horizontal_lines
+
+unfoldable pub same_cells : {T : Type 0} → (T → T → Bool) → Keeping T → Keeping T → Bool
+same_cells same a b =
+    same_map same a.edges_across b.edges_across && same_map same a.edges_down b.edges_down && same_map same a.crosses b.crosses
+
+unfoldable pub same_offsets : {T : Type 0} → (T → T → Bool) → Keeping T → Keeping T → Bool
+same_offsets same a b =
+    same_map same a.ends_across b.ends_across && same_map same a.ends_down b.ends_down
+    && same_map same a.starts_across b.starts_across && same_map same a.starts_down b.starts_down
+
+unfoldable pub same_keeping : {T : Type 0} → (T → T → Bool) → Keeping T → Keeping T → Bool
+same_keeping same a b = same_below same a b && same_lines same a b && same_cells same a b && same_offsets same a b
+
+-- two things that sites keep
+abbrev pub same_written : {T : Type 0} → (T → T → Bool) → Written T → Written T → Bool
+same_written same (sign x) (sign y) = same x y
+same_written same (sign x) standing = false
+same_written same standing (sign y) = false
+same_written same standing standing = true

@@ -1,0 +1,22 @@
+-- Kept maps as finite maps, and how many of their keys pass a test.
+use Rattle.std.specs.Prelude.{ℕ, Option, Some, None, Bool, true, false, List}
+use Rattle.std.specs.declared.cmp.Ordering.{Ordering}
+use Rattle.std.specs.FinMap.{FinMap, from_entries, get, retain_keys, len}
+
+-- the map of a list of entries with its keys in that order
+abbrev pub table : {K X : Type 0} → (R : K → K → Ordering) → List (K × X) → FinMap R X
+table R entries = from_entries {R = R} entries
+
+-- whether a value is there and passes
+abbrev pub passes : {X : Type 0} → (X → Bool) → Option X → Bool
+passes test None = false
+passes test (Some x) = test x
+
+-- how many keys have a value that passes the test of its key
+unfoldable pub count : {K X : Type 0} {R : K → K → Ordering} → (K → X → Bool) → FinMap R X → ℕ
+count test m = len (retain_keys m (λ k. passes (test k) (get m k)))
+
+-- one for yes
+abbrev pub one_if : Bool → ℕ
+one_if true = 1
+one_if false = 0

@@ -1,0 +1,155 @@
+//! The fields of a store, and its copies and comparisons at single values.
+
+use super::Layers;
+use crate::kept_map::KeptMap;
+use crate::number::Number;
+use crate::position::EdgePlace;
+use crate::{
+    Borders, HorizontalLine, Keep, Offset, OutOfMemory, Place, Position, Probes, VerticalLine,
+};
+use std::alloc::Global;
+use std::test::Fail;
+
+const CORNER: Place = Place::Cross { row: 1, col: 2 };
+
+const EDGE: Place = Place::Horizontal {
+    row: 0,
+    col: 1,
+    at: 0,
+};
+
+/// A store with something on every level.
+fn written(alloc: Global) -> Result<Layers<char>, OutOfMemory> {
+    let mut store = Layers::new(alloc);
+    store.set_default('.');
+    store.set_class(Borders {
+        top: Some('='),
+        ..Borders::empty()
+    });
+    store.insert_vline(2, VerticalLine::new(Some('|'), None, Some('t'), None))?;
+    store.insert_hline(1, HorizontalLine::new(Some('-'), None, None, Some('r')))?;
+    store.insert_hline(0, HorizontalLine::empty())?;
+    store.set_cell(CORNER, '+')?;
+    store.set_offset(EDGE, Offset::Start(0), 's')?;
+    store.set_offset(EDGE, Offset::End(0), 'e')?;
+    Ok(store)
+}
+
+#[test]
+fn a_store_is_these_fields_and_no_more(rt: HostRuntime) {
+    let store: Layers<char> = Layers::new(rt.alloc());
+    let Layers {
+        alloc,
+        default_value,
+        class_record,
+        vertical_lines,
+        horizontal_lines,
+        edges_across,
+        edges_down,
+        crosses,
+        ends_across,
+        ends_down,
+        starts_across,
+        starts_down,
+        on_rows,
+        on_cols,
+        tops,
+        bottoms,
+        lefts,
+        rights,
+        betweens,
+    } = &store;
+    are_below(alloc, default_value, class_record);
+    are_lines(vertical_lines, horizontal_lines);
+    are_spots(edges_across, edges_down, crosses);
+    are_offsets(ends_across, ends_down, starts_across, starts_down);
+    are_line_numbers(on_rows, on_cols);
+    are_numbers(tops, bottoms, lefts, rights, betweens);
+}
+
+// the types of the fields, by name
+
+fn are_below(_alloc: &Global, _default: &Option<char>, _class: &Borders<char>) {}
+
+fn are_lines(
+    _vertical: &KeptMap<usize, VerticalLine<char>>,
+    _horizontal: &KeptMap<usize, HorizontalLine<char>>,
+) {}
+
+fn are_spots(
+    _across: &KeptMap<Position, char>,
+    _down: &KeptMap<Position, char>,
+    _crosses: &KeptMap<Position, char>,
+) {}
+
+fn are_offsets(
+    _ends_across: &KeptMap<EdgePlace, char>,
+    _ends_down: &KeptMap<EdgePlace, char>,
+    _starts_across: &KeptMap<EdgePlace, char>,
+    _starts_down: &KeptMap<EdgePlace, char>,
+) {}
+
+fn are_line_numbers(_rows: &KeptMap<usize, u128>, _cols: &KeptMap<usize, u128>) {}
+
+fn are_numbers(
+    _tops: &Number,
+    _bottoms: &Number,
+    _lefts: &Number,
+    _rights: &Number,
+    _betweens: &Number,
+) {}
+
+#[test]
+fn all_lines_are_copied(rt: HostRuntime) -> Result<(), Fail> {
+    let store = written(rt.alloc())?;
+    let across = store.hlines()?;
+    assert_eq!(rt; across.len(), 2);
+    assert!(rt; across.get(&0).copied() == Some(HorizontalLine::empty()));
+    assert!(rt;
+        across.get(&1).copied() == Some(HorizontalLine::new(Some('-'), None, None, Some('r')))
+    );
+    let down = store.vlines()?;
+    assert_eq!(rt; down.len(), 1);
+    assert!(rt; down.get(&2).copied() == Some(VerticalLine::new(Some('|'), None, Some('t'), None)));
+    Ok(())
+}
+
+#[test]
+fn a_copy_shows_what_its_source_showed(rt: HostRuntime) -> Result<(), Fail> {
+    let mut store = written(rt.alloc())?;
+    let copy = store.keep(rt.alloc())?;
+    assert!(rt; copy == store);
+    store.erase_cells();
+    store.erase_horizontal_offsets();
+    assert!(rt; copy != store);
+    let shape = (3, 4);
+    assert_eq!(rt;
+        copy.at(CORNER, shape, 1, &mut Probes::new()).copied(),
+        Some('+')
+    );
+    assert_eq!(rt;
+        copy.at(EDGE, shape, 1, &mut Probes::new()).copied(),
+        Some('s')
+    );
+    assert_eq!(rt;
+        store.at(CORNER, shape, 1, &mut Probes::new()).copied(),
+        Some('.')
+    );
+    Ok(())
+}
+
+#[test]
+fn stores_with_one_history_undone_are_equal(rt: HostRuntime) -> Result<(), Fail> {
+    let new: Layers<char> = Layers::new(rt.alloc());
+    let mut store = written(rt.alloc())?;
+    assert!(rt; store != new);
+    store.erase_default();
+    store.erase_class();
+    store.erase_lines();
+    store.erase_cells();
+    store.erase_horizontal_offsets();
+    assert!(rt; store == new);
+    store.insert_hline(3, HorizontalLine::empty())?;
+    assert!(rt; store != new);
+    Ok(())
+}
