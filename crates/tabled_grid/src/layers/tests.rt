@@ -18,9 +18,9 @@ const EDGE: Place = Place::Horizontal {
     at: 0,
 };
 
-/// A store with something on every level.
-fn written(alloc: Global) -> Result<Layers<char>, OutOfMemory> {
-    let mut store = Layers::new(alloc);
+/// Writes something on every level. The store is lent, so that it need not be let go at each exit, of which
+/// the checker would take long to follow the many.
+fn write_all(store: &mut Layers<char>) -> Result<(), OutOfMemory> {
     store.set_default('.');
     store.set_class(Borders {
         top: Some('='),
@@ -31,8 +31,7 @@ fn written(alloc: Global) -> Result<Layers<char>, OutOfMemory> {
     store.insert_hline(0, HorizontalLine::empty())?;
     store.set_cell(CORNER, '+')?;
     store.set_offset(EDGE, Offset::Start(0), 's')?;
-    store.set_offset(EDGE, Offset::End(0), 'e')?;
-    Ok(store)
+    store.set_offset(EDGE, Offset::End(0), 'e')
 }
 
 #[test]
@@ -101,55 +100,76 @@ fn are_numbers(
 
 #[test]
 fn all_lines_are_copied(rt: HostRuntime) -> Result<(), Fail> {
-    let store = written(rt.alloc())?;
-    let across = store.hlines()?;
+    let mut store = Layers::new(rt.alloc());
+    let made = write_all(&mut store);
+    let across = store.hlines();
+    let down = store.vlines();
+    drop(store);
+    made?;
+    let across = across?;
     assert_eq!(rt; across.len(), 2);
     assert!(rt; across.get(&0).copied() == Some(HorizontalLine::empty()));
     assert!(rt;
         across.get(&1).copied() == Some(HorizontalLine::new(Some('-'), None, None, Some('r')))
     );
-    let down = store.vlines()?;
+    let down = down?;
     assert_eq!(rt; down.len(), 1);
     assert!(rt; down.get(&2).copied() == Some(VerticalLine::new(Some('|'), None, Some('t'), None)));
     Ok(())
 }
 
-#[test]
-fn a_copy_shows_what_its_source_showed(rt: HostRuntime) -> Result<(), Fail> {
-    let mut store = written(rt.alloc())?;
-    let copy = store.keep(rt.alloc())?;
-    assert!(rt; copy == store);
+/// Whether a copy equals its source, and shows what that showed once cells and offsets are erased in it.
+fn copy_stays(alloc: Global, store: &mut Layers<char>) -> bool {
+    let Ok(copy) = store.keep(alloc) else {
+        return false;
+    };
+    let is_same = copy == *store;
     store.erase_cells();
     store.erase_horizontal_offsets();
-    assert!(rt; copy != store);
+    let differs = copy != *store;
     let shape = (3, 4);
-    assert_eq!(rt;
-        copy.at(CORNER, shape, 1, &mut Probes::new()).copied(),
-        Some('+')
-    );
-    assert_eq!(rt;
-        copy.at(EDGE, shape, 1, &mut Probes::new()).copied(),
-        Some('s')
-    );
-    assert_eq!(rt;
-        store.at(CORNER, shape, 1, &mut Probes::new()).copied(),
-        Some('.')
-    );
-    Ok(())
+    let corner = copy.at(CORNER, shape, 1, &mut Probes::new()).copied();
+    let edge = copy.at(EDGE, shape, 1, &mut Probes::new()).copied();
+    let erased = store.at(CORNER, shape, 1, &mut Probes::new()).copied();
+    drop(copy);
+    is_same && differs && corner == Some('+') && edge == Some('s') && erased == Some('.')
 }
 
 #[test]
-fn stores_with_one_history_undone_are_equal(rt: HostRuntime) -> Result<(), Fail> {
-    let new: Layers<char> = Layers::new(rt.alloc());
-    let mut store = written(rt.alloc())?;
-    assert!(rt; store != new);
+fn a_copy_shows_what_its_source_showed(rt: HostRuntime) -> Result<(), Fail> {
+    let mut store = Layers::new(rt.alloc());
+    let made = write_all(&mut store);
+    let stays = copy_stays(rt.alloc(), &mut store);
+    drop(store);
+    made?;
+    assert!(rt; stays);
+    Ok(())
+}
+
+/// Whether a store differs from a new one, and equals it when all is erased.
+fn is_new_again(store: &mut Layers<char>, new: &Layers<char>) -> bool {
+    let differs = *store != *new;
     store.erase_default();
     store.erase_class();
     store.erase_lines();
     store.erase_cells();
     store.erase_horizontal_offsets();
-    assert!(rt; store == new);
-    store.insert_hline(3, HorizontalLine::empty())?;
-    assert!(rt; store != new);
+    differs && *store == *new
+}
+
+#[test]
+fn stores_with_one_history_undone_are_equal(rt: HostRuntime) -> Result<(), Fail> {
+    let new: Layers<char> = Layers::new(rt.alloc());
+    let mut store = Layers::new(rt.alloc());
+    let made = write_all(&mut store);
+    let is_new = is_new_again(&mut store, &new);
+    let inserted = store.insert_hline(3, HorizontalLine::empty());
+    let differs = store != new;
+    drop(store);
+    drop(new);
+    made?;
+    inserted?;
+    assert!(rt; is_new);
+    assert!(rt; differs);
     Ok(())
 }
