@@ -1,4 +1,7 @@
 pub mod ConfigurationLemmas
+pub mod SameConfigurationLemmas
 pub mod FaultLemmas
 pub mod LookLemmas
 pub mod TextLemmas
+pub mod InTurn
+pub mod Replacing

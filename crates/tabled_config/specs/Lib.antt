@@ -5,8 +5,10 @@ pub use Rattle.tabled_grid.specs.Drawn
 pub use Rattle.tabled_grid.specs.Keeping
 pub use Rattle.tabled_grid.specs.Probing
 pub mod Configuration
+pub mod SameConfiguration
 pub mod Texts
 pub mod Along
 pub mod Picture
 pub mod Refusal
 pub mod Examples
+pub mod Options

@@ -3,13 +3,14 @@
 ghost use Rattle.std.specs.Prelude.{◌≡◌};
 
 use crate::{SpannedConfig, TableOption};
+use std::alloc::Global;
 use std::marker::Model;
-use tabled_grid::{Borders, Entity, OutOfMemory};
+use tabled_grid::{Borders, Entity, HorizontalLine, Keep, OutOfMemory, VerticalLine};
 
 /// The configuration that table options change: that of the borders.
 #[derive(Debug, Drop)]
 pub struct ColoredConfig {
-    config: SpannedConfig,
+    pub(crate) config: SpannedConfig,
 }
 
 impl Model for ColoredConfig {
@@ -24,6 +25,9 @@ impl Model for ColoredConfig {
 
 impl ColoredConfig {
     ghost use Rattle.std.specs.Borrow.{Lends, sem};
+    ghost use Rattle.std.specs.Prelude.{[], OnOk, OnErr, IsOk};
+    ghost use Rattle.tabled_config.specs.Configuration.{Changes, borders_replaced};
+    ghost use Rattle.tabled_config.specs.Options.{entity_unbordered, table_unbordered};
     ghost use Rattle.tabled_config.specs.contracts.colored_config.ColoredConfig.{the_row};
     ghost use Rattle.tabled_config.specs.contracts.spanned_config.SpannedConfig.{the_row as spanned_row};
 
@@ -46,6 +50,36 @@ impl ColoredConfig {
         ensures* { sem 𝓛 (Lends the_row spanned_row self.entry result (λ config. config)) }
     {
         &mut self.config
+    }
+
+    /// Erases every border character and colour of every level, offsets too; then puts each custom line at
+    /// its index, in the order of the lists, and sets the class record. Where memory is refused nothing
+    /// changes; without custom lines none is asked for.
+    pub fn replace_borders(
+        &mut self,
+        class: Borders<char>,
+        horizontals: &[(usize, HorizontalLine<char>)],
+        verticals: &[(usize, VerticalLine<char>)],
+    ) -> Result<(), OutOfMemory>
+        ensures ok { OnOk result (Changes (borders_replaced class horizontals.now verticals.now) self.old self.new) }
+        ensures err { OnErr result (self.new ≡ self.old) }
+        ensures without_lines { horizontals.now ≡ [] → verticals.now ≡ [] → IsOk result }
+    {
+        self.config.replace_borders(class, horizontals, verticals)
+    }
+
+    /// As [`SpannedConfig::remove_entity_border`].
+    pub fn remove_entity_border(&mut self, entity: Entity, shape: (usize, usize))
+        ensures { Changes (entity_unbordered shape entity) self.old self.new }
+    {
+        self.config.remove_entity_border(entity, shape);
+    }
+
+    /// As [`SpannedConfig::remove_frame`].
+    pub fn remove_frame(&mut self, shape: (usize, usize))
+        ensures { Changes (table_unbordered shape self.old.characters.class_record) self.old self.new }
+    {
+        self.config.remove_frame(shape);
     }
 
     /// The configuration of the borders, given up by this one.
@@ -86,6 +120,32 @@ impl<R, D> TableOption<R, ColoredConfig, D> for Borders<char> {
     fn hint_change(&self) -> Option<Entity> {
         Some(Entity::Global)
     }
+}
+
+/// The copy keeps `alloc` for the calls that need memory.
+impl Keep for ColoredConfig {
+    fn keep(&self, alloc: Global) -> Result<Self, OutOfMemory> {
+        Ok(ColoredConfig::new(self.config.keep(alloc)?))
+    }
+}
+
+/// Equality is that of the configurations of the borders.
+impl PartialEq for ColoredConfig {
+    ghost use Rattle.tabled_config.specs.SameConfiguration.{same_configuration, configuration_per};
+
+    ghost eq = { same_configuration };
+
+    ghost laws = { configuration_per };
+
+    fn eq(&self, other: &Self) -> bool {
+        self.config == other.config
+    }
+}
+
+impl Eq for ColoredConfig {
+    ghost use Rattle.tabled_config.specs.SameConfiguration.{configuration_equiv};
+
+    ghost laws = { configuration_equiv };
 }
 
 impl From<SpannedConfig> for ColoredConfig {

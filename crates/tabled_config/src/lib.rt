@@ -3,6 +3,8 @@
 //! `docs/DEFINITIONS.md` explains the words of the contracts.
 #![tactic(auto)]
 
+mod border_options;
+mod cell_option;
 mod colored_config;
 mod examples;
 mod laws;
@@ -12,8 +14,12 @@ mod refusals;
 mod spanned_config;
 mod table_option;
 
+pub use cell_option::{CellOption, modify};
 pub use colored_config::ColoredConfig;
-pub use laws::{changes_in_a_row, shown_after_change, shows_its_writes};
+pub use laws::{
+    changes_in_a_row, changes_of_entities_in_turn, equal_where_same_is_kept, shown_after_change,
+    shows_its_writes,
+};
 pub use print::print_plain;
 pub use print_error::PrintError;
 pub use spanned_config::SpannedConfig;

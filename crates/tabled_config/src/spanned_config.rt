@@ -1,15 +1,38 @@
 //! The configuration of a table's borders.
 
-ghost use Rattle.std.specs.Prelude.{◌≡◌, ◌↔◌, [], IsTrue};
+ghost use Rattle.std.specs.Prelude.{◌≡◌, ◌↔◌, [], ◌∷◌, IsTrue};
+ghost use Rattle.tabled_grid.specs.Event as grid;
+ghost use Rattle.tabled_grid.specs.Keeping.{keeps};
+ghost use Rattle.tabled_config.specs.Configuration.{all_but_offsets};
+
+mod cells;
+mod colors;
+mod copies;
+mod equality;
+mod lines;
+mod offsets;
+mod removing;
+mod replacing;
 
 use std::alloc::Global;
 use std::marker::Model;
-use tabled_grid::{Borders, Layers, LineOf, Place, Probes};
+use tabled_grid::{ANSIBuf, Borders, Layers, LineOf, Place, Probes};
 
 /// What a table keeps for its borders.
-#[derive(Debug, Drop)]
+#[derive(Debug)]
 pub struct SpannedConfig {
     characters: Layers<char>,
+    colours: Layers<ANSIBuf>,
+}
+
+/// Written out, so that letting a configuration go is one call wherever it ends.
+impl Drop for SpannedConfig {
+    fn drop(self) {
+        let SpannedConfig {
+            characters: _,
+            colours: _,
+        } = self;
+    }
 }
 
 impl Model for SpannedConfig {
@@ -19,16 +42,16 @@ impl Model for SpannedConfig {
 
     ghost coded = { configuration_code };
 
-    ghost view = { λ cfg. record { characters = cfg.characters } };
+    ghost view = { λ cfg. record { characters = cfg.characters; colours = cfg.colours } };
 }
 
 impl SpannedConfig {
     ghost use Rattle.tabled_grid.specs.declared.place.LineOf.{LineOf as Line};
     ghost use Rattle.tabled_grid.specs.Value.{value};
     ghost use Rattle.tabled_grid.specs.Drawn.{Drawn};
-    ghost use Rattle.tabled_grid.specs.Keeping.{keeps};
     ghost use Rattle.tabled_grid.specs.Probing.{IsRaised};
-    ghost use Rattle.tabled_config.specs.Configuration.{Shows, Changes, borders_set, borders_removed, borders_applied};
+    ghost use Rattle.tabled_grid.specs.Calls.{default_set, cell_erased};
+    ghost use Rattle.tabled_config.specs.Configuration.{Shows, Changes, by_characters, borders_set, borders_removed, borders_applied};
 
     /// A configuration in which nothing was set. It keeps the allocator for the calls that need memory.
     pub fn new(alloc: Global) -> Self
@@ -36,6 +59,7 @@ impl SpannedConfig {
     {
         SpannedConfig {
             characters: Layers::new(alloc),
+            colours: Layers::new(alloc),
         }
     }
 
@@ -58,24 +82,34 @@ impl SpannedConfig {
         self.characters.get_class()
     }
 
+    /// Sets the default border character, the weakest level, which shows wherever no other has something.
+    pub fn set_border_default(&mut self, character: char)
+        ensures { Changes (by_characters (default_set character)) self.old self.new }
+    {
+        self.characters.set_default(character);
+    }
+
+    /// Erases the cell character of one edge or one crossing; for an edge `at` is not read.
+    pub fn erase_char(&mut self, place: Place)
+        ensures { Changes (by_characters (cell_erased place)) self.old self.new }
+    {
+        self.characters.erase_cell(place);
+    }
+
     /// Erases every border character, the offset characters aside.
     pub fn remove_borders(&mut self)
         ensures { Changes borders_removed self.old self.new }
     {
-        self.characters.erase_default();
-        self.characters.erase_class();
-        self.characters.erase_lines();
-        self.characters.erase_cells();
+        erase_below_offsets(&mut self.characters);
     }
 
-    /// Erases every border character of every level, offset characters too, and sets the class record.
-    pub(crate) fn start_with(&mut self, borders: Borders<char>)
-        ensures { Changes (borders_applied borders) self.old self.new }
+    /// Erases every border character and colour of every level, offsets too, and sets the class record.
+    pub(crate) fn start_with(&mut self, first: Borders<char>)
+        ensures { Changes (borders_applied first) self.old self.new }
     {
-        self.remove_borders();
-        self.characters.erase_horizontal_offsets();
-        self.characters.erase_vertical_offsets();
-        self.set_borders(borders);
+        erase_all(&mut self.characters);
+        self.characters.set_class(first);
+        erase_all(&mut self.colours);
     }
 
     /// Whether horizontal line `line` is drawn in a table of `rows` rows.
@@ -96,6 +130,14 @@ impl SpannedConfig {
             .draws(LineOf::Vertical(line), cols, &mut probes)
     }
 
+    /// Whether a line is drawn, of the lines 0 to `count` of its direction. At most six readings are made.
+    pub fn draws(&self, line: LineOf, count: usize, probes: &mut Probes) -> bool
+        ensures drawn { IsTrue result ↔ Drawn (keeps self.now.characters) count line }
+        ensures probes { IsRaised 6 probes.old probes.new }
+    {
+        self.characters.draws(line, count, probes)
+    }
+
     /// The character that shows at a place of a table of `shape.0` rows and `shape.1` columns. `size` is
     /// the width of a horizontal edge's column or the height of a vertical edge's row; for a crossing
     /// it is not read. A place outside the table has none. At most six readings are made.
@@ -111,6 +153,25 @@ impl SpannedConfig {
     {
         self.characters.at(place, shape, size, probes).copied()
     }
+}
+
+/// Erases every level of a store but the offsets.
+fn erase_below_offsets<T: Drop>(layers: &mut Layers<T>)
+    ensures { grid.Changes all_but_offsets (keeps layers.old) (keeps layers.new) }
+{
+    layers.erase_default();
+    layers.erase_class();
+    layers.erase_lines();
+    layers.erase_cells();
+}
+
+/// Erases every level of a store.
+fn erase_all<T: Drop>(layers: &mut Layers<T>)
+    ensures { grid.Changes (grid.erase grid.every_site ∷ []) (keeps layers.old) (keeps layers.new) }
+{
+    erase_below_offsets(layers);
+    layers.erase_horizontal_offsets();
+    layers.erase_vertical_offsets();
 }
 
 #[cfg(test)]

@@ -38,7 +38,7 @@ one_write site w old new h q =
     ∙ ap (λ b. cond b (kept (write site w ∷ []) q) (old q)) (sym (or-none (same_site q site)))
 
 -- one erasure
-one_erasure : {T : Type 0} (region : Region) (old new : Site → Option (Written T)) → ((q : Site) → new q ≡ cond (within region q) None (old q)) → Changes (erase region ∷ []) old new
+pub one_erasure : {T : Type 0} (region : Region) (old new : Site → Option (Written T)) → ((q : Site) → new q ≡ cond (within region q) None (old q)) → Changes (erase region ∷ []) old new
 unfolding Changes
 one_erasure region old new h q =
     h q ∙ ap (λ k. cond (within region q) k (old q)) (sym (kept_cleared region [] q ∙ kept-nil q))

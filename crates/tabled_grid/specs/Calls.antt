@@ -1,10 +1,16 @@
 -- The events of the store's calls.
-use Rattle.std.specs.Prelude.{ℕ, Option, Some, None, List, [], ◌∷◌}
+use Rattle.std.specs.Prelude.{ℕ, ◌+◌, ◌==◌, ◌||◌, if◌then◌else◌, Option, Some, None, List, [], ◌∷◌, ◌++◌, map, option_map}
+use Rattle.std.specs.List.{zip, filter, filter_map, flat_map}
+use Rattle.tabled_grid.specs.declared.border.Border.{Border}
 use Rattle.tabled_grid.specs.declared.lines.HorizontalLine.{HorizontalLine}
 use Rattle.tabled_grid.specs.declared.lines.VerticalLine.{VerticalLine}
 use Rattle.tabled_grid.specs.declared.offset.Offset.{Offset}
 use Rattle.tabled_grid.specs.declared.place.LineOf.{LineOf}
 use Rattle.tabled_grid.specs.declared.place.Place.{Place}
+use Rattle.tabled_grid.specs.declared.position.Position.{Position}
+use Rattle.tabled_grid.specs.declared.entity.Entity.{Entity}
+use Rattle.tabled_grid.specs.CellBorder.{border_places, border_fields}
+use Rattle.tabled_grid.specs.Entities.{below, cells_of, is_inside}
 use Rattle.tabled_grid.specs.Site.{Direction, across, down, Spot, edge, crossing, Site, the_default, at_spot, from_end, from_start}
 use Rattle.tabled_grid.specs.Event.{sign, Event, write, erase, level_sites, offset_sites, line_sites, these_sites}
 use Rattle.tabled_grid.specs.Lines as lines
@@ -39,6 +45,60 @@ cell_set place value = write (at_spot (spot_of place)) (sign value) ∷ []
 
 abbrev pub cell_erased : {T : Type 0} → Place → List (Event T)
 cell_erased place = erase (these_sites (at_spot (spot_of place) ∷ [])) ∷ []
+
+-- a value written at the spot of a place, where both the place and the value are there
+abbrev pub given_write : {T : Type 0} → Option Place × Option T → Option (Event T)
+given_write (Some place, Some value) = Some (write (at_spot (spot_of place)) (sign value))
+given_write (Some place, None) = None
+given_write (None, value) = None
+
+unfoldable pub places_set : {T : Type 0} → List (Option Place × Option T) → List (Event T)
+places_set writes = filter_map given_write writes
+
+-- what a border gives, written at the sides and corners of a cell
+abbrev pub border_set : {T : Type 0} → Position → Border T → List (Event T)
+border_set pos border = places_set (zip (border_fields (border_places pos)) (border_fields border))
+
+-- the same for each of these cells that lies in a table of so many rows and columns, in their order
+unfoldable pub borders_of : {T : Type 0} → ℕ × ℕ → Border T → List Position → List (Event T)
+borders_of (rows, cols) border cells = flat_map (λ pos. border_set pos border) (filter (is_inside rows cols) cells)
+
+-- the same for the cells of an entity, in row order
+abbrev pub entity_border_set : {T : Type 0} → Entity → ℕ × ℕ → Border T → List (Event T)
+entity_border_set entity (rows, cols) border = borders_of (rows, cols) border (cells_of entity rows cols)
+
+-- the spots of places erased
+unfoldable pub places_erased : {T : Type 0} → List (Option Place) → List (Event T)
+places_erased places = erase (these_sites (filter_map (option_map (λ place. at_spot (spot_of place))) places)) ∷ []
+
+-- the sides and corners of a cell erased
+abbrev pub border_erased : {T : Type 0} → Position → List (Event T)
+border_erased pos = places_erased (border_fields (border_places pos))
+
+-- the same for each of these cells that lies in a table of so many rows and columns, in their order
+unfoldable pub borders_erased : {T : Type 0} → ℕ × ℕ → List Position → List (Event T)
+borders_erased (rows, cols) cells = flat_map border_erased (filter (is_inside rows cols) cells)
+
+-- the same for the cells of an entity, in row order
+abbrev pub entity_border_erased : {T : Type 0} → Entity → ℕ × ℕ → List (Event T)
+entity_border_erased entity (rows, cols) = borders_erased (rows, cols) (cells_of entity rows cols)
+
+-- spots erased
+unfoldable pub spots_erased : {T : Type 0} → List Spot → List (Event T)
+spots_erased spots = erase (these_sites (map at_spot spots)) ∷ []
+
+-- the spots of a horizontal line over so many columns: its edges, and its crossings with all vertical lines
+abbrev pub line_across : ℕ → ℕ → List Spot
+line_across line cols = map (λ col. edge across line col) (below cols) ++ map (λ col. crossing line col) (below (cols + 1))
+
+-- the spots of a vertical line beside so many rows
+abbrev pub line_down : ℕ → ℕ → List Spot
+line_down line rows = map (λ row. edge down row line) (below rows) ++ map (λ row. crossing row line) (below (rows + 1))
+
+-- the outer lines of a table of so many rows and columns erased; one without rows or columns has none
+abbrev pub frame_erased : {T : Type 0} → ℕ × ℕ → List (Event T)
+frame_erased (rows, cols) =
+    if (rows == 0) || (cols == 0) then [] else spots_erased (line_across 0 cols ++ line_across rows cols ++ line_down 0 rows ++ line_down cols rows)
 
 -- the site of a numbered place of an edge, counted from one of its ends; a crossing has none
 abbrev pub edge_site : Direction → ℕ → ℕ → Offset → Site

@@ -18,3 +18,7 @@ pub mod CustomLines
 pub mod EventList
 pub mod Same
 pub mod SameLaws
+pub mod CellBorder
+pub mod PutBack
+pub mod Entities
+pub mod Listing

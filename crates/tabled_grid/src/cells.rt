@@ -1,6 +1,6 @@
 //! Cell characters put at spots and taken from there, with the numbers of the lines that they lie on.
 
-ghost use Rattle.std.specs.Prelude.{◌≡◌, ◌+◌, ◌<◌, ◌^◌, ℕ, ◌==◌, ◌&&◌, is_some, IsSome, OnOk, OnErr, None};
+ghost use Rattle.std.specs.Prelude.{◌≡◌, ◌+◌, ◌<◌, ◌^◌, ℕ, ◌==◌, ◌&&◌, is_some, IsSome, OnOk, OnErr, IfOk, None};
 ghost use Rattle.std.specs.Ordering.{nat_cmp};
 ghost use Rattle.std.specs.FinMap as map;
 ghost use Rattle.tabled_grid.specs.Table.{table, one_if};
@@ -27,15 +27,17 @@ pub(crate) fn put<T: Drop>(
     Ok(())
 }
 
-/// Puts a value at an edge of that line. Where memory is refused nothing changes, and nothing stood there.
+/// Puts a value at an edge of that line, and answers the one that stood there. Where memory is refused
+/// nothing changes, and nothing stood there.
 pub(crate) fn put_edge<T: Drop>(
     values: &mut KeptMap<Position, T>,
     numbers: &mut KeptMap<usize, u128>,
     position: Position,
     line: usize,
     value: T,
-) -> Result<(), OutOfMemory>
+) -> Result<Option<T>, OutOfMemory>
     requires { number_at (table nat_cmp numbers.old) line < 2 ^ 64 }
+    ensures before { IfOk result (λ before. before ≡ map.get (table position_cmp values.old) position) }
     ensures ok { OnOk result (table position_cmp values.new ≡ map.insert (table position_cmp values.old) position value) }
     ensures counted { OnOk result ((q : ℕ) → number_at (table nat_cmp numbers.new) q + one_if (is_some (map.get (table position_cmp values.old) position) && (q == line))
         ≡ number_at (table nat_cmp numbers.old) q + one_if (q == line)) }
@@ -46,13 +48,13 @@ pub(crate) fn put_edge<T: Drop>(
 {
     let before = values.insert(position, value)?;
     if before.is_some() {
-        return Ok(());
+        return Ok(before);
     }
     if raise(numbers, line).is_err() {
         let _ = values.remove(position);
         return Err(OutOfMemory);
     }
-    Ok(())
+    Ok(before)
 }
 
 /// Takes the value of an edge of that line, if there is one.
@@ -73,16 +75,18 @@ pub(crate) fn take_edge<T: Drop>(
     }
 }
 
-/// Puts a value at a crossing. Where memory is refused nothing changes, and nothing stood there.
+/// Puts a value at a crossing, and answers the one that stood there. Where memory is refused nothing changes,
+/// and nothing stood there.
 pub(crate) fn put_crossing<T: Drop>(
     values: &mut KeptMap<Position, T>,
     rows: &mut KeptMap<usize, u128>,
     cols: &mut KeptMap<usize, u128>,
     position: Position,
     value: T,
-) -> Result<(), OutOfMemory>
+) -> Result<Option<T>, OutOfMemory>
     requires small_row { number_at (table nat_cmp rows.old) position.row < 2 ^ 64 }
     requires small_col { number_at (table nat_cmp cols.old) position.col < 2 ^ 64 }
+    ensures before { IfOk result (λ before. before ≡ map.get (table position_cmp values.old) position) }
     ensures ok { OnOk result (table position_cmp values.new ≡ map.insert (table position_cmp values.old) position value) }
     ensures row_counted { OnOk result ((q : ℕ) → number_at (table nat_cmp rows.new) q + one_if (is_some (map.get (table position_cmp values.old) position) && (q == position.row))
         ≡ number_at (table nat_cmp rows.old) q + one_if (q == position.row)) }
@@ -96,7 +100,7 @@ pub(crate) fn put_crossing<T: Drop>(
 {
     let replaced = values.insert(position, value)?;
     if replaced.is_some() {
-        return Ok(());
+        return Ok(replaced);
     }
     if raise(rows, position.row).is_err() {
         let _ = values.remove(position);
@@ -107,7 +111,7 @@ pub(crate) fn put_crossing<T: Drop>(
         let _ = values.remove(position);
         return Err(OutOfMemory);
     }
-    Ok(())
+    Ok(replaced)
 }
 
 /// Takes the value of a crossing, if there is one.

@@ -1,9 +1,12 @@
 //! The store of border characters or colours, level by level.
 
-ghost use Rattle.std.specs.Prelude.{◌≡◌, ◌↔◌, [], ◌∷◌, IsTrue, IsOk, IsSomeAnd, OnOk, OnErr, option_copied, Option, None};
+ghost use Rattle.std.specs.Prelude.{◌≡◌, ◌↔◌, [], ◌∷◌, IsTrue, IsOk, IsSomeAnd, OnOk, OnErr, IfOk, option_copied, option_map, Option, None};
 
+mod cell_border;
+mod clearing;
 mod copies;
 mod equality;
+mod notes;
 mod reads;
 #[cfg(test)]
 mod tests;
@@ -16,6 +19,7 @@ use crate::position::EdgePlace;
 use crate::{
     Borders, HorizontalLine, LineOf, Offset, OutOfMemory, Place, Position, Probes, VerticalLine,
 };
+pub use notes::Notes;
 use std::alloc::Global;
 use std::marker::Model;
 use std::mem;
@@ -24,7 +28,7 @@ use std::mem;
 ///
 /// Each call is a list of events, or reads what the events so far have left; `docs/DEFINITIONS.md` says
 /// how. A call that needs memory and is refused leaves the store as it was.
-#[derive(Debug, Drop)]
+#[derive(Debug)]
 pub struct Layers<T> {
     alloc: Global,
     default_value: Option<T>,
@@ -45,6 +49,33 @@ pub struct Layers<T> {
     lefts: Number,
     rights: Number,
     betweens: Number,
+}
+
+/// Written out, so that letting a store go is one call wherever it ends, and not one for each field.
+impl<T: Drop> Drop for Layers<T> {
+    fn drop(self) {
+        let Layers {
+            alloc: _,
+            default_value: _,
+            class_record: _,
+            vertical_lines: _,
+            horizontal_lines: _,
+            edges_across: _,
+            edges_down: _,
+            crosses: _,
+            ends_across: _,
+            ends_down: _,
+            starts_across: _,
+            starts_down: _,
+            on_rows: _,
+            on_cols: _,
+            tops: _,
+            bottoms: _,
+            lefts: _,
+            rights: _,
+            betweens: _,
+        } = self;
+    }
 }
 
 impl<T> Model for Layers<T> {
@@ -82,7 +113,7 @@ impl<T> Model for Layers<T> {
 }
 
 impl<T> Layers<T> {
-    ghost use Rattle.tabled_grid.specs.Event.{erase, level_sites, Shows, Changes};
+    ghost use Rattle.tabled_grid.specs.Event.{sign, erase, level_sites, Shows, Changes};
     ghost use Rattle.tabled_grid.specs.Keeping.{keeps, class_record_set};
     ghost use Rattle.tabled_grid.specs.Site.{across, down, mark, of_line, at_spot};
     ghost use Rattle.tabled_grid.specs.Calls.{default_set, line_set_across, line_set_down, line_removed, spot_of, cell_set, cell_erased, edge_site, offset_site, offset_set, edge_offset, offsets_erased, lines_erased};
@@ -246,6 +277,19 @@ impl<T> Layers<T> {
     pub fn set_cell(&mut self, place: Place, value: T) -> Result<(), OutOfMemory>
     where
         T: Drop,
+        ensures ok { OnOk result (Changes (cell_set place value) (keeps self.old) (keeps self.new)) }
+        ensures err { OnErr result (self.new ≡ self.old) }
+        ensures absent { OnErr result (keeps self.old (at_spot (spot_of place)) ≡ None) }
+    {
+        self.replace_cell(place, value)?;
+        Ok(())
+    }
+
+    /// The same, and answers what was there before.
+    fn replace_cell(&mut self, place: Place, value: T) -> Result<Option<T>, OutOfMemory>
+    where
+        T: Drop,
+        ensures before { IfOk result (λ before. option_map sign before ≡ keeps self.old (at_spot (spot_of place))) }
         ensures ok { OnOk result (Changes (cell_set place value) (keeps self.old) (keeps self.new)) }
         ensures err { OnErr result (self.new ≡ self.old) }
         ensures absent { OnErr result (keeps self.old (at_spot (spot_of place)) ≡ None) }

@@ -19,6 +19,7 @@ mod layers;
 mod lines;
 mod memory;
 mod number;
+mod object;
 mod offset;
 mod place;
 mod position;
@@ -30,14 +31,20 @@ pub use ansi::{ANSIBuf, ANSIFmt, ANSIStr, AnsiText};
 pub use border::Border;
 pub use borders::Borders;
 pub use dimension::{Dimension, FixedDimension};
-pub use entity::Entity;
+pub use entity::{Entity, EntityIterator};
 pub use keep::Keep;
 pub use laws::{
-    changes_in_a_row, equal_where_same_is_kept, read_alike, shown_after_change, shows_its_writes,
+    changes_in_a_row, entities_have_what_they_cover, equal_where_same_is_kept, listed_by_two,
+    listed_without_order, read_alike, shown_after_change, shows_its_writes,
 };
-pub use layers::Layers;
+pub use layers::{Layers, Notes};
 pub use lines::{HorizontalLine, VerticalLine};
 pub use memory::OutOfMemory;
+pub use object::{
+    Cell, Column, Columns, Combine, Difference, DifferenceIterator, FirstColumn, FirstRow,
+    LastColumn, LastColumnOffset, LastRow, LastRowOffset, Object, Row, Rows, Segment, SegmentAll,
+    Union,
+};
 pub use offset::Offset;
 pub use place::{LineOf, Place};
 pub use position::Position;

@@ -20,18 +20,18 @@ use Rattle.tabled_config.specs.declared.print_error.PrintError.TheVariants.{RowC
 use Rattle.tabled_show.specs.declared.bytes.TheConstants.{SPACE, LINE_FEED}
 use Rattle.tabled_show.specs.Input.{cells_of, rows_of, column_count}
 use Rattle.tabled_show.specs.Page.{framed_table, framed_page, page}
-use Rattle.tabled_grid.specs.declared.borders.Borders.{Borders}
-use Rattle.tabled_config.specs.Configuration.{borders_set}
+use Rattle.tabled_show.specs.declared.styles.ReadyStyle.{ReadyStyle}
+use Rattle.tabled_show.specs.Style.{styled}
 use Rattle.tabled_config.specs.Picture.{printed}
 use Rattle.tabled_show.specs.Table.{cell, spaced, padded, padded_row, padded_rows, column_width, column_widths, texts}
 use Rattle.tabled_show.proofs.Lines.{rows_of-first, lines_of-empty}
 use Rattle.tabled_show.proofs.Printable.{is_printable, are_printable, list_all-get_or}
 
-framed_page-some : (style : Borders ℕ) (rows : List (List (List ℕ))) → 0 < length rows → framed_table style rows ++ LINE_FEED ∷ [] ≡ framed_page style rows
+framed_page-some : (style : ReadyStyle) (rows : List (List (List ℕ))) → 0 < length rows → framed_table style rows ++ LINE_FEED ∷ [] ≡ framed_page style rows
 framed_page-some style [] some = absurd (omega arith)
 framed_page-some style (row ∷ rows) some = refl
 
-framed_page-none : (style : Borders ℕ) (rows : List (List (List ℕ))) → length rows ≤ 0 → [] ≡ framed_page style rows
+framed_page-none : (style : ReadyStyle) (rows : List (List (List ℕ))) → length rows ≤ 0 → [] ≡ framed_page style rows
 framed_page-none style [] none = refl
 framed_page-none style (row ∷ rows) none = absurd (omega arith)
 
@@ -150,26 +150,26 @@ padded-fits rows widths columns count cells p printable =
     (ap (λ b. unless b RowCount ++ flat_map (row_faults_of columns) (enumerate_from 0 cells)) (eq-eqb _ _ (sym p.rows_counted)) ∙ each)
 
 -- what is printed of them is the table
-pub padded-shown : (style : Borders ℕ) (rows : List (List (List ℕ))) (widths : List ℕ) (columns count : ℕ) (cells : List (List (List ℕ)))
+pub padded-shown : (style : ReadyStyle) (rows : List (List (List ℕ))) (widths : List ℕ) (columns count : ℕ) (cells : List (List (List ℕ)))
     → IsPadded rows widths columns count cells
-    → printed (borders_set style) (count, columns) (slice_index widths) (λ row. 1) cells ≡ framed_table style rows
+    → printed (styled style) (count, columns) (slice_index widths) (λ row. 1) cells ≡ framed_table style rows
 unfolding framed_table
 padded-shown style rows widths columns count cells p =
     let rows_same : count ≡ length rows = p.rows_counted ∙ ap length p.padded_all ∙ length-map rows (padded_row widths) in
     let columns_same : columns ≡ column_count rows = p.columns_counted ∙ ap length p.measured ∙ length-column_widths rows in
     let cells_same : cells ≡ padded_rows rows = p.padded_all ∙ ap (λ ws. map (padded_row ws) rows) p.measured in
-    ap (λ n. printed (borders_set style) (n, columns) (slice_index widths) (λ row. 1) cells) rows_same
-    ∙ ap (λ n. printed (borders_set style) (length rows, n) (slice_index widths) (λ row. 1) cells) columns_same
-    ∙ ap (λ ws. printed (borders_set style) (length rows, column_count rows) (slice_index ws) (λ row. 1) cells) p.measured
-    ∙ ap (λ cs. printed (borders_set style) (length rows, column_count rows) (slice_index (column_widths rows)) (λ row. 1) cs) cells_same
+    ap (λ n. printed (styled style) (n, columns) (slice_index widths) (λ row. 1) cells) rows_same
+    ∙ ap (λ n. printed (styled style) (length rows, n) (slice_index widths) (λ row. 1) cells) columns_same
+    ∙ ap (λ ws. printed (styled style) (length rows, column_count rows) (slice_index ws) (λ row. 1) cells) p.measured
+    ∙ ap (λ cs. printed (styled style) (length rows, column_count rows) (slice_index (column_widths rows)) (λ row. 1) cs) cells_same
 
 -- the page of an input that is not empty
-pub page-some : (style : Borders ℕ) (input : List ℕ) → 0 < length input → framed_table style (rows_of input) ++ LINE_FEED ∷ [] ≡ page style input
+pub page-some : (style : ReadyStyle) (input : List ℕ) → 0 < length input → framed_table style (rows_of input) ++ LINE_FEED ∷ [] ≡ page style input
 unfolding page
 page-some style input some = framed_page-some style (rows_of input) (omega (arith, ap length (rows_of-first input some)))
 
 -- the page of the empty input
-pub page-none : (style : Borders ℕ) (input : List ℕ) → length input ≤ 0 → [] ≡ page style input
+pub page-none : (style : ReadyStyle) (input : List ℕ) → length input ≤ 0 → [] ≡ page style input
 unfolding page
 page-none style input none = framed_page-none style (rows_of input) (omega (arith, ap length (ap (map cells_of) (lines_of-empty input none))))
 

@@ -1,61 +1,52 @@
--- The styles that the program knows, each as its class record.
+-- The styles that the program knows: the ready ones, each by its name.
 use Rattle.std.specs.Prelude.{ℕ, List, [], ◌∷◌, codes, Option, Some, None, if◌then◌else◌}
 use Rattle.std.specs.Str.{bytes_eq}
-use Rattle.tabled_grid.specs.declared.borders.Borders.{Borders}
+use Rattle.tabled_config.specs.Configuration.{ConfigEvent, borders_replaced}
+use Rattle.tabled_style.specs.Shown.{Shown}
+use Rattle.tabled_style.specs.Ready.{empty, blank, ascii, psql, markdown, modern, sharp, rounded, modern_rounded, extended, dots, re_structured_text, ascii_rounded}
+use Rattle.tabled_show.specs.declared.styles.ReadyStyle.TheVariants as ready
+use Rattle.tabled_show.specs.declared.styles.ReadyStyle.{ReadyStyle}
 
--- a line of a style: its main character, its crossing, its left and its right end
-pub record Line : Type 0 where
-  pub main : ℕ
-  pub crossing : ℕ
-  pub left : ℕ
-  pub right : ℕ
+-- what a ready style shows
+unfoldable pub shown : ReadyStyle → Shown
+shown ready.Empty = empty
+shown ready.Blank = blank
+shown ready.Ascii = ascii
+shown ready.Psql = psql
+shown ready.Markdown = markdown
+shown ready.Modern = modern
+shown ready.Sharp = sharp
+shown ready.Rounded = rounded
+shown ready.ModernRounded = modern_rounded
+shown ready.Extended = extended
+shown ready.Dots = dots
+shown ready.ReStructuredText = re_structured_text
+shown ready.AsciiRounded = ascii_rounded
 
--- a line that is written out
-abbrev pub line : ℕ → ℕ → ℕ → ℕ → Line
-line main crossing left right = record { main = main; crossing = crossing; left = left; right = right }
-
--- the class record of a top line, a bottom line, the line between rows, and the one character of all vertical lines
-abbrev pub framed : Line → Line → Line → ℕ → Borders ℕ
-framed top bottom middle vertical = record {
-  top = Some top.main;
-  top_intersection = Some top.crossing;
-  top_left = Some top.left;
-  top_right = Some top.right;
-  bottom = Some bottom.main;
-  bottom_intersection = Some bottom.crossing;
-  bottom_left = Some bottom.left;
-  bottom_right = Some bottom.right;
-  horizontal = Some middle.main;
-  intersection = Some middle.crossing;
-  left_intersection = Some middle.left;
-  right_intersection = Some middle.right;
-  left = Some vertical;
-  right = Some vertical;
-  vertical = Some vertical;
-}
-
--- dashes, bars and plus signs
-unfoldable pub ascii : Borders ℕ
-ascii = framed (line 45 43 43 43) (line 45 43 43 43) (line 45 43 43 43) 124
-
--- full stops above, colons elsewhere on the frame
-unfoldable pub dots : Borders ℕ
-dots = framed (line 46 46 46 46) (line 46 58 58 58) (line 46 58 58 58) 58
-
--- thin lines of the box drawing characters
-unfoldable pub modern : Borders ℕ
-modern = framed (line 0x2500 0x252C 0x250C 0x2510) (line 0x2500 0x2534 0x2514 0x2518) (line 0x2500 0x253C 0x251C 0x2524) 0x2502
-
--- the style of this name
-unfoldable pub style_named : List ℕ → Option (Borders ℕ)
+-- the ready style of this name
+unfoldable pub style_named : List ℕ → Option ReadyStyle
 style_named name =
-    if bytes_eq name (codes "ascii") then Some ascii
-    else if bytes_eq name (codes "dots") then Some dots
-    else if bytes_eq name (codes "modern") then Some modern
+    if bytes_eq name (codes "empty") then Some ready.Empty
+    else if bytes_eq name (codes "blank") then Some ready.Blank
+    else if bytes_eq name (codes "ascii") then Some ready.Ascii
+    else if bytes_eq name (codes "psql") then Some ready.Psql
+    else if bytes_eq name (codes "markdown") then Some ready.Markdown
+    else if bytes_eq name (codes "modern") then Some ready.Modern
+    else if bytes_eq name (codes "sharp") then Some ready.Sharp
+    else if bytes_eq name (codes "rounded") then Some ready.Rounded
+    else if bytes_eq name (codes "modern_rounded") then Some ready.ModernRounded
+    else if bytes_eq name (codes "extended") then Some ready.Extended
+    else if bytes_eq name (codes "dots") then Some ready.Dots
+    else if bytes_eq name (codes "re_structured_text") then Some ready.ReStructuredText
+    else if bytes_eq name (codes "ascii_rounded") then Some ready.AsciiRounded
     else None
 
 -- the style that the words after the program's name ask for: it takes one word
-abbrev pub style_of : List (List ℕ) → Option (Borders ℕ)
+abbrev pub style_of : List (List ℕ) → Option ReadyStyle
 style_of [] = None
 style_of (name ∷ []) = style_named name
 style_of (name ∷ next ∷ more) = None
+
+-- a style applied to a table
+abbrev pub styled : ReadyStyle → List ConfigEvent
+styled style = borders_replaced (shown style).borders (shown style).horizontals (shown style).verticals

@@ -74,3 +74,11 @@ impl<T: Drop> From<AllocFailed<T>> for ShowError {
         ShowError::OutOfMemory
     }
 }
+
+impl From<tabled_grid::OutOfMemory> for ShowError {
+    ghost from_gives = { λ _ e. e ≡ OutOfMemory };
+
+    fn from(_refused: tabled_grid::OutOfMemory) -> ShowError {
+        ShowError::OutOfMemory
+    }
+}

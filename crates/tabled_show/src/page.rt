@@ -1,22 +1,24 @@
 //! The text of an input's table.
 
-ghost use Rattle.std.specs.Prelude.{◌≡◌, ◌≤◌, ◌⊎◌, ◌++◌, ◌∷◌, [], Some, None, true, length, vec_len, slice_index, string_bytes, IfOk, IfErr, OnOk};
+ghost use Rattle.std.specs.Prelude.{◌≡◌, ◌≤◌, ◌⊎◌, List, ◌++◌, ◌∷◌, [], Some, None, true, length, vec_len, slice_index, string_bytes, IfOk, IfErr, OnOk};
 ghost use Rattle.std.specs.List.{list_all};
-ghost use Rattle.tabled_config.specs.Configuration.{Shows, borders_set};
+ghost use Rattle.tabled_config.specs.Configuration.{ConfigEvent, Shows};
 ghost use Rattle.tabled_config.specs.Picture.{printed};
 ghost use Rattle.tabled_config.specs.Refusal.{first_refusal};
 ghost use Rattle.tabled_show.specs.Input.{fault_of, is_allowed, rows_of};
 ghost use Rattle.tabled_show.specs.Page.{framed_table, page};
+ghost use Rattle.tabled_show.specs.Style.{styled};
 ghost use Rattle.tabled_show.specs.Table.{texts};
 
 use crate::bytes::LINE_FEED;
 use crate::error::ShowError;
 use crate::faults::test_input;
 use crate::read::INPUT_LIMIT;
+use crate::styles::{ReadyStyle, configured};
 use crate::table::{measure, padded_rows};
 use std::alloc::Global;
-use tabled_config::{PrintError, SpannedConfig, print_plain, shown_after_change};
-use tabled_grid::{Borders, Dimension};
+use tabled_config::{PrintError, SpannedConfig, print_plain};
+use tabled_grid::Dimension;
 
 /// The widths of a table's columns. Each row is one line high.
 #[derive(Drop)]
@@ -39,45 +41,55 @@ impl Dimension for Columns {
     }
 }
 
-/// A configuration with this class record and nothing else.
-fn configured(alloc: Global, style: Borders<char>) -> SpannedConfig
-    ensures { Shows (borders_set style) result }
-{
-    let mut cfg = SpannedConfig::new(alloc);
-    cfg.set_borders(style);
-    shown_after_change();
-    cfg
-}
-
-/// The text of a table whose cells fit, with a line feed after it.
-fn print_table(
-    alloc: Global,
-    style: Borders<char>,
+/// Appends a table whose cells fit, and a line feed.
+fn append_table(
+    text: &mut String,
+    cfg: &SpannedConfig,
     columns: &Columns,
     cells: &[Vec<String>],
-) -> Result<String, ShowError>
+) -> Result<(), ShowError>
     requires { first_refusal (length cells.now, vec_len columns.now.widths) (slice_index columns.now.widths.items)
         (λ row. 1) (texts cells.now) ≡ None }
-    ensures text { IfOk result (λ text. string_bytes text ≡
-        printed (borders_set style) (length cells.now, vec_len columns.now.widths) (slice_index columns.now.widths.items)
-        (λ row. 1) (texts cells.now) ++ LINE_FEED ∷ []) }
+    ensures text { OnOk result ((es : List ConfigEvent) → Shows es cfg.now → string_bytes text.new ≡ string_bytes text.old
+        ++ printed es (length cells.now, vec_len columns.now.widths) (slice_index columns.now.widths.items) (λ row. 1) (texts cells.now)
+        ++ LINE_FEED ∷ []) }
     ensures refused { IfErr result (λ e. e ≡ ShowError.OutOfMemory) }
 {
-    let cfg = configured(alloc, style);
     let shape = (cells.len(), columns.widths.len());
-    let mut text = String::new(alloc);
-    match print_plain(&mut text, &cfg, columns, shape, cells) {
+    match print_plain(text, cfg, columns, shape, cells) {
         Ok(()) => {
             text.push('\n')?;
-            Ok(text)
+            Ok(())
         }
         Err(PrintError::OutOfMemory) => Err(ShowError::OutOfMemory),
         Err(_) => unreachable!("the cells fit"),
     }
 }
 
+/// The text of a table whose cells fit, with a line feed after it.
+fn print_table(
+    alloc: Global,
+    style: ReadyStyle,
+    columns: &Columns,
+    cells: &[Vec<String>],
+) -> Result<String, ShowError>
+    requires { first_refusal (length cells.now, vec_len columns.now.widths) (slice_index columns.now.widths.items)
+        (λ row. 1) (texts cells.now) ≡ None }
+    ensures text { IfOk result (λ text. string_bytes text ≡
+        printed (styled style) (length cells.now, vec_len columns.now.widths) (slice_index columns.now.widths.items)
+        (λ row. 1) (texts cells.now) ++ LINE_FEED ∷ []) }
+    ensures refused { IfErr result (λ e. e ≡ ShowError.OutOfMemory) }
+{
+    let mut text = String::new(alloc);
+    let cfg = configured(alloc, style)?;
+    let answer = append_table(&mut text, &cfg, columns, cells);
+    drop(cfg);
+    answer?;
+    Ok(text)
+}
+
 /// The text of an input's table, with a line feed after it.
-fn framed(alloc: Global, style: Borders<char>, input: &[u8]) -> Result<String, ShowError>
+fn framed(alloc: Global, style: ReadyStyle, input: &[u8]) -> Result<String, ShowError>
     requires { list_all is_allowed input.now ≡ true }
     ensures text { IfOk result (λ text. string_bytes text ≡ framed_table style (rows_of input.now) ++ LINE_FEED ∷ []) }
     ensures refused { IfErr result (λ e. e ≡ ShowError.OutOfMemory) }
@@ -89,7 +101,7 @@ fn framed(alloc: Global, style: Borders<char>, input: &[u8]) -> Result<String, S
 }
 
 /// The text that is written for an input, the empty text for the empty input.
-pub fn page(alloc: Global, style: Borders<char>, input: &[u8]) -> Result<String, ShowError>
+pub fn page(alloc: Global, style: ReadyStyle, input: &[u8]) -> Result<String, ShowError>
     requires { length input.now ≤ INPUT_LIMIT }
     ensures text { IfOk result (λ text. string_bytes text ≡ page style input.now) }
     ensures good { OnOk result (fault_of input.now ≡ None) }

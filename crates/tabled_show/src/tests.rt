@@ -59,15 +59,93 @@ impl Write for TakesNothing {
 
 #[test]
 fn draws_each_style(rt: HostRuntime) -> Result<(), Fail> {
-    let input = b"a\tb\n1\t22\n";
-    let ascii = "+---+----+\n| a | b  |\n+---+----+\n| 1 | 22 |\n+---+----+\n";
-    let dots = "..........\n: a : b  :\n:...:....:\n: 1 : 22 :\n:...:....:\n";
-    let modern = "┌───┬────┐\n│ a │ b  │\n├───┼────┤\n│ 1 │ 22 │\n└───┴────┘\n";
-    for (style, text) in [("ascii", ascii), ("dots", dots), ("modern", modern)] {
-        let (answer, written) = shown(&rt, style, input)?;
+    for (style, text) in [
+        ("empty", " a  b  \n 1  22 \n"),
+        ("blank", " a   b  \n 1   22 \n"),
+        (
+            "ascii",
+            "+---+----+\n| a | b  |\n+---+----+\n| 1 | 22 |\n+---+----+\n",
+        ),
+        ("psql", " a | b  \n---+----\n 1 | 22 \n"),
+        ("markdown", "| a | b  |\n|---|----|\n| 1 | 22 |\n"),
+        (
+            "modern",
+            "┌───┬────┐\n│ a │ b  │\n├───┼────┤\n│ 1 │ 22 │\n└───┴────┘\n",
+        ),
+        (
+            "sharp",
+            "┌───┬────┐\n│ a │ b  │\n├───┼────┤\n│ 1 │ 22 │\n└───┴────┘\n",
+        ),
+        (
+            "rounded",
+            "╭───┬────╮\n│ a │ b  │\n├───┼────┤\n│ 1 │ 22 │\n╰───┴────╯\n",
+        ),
+        (
+            "modern_rounded",
+            "╭───┬────╮\n│ a │ b  │\n├───┼────┤\n│ 1 │ 22 │\n╰───┴────╯\n",
+        ),
+        (
+            "extended",
+            "╔═══╦════╗\n║ a ║ b  ║\n╠═══╬════╣\n║ 1 ║ 22 ║\n╚═══╩════╝\n",
+        ),
+        (
+            "dots",
+            "..........\n: a : b  :\n:...:....:\n: 1 : 22 :\n:...:....:\n",
+        ),
+        (
+            "re_structured_text",
+            "=== ====\n a   b  \n=== ====\n 1   22 \n=== ====\n",
+        ),
+        (
+            "ascii_rounded",
+            ".--------.\n| a | b  |\n| 1 | 22 |\n'--------'\n",
+        ),
+    ] {
+        let (answer, written) = shown(&rt, style, b"a\tb\n1\t22\n")?;
         assert_eq!(rt; answer, Ok(()));
         assert_eq!(rt; written.as_slice(), text.as_bytes(), "{style}");
     }
+    Ok(())
+}
+
+#[test]
+fn draws_lines_between_rows(rt: HostRuntime) -> Result<(), Fail> {
+    for (style, text) in [
+        ("psql", " a \n---\n b \n c \n"),
+        ("sharp", "┌───┐\n│ a │\n├───┤\n│ b │\n│ c │\n└───┘\n"),
+        (
+            "modern_rounded",
+            "╭───╮\n│ a │\n├───┤\n│ b │\n├───┤\n│ c │\n╰───╯\n",
+        ),
+    ] {
+        let (answer, written) = shown(&rt, style, b"a\nb\nc\n")?;
+        assert_eq!(rt; answer, Ok(()));
+        assert_eq!(rt; written.as_slice(), text.as_bytes(), "{style}");
+    }
+    Ok(())
+}
+
+#[test]
+fn draws_a_line_of_its_own_at_the_end(rt: HostRuntime) -> Result<(), Fail> {
+    let (answer, written) = shown(&rt, "psql", b"a\n")?;
+    assert_eq!(rt; answer, Ok(()));
+    assert_eq!(rt; written.as_slice(), b" a \n---\n".as_slice());
+    Ok(())
+}
+
+#[test]
+fn draws_names_and_years(rt: HostRuntime) -> Result<(), Fail> {
+    let input = b"C\tDennis Ritchie\t1972\nGo\tRob Pike\t2009\nRust\tGraydon Hoare\t2010\n";
+    let text = concat!(
+        ".------------------------------.\n",
+        "| C    | Dennis Ritchie | 1972 |\n",
+        "| Go   | Rob Pike       | 2009 |\n",
+        "| Rust | Graydon Hoare  | 2010 |\n",
+        "'------------------------------'\n",
+    );
+    let (answer, written) = shown(&rt, "ascii_rounded", input)?;
+    assert_eq!(rt; answer, Ok(()));
+    assert_eq!(rt; written.as_slice(), text.as_bytes());
     Ok(())
 }
 

@@ -310,6 +310,24 @@ impl Both {
         assert!(rt; probes.count() <= 6);
     }
 
+    /// Makes some calls, and compares after each; at last reads all of one table.
+    fn walk(
+        &mut self,
+        rt: &impl Abort,
+        dice: &mut Dice,
+        swept: (usize, usize, usize),
+    ) -> Result<(), OutOfMemory> {
+        for _ in 0..24 {
+            self.step(dice)?;
+            for table in TABLES {
+                self.compare_lines(rt, table);
+                self.compare_place(rt, dice.place(), table);
+            }
+        }
+        self.compare_places(rt, swept);
+        Ok(())
+    }
+
     /// Compares the lines of a table that the calls can name.
     fn compare_lines(&self, rt: &impl Abort, table: (usize, usize, usize)) {
         let (rows, cols, _) = table;
@@ -342,6 +360,9 @@ fn spot(place: Place) -> Site {
     }
 }
 
+// A store is lent to what may be refused, and let go before the test ends: an owned one would have to be let go
+// at each exit, of which the checker would take long to follow the many.
+
 #[test]
 fn reads_what_the_events_leave(rt: HostRuntime) -> Result<(), Fail> {
     let mut dice = Dice { state: 7 };
@@ -351,31 +372,36 @@ fn reads_what_the_events_leave(rt: HostRuntime) -> Result<(), Fail> {
                 store: Layers::new(rt.alloc()),
                 events: Vec::new(rt.alloc()),
             };
-            for _ in 0..24 {
-                both.step(&mut dice)?;
-                for table in TABLES {
-                    both.compare_lines(&rt, table);
-                    both.compare_place(&rt, dice.place(), table);
-                }
-            }
-            both.compare_places(&rt, swept);
+            let walked = both.walk(&rt, &mut dice, swept);
+            drop(both);
+            walked?;
         }
     }
+    Ok(())
+}
+
+/// Sets a crossing twice, and erases it.
+fn set_twice_and_erase(store: &mut Layers<char>, crossing: Place) -> Result<(), OutOfMemory> {
+    store.set_cell(crossing, 'a')?;
+    store.set_cell(crossing, 'b')?;
+    store.erase_cell(crossing);
     Ok(())
 }
 
 #[test]
 fn a_crossing_set_twice_and_erased_draws_nothing(rt: HostRuntime) -> Result<(), Fail> {
     let mut store = Layers::new(rt.alloc());
-    let crossing = Place::Cross { row: 1, col: 2 };
-    store.set_cell(crossing, 'a')?;
-    store.set_cell(crossing, 'b')?;
-    store.erase_cell(crossing);
-    for line in [LineOf::Horizontal(1), LineOf::Vertical(2)] {
-        let mut probes = Probes::new();
-        assert!(rt; !store.draws(line, 3, &mut probes));
-        assert!(rt; probes.count() <= 6);
-    }
+    let written = set_twice_and_erase(&mut store, Place::Cross { row: 1, col: 2 });
+    let mut across = Probes::new();
+    let draws_across = store.draws(LineOf::Horizontal(1), 3, &mut across);
+    let mut down = Probes::new();
+    let draws_down = store.draws(LineOf::Vertical(2), 3, &mut down);
+    drop(store);
+    written?;
+    assert!(rt; !draws_across);
+    assert!(rt; across.count() <= 6);
+    assert!(rt; !draws_down);
+    assert!(rt; down.count() <= 6);
     Ok(())
 }
 
@@ -394,41 +420,66 @@ fn a_fresh_store_has_nothing(rt: HostRuntime) {
     }
 }
 
-#[test]
-fn offsets_that_meet_show_the_one_from_the_start(rt: HostRuntime) -> Result<(), Fail> {
+/// What the third place of the edge shows, of three and of four, after these offset characters.
+fn shown_after(
+    store: &mut Layers<char>,
+    writes: [(Offset, char); 2],
+) -> Result<[Option<char>; 2], OutOfMemory> {
     let edge = Place::Horizontal {
         row: 0,
         col: 0,
         at: 2,
     };
-    let writes = [(Offset::Start(2), 's'), (Offset::End(0), 'e')];
-    for (first, second) in [(writes[0], writes[1]), (writes[1], writes[0])] {
+    let [first, second] = writes;
+    store.set_offset(edge, first.0, first.1)?;
+    store.set_offset(edge, second.0, second.1)?;
+    let of_three = store.at(edge, (1, 1), 3, &mut Probes::new()).copied();
+    let of_four = store.at(edge, (1, 1), 4, &mut Probes::new()).copied();
+    Ok([of_three, of_four])
+}
+
+#[test]
+fn offsets_that_meet_show_the_one_from_the_start(rt: HostRuntime) -> Result<(), Fail> {
+    let start = (Offset::Start(2), 's');
+    let end = (Offset::End(0), 'e');
+    for writes in [[start, end], [end, start]] {
         let mut store = Layers::new(rt.alloc());
-        store.set_offset(edge, first.0, first.1)?;
-        store.set_offset(edge, second.0, second.1)?;
-        let shown = store.at(edge, (1, 1), 3, &mut Probes::new());
-        assert_eq!(rt; shown.copied(), Some('s'));
-        assert_eq!(rt;
-            store.at(edge, (1, 1), 4, &mut Probes::new()).copied(),
-            Some('s')
-        );
+        let shown = shown_after(&mut store, writes);
+        drop(store);
+        let [of_three, of_four] = shown?;
+        assert_eq!(rt; of_three, Some('s'));
+        assert_eq!(rt; of_four, Some('s'));
     }
     Ok(())
 }
 
+/// Whether one of five places of an edge of three shows an offset character.
+fn shows_somewhere(store: &mut Layers<char>, offset: Offset) -> Result<bool, OutOfMemory> {
+    let (row, col) = (0, 0);
+    store.set_offset(Place::Horizontal { row, col, at: 0 }, offset, 'x')?;
+    for at in 0..5 {
+        let place = Place::Horizontal { row, col, at };
+        let shown = store.at(place, (1, 1), 3, &mut Probes::new()).copied();
+        if shown.is_some() {
+            return Ok(true);
+        }
+    }
+    Ok(false)
+}
+
 #[test]
 fn an_offset_past_the_width_shows_nowhere(rt: HostRuntime) -> Result<(), Fail> {
-    for offset in [Offset::Start(3), Offset::End(3)] {
+    let wanted = [
+        (Offset::Start(2), true),
+        (Offset::Start(3), false),
+        (Offset::End(2), true),
+        (Offset::End(3), false),
+    ];
+    for (offset, is_shown) in wanted {
         let mut store = Layers::new(rt.alloc());
-        let (row, col) = (0, 0);
-        store.set_offset(Place::Horizontal { row, col, at: 0 }, offset, 'x')?;
-        for at in 0..5 {
-            let place = Place::Horizontal { row, col, at };
-            assert_eq!(rt;
-                store.at(place, (1, 1), 3, &mut Probes::new()).copied(),
-                None
-            );
-        }
+        let shown = shows_somewhere(&mut store, offset);
+        drop(store);
+        assert_eq!(rt; shown?, is_shown, "{offset:?}");
     }
     Ok(())
 }

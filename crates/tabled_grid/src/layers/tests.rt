@@ -5,7 +5,8 @@ use crate::kept_map::KeptMap;
 use crate::number::Number;
 use crate::position::EdgePlace;
 use crate::{
-    Borders, HorizontalLine, Keep, Offset, OutOfMemory, Place, Position, Probes, VerticalLine,
+    Border, Borders, HorizontalLine, Keep, Offset, OutOfMemory, Place, Position, Probes,
+    VerticalLine,
 };
 use std::alloc::Global;
 use std::test::Fail;
@@ -146,30 +147,127 @@ fn a_copy_shows_what_its_source_showed(rt: HostRuntime) -> Result<(), Fail> {
     Ok(())
 }
 
-/// Whether a store differs from a new one, and equals it when all is erased.
-fn is_new_again(store: &mut Layers<char>, new: &Layers<char>) -> bool {
-    let differs = *store != *new;
+/// Whether a store differs from a new one, and equals it when all is erased, until a line is inserted.
+fn is_new_between(store: &mut Layers<char>, alloc: Global) -> Result<bool, OutOfMemory> {
+    let differs = *store != Layers::new(alloc);
     store.erase_default();
     store.erase_class();
     store.erase_lines();
     store.erase_cells();
     store.erase_horizontal_offsets();
-    differs && *store == *new
+    let is_new = *store == Layers::new(alloc);
+    store.insert_hline(3, HorizontalLine::empty())?;
+    Ok(differs && is_new && *store != Layers::new(alloc))
 }
 
 #[test]
 fn stores_with_one_history_undone_are_equal(rt: HostRuntime) -> Result<(), Fail> {
-    let new: Layers<char> = Layers::new(rt.alloc());
     let mut store = Layers::new(rt.alloc());
     let made = write_all(&mut store);
-    let is_new = is_new_again(&mut store, &new);
-    let inserted = store.insert_hline(3, HorizontalLine::empty());
-    let differs = store != new;
+    let is_new = is_new_between(&mut store, rt.alloc());
     drop(store);
-    drop(new);
     made?;
-    inserted?;
-    assert!(rt; is_new);
-    assert!(rt; differs);
+    assert!(rt; is_new?);
     Ok(())
+}
+
+#[test]
+fn a_border_is_written_read_and_erased(rt: HostRuntime) -> Result<(), Fail> {
+    let mut store = Layers::new(rt.alloc());
+    let cell = Position::new(1, 2);
+    let border = Border::full('t', 'b', 'l', 'r', '1', '2', '3', '4');
+    let written = store.set_border(cell, border);
+    let shown = seen(store.get_border(cell, (3, 4)));
+    let below = seen(store.get_border(Position::new(2, 2), (3, 4)));
+    let too_few_cols = store.get_border(cell, (3, 2)).is_empty();
+    let too_few_rows = store.get_border(cell, (1, 4)).is_empty();
+    let right = Border {
+        right: Some('!'),
+        ..Border::empty()
+    };
+    let changed = store.set_border(cell, right);
+    let shown_then = seen(store.get_border(cell, (3, 4)));
+    store.erase_border(cell);
+    let is_new_again = store == Layers::new(rt.alloc());
+    drop(store);
+    written?;
+    changed?;
+    assert!(rt; shown == border);
+    // its lower side is the upper side of the cell below, with the two corners
+    let (lower, first, second) = (Some('b'), Some('3'), Some('4'));
+    assert!(rt; below == Border::new(lower, None, None, None, first, None, second, None));
+    assert!(rt; too_few_cols);
+    assert!(rt; too_few_rows);
+    assert!(rt; shown_then == Border::full('t', 'b', 'l', '!', '1', '2', '3', '4'));
+    assert!(rt; is_new_again);
+    Ok(())
+}
+
+/// Writes the edges and the crossing that a position names.
+fn write_own_places(store: &mut Layers<char>, cell: Position) -> Result<(), OutOfMemory> {
+    let (row, col) = (cell.row, cell.col);
+    store.set_cell(Place::Horizontal { row, col, at: 0 }, 'x')?;
+    store.set_cell(Place::Vertical { row, col, at: 0 }, 'x')?;
+    store.set_cell(Place::Cross { row, col }, 'x')
+}
+
+#[test]
+fn the_last_number_has_no_line_behind_it(rt: HostRuntime) -> Result<(), Fail> {
+    let mut store = Layers::new(rt.alloc());
+    let cell = Position::new(usize::MAX, usize::MAX);
+    let written = store.set_border(cell, Border::filled('x'));
+    let mut own = Layers::new(rt.alloc());
+    let made = write_own_places(&mut own, cell);
+    let is_same = store == own;
+    drop(own);
+    store.erase_border(cell);
+    let is_new_again = store == Layers::new(rt.alloc());
+    drop(store);
+    written?;
+    made?;
+    assert!(rt; is_same);
+    assert!(rt; is_new_again);
+    Ok(())
+}
+
+/// Whether a border comes whole, or the store stays as it was; also where the test itself is refused memory.
+fn comes_whole_or_not_at_all(store: &mut Layers<char>, alloc: Global) -> bool {
+    let cell = Position::new(1, 2);
+    if store.set_cell(CORNER, '+').is_err() {
+        return true;
+    }
+    let Ok(before) = store.keep(alloc) else {
+        return true;
+    };
+    let is_refused = store.set_border(cell, Border::filled('x')).is_err();
+    let is_as_before = *store == before;
+    drop(before);
+    if is_refused {
+        is_as_before
+    } else {
+        seen(store.get_border(cell, (3, 4))) == Border::filled('x')
+    }
+}
+
+// holds whichever allocation fails
+#[test]
+fn a_refused_border_leaves_the_store(rt: HostRuntime) {
+    let mut store = Layers::new(rt.alloc());
+    let holds = comes_whole_or_not_at_all(&mut store, rt.alloc());
+    drop(store);
+    assert!(rt; holds);
+}
+
+/// The characters of a border that was read.
+pub(super) fn seen(border: Border<&char>) -> Border<char> {
+    Border {
+        top: border.top.copied(),
+        bottom: border.bottom.copied(),
+        left: border.left.copied(),
+        right: border.right.copied(),
+        left_top_corner: border.left_top_corner.copied(),
+        left_bottom_corner: border.left_bottom_corner.copied(),
+        right_top_corner: border.right_top_corner.copied(),
+        right_bottom_corner: border.right_bottom_corner.copied(),
+    }
 }

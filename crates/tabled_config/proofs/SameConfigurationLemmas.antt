@@ -1,0 +1,31 @@
+-- Configurations that are equal are one.
+use Rattle.std.proofs.Common.{◌≡◌, ◌↔◌, Bool, true, ◌&&◌, nat_eq, IsTrue, sym, subst, ◌∙◌}
+use Rattle.std.proofs.lemmas.Bool.{eqb-true}
+use Rattle.std.specs.Cmp.Lexicographic.{pointwise, same_text}
+use Rattle.tabled_grid.specs.Same.{same_keeping}
+use Rattle.tabled_grid.proofs.SameLemmas.{IsExact, both, exact_keeping}
+use Rattle.tabled_config.specs.Configuration.{Configuration}
+use Rattle.tabled_config.specs.SameConfiguration.{same_texts, same_configuration, configuration_equiv}
+
+-- where the characters are the same, the test of the colours answers for the configurations
+pub colours_answer : (a b c d : Configuration) (characters colours : Bool) → a ≡ c → b ≡ d → characters ≡ same_keeping nat_eq a.characters b.characters → characters ≡ true → colours ≡ same_keeping same_texts a.colours b.colours → colours ≡ same_configuration c d
+unfolding same_configuration
+colours_answer a b c d characters colours to_c to_d first holds second =
+    (λ i. (sym holds ∙ first) i && second i) ∙ (λ i. same_configuration (to_c i) (to_d i))
+
+-- colours with the same texts are one
+exact_texts : IsExact same_texts
+exact_texts a b h =
+    let texts = both (pointwise nat_eq a.prefix b.prefix) (pointwise nat_eq a.suffix b.suffix) h in
+    λ i. record { prefix = same_text a.prefix b.prefix (sym texts.0) i; suffix = same_text a.suffix b.suffix (sym texts.1) i }
+
+exact_configurations : IsExact same_configuration
+unfolding same_configuration
+exact_configurations a b h =
+    let stores = both (same_keeping nat_eq a.characters b.characters) (same_keeping same_texts a.colours b.colours) h in
+    λ i. record { characters = exact_keeping eqb-true a.characters b.characters stores.0 i; colours = exact_keeping exact_texts a.colours b.colours stores.1 i }
+
+-- configurations pass the test just where they keep the same
+pub same_configuration-exact : (a b : Configuration) → IsTrue (same_configuration a b) ↔ (a ≡ b)
+same_configuration-exact a b =
+    (λ h. exact_configurations a b h, λ is. subst (λ c. same_configuration a c ≡ true) is (configuration_equiv.refl a))

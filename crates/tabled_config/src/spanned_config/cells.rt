@@ -1,0 +1,100 @@
+//! Borders of single cells.
+
+ghost use Rattle.std.specs.Prelude.{◌≡◌, OnOk, OnErr, option_copied};
+ghost use Rattle.tabled_grid.specs.Calls.{border_set, border_erased};
+ghost use Rattle.tabled_grid.specs.CellBorder.{border_shown};
+ghost use Rattle.tabled_grid.specs.Keeping.{keeps};
+ghost use Rattle.tabled_config.specs.Configuration.{Changes, by_characters, by_colours};
+ghost use Rattle.tabled_config.specs.Options.{entity_bordered};
+
+use super::SpannedConfig;
+use tabled_grid::{ANSIBuf, Border, Entity, OutOfMemory, Position};
+
+impl SpannedConfig {
+    /// Writes the given sides and corners of a cell, whatever the shape of the table; what is not given
+    /// stays as it is. Where memory is refused nothing changes.
+    pub fn set_border(&mut self, pos: Position, border: Border<char>) -> Result<(), OutOfMemory>
+        ensures ok { OnOk result (Changes (by_characters (border_set pos border)) self.old self.new) }
+        ensures err { OnErr result (self.new ≡ self.old) }
+    {
+        self.characters.set_border(pos, border)
+    }
+
+    /// Writes the given sides and corners of each cell of an entity that lies in a table of `shape.0` rows
+    /// and `shape.1` columns, row by row. Where memory is refused nothing changes.
+    pub(crate) fn set_entity_border(
+        &mut self,
+        entity: Entity,
+        shape: (usize, usize),
+        border: &Border<char>,
+    ) -> Result<(), OutOfMemory>
+        ensures ok { OnOk result (Changes (entity_bordered border.now shape entity) self.old self.new) }
+        ensures err { OnErr result (self.new ≡ self.old) }
+    {
+        self.characters.set_entity_border(entity, shape, border)
+    }
+
+    /// The characters that show at the sides and corners of a cell in a table of `shape.0` rows and
+    /// `shape.1` columns, offset characters aside. A cell outside has none.
+    pub fn get_border(&self, pos: Position, shape: (usize, usize)) -> Border<char>
+        ensures { result ≡ border_shown (keeps self.now.characters) shape pos }
+    {
+        let shown = self.characters.get_border(pos, shape);
+        Border {
+            top: shown.top.copied(),
+            bottom: shown.bottom.copied(),
+            left: shown.left.copied(),
+            right: shown.right.copied(),
+            left_top_corner: shown.left_top_corner.copied(),
+            left_bottom_corner: shown.left_bottom_corner.copied(),
+            right_top_corner: shown.right_top_corner.copied(),
+            right_bottom_corner: shown.right_bottom_corner.copied(),
+        }
+    }
+
+    /// Erases the cell characters of a cell's sides and corners, also of those that it shares with the cells
+    /// beside it.
+    pub fn remove_border(&mut self, pos: Position)
+        ensures { Changes (by_characters (border_erased pos)) self.old self.new }
+    {
+        self.characters.erase_border(pos);
+    }
+
+    /// Writes the given colours of a cell's sides and corners, whatever the shape of the table; what is not
+    /// given stays as it is. Where memory is refused nothing changes.
+    pub fn set_border_color(
+        &mut self,
+        pos: Position,
+        border: Border<ANSIBuf>,
+    ) -> Result<(), OutOfMemory>
+        ensures ok { OnOk result (Changes (by_colours (border_set pos border)) self.old self.new) }
+        ensures err { OnErr result (self.new ≡ self.old) }
+    {
+        self.colours.set_border(pos, border)
+    }
+
+    /// The colours that show at the sides and corners of a cell in a table of `shape.0` rows and `shape.1`
+    /// columns, offset colours aside. A cell outside has none.
+    pub fn get_border_color(&self, pos: Position, shape: (usize, usize)) -> Border<&ANSIBuf>
+        ensures { record {
+          top = option_copied result.top;
+          bottom = option_copied result.bottom;
+          left = option_copied result.left;
+          right = option_copied result.right;
+          left_top_corner = option_copied result.left_top_corner;
+          left_bottom_corner = option_copied result.left_bottom_corner;
+          right_top_corner = option_copied result.right_top_corner;
+          right_bottom_corner = option_copied result.right_bottom_corner;
+        } ≡ border_shown (keeps self.now.colours) shape pos }
+    {
+        self.colours.get_border(pos, shape)
+    }
+
+    /// Erases the cell colours of a cell's sides and corners, also of those that it shares with the cells
+    /// beside it.
+    pub fn remove_border_color(&mut self, pos: Position)
+        ensures { Changes (by_colours (border_erased pos)) self.old self.new }
+    {
+        self.colours.erase_border(pos);
+    }
+}

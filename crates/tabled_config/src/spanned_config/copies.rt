@@ -1,0 +1,17 @@
+//! A copy of a configuration.
+
+ghost use Rattle.std.specs.Prelude.{◌≡◌, IfOk};
+
+use super::SpannedConfig;
+use std::alloc::Global;
+use tabled_grid::{Keep, OutOfMemory};
+
+/// The copy keeps `alloc` for the calls that need memory.
+impl Keep for SpannedConfig {
+    fn keep(&self, alloc: Global) -> Result<Self, OutOfMemory> {
+        Ok(SpannedConfig {
+            characters: self.characters.keep(alloc)?,
+            colours: self.colours.keep(alloc)?,
+        })
+    }
+}

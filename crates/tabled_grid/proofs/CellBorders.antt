@@ -1,0 +1,89 @@
+-- The sides and corners of one cell, read together and erased together.
+use Rattle.std.proofs.Common.{◌≡◌, ℕ, ◌<◌, Bool, true, false, cond, ◌&&◌, ◌||◌, nat_lt, Option, Some, None, List, [], ◌∷◌, ◌++◌, refl, ap, sym, ◌∙◌, subst, option_and_then, arith}
+use Rattle.std.specs.Option.{option_map}
+use Rattle.std.specs.List.{list_any, filter_map}
+use Rattle.std.proofs.lemmas.Bool.Decides.{nat_tests}
+use Rattle.std.proofs.lemmas.List.Folds.{list_any-append}
+use Rattle.tabled_grid.specs.declared.border.Border.{Border}
+use Rattle.tabled_grid.specs.declared.place.Place.{Place}
+use Rattle.tabled_grid.specs.declared.position.Position.{Position}
+use Rattle.tabled_grid.specs.Site.{Site, at_spot, same_site}
+use Rattle.tabled_grid.specs.Event.{Written, Region, these_sites, within, erase, kept, Changes}
+use Rattle.tabled_grid.specs.Keeping.{Keeping, keeps}
+use Rattle.tabled_grid.specs.Value.{plain_value}
+use Rattle.tabled_grid.specs.Border.{no_border}
+use Rattle.tabled_grid.specs.Calls.{spot_of, cell_erased, places_erased, border_erased}
+use Rattle.tabled_grid.specs.CellBorder.{border_places, border_fields, border_shown}
+use Rattle.tabled_grid.proofs.Replay.{kept-nil, kept_cleared}
+use Rattle.tabled_grid.proofs.Changing.{one_erasure}
+
+or-none : (b : Bool) → (b || false) ≡ b
+or-none true = refl
+or-none false = refl
+
+both_below : (r c rows cols : ℕ) → r < rows → c < cols → (nat_lt r rows && nat_lt c cols) ≡ true
+both_below r c rows cols h k = grind (arith, nat_tests)
+
+-- what each place of a border has
+abbrev pub read_at : {T : Type 0} → (Site → Option (Written T)) → ℕ × ℕ → Border Place → Border T
+read_at keep shape places = record {
+  top = option_and_then (plain_value keep shape) places.top;
+  bottom = option_and_then (plain_value keep shape) places.bottom;
+  left = option_and_then (plain_value keep shape) places.left;
+  right = option_and_then (plain_value keep shape) places.right;
+  left_top_corner = option_and_then (plain_value keep shape) places.left_top_corner;
+  left_bottom_corner = option_and_then (plain_value keep shape) places.left_bottom_corner;
+  right_top_corner = option_and_then (plain_value keep shape) places.right_top_corner;
+  right_bottom_corner = option_and_then (plain_value keep shape) places.right_bottom_corner;
+}
+
+-- of a cell inside they are what shows
+pub border_inside : {T : Type 0} (keep : Site → Option (Written T)) (shape : ℕ × ℕ) (pos : Position) (places : Border Place) (border : Border T) → pos.row < shape.0 → pos.col < shape.1 → places ≡ border_places pos → border ≡ read_at keep shape places → border ≡ border_shown keep shape pos
+unfolding border_shown
+border_inside keep shape pos places border h k are is =
+    is ∙ ap (read_at keep shape) are ∙ ap (λ b. cond b (read_at keep shape (border_places pos)) no_border) (sym (both_below pos.row pos.col shape.0 shape.1 h k))
+
+-- the sites of the places that are there
+abbrev pub sites_of : List (Option Place) → List Site
+sites_of places = filter_map (option_map (λ place. at_spot (spot_of place))) places
+
+sites_of-append : (ps qs : List (Option Place)) → sites_of (ps ++ qs) ≡ sites_of ps ++ sites_of qs
+sites_of-append [] qs = refl
+sites_of-append (None ∷ ps) qs = sites_of-append ps qs
+sites_of-append (Some p ∷ ps) qs = ap (λ all. at_spot (spot_of p) ∷ all) (sites_of-append ps qs)
+
+-- what the clearing of listed sites leaves at each site
+pub by_erasure : {T : Type 0} (region : Region) (old new : Site → Option (Written T)) → Changes (erase region ∷ []) old new → (q : Site) → new q ≡ cond (within region q) None (old q)
+unfolding Changes
+by_erasure region old new h q =
+    h q ∙ ap (λ b. cond b (kept (erase region ∷ []) q) (old q)) (or-none (within region q))
+    ∙ ap (λ k. cond (within region q) k (old q)) (kept_cleared region [] q ∙ kept-nil q)
+
+-- two clearings of places are the clearing of all of them
+pub erased_then : {T : Type 0} (ps qs : List (Option Place)) (old mid new : Keeping T) → Changes (places_erased ps) (keeps old) (keeps mid) → Changes (places_erased qs) (keeps mid) (keeps new) → Changes (places_erased (ps ++ qs)) (keeps old) (keeps new)
+unfolding places_erased
+erased_then ps qs old mid new first then =
+    one_erasure (these_sites (sites_of (ps ++ qs))) (keeps old) (keeps new) (λ q.
+    by_erasure (these_sites (sites_of qs)) (keeps mid) (keeps new) then q
+    ∙ ap (cond (list_any (same_site q) (sites_of qs)) None) (by_erasure (these_sites (sites_of ps)) (keeps old) (keeps mid) first q)
+    ∙ either (list_any (same_site q) (sites_of ps)) (list_any (same_site q) (sites_of qs)) (keeps old q)
+    ∙ ap (λ b. cond b None (keeps old q)) (sym (ap (list_any (same_site q)) (sites_of-append ps qs) ∙ list_any-append (same_site q) (sites_of ps) (sites_of qs))))
+  where
+    either : {A : Type 0} (a b : Bool) (x : Option A) → cond b None (cond a None x) ≡ cond (a || b) None x
+    either true true x = refl
+    either true false x = refl
+    either false b x = refl
+
+-- a place that is not there
+pub nothing_erased : {T : Type 0} (place : Option Place) (keeping : Keeping T) → place ≡ None → Changes (places_erased (place ∷ [])) (keeps keeping) (keeps keeping)
+unfolding places_erased
+nothing_erased place keeping e =
+    one_erasure (these_sites (sites_of (place ∷ []))) (keeps keeping) (keeps keeping) (λ q. ap (λ p. cond (list_any (same_site q) (sites_of (p ∷ []))) None (keeps keeping q)) (sym e))
+
+pub cell_erased_there : {T : Type 0} (place : Option Place) (there : Place) (old new : Keeping T) → place ≡ Some there → Changes (cell_erased there) (keeps old) (keeps new) → Changes (places_erased (place ∷ [])) (keeps old) (keeps new)
+unfolding places_erased
+cell_erased_there place there old new e h = subst (λ p. Changes (erase (these_sites (sites_of (p ∷ []))) ∷ []) (keeps old) (keeps new)) (sym e) h
+
+-- where all places of a cell's border were cleared
+pub erased_at : {T : Type 0} (pos : Position) (places : Border Place) (old new : Keeping T) → places ≡ border_places pos → Changes (places_erased (border_fields places)) (keeps old) (keeps new) → Changes (border_erased pos) (keeps old) (keeps new)
+erased_at pos places old new e h = subst (λ p. Changes (places_erased (border_fields p)) (keeps old) (keeps new)) e h

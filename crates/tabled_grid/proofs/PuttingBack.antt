@@ -1,0 +1,231 @@
+-- Writes at the cell level, and what puts them back.
+use Rattle.std.proofs.Common.{◌≡◌, ℕ, Bool, true, false, cond, ◌&&◌, ◌||◌, ◌==◌, Option, Some, None, is_some, IsSome, List, [], ◌∷◌, ◌++◌, refl, ap, sym, ◌∙◌, subst, option_and_then, Result, Ok, Err, OnOk, OnErr}
+use Rattle.std.specs.Option.{option_map}
+use Rattle.std.specs.List.{zip, cons_option}
+use Rattle.std.specs.Cmp.{nat_cmp_total}
+use Rattle.std.specs.FinMap as map
+use Rattle.tabled_grid.specs.declared.border.Border.{Border}
+use Rattle.tabled_grid.specs.declared.borders.Borders.{Borders}
+use Rattle.tabled_grid.specs.declared.lines.HorizontalLine.{HorizontalLine}
+use Rattle.tabled_grid.specs.declared.lines.VerticalLine.{VerticalLine}
+use Rattle.tabled_grid.specs.declared.place.LineOf.{LineOf}
+use Rattle.tabled_grid.specs.declared.place.Place.{Place}
+use Rattle.tabled_grid.specs.declared.position.Position.{Position}
+use Rattle.tabled_grid.specs.Keys.{position_cmp, edge_place_cmp, positions_total, exact_positions, edge_places_total, exact_edge_places}
+use Rattle.tabled_grid.specs.Site.{across, down, first, inner, closing, Class, edges, crossings, class_value, Part, mark, main_edges, meeting, Spot, edge, crossing, Site, the_default, of_class, of_line, at_spot, from_end, from_start, same_site}
+use Rattle.tabled_grid.specs.Event.{Written, sign, standing, Event, write, kept, these_sites, Changes}
+use Rattle.tabled_grid.specs.Keeping.{Keeping, keeps, position, edge_place, horizontal_part, vertical_part}
+use Rattle.tabled_grid.specs.CellBorder.{border_places, border_fields}
+use Rattle.tabled_grid.specs.Calls.{spot_of, cell_set, cell_erased, given_write, places_set, border_set}
+use Rattle.tabled_grid.specs.PutBack.{PutsBackAt, PutsBack, PutsBoth, PutsBackTwo, PutsBackFour, PutsBackAll}
+use Rattle.tabled_grid.proofs.Replay.{kept_one, Changes-append, Changes-nil}
+use Rattle.tabled_grid.proofs.LineWrites.{same_number}
+use Rattle.tabled_grid.proofs.SameSite.{same_site-eq}
+use Rattle.tabled_grid.proofs.CellBorders.{by_erasure}
+
+unsigned : {T : Type 0} → Option (Written T) → Option T
+unsigned (Some (sign x)) = Some x
+unsigned (Some standing) = None
+unsigned None = None
+
+unsigned-sign : {T : Type 0} (o : Option T) → unsigned (option_map sign o) ≡ o
+unfolding unsigned
+unsigned-sign None = refl
+unsigned-sign (Some x) = refl
+
+-- equal signs are of equal values
+of_signs : {T : Type 0} (o p : Option T) → option_map sign o ≡ option_map sign p → o ≡ p
+of_signs o p h = sym (unsigned-sign o) ∙ ap unsigned h ∙ unsigned-sign p
+
+same_spots : {T : Type 0} (m n : map.FinMap position_cmp T) → ((r c : ℕ) → option_map sign (map.get m (position r c)) ≡ option_map sign (map.get n (position r c))) → m ≡ n
+same_spots m n h = map.same_map positions_total exact_positions m n (λ p. of_signs (map.get m p) (map.get n p) (h p.row p.col))
+
+same_offsets : {T : Type 0} (m n : map.FinMap edge_place_cmp T) → ((r c k : ℕ) → option_map sign (map.get m (edge_place r c k)) ≡ option_map sign (map.get n (edge_place r c k))) → m ≡ n
+same_offsets m n h = map.same_map edge_places_total exact_edge_places m n (λ p. of_signs (map.get m p) (map.get n p) (h p.row p.col p.number))
+
+same_horizontal : {T : Type 0} (o p : Option (HorizontalLine T)) → ((part : Part) → option_and_then (horizontal_part part) o ≡ option_and_then (horizontal_part part) p) → o ≡ p
+same_horizontal None None h = refl
+same_horizontal None (Some m) h = absurd (let e = h mark in cc)
+same_horizontal (Some l) None h = absurd (let e = h mark in cc)
+same_horizontal (Some l) (Some m) h = λ i. Some (record {
+  main = of_signs l.main m.main (h main_edges) i;
+  intersection = of_signs l.intersection m.intersection (h (meeting inner)) i;
+  left = of_signs l.left m.left (h (meeting first)) i;
+  right = of_signs l.right m.right (h (meeting closing)) i;
+})
+
+same_vertical : {T : Type 0} (o p : Option (VerticalLine T)) → ((part : Part) → option_and_then (vertical_part part) o ≡ option_and_then (vertical_part part) p) → o ≡ p
+same_vertical None None h = refl
+same_vertical None (Some m) h = absurd (let e = h mark in cc)
+same_vertical (Some l) None h = absurd (let e = h mark in cc)
+same_vertical (Some l) (Some m) h = λ i. Some (record {
+  main = of_signs l.main m.main (h main_edges) i;
+  intersection = of_signs l.intersection m.intersection (h (meeting inner)) i;
+  top = of_signs l.top m.top (h (meeting first)) i;
+  bottom = of_signs l.bottom m.bottom (h (meeting closing)) i;
+})
+
+same_classes : {T : Type 0} (a b : Borders T) → ((class : Class) → class_value class a ≡ class_value class b) → a ≡ b
+same_classes a b h = λ i. record {
+  top = h (edges across first) i;
+  bottom = h (edges across closing) i;
+  left = h (edges down first) i;
+  right = h (edges down closing) i;
+  top_left = h (crossings first first) i;
+  top_right = h (crossings first closing) i;
+  bottom_left = h (crossings closing first) i;
+  bottom_right = h (crossings closing closing) i;
+  top_intersection = h (crossings first inner) i;
+  bottom_intersection = h (crossings closing inner) i;
+  left_intersection = h (crossings inner first) i;
+  right_intersection = h (crossings inner closing) i;
+  horizontal = h (edges across inner) i;
+  vertical = h (edges down inner) i;
+  intersection = h (crossings inner inner) i;
+}
+
+-- stores that keep the same at every site are one
+pub same_keeping : {T : Type 0} (a b : Keeping T) → ((q : Site) → keeps a q ≡ keeps b q) → a ≡ b
+same_keeping a b h = λ i. record {
+  default_value = of_signs a.default_value b.default_value (h the_default) i;
+  class_record = same_classes a.class_record b.class_record (λ class. of_signs (class_value class a.class_record) (class_value class b.class_record) (h (of_class class))) i;
+  vertical_lines = map.same_map nat_cmp_total map.nat_cmp-IsAntisymmetric a.vertical_lines b.vertical_lines (λ n. same_vertical (map.get a.vertical_lines n) (map.get b.vertical_lines n) (λ part. h (of_line (LineOf.Vertical n) part))) i;
+  horizontal_lines = map.same_map nat_cmp_total map.nat_cmp-IsAntisymmetric a.horizontal_lines b.horizontal_lines (λ n. same_horizontal (map.get a.horizontal_lines n) (map.get b.horizontal_lines n) (λ part. h (of_line (LineOf.Horizontal n) part))) i;
+  edges_across = same_spots a.edges_across b.edges_across (λ r c. h (at_spot (edge across r c))) i;
+  edges_down = same_spots a.edges_down b.edges_down (λ r c. h (at_spot (edge down r c))) i;
+  crosses = same_spots a.crosses b.crosses (λ r c. h (at_spot (crossing r c))) i;
+  ends_across = same_offsets a.ends_across b.ends_across (λ r c n. h (from_end across r c n)) i;
+  ends_down = same_offsets a.ends_down b.ends_down (λ r c n. h (from_end down r c n)) i;
+  starts_across = same_offsets a.starts_across b.starts_across (λ r c n. h (from_start across r c n)) i;
+  starts_down = same_offsets a.starts_down b.starts_down (λ r c n. h (from_start down r c n)) i;
+}
+
+or-none : (b : Bool) → (b || false) ≡ b
+or-none true = refl
+or-none false = refl
+
+once : {A : Type 0} (b : Bool) (x y z : A) → cond b (cond b x y) z ≡ cond b x z
+once true x y z = refl
+once false x y z = refl
+
+-- what one write leaves at each site
+by_write : {T : Type 0} (site : Site) (w : Written T) (old new : Site → Option (Written T)) → Changes (write site w ∷ []) old new → (q : Site) → new q ≡ cond (same_site q site) (Some w) (old q)
+unfolding Changes
+by_write site w old new h q =
+    h q ∙ ap (λ b. cond b (kept (write site w ∷ []) q) (old q)) (or-none (same_site q site))
+    ∙ ap (λ k. cond (same_site q site) k (old q)) (kept_one q (write site w)) ∙ once (same_site q site) (Some w) None (old q)
+
+two_same : (r c : ℕ) → ((r == r) && (c == c)) ≡ true
+two_same r c = ap (λ b. b && (c == c)) (same_number r) ∙ same_number c
+
+spot_itself : (spot : Spot) → same_site (at_spot spot) (at_spot spot) ≡ true
+spot_itself (edge across r c) = two_same r c
+spot_itself (edge down r c) = two_same r c
+spot_itself (crossing r c) = two_same r c
+
+some_there : {A : Type 0} (o : Option A) (x : A) → o ≡ Some x → IsSome o
+some_there o x e = ap is_some e
+
+-- a value written over what stood at a place
+pub written_over : {T : Type 0} (place : Place) (value : T) (before : Option T) (old new : Keeping T) → option_map sign before ≡ keeps old (at_spot (spot_of place)) → Changes (cell_set place value) (keeps old) (keeps new) → PutsBackAt place before old new
+unfolding PutsBackAt
+written_over place value before old new was changes = (
+  some_there _ (sign value) (at_site (at_spot (spot_of place)) ∙ ap (λ b. cond b (Some (sign value)) (keeps old (at_spot (spot_of place)))) (spot_itself (spot_of place))),
+  λ q. elsewhere q (same_site q (at_spot (spot_of place))) refl,
+)
+  where
+    at_site : (q : Site) → keeps new q ≡ cond (same_site q (at_spot (spot_of place))) (Some (sign value)) (keeps old q)
+    at_site q = by_write (at_spot (spot_of place)) (sign value) (keeps old) (keeps new) changes q
+
+    elsewhere : (q : Site) (b : Bool) → same_site q (at_spot (spot_of place)) ≡ b → keeps old q ≡ cond b (option_map sign before) (keeps new q)
+    elsewhere q true e = ap (keeps old) (same_site-eq q (at_spot (spot_of place)) e) ∙ sym was
+    elsewhere q false e = sym (at_site q ∙ ap (λ b. cond b (Some (sign value)) (keeps old q)) e)
+
+-- what stood there written again, which memory can't be refused for
+pub value_back : {A E T : Type 0} (result : Result A E) (place : Place) (before : Option T) (value : T) (old now new : Keeping T) → before ≡ Some value → OnOk result (Changes (cell_set place value) (keeps now) (keeps new)) → OnErr result (keeps now (at_spot (spot_of place)) ≡ None) → PutsBackAt place before old now → new ≡ old
+unfolding PutsBackAt
+value_back (Ok x) place before value old now new is ok absent puts =
+    same_keeping new old (λ q. by_write (at_spot (spot_of place)) (sign value) (keeps now) (keeps new) ok q
+    ∙ ap (λ o. cond (same_site q (at_spot (spot_of place))) (option_map sign o) (keeps now q)) (sym is) ∙ sym (puts.1 q))
+value_back (Err e) place before value old now new is ok absent puts = absurd (let e = ap is_some absent in let is_there = puts.0 in cc)
+
+-- nothing stood there, and what stands is taken
+pub nothing_back : {T : Type 0} (place : Place) (before : Option T) (old now new : Keeping T) → before ≡ None → Changes (cell_erased place) (keeps now) (keeps new) → PutsBackAt place before old now → new ≡ old
+unfolding PutsBackAt
+nothing_back place before old now new is changes puts =
+    same_keeping new old (λ q. by_erasure (these_sites (at_spot (spot_of place) ∷ [])) (keeps now) (keeps new) changes q
+    ∙ ap (λ b. cond b None (keeps now q)) (or-none (same_site q (at_spot (spot_of place))))
+    ∙ ap (λ o. cond (same_site q (at_spot (spot_of place))) (option_map sign o) (keeps now q)) (sym is) ∙ sym (puts.1 q))
+
+-- the later of two changes is put back first
+both_back : {A B T : Type 0} (one : A → Keeping T → Keeping T → Type 0) (other : B → Keeping T → Keeping T → Type 0) (notes : A × B) (now mid new : Keeping T) → ((old : Keeping T) → other notes.1 old now → mid ≡ old) → ((old : Keeping T) → one notes.0 old mid → new ≡ old) → (old : Keeping T) → PutsBoth one other notes old now → new ≡ old
+both_back one other notes now mid new later sooner old puts =
+    sooner old (subst (λ k. one notes.0 old k) (sym (later puts.0 puts.2)) puts.1)
+
+pub two_back : {T : Type 0} (notes : Option (Place × Option T) × Option (Place × Option T)) (now mid new : Keeping T) → ((old : Keeping T) → PutsBack notes.1 old now → mid ≡ old) → ((old : Keeping T) → PutsBack notes.0 old mid → new ≡ old) → (old : Keeping T) → PutsBackTwo notes old now → new ≡ old
+unfolding PutsBackTwo
+two_back notes now mid new later sooner old puts = both_back PutsBack PutsBack notes now mid new later sooner old puts
+
+pub four_back : {T : Type 0} (notes : (Option (Place × Option T) × Option (Place × Option T)) × (Option (Place × Option T) × Option (Place × Option T))) (now mid new : Keeping T) → ((old : Keeping T) → PutsBackTwo notes.1 old now → mid ≡ old) → ((old : Keeping T) → PutsBackTwo notes.0 old mid → new ≡ old) → (old : Keeping T) → PutsBackFour notes old now → new ≡ old
+unfolding PutsBackFour
+four_back notes now mid new later sooner old puts = both_back PutsBackTwo PutsBackTwo notes now mid new later sooner old puts
+
+pub two_noted : {T : Type 0} (a b : Option (Place × Option T)) (old between new : Keeping T) → PutsBack a old between → PutsBack b between new → PutsBackTwo (a, b) old new
+unfolding PutsBackTwo
+two_noted a b old between new f g = (between, f, g)
+
+pub four_noted : {T : Type 0} (a b : Option (Place × Option T) × Option (Place × Option T)) (old between new : Keeping T) → PutsBackTwo a old between → PutsBackTwo b between new → PutsBackFour (a, b) old new
+unfolding PutsBackFour
+four_noted a b old between new f g = (between, f, g)
+
+-- one more note at the end of a list
+pub all_noted : {T : Type 0} (notes : List (Place × Option T)) (place : Place) (before : Option T) (old between new : Keeping T) → PutsBackAll notes old between → PutsBackAt place before between new → PutsBackAll (notes ++ (place, before) ∷ []) old new
+unfolding PutsBackAll
+all_noted [] place before old between new same one = (new, subst (λ k. PutsBackAt place before k new) same one, refl)
+all_noted (note ∷ notes) place before old between new puts one = (puts.0, puts.1, all_noted notes place before puts.0 between new puts.2 one)
+
+pub last_noted : {T : Type 0} (notes : List (Place × Option T)) (place : Place) (before : Option T) (old new : Keeping T) → PutsBackAll (notes ++ (place, before) ∷ []) old new → (between : Keeping T) × PutsBackAll notes old between × PutsBackAt place before between new
+unfolding PutsBackAll
+last_noted [] place before old new puts = (old, refl, subst (λ k. PutsBackAt place before old k) (sym puts.2) puts.1)
+last_noted (note ∷ notes) place before old new puts = let rest = last_noted notes place before puts.0 new puts.2 in (rest.0, (puts.0, puts.1, rest.1), rest.2)
+
+-- the last one put back, and then the others
+pub all_back : {T : Type 0} (notes : List (Place × Option T)) (place : Place) (before : Option T) (old now mid : Keeping T) → ((between : Keeping T) → PutsBackAt place before between now → mid ≡ between) → PutsBackAll (notes ++ (place, before) ∷ []) old now → PutsBackAll notes old mid
+all_back notes place before old now mid one puts = let last = last_noted notes place before old now puts in subst (λ k. PutsBackAll notes old k) (sym (one last.0 last.2)) last.1
+
+pub none_back : {T : Type 0} (notes : List (Place × Option T)) (old now : Keeping T) → notes ≡ [] → PutsBackAll notes old now → now ≡ old
+unfolding PutsBackAll
+none_back notes old now e puts = subst (λ ns. PutsBackAll ns old now) e puts
+
+-- the writes of places and values, list by list
+in_front : {T : Type 0} (o : Option (Event T)) (es fs : List (Event T)) → cons_option o (es ++ fs) ≡ cons_option o es ++ fs
+in_front None es fs = refl
+in_front (Some e) es fs = refl
+
+places_set-append : {T : Type 0} (ws vs : List (Option Place × Option T)) → places_set (ws ++ vs) ≡ places_set ws ++ places_set vs
+unfolding places_set
+places_set-append [] vs = refl
+places_set-append (w ∷ ws) vs = ap (cons_option (given_write w)) (places_set-append ws vs) ∙ in_front (given_write w) (places_set ws) (places_set vs)
+
+pub set_then : {T : Type 0} (ws vs : List (Option Place × Option T)) (old mid new : Keeping T) → Changes (places_set ws) (keeps old) (keeps mid) → Changes (places_set vs) (keeps mid) (keeps new) → Changes (places_set (ws ++ vs)) (keeps old) (keeps new)
+set_then ws vs old mid new f g =
+    subst (λ es. Changes es (keeps old) (keeps new)) (sym (places_set-append ws vs)) (Changes-append (places_set ws) (places_set vs) (keeps old) (keeps mid) (keeps new) f g)
+
+-- one place
+pub no_place : {T : Type 0} (place : Option Place) (value : Option T) (keeping : Keeping T) → place ≡ None → Changes (places_set ((place, value) ∷ [])) (keeps keeping) (keeps keeping)
+unfolding places_set
+no_place place value keeping e = subst (λ p. Changes (places_set ((p, value) ∷ [])) (keeps keeping) (keeps keeping)) (sym e) (Changes-nil (keeps keeping))
+
+pub no_value : {T : Type 0} (place : Option Place) (there : Place) (value : Option T) (keeping : Keeping T) → place ≡ Some there → value ≡ None → Changes (places_set ((place, value) ∷ [])) (keeps keeping) (keeps keeping)
+unfolding places_set
+no_value place there value keeping e f =
+    subst (λ p. Changes (places_set ((p, value) ∷ [])) (keeps keeping) (keeps keeping)) (sym e) (subst (λ v. Changes (places_set ((Some there, v) ∷ [])) (keeps keeping) (keeps keeping)) (sym f) (Changes-nil (keeps keeping)))
+
+pub value_set : {T : Type 0} (place : Option Place) (there : Place) (value : Option T) (given : T) (old new : Keeping T) → place ≡ Some there → value ≡ Some given → Changes (cell_set there given) (keeps old) (keeps new) → Changes (places_set ((place, value) ∷ [])) (keeps old) (keeps new)
+unfolding places_set
+value_set place there value given old new e f h =
+    subst (λ p. Changes (places_set ((p, value) ∷ [])) (keeps old) (keeps new)) (sym e) (subst (λ v. Changes (places_set ((Some there, v) ∷ [])) (keeps old) (keeps new)) (sym f) h)
+
+-- all places of a cell's border
+pub border_written : {T : Type 0} (pos : Position) (places : Border Place) (border : Border T) (old new : Keeping T) → places ≡ border_places pos → Changes (places_set (zip (border_fields places) (border_fields border))) (keeps old) (keeps new) → Changes (border_set pos border) (keeps old) (keeps new)
+border_written pos places border old new e h = subst (λ p. Changes (places_set (zip (border_fields p) (border_fields border))) (keeps old) (keeps new)) e h

@@ -1,0 +1,19 @@
+use Rattle.tabled_grid.specs.Keeping.{keeps}
+use Rattle.tabled_grid.proofs.DrawnLemmas.{value-shown, Drawn-drawn}
+use Rattle.tabled_style.specs.Deciding.{written_by}
+use Rattle.tabled_style.proofs.Decided.{characters_shown, colourless, without_lines}
+use Rattle.tabled_style.proofs.laws.style_alone_decides.Goals as goal
+
+pub returns-clause-characters : goal.returns-clause-characters
+returns-clause-characters c = λ style old new shape size place changes.
+    value-shown (written_by style) (keeps new.characters) shape size place (characters_shown style old new changes)
+
+pub returns-clause-colours : goal.returns-clause-colours
+returns-clause-colours c = λ style old new shape size place changes. colourless style old new shape size place changes
+
+pub returns-clause-lines : goal.returns-clause-lines
+returns-clause-lines c = λ style old new count line changes.
+    Drawn-drawn (written_by style) (keeps new.characters) count line (characters_shown style old new changes)
+
+pub returns-clause-records : goal.returns-clause-records
+returns-clause-records c = λ class. without_lines class

@@ -1,0 +1,11 @@
+-- What a table shows after a style.
+use Rattle.std.specs.Prelude.{ℕ, List, ◌++◌}
+use Rattle.tabled_grid.specs.Event.{Event}
+use Rattle.tabled_grid.specs.Keeping.{class_record_set}
+use Rattle.tabled_config.specs.Configuration.{horizontal_lines_put, vertical_lines_put}
+use Rattle.tabled_style.specs.Shown.{Shown}
+
+-- all that a style writes: its custom lines at their indices, in their order, and its class record
+unfoldable pub written_by : Shown → List (Event ℕ)
+written_by style =
+    horizontal_lines_put style.horizontals ++ vertical_lines_put style.verticals ++ class_record_set style.borders

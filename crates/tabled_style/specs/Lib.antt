@@ -1,0 +1,10 @@
+pub mod Shown
+pub mod Lines
+pub mod Border
+pub mod Setting
+pub mod Removing
+pub mod LineCalls
+pub mod Frame
+pub mod Ready
+pub mod Inheriting
+pub mod Deciding

@@ -1,0 +1,94 @@
+-- The ready styles.
+use Rattle.std.specs.Prelude.{ℕ, Option, None, Some, [], ◌∷◌, codes, slice_index}
+use Prim.Native.String.{String}
+use Rattle.tabled_grid.specs.declared.borders.Borders.{Borders}
+use Rattle.tabled_grid.specs.declared.lines.HorizontalLine.{HorizontalLine}
+use Rattle.tabled_grid.specs.CustomLines.{no_horizontal}
+use Rattle.tabled_style.specs.Shown.{Shown, no_borders}
+use Rattle.tabled_style.specs.Lines.{full_horizontal}
+
+-- the one character of a text
+abbrev pub char : String → ℕ
+char text = slice_index (codes text) 0
+
+-- a line by its text: along its edges, at its crossings between, at its left and at its right end
+abbrev pub line : String → HorizontalLine ℕ
+line text = full_horizontal (slice_index (codes text) 0) (slice_index (codes text) 1) (slice_index (codes text) 2) (slice_index (codes text) 3)
+
+-- a line without ends
+abbrev pub open_line : ℕ → ℕ → HorizontalLine ℕ
+open_line main intersection = record { main = Some main; intersection = Some intersection; left = None; right = None }
+
+-- the record of a top, a bottom, the lines between rows, and the edges of the vertical lines
+abbrev pub class_record : HorizontalLine ℕ → HorizontalLine ℕ → HorizontalLine ℕ → Option ℕ → Option ℕ → Option ℕ → Borders ℕ
+class_record top bottom between left right vertical = record {
+  top = top.main;
+  bottom = bottom.main;
+  left = left;
+  right = right;
+  top_left = top.left;
+  top_right = top.right;
+  bottom_left = bottom.left;
+  bottom_right = bottom.right;
+  top_intersection = top.intersection;
+  bottom_intersection = bottom.intersection;
+  left_intersection = between.left;
+  right_intersection = between.right;
+  horizontal = between.main;
+  vertical = vertical;
+  intersection = between.intersection;
+}
+
+-- the record with one character for the edges of all vertical lines
+abbrev pub framed : HorizontalLine ℕ → HorizontalLine ℕ → HorizontalLine ℕ → ℕ → Borders ℕ
+framed top bottom between side = class_record top bottom between (Some side) (Some side) (Some side)
+
+-- the record with one line for the top and the bottom, with lines between columns and without sides
+abbrev pub unframed : HorizontalLine ℕ → ℕ → Borders ℕ
+unframed ends vertical = class_record ends ends no_horizontal None None (Some vertical)
+
+-- a style without custom vertical lines, and with at most one custom horizontal line, which is number 1
+abbrev pub plain : Borders ℕ → Shown
+plain borders = record { borders = borders; horizontals = []; verticals = [] }
+
+abbrev pub ruled : Borders ℕ → HorizontalLine ℕ → Shown
+ruled borders first = record { borders = borders; horizontals = (1, first) ∷ []; verticals = [] }
+
+unfoldable pub empty : Shown
+empty = plain no_borders
+
+unfoldable pub blank : Shown
+blank = plain (unframed no_horizontal (char " "))
+
+unfoldable pub ascii : Shown
+ascii = plain (framed (line "-+++") (line "-+++") (line "-+++") (char "|"))
+
+unfoldable pub psql : Shown
+psql = ruled (unframed no_horizontal (char "|")) (open_line (char "-") (char "+"))
+
+unfoldable pub markdown : Shown
+markdown = ruled (framed no_horizontal no_horizontal no_horizontal (char "|")) (line "-|||")
+
+unfoldable pub modern : Shown
+modern = plain (framed (line "─┬┌┐") (line "─┴└┘") (line "─┼├┤") (char "│"))
+
+unfoldable pub sharp : Shown
+sharp = ruled (framed (line "─┬┌┐") (line "─┴└┘") no_horizontal (char "│")) (line "─┼├┤")
+
+unfoldable pub rounded : Shown
+rounded = ruled (framed (line "─┬╭╮") (line "─┴╰╯") no_horizontal (char "│")) (line "─┼├┤")
+
+unfoldable pub modern_rounded : Shown
+modern_rounded = plain (framed (line "─┬╭╮") (line "─┴╰╯") (line "─┼├┤") (char "│"))
+
+unfoldable pub extended : Shown
+extended = plain (framed (line "═╦╔╗") (line "═╩╚╝") (line "═╬╠╣") (char "║"))
+
+unfoldable pub dots : Shown
+dots = plain (framed (line "....") (line ".:::") (line ".:::") (char ":"))
+
+unfoldable pub re_structured_text : Shown
+re_structured_text = ruled (unframed (open_line (char "=") (char " ")) (char " ")) (open_line (char "=") (char " "))
+
+unfoldable pub ascii_rounded : Shown
+ascii_rounded = plain (framed (line "--..") (line "--''") no_horizontal (char "|"))

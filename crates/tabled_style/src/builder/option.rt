@@ -1,0 +1,44 @@
+//! A style as an option of a table.
+
+ghost use Rattle.std.specs.Prelude.{◌≡◌, [], None, IsOk, OnOk, OnErr};
+ghost use Rattle.tabled_config.specs.Configuration.{Changes, borders_replaced};
+
+use super::Style;
+use tabled_config::{ColoredConfig, TableOption};
+use tabled_grid::{Entity, OutOfMemory};
+
+impl<T, B, L, R, H, V, const HN: usize, const VN: usize, Data, Dims> TableOption<
+    Data,
+    ColoredConfig,
+    Dims,
+> for Style<T, B, L, R, H, V, HN, VN> {
+    ghost leads = { λ style records dims old new.
+        Changes (borders_replaced style.borders style.horizontals style.verticals) old new };
+
+    ghost hinted = { λ style. None };
+
+    /// Erases every border character and colour of every level, offsets too; then puts the custom lines at their
+    /// indices, in their order, and sets the class record. Without custom lines it takes no memory and answers Ok.
+    fn change(
+        self,
+        _records: &mut Data,
+        cfg: &mut ColoredConfig,
+        _dims: &mut Dims,
+    ) -> Result<(), OutOfMemory>
+        ensures ok { OnOk result (Changes (borders_replaced self.borders self.horizontals self.verticals) cfg.old cfg.new) }
+        ensures err { OnErr result (cfg.new ≡ cfg.old) }
+        ensures without_lines { self.horizontals ≡ [] → self.verticals ≡ [] → IsOk result }
+        ensures records { _records.new ≡ _records.old }
+        ensures sizes { _dims.new ≡ _dims.old }
+    {
+        cfg.replace_borders(
+            self.borders,
+            self.horizontals.as_slice(),
+            self.verticals.as_slice(),
+        )
+    }
+
+    fn hint_change(&self) -> Option<Entity> {
+        None
+    }
+}

@@ -1,0 +1,363 @@
+//! The ready styles.
+
+ghost use Rattle.std.specs.Prelude.{◌≡◌, Option};
+ghost use Rattle.tabled_style.specs.Ready.{open_line, class_record, framed, unframed};
+ghost use Rattle.tabled_style.specs.Lines.{full_horizontal};
+
+use super::Style;
+use super::custom::{Horizontals, Verticals};
+use crate::On;
+use tabled_grid::{Borders, HorizontalLine as HLine};
+
+/// Along the edges, at the crossings between, and at the two ends.
+fn full_line(main: char, intersection: char, left: char, right: char) -> HLine<char>
+    ensures { result ≡ full_horizontal main intersection left right }
+{
+    HLine::new(Some(main), Some(intersection), Some(left), Some(right))
+}
+
+/// Along the edges and at the crossings between, without ends.
+fn open_line(main: char, intersection: char) -> HLine<char>
+    ensures { result ≡ open_line main intersection }
+{
+    HLine::new(Some(main), Some(intersection), None, None)
+}
+
+/// The record of a top, a bottom, the lines between rows, and the edges of the vertical lines.
+fn class_record(
+    top: HLine<char>,
+    bottom: HLine<char>,
+    between: HLine<char>,
+    left: Option<char>,
+    right: Option<char>,
+    vertical: Option<char>,
+) -> Borders<char>
+    ensures { result ≡ class_record top bottom between left right vertical }
+{
+    Borders {
+        top: top.main,
+        bottom: bottom.main,
+        left,
+        right,
+        top_left: top.left,
+        top_right: top.right,
+        bottom_left: bottom.left,
+        bottom_right: bottom.right,
+        top_intersection: top.intersection,
+        bottom_intersection: bottom.intersection,
+        left_intersection: between.left,
+        right_intersection: between.right,
+        horizontal: between.main,
+        vertical,
+        intersection: between.intersection,
+    }
+}
+
+/// The record with one character for the edges of all vertical lines.
+fn framed(top: HLine<char>, bottom: HLine<char>, between: HLine<char>, side: char) -> Borders<char>
+    ensures { result ≡ framed top bottom between side }
+{
+    class_record(top, bottom, between, Some(side), Some(side), Some(side))
+}
+
+/// The record with one line for the top and the bottom, with lines between columns and without sides.
+fn unframed(line: HLine<char>, vertical: char) -> Borders<char>
+    ensures { result ≡ unframed line vertical }
+{
+    class_record(line, line, HLine::empty(), None, None, Some(vertical))
+}
+
+impl Style<(), (), (), (), (), (), 0, 0> {
+    ghost use Rattle.tabled_style.specs.Ready.{empty, blank, ascii, psql, markdown, modern, sharp, rounded, modern_rounded, extended, dots, re_structured_text, ascii_rounded};
+
+    /// Nothing: no borders at all.
+    ///
+    /// ```text
+    ///  Tree   Height  Cones
+    ///  Larch  45 m    yes
+    ///  Beech  40 m    no
+    /// ```
+    #[tactic(auto, unfolding(crate::specs::Ready::empty))]
+    pub fn empty() -> Style<(), (), (), (), (), (), 0, 0>
+        ensures { result ≡ empty }
+    {
+        let borders = Borders::empty();
+        let horizontals = Horizontals { lines: [] };
+        Style::new(borders, horizontals, Verticals { lines: [] })
+    }
+
+    /// A space between columns, and nothing else.
+    ///
+    /// ```text
+    ///  Tree    Height   Cones
+    ///  Larch   45 m     yes
+    ///  Beech   40 m     no
+    /// ```
+    #[tactic(auto, unfolding(crate::specs::Ready::blank))]
+    pub fn blank() -> Style<(), (), (), (), (), On, 0, 0>
+        ensures { result ≡ blank }
+    {
+        let borders = unframed(HLine::empty(), ' ');
+        let horizontals = Horizontals { lines: [] };
+        Style::new(borders, horizontals, Verticals { lines: [] })
+    }
+
+    /// Dashes, bars and plus signs on every line.
+    ///
+    /// ```text
+    /// +-------+--------+-------+
+    /// | Tree  | Height | Cones |
+    /// +-------+--------+-------+
+    /// | Larch | 45 m   | yes   |
+    /// +-------+--------+-------+
+    /// | Beech | 40 m   | no    |
+    /// +-------+--------+-------+
+    /// ```
+    #[tactic(auto, unfolding(crate::specs::Ready::ascii))]
+    pub fn ascii() -> Style<On, On, On, On, On, On, 0, 0>
+        ensures { result ≡ ascii }
+    {
+        let borders = framed(
+            full_line('-', '+', '+', '+'),
+            full_line('-', '+', '+', '+'),
+            full_line('-', '+', '+', '+'),
+            '|',
+        );
+        let horizontals = Horizontals { lines: [] };
+        Style::new(borders, horizontals, Verticals { lines: [] })
+    }
+
+    /// Bars between columns, and one line under the first row, without a frame.
+    ///
+    /// ```text
+    ///  Tree  | Height | Cones
+    /// -------+--------+-------
+    ///  Larch | 45 m   | yes
+    ///  Beech | 40 m   | no
+    /// ```
+    #[tactic(auto, unfolding(crate::specs::Ready::psql))]
+    pub fn psql() -> Style<(), (), (), (), (), On, 1, 0>
+        ensures { result ≡ psql }
+    {
+        let borders = unframed(HLine::empty(), '|');
+        let horizontals = Horizontals {
+            lines: [(1, open_line('-', '+'))],
+        };
+        Style::new(borders, horizontals, Verticals { lines: [] })
+    }
+
+    /// Bars on both sides and between columns, and one line under the first row.
+    ///
+    /// ```text
+    /// | Tree  | Height | Cones |
+    /// |-------|--------|-------|
+    /// | Larch | 45 m   | yes   |
+    /// | Beech | 40 m   | no    |
+    /// ```
+    #[tactic(auto, unfolding(crate::specs::Ready::markdown))]
+    pub fn markdown() -> Style<(), (), On, On, (), On, 1, 0>
+        ensures { result ≡ markdown }
+    {
+        let borders = framed(HLine::empty(), HLine::empty(), HLine::empty(), '|');
+        let horizontals = Horizontals {
+            lines: [(1, full_line('-', '|', '|', '|'))],
+        };
+        Style::new(borders, horizontals, Verticals { lines: [] })
+    }
+
+    /// Thin lines of the box drawing characters, everywhere.
+    ///
+    /// ```text
+    /// ┌───────┬────────┬───────┐
+    /// │ Tree  │ Height │ Cones │
+    /// ├───────┼────────┼───────┤
+    /// │ Larch │ 45 m   │ yes   │
+    /// ├───────┼────────┼───────┤
+    /// │ Beech │ 40 m   │ no    │
+    /// └───────┴────────┴───────┘
+    /// ```
+    #[tactic(auto, unfolding(crate::specs::Ready::modern))]
+    pub fn modern() -> Style<On, On, On, On, On, On, 0, 0>
+        ensures { result ≡ modern }
+    {
+        let borders = framed(
+            full_line('─', '┬', '┌', '┐'),
+            full_line('─', '┴', '└', '┘'),
+            full_line('─', '┼', '├', '┤'),
+            '│',
+        );
+        let horizontals = Horizontals { lines: [] };
+        Style::new(borders, horizontals, Verticals { lines: [] })
+    }
+
+    /// Thin lines, with no line between rows but the one under the first row.
+    ///
+    /// ```text
+    /// ┌───────┬────────┬───────┐
+    /// │ Tree  │ Height │ Cones │
+    /// ├───────┼────────┼───────┤
+    /// │ Larch │ 45 m   │ yes   │
+    /// │ Beech │ 40 m   │ no    │
+    /// └───────┴────────┴───────┘
+    /// ```
+    #[tactic(auto, unfolding(crate::specs::Ready::sharp))]
+    pub fn sharp() -> Style<On, On, On, On, (), On, 1, 0>
+        ensures { result ≡ sharp }
+    {
+        let borders = framed(
+            full_line('─', '┬', '┌', '┐'),
+            full_line('─', '┴', '└', '┘'),
+            HLine::empty(),
+            '│',
+        );
+        let horizontals = Horizontals {
+            lines: [(1, full_line('─', '┼', '├', '┤'))],
+        };
+        Style::new(borders, horizontals, Verticals { lines: [] })
+    }
+
+    /// As `sharp`, with round corners.
+    ///
+    /// ```text
+    /// ╭───────┬────────┬───────╮
+    /// │ Tree  │ Height │ Cones │
+    /// ├───────┼────────┼───────┤
+    /// │ Larch │ 45 m   │ yes   │
+    /// │ Beech │ 40 m   │ no    │
+    /// ╰───────┴────────┴───────╯
+    /// ```
+    #[tactic(auto, unfolding(crate::specs::Ready::rounded))]
+    pub fn rounded() -> Style<On, On, On, On, (), On, 1, 0>
+        ensures { result ≡ rounded }
+    {
+        let borders = framed(
+            full_line('─', '┬', '╭', '╮'),
+            full_line('─', '┴', '╰', '╯'),
+            HLine::empty(),
+            '│',
+        );
+        let horizontals = Horizontals {
+            lines: [(1, full_line('─', '┼', '├', '┤'))],
+        };
+        Style::new(borders, horizontals, Verticals { lines: [] })
+    }
+
+    /// As `modern`, with round corners.
+    ///
+    /// ```text
+    /// ╭───────┬────────┬───────╮
+    /// │ Tree  │ Height │ Cones │
+    /// ├───────┼────────┼───────┤
+    /// │ Larch │ 45 m   │ yes   │
+    /// ├───────┼────────┼───────┤
+    /// │ Beech │ 40 m   │ no    │
+    /// ╰───────┴────────┴───────╯
+    /// ```
+    #[tactic(auto, unfolding(crate::specs::Ready::modern_rounded))]
+    pub fn modern_rounded() -> Style<On, On, On, On, On, On, 0, 0>
+        ensures { result ≡ modern_rounded }
+    {
+        let borders = framed(
+            full_line('─', '┬', '╭', '╮'),
+            full_line('─', '┴', '╰', '╯'),
+            full_line('─', '┼', '├', '┤'),
+            '│',
+        );
+        let horizontals = Horizontals { lines: [] };
+        Style::new(borders, horizontals, Verticals { lines: [] })
+    }
+
+    /// Double lines of the box drawing characters, everywhere.
+    ///
+    /// ```text
+    /// ╔═══════╦════════╦═══════╗
+    /// ║ Tree  ║ Height ║ Cones ║
+    /// ╠═══════╬════════╬═══════╣
+    /// ║ Larch ║ 45 m   ║ yes   ║
+    /// ╠═══════╬════════╬═══════╣
+    /// ║ Beech ║ 40 m   ║ no    ║
+    /// ╚═══════╩════════╩═══════╝
+    /// ```
+    #[tactic(auto, unfolding(crate::specs::Ready::extended))]
+    pub fn extended() -> Style<On, On, On, On, On, On, 0, 0>
+        ensures { result ≡ extended }
+    {
+        let borders = framed(
+            full_line('═', '╦', '╔', '╗'),
+            full_line('═', '╩', '╚', '╝'),
+            full_line('═', '╬', '╠', '╣'),
+            '║',
+        );
+        let horizontals = Horizontals { lines: [] };
+        Style::new(borders, horizontals, Verticals { lines: [] })
+    }
+
+    /// Full stops along the top, and full stops and colons elsewhere.
+    ///
+    /// ```text
+    /// ..........................
+    /// : Tree  : Height : Cones :
+    /// :.......:........:.......:
+    /// : Larch : 45 m   : yes   :
+    /// :.......:........:.......:
+    /// : Beech : 40 m   : no    :
+    /// :.......:........:.......:
+    /// ```
+    #[tactic(auto, unfolding(crate::specs::Ready::dots))]
+    pub fn dots() -> Style<On, On, On, On, On, On, 0, 0>
+        ensures { result ≡ dots }
+    {
+        let borders = framed(
+            full_line('.', '.', '.', '.'),
+            full_line('.', ':', ':', ':'),
+            full_line('.', ':', ':', ':'),
+            ':',
+        );
+        let horizontals = Horizontals { lines: [] };
+        Style::new(borders, horizontals, Verticals { lines: [] })
+    }
+
+    /// Three lines of equals signs, broken between columns, as in the simple tables of reStructuredText.
+    ///
+    /// ```text
+    /// ======= ======== =======
+    ///  Tree    Height   Cones
+    /// ======= ======== =======
+    ///  Larch   45 m     yes
+    ///  Beech   40 m     no
+    /// ======= ======== =======
+    /// ```
+    #[tactic(auto, unfolding(crate::specs::Ready::re_structured_text))]
+    pub fn re_structured_text() -> Style<On, On, (), (), (), On, 1, 0>
+        ensures { result ≡ re_structured_text }
+    {
+        let borders = unframed(open_line('=', ' '), ' ');
+        let horizontals = Horizontals {
+            lines: [(1, open_line('=', ' '))],
+        };
+        Style::new(borders, horizontals, Verticals { lines: [] })
+    }
+
+    /// A frame of dashes and bars with dots and apostrophes as corners, and bars between columns.
+    ///
+    /// ```text
+    /// .------------------------.
+    /// | Tree  | Height | Cones |
+    /// | Larch | 45 m   | yes   |
+    /// | Beech | 40 m   | no    |
+    /// '------------------------'
+    /// ```
+    #[tactic(auto, unfolding(crate::specs::Ready::ascii_rounded))]
+    pub fn ascii_rounded() -> Style<On, On, On, On, (), On, 0, 0>
+        ensures { result ≡ ascii_rounded }
+    {
+        let borders = framed(
+            full_line('-', '-', '.', '.'),
+            full_line('-', '-', '\'', '\''),
+            HLine::empty(),
+            '|',
+        );
+        let horizontals = Horizontals { lines: [] };
+        Style::new(borders, horizontals, Verticals { lines: [] })
+    }
+}

@@ -1,0 +1,60 @@
+//! Laws of lines and styles. Each is the contract of a function that does nothing, so that it is proved with the crate.
+
+ghost use Rattle.std.specs.Prelude.{◌≡◌, ℕ};
+ghost use Rattle.tabled_grid.specs.declared.border.Border.{Border as Frame};
+ghost use Rattle.tabled_grid.specs.declared.lines.HorizontalLine.{HorizontalLine as Across};
+ghost use Rattle.tabled_grid.specs.declared.lines.VerticalLine.{VerticalLine as Down};
+ghost use Rattle.tabled_style.specs.Shown.{Shown, horizontal_of, top_of, bottom_of, vertical_of, left_of, right_of, frame_of};
+ghost use Rattle.tabled_style.specs.Lines.{turned_across};
+ghost use Rattle.tabled_style.specs.LineCalls.{horizontal_put, top_put, bottom_put, vertical_put, left_put, right_put};
+ghost use Rattle.tabled_style.specs.Frame.{with_frame};
+ghost use Rattle.tabled_style.specs.Inheriting.{GivesAcross, GivesDown};
+ghost use Rattle.std.specs.Prelude.{◌↔◌, None, IsTrue, []};
+ghost use Rattle.tabled_grid.specs.declared.borders.Borders.{Borders};
+ghost use Rattle.tabled_grid.specs.declared.place.LineOf.{LineOf as Line};
+ghost use Rattle.tabled_grid.specs.declared.place.Place.{Place as At};
+ghost use Rattle.tabled_grid.specs.Event.{kept};
+ghost use Rattle.tabled_grid.specs.Value.{value};
+ghost use Rattle.tabled_grid.specs.Drawn.{Drawn, drawn};
+ghost use Rattle.tabled_grid.specs.Keeping.{keeps};
+ghost use Rattle.tabled_config.specs.Configuration.{Configuration, Changes, borders_applied, borders_replaced};
+ghost use Rattle.tabled_style.specs.Deciding.{written_by};
+
+use crate::HorizontalLine;
+use tabled_grid::VerticalLine as VLine;
+
+/// A horizontal line that is converted to a vertical one, whose four characters are then those of a horizontal line,
+/// its upper end on the left, has its four characters again.
+pub fn turned_and_back<L, R, I>()
+    ensures { (line : Across ℕ) (down : Down ℕ)
+        → ⟦<VLine<char> as From<HorizontalLine<L, R, I>>>⟧.from_gives line down → turned_across down ≡ line }
+{}
+
+/// A line that took the place of a line of a style is what is inherited from there, although the rest of the style
+/// followed it; and so is a frame, as it was corrected.
+#[tactic(auto, using(crate::proofs::Inherited::horizontal_again, crate::proofs::Inherited::top_again, crate::proofs::Inherited::bottom_again, crate::proofs::Inherited::vertical_again, crate::proofs::Inherited::left_again, crate::proofs::Inherited::right_again), unfolding(crate::specs::Frame::with_frame))]
+pub fn inherited_again()
+    ensures between_rows { GivesAcross horizontal_put horizontal_of }
+    ensures top { GivesAcross top_put top_of }
+    ensures bottom { GivesAcross bottom_put bottom_of }
+    ensures between_columns { GivesDown vertical_put vertical_of }
+    ensures left { GivesDown left_put left_of }
+    ensures right { GivesDown right_put right_of }
+    ensures frame { (border : Frame ℕ) (style : Shown) → frame_of (with_frame border style).borders ≡ border }
+{}
+
+/// After a style the character of every border place, and which lines are drawn, are those of what the style writes,
+/// by the shape of the table and the length of the edge, and no place has a colour, whatever was there before. A class
+/// record that is applied as an option is a style without custom lines, so the same holds after it.
+pub fn style_alone_decides()
+    ensures characters { (style : Shown) (old new : Configuration) (shape : ℕ × ℕ) (size : ℕ) (place : At)
+        → Changes (borders_replaced style.borders style.horizontals style.verticals) old new
+        → value (keeps new.characters) shape size place ≡ value (kept (written_by style)) shape size place }
+    ensures colours { (style : Shown) (old new : Configuration) (shape : ℕ × ℕ) (size : ℕ) (place : At)
+        → Changes (borders_replaced style.borders style.horizontals style.verticals) old new
+        → value (keeps new.colours) shape size place ≡ None }
+    ensures lines { (style : Shown) (old new : Configuration) (count : ℕ) (line : Line)
+        → Changes (borders_replaced style.borders style.horizontals style.verticals) old new
+        → Drawn (keeps new.characters) count line ↔ IsTrue (drawn (written_by style) count line) }
+    ensures records { (class : Borders ℕ) → borders_applied class ≡ borders_replaced class [] [] }
+{}

@@ -1,0 +1,19 @@
+//! Styles, custom lines and cell borders, as values that are built call by call.
+#![tactic(auto)]
+
+mod border;
+mod builder;
+mod horizontal_line;
+mod laws;
+mod on;
+mod vertical_line;
+
+pub use border::{Border, EmptyBorder};
+pub use builder::Style;
+pub use horizontal_line::HorizontalLine;
+pub use laws::{inherited_again, style_alone_decides, turned_and_back};
+pub use on::On;
+pub use vertical_line::VerticalLine;
+
+#[cfg(test)]
+mod tests;

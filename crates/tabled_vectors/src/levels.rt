@@ -1,0 +1,179 @@
+//! What shows at each level: the default, custom lines, cells and offsets.
+
+use crate::tables::{ascii, prints};
+use std::test::Fail;
+use tabled_config::SpannedConfig;
+use tabled_grid::{
+    HorizontalLine, LineOf, Offset, OutOfMemory, Place, Position, Probes, VerticalLine,
+};
+
+const CELL: Position = Position { row: 0, col: 0 };
+
+fn end_then_start(cfg: &mut SpannedConfig) -> Result<(), OutOfMemory> {
+    cfg.set_horizontal_char(CELL, Offset::End(0), 'e')?;
+    cfg.set_horizontal_char(CELL, Offset::Start(2), 's')
+}
+
+fn start_then_end(cfg: &mut SpannedConfig) -> Result<(), OutOfMemory> {
+    cfg.set_horizontal_char(CELL, Offset::Start(2), 's')?;
+    cfg.set_horizontal_char(CELL, Offset::End(0), 'e')
+}
+
+#[test]
+fn an_offset_from_the_start_shows_over_one_from_the_end(rt: HostRuntime) -> Result<(), Fail> {
+    let mut cfg = ascii(rt.alloc());
+    let made = end_then_start(&mut cfg);
+    let shown = prints(rt.alloc(), &cfg, &[&[" a "]], 1, "+--s+\n| a |\n+---+");
+    drop(cfg);
+    made?;
+    assert!(rt; shown);
+    Ok(())
+}
+
+#[test]
+fn it_does_so_in_either_order(rt: HostRuntime) -> Result<(), Fail> {
+    let mut cfg = ascii(rt.alloc());
+    let made = start_then_end(&mut cfg);
+    let shown = prints(rt.alloc(), &cfg, &[&[" a "]], 1, "+--s+\n| a |\n+---+");
+    drop(cfg);
+    made?;
+    assert!(rt; shown);
+    Ok(())
+}
+
+#[test]
+fn an_offset_past_the_width_shows_nowhere(rt: HostRuntime) -> Result<(), Fail> {
+    let mut cfg = ascii(rt.alloc());
+    let made = cfg.set_horizontal_char(CELL, Offset::End(3), 'e');
+    let shown = prints(rt.alloc(), &cfg, &[&[" a "]], 1, "+---+\n| a |\n+---+");
+    drop(cfg);
+    made?;
+    assert!(rt; shown);
+    Ok(())
+}
+
+#[test]
+fn removed_offsets_show_no_more(rt: HostRuntime) -> Result<(), Fail> {
+    let mut cfg = ascii(rt.alloc());
+    let made = end_then_start(&mut cfg);
+    cfg.remove_horizontal_chars();
+    let shown = prints(rt.alloc(), &cfg, &[&[" a "]], 1, "+---+\n| a |\n+---+");
+    drop(cfg);
+    made?;
+    assert!(rt; shown);
+    Ok(())
+}
+
+#[test]
+fn the_default_alone_frames_a_table(rt: HostRuntime) {
+    let mut cfg = SpannedConfig::new(rt.alloc());
+    cfg.set_border_default('*');
+    let shown = prints(rt.alloc(), &cfg, &[&[" a "]], 1, "*****\n* a *\n*****");
+    drop(cfg);
+    assert!(rt; shown);
+}
+
+#[test]
+fn a_vertical_line_alone_draws_itself(rt: HostRuntime) -> Result<(), Fail> {
+    let mut cfg = SpannedConfig::new(rt.alloc());
+    let made = cfg.insert_vertical_line(1, VerticalLine::new(Some('|'), Some('+'), None, None));
+    let rows: &[&[&str]] = &[&[" a ", " b "], &[" c ", " d "]];
+    let shown = prints(rt.alloc(), &cfg, rows, 2, " a | b \n c | d ");
+    drop(cfg);
+    made?;
+    assert!(rt; shown);
+    Ok(())
+}
+
+#[test]
+fn a_fresh_configuration_has_nothing(rt: HostRuntime) {
+    let cfg = SpannedConfig::new(rt.alloc());
+    let mut probes = Probes::new();
+    let edge = Place::Horizontal {
+        row: 0,
+        col: 0,
+        at: 0,
+    };
+    assert_eq!(rt; cfg.char_at(edge, (1, 1), 3, &mut probes), None);
+    assert!(rt; probes.count() <= 6);
+    let mut probes = Probes::new();
+    assert!(rt; !cfg.draws(LineOf::Horizontal(0), 1, &mut probes));
+    assert!(rt; probes.count() <= 6);
+}
+
+fn two_lines_at_one(cfg: &mut SpannedConfig) -> Result<(), OutOfMemory> {
+    cfg.insert_horizontal_line(1, HorizontalLine::new(Some('='), None, Some('L'), None))?;
+    cfg.insert_horizontal_line(1, HorizontalLine::new(Some('='), None, None, None))
+}
+
+#[test]
+fn a_line_put_over_another_keeps_nothing_of_it(rt: HostRuntime) -> Result<(), Fail> {
+    let mut cfg = ascii(rt.alloc());
+    let made = two_lines_at_one(&mut cfg);
+    let rows: &[&[&str]] = &[&[" a "], &[" b "]];
+    let shown = prints(
+        rt.alloc(),
+        &cfg,
+        rows,
+        1,
+        "+---+\n| a |\n+===+\n| b |\n+---+",
+    );
+    drop(cfg);
+    made?;
+    assert!(rt; shown);
+    Ok(())
+}
+
+fn crossing_lines(cfg: &mut SpannedConfig) -> Result<(), OutOfMemory> {
+    cfg.insert_horizontal_line(1, HorizontalLine::new(Some('-'), Some('h'), None, None))?;
+    cfg.insert_vertical_line(1, VerticalLine::new(Some('|'), Some('v'), None, None))
+}
+
+#[test]
+fn a_horizontal_line_shows_over_a_vertical_one_where_they_cross(
+    rt: HostRuntime,
+) -> Result<(), Fail> {
+    let mut cfg = SpannedConfig::new(rt.alloc());
+    let made = crossing_lines(&mut cfg);
+    let rows: &[&[&str]] = &[&[" a ", " b "], &[" c ", " d "]];
+    let shown = prints(rt.alloc(), &cfg, rows, 2, " a | b \n---h---\n c | d ");
+    drop(cfg);
+    made?;
+    assert!(rt; shown);
+    Ok(())
+}
+
+#[test]
+fn a_vertical_offset_shows_beside_its_row(rt: HostRuntime) -> Result<(), Fail> {
+    let mut cfg = ascii(rt.alloc());
+    let made = cfg.set_vertical_char(CELL, Offset::Start(0), 'v');
+    let shown = prints(rt.alloc(), &cfg, &[&[" a "]], 1, "+---+\nv a |\n+---+");
+    cfg.remove_vertical_chars();
+    let removed = prints(rt.alloc(), &cfg, &[&[" a "]], 1, "+---+\n| a |\n+---+");
+    drop(cfg);
+    made?;
+    assert!(rt; shown);
+    assert!(rt; removed);
+    Ok(())
+}
+
+/// Whether a copy of the lines of each direction has the two that were put at 1.
+fn copies_have_both(cfg: &SpannedConfig) -> Result<bool, OutOfMemory> {
+    let across = cfg.get_horizontal_lines()?;
+    let down = cfg.get_vertical_lines()?;
+    Ok(across.get(&1) == Some(&HorizontalLine::new(Some('-'), Some('h'), None, None))
+        && down.get(&1) == Some(&VerticalLine::new(Some('|'), Some('v'), None, None))
+        && across.len() == 1
+        && down.len() == 1)
+}
+
+#[test]
+fn custom_lines_are_copied_out(rt: HostRuntime) -> Result<(), Fail> {
+    let mut cfg = SpannedConfig::new(rt.alloc());
+    let made = crossing_lines(&mut cfg);
+    let copied = copies_have_both(&cfg);
+    drop(cfg);
+    made?;
+    assert!(rt; copied?);
+    Ok(())
+}
