@@ -161,10 +161,12 @@ fn a_vertical_offset_shows_beside_its_row(rt: HostRuntime) -> Result<(), Fail> {
 fn copies_have_both(cfg: &SpannedConfig) -> Result<bool, OutOfMemory> {
     let across = cfg.get_horizontal_lines()?;
     let down = cfg.get_vertical_lines()?;
-    Ok(across.get(&1) == Some(&HorizontalLine::new(Some('-'), Some('h'), None, None))
-        && down.get(&1) == Some(&VerticalLine::new(Some('|'), Some('v'), None, None))
-        && across.len() == 1
-        && down.len() == 1)
+    Ok(
+        across.get(&1) == Some(&HorizontalLine::new(Some('-'), Some('h'), None, None))
+            && down.get(&1) == Some(&VerticalLine::new(Some('|'), Some('v'), None, None))
+            && across.len() == 1
+            && down.len() == 1,
+    )
 }
 
 #[test]
