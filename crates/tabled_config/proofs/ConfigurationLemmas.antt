@@ -10,7 +10,7 @@ use Rattle.tabled_grid.specs.Texts.{Texts}
 use Rattle.tabled_grid.proofs.Replay.{kept-nil, kept_cleared, Shows_after, Changes-append, Changes-nil, Changes_from_nothing}
 use Rattle.tabled_grid.specs.Calls.{default_set, lines_erased, offsets_erased}
 use Rattle.tabled_grid.proofs.Writing.{Shows-writes_of}
-use Rattle.tabled_config.specs.Configuration.{Configuration, ConfigEvent, of_characters, of_colours, characters_of, colours_of, by_characters, by_colours, all_but_offsets, default_color_set, Shows, Changes, all_writes, borders_set, borders_removed, borders_applied}
+use Rattle.tabled_config.specs.Configuration.{Configuration, ConfigEvent, of_characters, of_colours, characters_of, colours_of, by_characters, by_colours, all_but_offsets, default_color_set, Shows, Changes, all_writes, borders_set, borders_removed}
 
 -- the events of each kind, in lists of one kind and in two lists in a row
 pub characters_of-by_characters : (es : List (grid.Event ℕ)) → characters_of (by_characters es) ≡ es
@@ -122,15 +122,6 @@ default_color_in_turn color a b c d first second third =
 pub Changes-borders_removed : (before after : Keeping ℕ) (colours : Keeping Texts) (old : Configuration) → record { characters = before; colours = colours } ≡ old → grid.Changes all_but_offsets (keeps before) (keeps after) → Changes borders_removed old (record { characters = after; colours = colours })
 unfolding borders_removed
 Changes-borders_removed before after colours old is changes = Changes_by_characters all_but_offsets before after colours old is changes
-
--- the option of a class record: everything erased, the colours too, and the record set whole
-pub Changes-borders_applied : (borders : Borders ℕ) (a b c : Keeping ℕ) (d e : Keeping Texts) (old : Configuration) → record { characters = a; colours = d } ≡ old → grid.Changes (grid.erase grid.every_site ∷ []) (keeps a) (keeps b) → grid.Changes (class_record_set borders) (keeps b) (keeps c) → grid.Changes (grid.erase grid.every_site ∷ []) (keeps d) (keeps e) → Changes (borders_applied borders) old (record { characters = c; colours = e })
-unfolding borders_applied
-Changes-borders_applied borders a b c d e old is emptied sets drained =
-    subst (λ cfg. Changes (borders_applied borders) cfg (record { characters = c; colours = e })) is (record {
-      characters_changed = subst (λ all. grid.Changes all (keeps a) (keeps c)) (sym (characters_of-both (grid.erase grid.every_site ∷ class_record_set borders) (grid.erase grid.every_site ∷ []))) (Changes-append (grid.erase grid.every_site ∷ []) (class_record_set borders) (keeps a) (keeps b) (keeps c) emptied sets);
-      colours_changed = subst (λ all. grid.Changes all (keeps d) (keeps e)) (sym (colours_of-both (grid.erase grid.every_site ∷ class_record_set borders) (grid.erase grid.every_site ∷ []))) drained;
-    })
 
 -- a configuration shows the writes of all that it keeps
 pub Shows-all_writes : (cfg : Configuration) → Shows (all_writes cfg) cfg

@@ -8,8 +8,8 @@ use Rattle.tabled_grid.specs.Event as grid
 use Rattle.tabled_grid.specs.Keeping.{Keeping, keeps, class_record_set}
 use Rattle.tabled_grid.proofs.Replay.{Changes-append, Changes-nil}
 use Rattle.tabled_grid.specs.Texts.{Texts}
-use Rattle.tabled_config.specs.Configuration.{Configuration, ConfigEvent, Changes, borders_set, by_characters}
-use Rattle.tabled_config.specs.Options.{LeadsInTurn, entity_bordered, framed, table_bordered, entity_unbordered, inner_of, table_unbordered}
+use Rattle.tabled_config.specs.Configuration.{Configuration, ConfigEvent, Changes, by_characters}
+use Rattle.tabled_config.specs.Options.{LeadsInTurn, entity_bordered, entity_unbordered, inner_of, table_unbordered}
 use Rattle.tabled_config.proofs.ConfigurationLemmas.{Changes_by_characters, Changes_in_a_row}
 use Rattle.std.specs.List.{flat_map}
 
@@ -34,11 +34,6 @@ where_refused (Err e) p = p
 pub Changes-entity_bordered : (border : Border ℕ) (shape : ℕ × ℕ) (entity : Entity) (before after : Keeping ℕ) (colours : Keeping Texts) (old : Configuration) → record { characters = before; colours = colours } ≡ old → grid.Changes (entity_border_set entity shape border) (keeps before) (keeps after) → Changes (entity_bordered border shape entity) old (record { characters = after; colours = colours })
 unfolding entity_bordered
 Changes-entity_bordered border shape entity before after colours old is changes = Changes_by_characters (entity_border_set entity shape border) before after colours old is changes
-
--- a border around a table
-pub Changes-table_bordered : (border : Border ℕ) (class result : Borders ℕ) (old new : Configuration) → result ≡ framed border class → Changes (borders_set result) old new → Changes (table_bordered border class) old new
-unfolding table_bordered
-Changes-table_bordered border class result old new e changes = subst (λ record_set. Changes (borders_set record_set) old new) e changes
 
 -- the borders of the cells of an entity removed
 pub Changes-entity_unbordered : (shape : ℕ × ℕ) (entity : Entity) (before after : Keeping ℕ) (colours : Keeping Texts) (old : Configuration) → record { characters = before; colours = colours } ≡ old → grid.Changes (entity_border_erased entity shape) (keeps before) (keeps after) → Changes (entity_unbordered shape entity) old (record { characters = after; colours = colours })

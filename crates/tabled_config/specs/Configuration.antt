@@ -69,10 +69,6 @@ borders_set borders = by_characters (class_record_set borders)
 unfoldable pub borders_removed : List ConfigEvent
 borders_removed = by_characters all_but_offsets
 
--- a class record applied as an option: all sites of all levels are cleared, of characters and of colours, and then it is set
-unfoldable pub borders_applied : Borders ℕ → List ConfigEvent
-borders_applied borders = by_characters (grid.erase grid.every_site ∷ class_record_set borders) ++ by_colours (grid.erase grid.every_site ∷ [])
-
 -- custom lines put, each at its index, in the order of a list
 unfoldable pub horizontal_lines_put : List (ℕ × HorizontalLine ℕ) → List (grid.Event ℕ)
 horizontal_lines_put lines = flat_map (λ line. line_set_across line.0 line.1) lines

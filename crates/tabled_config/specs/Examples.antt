@@ -7,7 +7,7 @@ use Rattle.tabled_grid.specs.declared.lines.VerticalLine.{VerticalLine}
 use Rattle.tabled_grid.specs.Site.{across, down, edge, crossing, Site, the_default, at_spot, from_end, from_start}
 use Rattle.tabled_grid.specs.Event.{sign, write, erase, these_sites}
 use Rattle.tabled_grid.specs.Lines as lines
-use Rattle.tabled_config.specs.Configuration.{ConfigEvent, of_characters, borders_set, borders_applied}
+use Rattle.tabled_config.specs.Configuration.{ConfigEvent, of_characters, borders_set, borders_replaced}
 use Rattle.tabled_config.specs.Texts.{Table}
 use Rattle.tabled_config.specs.Picture.{printed}
 
@@ -230,7 +230,7 @@ cell_over_class = record {
 -- a class record applied as an option clears the cells first
 unfoldable pub all_cleared : Drawing
 all_cleared = record {
-  events = borders_set ascii ++ (put (at_spot (edge across 0 0)) (codes "x") ∷ []) ++ borders_applied nothing;
+  events = borders_set ascii ++ (put (at_spot (edge across 0 0)) (codes "x") ∷ []) ++ borders_replaced nothing [] [];
   shape = (1, 1);
   widths = 3 ∷ [];
   heights = 1 ∷ [];

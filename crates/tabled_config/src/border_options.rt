@@ -22,7 +22,7 @@ impl<R: Records + ExactRecords> CellOption<R, ColoredConfig> for Border<char> {
         entity: Entity,
     ) -> Result<(), OutOfMemory> {
         let shape = (records.count_rows(), records.count_columns());
-        cfg.config.set_entity_border(entity, shape, self)
+        cfg.config_mut().set_entity_border(entity, shape, self)
     }
 
     fn hint_change(&self) -> Option<Entity> {
@@ -39,6 +39,7 @@ impl<R, D> TableOption<R, ColoredConfig, D> for Border<char> {
     /// something between the columns, the crossings on the outer horizontal lines become as these lines, and
     /// where it has something between the rows, those on the outer vertical lines. What is kept for cells,
     /// custom lines and offsets stays. It takes no memory and answers Ok.
+    #[tactic(auto, unfolding(crate::specs::Options::table_bordered))]
     fn change(
         self,
         _records: &mut R,
@@ -50,8 +51,8 @@ impl<R, D> TableOption<R, ColoredConfig, D> for Border<char> {
         ensures records { _records.new ≡ _records.old }
         ensures sizes { _dims.new ≡ _dims.old }
     {
-        let class = framed(self, cfg.config.get_borders());
-        cfg.config.set_borders(class);
+        let class = framed(self, cfg.config().get_borders());
+        cfg.config_mut().set_borders(class);
         Ok(())
     }
 

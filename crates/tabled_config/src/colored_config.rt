@@ -5,12 +5,12 @@ ghost use Rattle.std.specs.Prelude.{◌≡◌};
 use crate::{SpannedConfig, TableOption};
 use std::alloc::Global;
 use std::marker::Model;
-use tabled_grid::{Borders, Entity, HorizontalLine, Keep, OutOfMemory, VerticalLine};
+use tabled_grid::{Borders, Entity, Keep, OutOfMemory};
 
 /// The configuration that table options change: that of the borders.
 #[derive(Debug, Drop)]
 pub struct ColoredConfig {
-    pub(crate) config: SpannedConfig,
+    config: SpannedConfig,
 }
 
 impl Model for ColoredConfig {
@@ -25,9 +25,6 @@ impl Model for ColoredConfig {
 
 impl ColoredConfig {
     ghost use Rattle.std.specs.Borrow.{Lends, sem};
-    ghost use Rattle.std.specs.Prelude.{[], OnOk, OnErr, IsOk};
-    ghost use Rattle.tabled_config.specs.Configuration.{Changes, borders_replaced};
-    ghost use Rattle.tabled_config.specs.Options.{entity_unbordered, table_unbordered};
     ghost use Rattle.tabled_config.specs.contracts.colored_config.ColoredConfig.{the_row};
     ghost use Rattle.tabled_config.specs.contracts.spanned_config.SpannedConfig.{the_row as spanned_row};
 
@@ -47,39 +44,10 @@ impl ColoredConfig {
 
     /// The configuration of the borders, to be changed. What is written there is this configuration's.
     pub fn config_mut(&mut self) -> &mut SpannedConfig
-        ensures* { sem 𝓛 (Lends the_row spanned_row self.entry result (λ config. config)) }
+        ensures* writes_back { sem 𝓛 (Lends the_row spanned_row self.entry result (λ config. config)) }
+        ensures value { result.now ≡ self.old }
     {
         &mut self.config
-    }
-
-    /// Erases every border character and colour of every level, offsets too; then puts each custom line at
-    /// its index, in the order of the lists, and sets the class record. Where memory is refused nothing
-    /// changes; without custom lines none is asked for.
-    pub fn replace_borders(
-        &mut self,
-        class: Borders<char>,
-        horizontals: &[(usize, HorizontalLine<char>)],
-        verticals: &[(usize, VerticalLine<char>)],
-    ) -> Result<(), OutOfMemory>
-        ensures ok { OnOk result (Changes (borders_replaced class horizontals.now verticals.now) self.old self.new) }
-        ensures err { OnErr result (self.new ≡ self.old) }
-        ensures without_lines { horizontals.now ≡ [] → verticals.now ≡ [] → IsOk result }
-    {
-        self.config.replace_borders(class, horizontals, verticals)
-    }
-
-    /// As [`SpannedConfig::remove_entity_border`].
-    pub fn remove_entity_border(&mut self, entity: Entity, shape: (usize, usize))
-        ensures { Changes (entity_unbordered shape entity) self.old self.new }
-    {
-        self.config.remove_entity_border(entity, shape);
-    }
-
-    /// As [`SpannedConfig::remove_frame`].
-    pub fn remove_frame(&mut self, shape: (usize, usize))
-        ensures { Changes (table_unbordered shape self.old.characters.class_record) self.old self.new }
-    {
-        self.config.remove_frame(shape);
     }
 
     /// The configuration of the borders, given up by this one.
@@ -92,16 +60,16 @@ impl ColoredConfig {
 }
 
 impl<R, D> TableOption<R, ColoredConfig, D> for Borders<char> {
-    ghost use Rattle.std.specs.Prelude.{Some, IsOk};
+    ghost use Rattle.std.specs.Prelude.{Some, IsOk, []};
     ghost use Rattle.tabled_grid.specs.declared.entity.Entity.TheVariants as cells;
-    ghost use Rattle.tabled_config.specs.Configuration.{Changes, borders_applied};
+    ghost use Rattle.tabled_config.specs.Configuration.{Changes, borders_replaced};
 
-    ghost leads = { λ borders records dims old new. Changes (borders_applied borders) old new };
+    ghost leads = { λ borders records dims old new. Changes (borders_replaced borders [] []) old new };
 
     ghost hinted = { λ borders. Some cells.Global };
 
-    /// Erases every border character of every level, offset characters too, and sets the class record.
-    /// It takes no memory and answers Ok.
+    /// Erases every border character and colour of every level, offsets too, and sets the class record: as a
+    /// style without custom lines. It takes no memory and answers Ok.
     fn change(
         self,
         _records: &mut R,
@@ -109,12 +77,11 @@ impl<R, D> TableOption<R, ColoredConfig, D> for Borders<char> {
         _dims: &mut D,
     ) -> Result<(), OutOfMemory>
         ensures always { IsOk result }
-        ensures ok { Changes (borders_applied self) cfg.old cfg.new }
+        ensures ok { Changes (borders_replaced self [] []) cfg.old cfg.new }
         ensures records { _records.new ≡ _records.old }
         ensures sizes { _dims.new ≡ _dims.old }
     {
-        cfg.config.start_with(self);
-        Ok(())
+        cfg.config_mut().replace_borders(self, &[], &[])
     }
 
     fn hint_change(&self) -> Option<Entity> {

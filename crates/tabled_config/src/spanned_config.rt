@@ -51,7 +51,7 @@ impl SpannedConfig {
     ghost use Rattle.tabled_grid.specs.Drawn.{Drawn};
     ghost use Rattle.tabled_grid.specs.Probing.{IsRaised};
     ghost use Rattle.tabled_grid.specs.Calls.{default_set, cell_erased};
-    ghost use Rattle.tabled_config.specs.Configuration.{Shows, Changes, by_characters, borders_set, borders_removed, borders_applied};
+    ghost use Rattle.tabled_config.specs.Configuration.{Shows, Changes, by_characters, borders_set, borders_removed};
 
     /// A configuration in which nothing was set. It keeps the allocator for the calls that need memory.
     pub fn new(alloc: Global) -> Self
@@ -101,15 +101,6 @@ impl SpannedConfig {
         ensures { Changes borders_removed self.old self.new }
     {
         erase_below_offsets(&mut self.characters);
-    }
-
-    /// Erases every border character and colour of every level, offsets too, and sets the class record.
-    pub(crate) fn start_with(&mut self, first: Borders<char>)
-        ensures { Changes (borders_applied first) self.old self.new }
-    {
-        erase_all(&mut self.characters);
-        self.characters.set_class(first);
-        erase_all(&mut self.colours);
     }
 
     /// Whether horizontal line `line` is drawn in a table of `rows` rows.

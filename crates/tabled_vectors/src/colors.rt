@@ -106,7 +106,7 @@ fn coloured_places_stay_over_the_default(rt: HostRuntime) -> Result<(), Fail> {
 fn red_then_styled(alloc: Global, cfg: &mut ColoredConfig) -> Result<(), OutOfMemory> {
     red_on_blue(alloc, cfg.config_mut())?;
     let style = Style::ascii();
-    cfg.replace_borders(
+    cfg.config_mut().replace_borders(
         style.get_borders(),
         style.get_horizontals(),
         style.get_verticals(),

@@ -10,6 +10,8 @@ mod crossings;
 #[cfg(test)]
 mod levels;
 #[cfg(test)]
+mod own_option;
+#[cfg(test)]
 mod styles;
 #[cfg(test)]
 mod tables;

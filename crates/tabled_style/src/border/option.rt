@@ -80,7 +80,7 @@ impl<Data: Records + ExactRecords> CellOption<Data, ColoredConfig> for EmptyBord
         ensures records { records.new ≡ records.old }
     {
         let shape = (records.count_rows(), records.count_columns());
-        cfg.remove_entity_border(entity, shape);
+        cfg.config_mut().remove_entity_border(entity, shape);
         Ok(())
     }
 
@@ -110,7 +110,7 @@ impl<Data: Records + ExactRecords, Dims> TableOption<Data, ColoredConfig, Dims> 
         ensures sizes { dims.new ≡ dims.old }
     {
         let shape = (records.count_rows(), records.count_columns());
-        cfg.remove_frame(shape);
+        cfg.config_mut().remove_frame(shape);
         Ok(())
     }
 

@@ -31,7 +31,7 @@ impl<T, B, L, R, H, V, const HN: usize, const VN: usize, Data, Dims> TableOption
         ensures records { _records.new ≡ _records.old }
         ensures sizes { _dims.new ≡ _dims.old }
     {
-        cfg.replace_borders(
+        cfg.config_mut().replace_borders(
             self.borders,
             self.horizontals.as_slice(),
             self.verticals.as_slice(),

@@ -1,7 +1,7 @@
 use Rattle.tabled_grid.specs.Keeping.{keeps}
 use Rattle.tabled_grid.proofs.DrawnLemmas.{value-shown, Drawn-drawn}
 use Rattle.tabled_style.specs.Deciding.{written_by}
-use Rattle.tabled_style.proofs.Decided.{characters_shown, colourless, without_lines}
+use Rattle.tabled_style.proofs.Decided.{characters_shown, colourless}
 use Rattle.tabled_style.proofs.laws.style_alone_decides.Goals as goal
 
 pub returns-clause-characters : goal.returns-clause-characters
@@ -14,6 +14,3 @@ returns-clause-colours c = λ style old new shape size place changes. colourless
 pub returns-clause-lines : goal.returns-clause-lines
 returns-clause-lines c = λ style old new count line changes.
     Drawn-drawn (written_by style) (keeps new.characters) count line (characters_shown style old new changes)
-
-pub returns-clause-records : goal.returns-clause-records
-returns-clause-records c = λ class. without_lines class
