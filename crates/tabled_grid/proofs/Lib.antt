@@ -28,3 +28,4 @@ pub mod Differences
 pub mod EntityBorders
 pub mod Clearing
 pub mod Sets
+pub mod WritingAnew

@@ -109,7 +109,7 @@ once true x y z = refl
 once false x y z = refl
 
 -- what one write leaves at each site
-by_write : {T : Type 0} (site : Site) (w : Written T) (old new : Site → Option (Written T)) → Changes (write site w ∷ []) old new → (q : Site) → new q ≡ cond (same_site q site) (Some w) (old q)
+pub by_write : {T : Type 0} (site : Site) (w : Written T) (old new : Site → Option (Written T)) → Changes (write site w ∷ []) old new → (q : Site) → new q ≡ cond (same_site q site) (Some w) (old q)
 unfolding Changes
 by_write site w old new h q =
     h q ∙ ap (λ b. cond b (kept (write site w ∷ []) q) (old q)) (or-none (same_site q site))
@@ -202,7 +202,7 @@ in_front : {T : Type 0} (o : Option (Event T)) (es fs : List (Event T)) → cons
 in_front None es fs = refl
 in_front (Some e) es fs = refl
 
-places_set-append : {T : Type 0} (ws vs : List (Option Place × Option T)) → places_set (ws ++ vs) ≡ places_set ws ++ places_set vs
+pub places_set-append : {T : Type 0} (ws vs : List (Option Place × Option T)) → places_set (ws ++ vs) ≡ places_set ws ++ places_set vs
 unfolding places_set
 places_set-append [] vs = refl
 places_set-append (w ∷ ws) vs = ap (cons_option (given_write w)) (places_set-append ws vs) ∙ in_front (given_write w) (places_set ws) (places_set vs)

@@ -1,5 +1,5 @@
 -- From a store's fields to what its contracts see.
-use Rattle.std.proofs.Common.{◌≡◌, Option, List, sym, ap, subst, Result, Ok, Err, OnOk}
+use Rattle.std.proofs.Common.{◌≡◌, Option, List, sym, ap, subst, Result, Ok, Err, OnOk, OnErr}
 use Rattle.std.specs.Ordering.{nat_cmp}
 use Rattle.std.specs.FinMap as map
 use Rattle.tabled_grid.specs.declared.borders.Borders.{Borders}
@@ -82,6 +82,10 @@ with_offsets_down k a b c d p q = λ i. record k { ends_down = p i; starts_down 
 pub on_ok : {A E P Q : Type 0} (r : Result A E) → (P → Q) → OnOk r P → OnOk r Q
 on_ok (Ok x) f h = f h
 on_ok (Err e) f h = tt
+
+pub if_err : {A E P : Type 0} (r : Result A E) → P → OnErr r P
+if_err (Ok x) h = tt
+if_err (Err e) h = h
 
 -- the events by another name
 pub as_events : {T : Type 0} (es fs : List (Event T)) (old new : Keeping T) → fs ≡ es → Changes es (keeps old) (keeps new) → Changes fs (keeps old) (keeps new)

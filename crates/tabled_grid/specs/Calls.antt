@@ -1,6 +1,6 @@
 -- The events of the store's calls.
-use Rattle.std.specs.Prelude.{ℕ, ◌+◌, ◌==◌, ◌||◌, if◌then◌else◌, Option, Some, None, List, [], ◌∷◌, ◌++◌, map, option_map}
-use Rattle.std.specs.List.{zip, filter, filter_map, flat_map}
+use Rattle.std.specs.Prelude.{ℕ, ◌+◌, Bool, ◌==◌, ◌||◌, if◌then◌else◌, Option, Some, None, is_none, List, [], ◌∷◌, ◌++◌, map, option_map}
+use Rattle.std.specs.List.{zip, filter, filter_map, flat_map, list_any}
 use Rattle.tabled_grid.specs.declared.border.Border.{Border}
 use Rattle.tabled_grid.specs.declared.lines.HorizontalLine.{HorizontalLine}
 use Rattle.tabled_grid.specs.declared.lines.VerticalLine.{VerticalLine}
@@ -12,7 +12,8 @@ use Rattle.tabled_grid.specs.declared.entity.Entity.{Entity}
 use Rattle.tabled_grid.specs.CellBorder.{border_places, border_fields}
 use Rattle.tabled_grid.specs.Entities.{below, cells_of, is_inside}
 use Rattle.tabled_grid.specs.Site.{Direction, across, down, Spot, edge, crossing, Site, the_default, at_spot, from_end, from_start}
-use Rattle.tabled_grid.specs.Event.{sign, Event, write, erase, level_sites, offset_sites, line_sites, these_sites}
+use Rattle.tabled_grid.specs.Event.{sign, Written, Event, write, erase, level_sites, offset_sites, line_sites, these_sites}
+use Rattle.tabled_grid.specs.Drawn.{written}
 use Rattle.tabled_grid.specs.Lines as lines
 
 -- the default written
@@ -58,6 +59,10 @@ places_set writes = filter_map given_write writes
 -- what a border gives, written at the sides and corners of a cell
 abbrev pub border_set : {T : Type 0} → Position → Border T → List (Event T)
 border_set pos border = places_set (zip (border_fields (border_places pos)) (border_fields border))
+
+-- whether nothing is kept at one of the sites at which the events write
+abbrev pub writes_anew : {T : Type 0} → (Site → Option (Written T)) → List (Event T) → Bool
+writes_anew keep events = list_any (λ site. is_none (keep site)) (written events)
 
 -- the same for each of these cells that lies in a table of so many rows and columns, in their order
 unfoldable pub borders_of : {T : Type 0} → ℕ × ℕ → Border T → List Position → List (Event T)

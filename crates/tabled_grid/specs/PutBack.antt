@@ -2,7 +2,7 @@
 use Rattle.std.specs.Prelude.{◌≡◌, IsSome, if◌then◌else◌, Option, Some, None, option_map, List, [], ◌∷◌}
 use Rattle.tabled_grid.specs.declared.place.Place.{Place}
 use Rattle.tabled_grid.specs.Site.{Site, at_spot, same_site}
-use Rattle.tabled_grid.specs.Event.{sign}
+use Rattle.tabled_grid.specs.Event.{sign, Written}
 use Rattle.tabled_grid.specs.Keeping.{Keeping, keeps}
 use Rattle.tabled_grid.specs.Calls.{spot_of}
 
@@ -11,6 +11,10 @@ unfoldable pub PutsBackAt : {T : Type 0} → Place → Option T → Keeping T �
 PutsBackAt place before old new =
     IsSome (keeps new (at_spot (spot_of place)))
     × ((q : Site) → keeps old q ≡ (if same_site q (at_spot (spot_of place)) then option_map sign before else keeps new q))
+
+-- what stood before still stands, or something in its place
+unfoldable pub Stays : {T : Type 0} → (Site → Option (Written T)) → (Site → Option (Written T)) → Type 0
+Stays old new = (q : Site) → new q ≡ None → old q ≡ None
 
 -- a note of what stood at a place; with no note nothing was changed
 abbrev pub PutsBack : {T : Type 0} → Option (Place × Option T) → Keeping T → Keeping T → Type 0

@@ -1,7 +1,7 @@
 //! Borders of single cells.
 
-ghost use Rattle.std.specs.Prelude.{◌≡◌, OnOk, OnErr, option_copied};
-ghost use Rattle.tabled_grid.specs.Calls.{border_set, border_erased};
+ghost use Rattle.std.specs.Prelude.{◌≡◌, OnOk, OnErr, IsTrue, option_copied};
+ghost use Rattle.tabled_grid.specs.Calls.{border_set, border_erased, writes_anew};
 ghost use Rattle.tabled_grid.specs.CellBorder.{border_shown};
 ghost use Rattle.tabled_grid.specs.Keeping.{keeps};
 ghost use Rattle.tabled_config.specs.Configuration.{Changes, by_characters, by_colours};
@@ -12,17 +12,20 @@ use tabled_grid::{ANSIBuf, Border, Entity, OutOfMemory, Position};
 
 impl SpannedConfig {
     /// Writes the given sides and corners of a cell, whatever the shape of the table; what is not given
-    /// stays as it is. Where memory is refused nothing changes.
+    /// stays as it is. Where memory is refused nothing changes; where each of these places had a character
+    /// of its own, none is asked for.
     pub fn set_border(&mut self, pos: Position, border: Border<char>) -> Result<(), OutOfMemory>
         ensures ok { OnOk result (Changes (by_characters (border_set pos border)) self.old self.new) }
         ensures err { OnErr result (self.new ≡ self.old) }
+        ensures absent { OnErr result (IsTrue (writes_anew (keeps self.old.characters) (border_set pos border))) }
     {
         self.characters.set_border(pos, border)
     }
 
     /// Writes the given sides and corners of each cell of an entity that lies in a table of `shape.0` rows
-    /// and `shape.1` columns, row by row. Where memory is refused nothing changes.
-    pub(crate) fn set_entity_border(
+    /// and `shape.1` columns, row by row: for what two cells share the later one counts. Cells outside are
+    /// passed over. Where memory is refused nothing changes.
+    pub fn set_entity_border(
         &mut self,
         entity: Entity,
         shape: (usize, usize),
@@ -61,7 +64,8 @@ impl SpannedConfig {
     }
 
     /// Writes the given colours of a cell's sides and corners, whatever the shape of the table; what is not
-    /// given stays as it is. Where memory is refused nothing changes.
+    /// given stays as it is. Where memory is refused nothing changes; where each of these places had a colour
+    /// of its own, none is asked for.
     pub fn set_border_color(
         &mut self,
         pos: Position,
@@ -69,6 +73,7 @@ impl SpannedConfig {
     ) -> Result<(), OutOfMemory>
         ensures ok { OnOk result (Changes (by_colours (border_set pos border)) self.old self.new) }
         ensures err { OnErr result (self.new ≡ self.old) }
+        ensures absent { OnErr result (IsTrue (writes_anew (keeps self.old.colours) (border_set pos border))) }
     {
         self.colours.set_border(pos, border)
     }

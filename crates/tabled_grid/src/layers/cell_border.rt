@@ -1,6 +1,6 @@
 //! The border of one cell: its sides and corners, written, erased and read together.
 
-ghost use Rattle.std.specs.Prelude.{◌≡◌, [], ◌∷◌, OnOk, OnErr, IfOk, option_copied, option_and_then};
+ghost use Rattle.std.specs.Prelude.{◌≡◌, [], ◌∷◌, OnOk, OnErr, IfOk, IsTrue, option_copied, option_and_then};
 ghost use Rattle.tabled_grid.specs.CellBorder.{next_line, side_across, side_down, corner, border_places, border_shown};
 
 use super::Layers;
@@ -13,17 +13,19 @@ impl<T> Layers<T> {
     ghost use Rattle.tabled_grid.specs.Event.{Changes};
     ghost use Rattle.tabled_grid.specs.Value.{plain_value};
     ghost use Rattle.tabled_grid.specs.Keeping.{Keeping, keeps};
-    ghost use Rattle.tabled_grid.specs.Calls.{border_set, places_set, border_erased, places_erased};
-    ghost use Rattle.tabled_grid.specs.PutBack.{PutsBackAt, PutsBack, PutsBackTwo, PutsBackFour};
+    ghost use Rattle.tabled_grid.specs.Calls.{border_set, places_set, writes_anew, border_erased, places_erased};
+    ghost use Rattle.tabled_grid.specs.PutBack.{PutsBackAt, PutsBack, PutsBackTwo, PutsBackFour, Stays};
 
     /// Writes what the border gives at the cell level of a cell's sides and corners, whatever the shape of
     /// the table. What it does not give stays as it is, and past the last number of a line nothing is
-    /// written. Where memory is refused nothing changes.
+    /// written. Where memory is refused nothing changes; where something stood at each of these places,
+    /// none is asked for.
     pub fn set_border(&mut self, pos: Position, border: Border<T>) -> Result<(), OutOfMemory>
     where
         T: Drop,
         ensures ok { OnOk result (Changes (border_set pos border) (keeps self.old) (keeps self.new)) }
         ensures err { OnErr result (self.new ≡ self.old) }
+        ensures absent { OnErr result (IsTrue (writes_anew (keeps self.old) (border_set pos border))) }
     {
         let places = places(pos);
         let sides = self.write_four(
@@ -63,7 +65,10 @@ impl<T> Layers<T> {
         ensures ok { OnOk result (Changes (places_set ((places.0.0, values.0.0) ∷ (places.0.1, values.0.1) ∷ (places.1.0, values.1.0) ∷ (places.1.1, values.1.1) ∷ []))
             (keeps self.old) (keeps self.new)) }
         ensures notes { IfOk result (λ notes. PutsBackFour notes self.old self.new) }
+        ensures stays { OnOk result (Stays (keeps self.old) (keeps self.new)) }
         ensures err { OnErr result (self.new ≡ self.old) }
+        ensures absent { OnErr result (IsTrue (writes_anew (keeps self.old)
+            (places_set ((places.0.0, values.0.0) ∷ (places.0.1, values.0.1) ∷ (places.1.0, values.1.0) ∷ (places.1.1, values.1.1) ∷ [])))) }
     {
         let first = self.write_two(places.0, values.0)?;
         match self.write_two(places.1, values.1) {
@@ -85,7 +90,9 @@ impl<T> Layers<T> {
         T: Drop,
         ensures ok { OnOk result (Changes (places_set ((places.0, values.0) ∷ (places.1, values.1) ∷ [])) (keeps self.old) (keeps self.new)) }
         ensures notes { IfOk result (λ notes. PutsBackTwo notes self.old self.new) }
+        ensures stays { OnOk result (Stays (keeps self.old) (keeps self.new)) }
         ensures err { OnErr result (self.new ≡ self.old) }
+        ensures absent { OnErr result (IsTrue (writes_anew (keeps self.old) (places_set ((places.0, values.0) ∷ (places.1, values.1) ∷ [])))) }
     {
         let first = self.write_place(places.0, values.0)?;
         match self.write_place(places.1, values.1) {
@@ -107,7 +114,9 @@ impl<T> Layers<T> {
         T: Drop,
         ensures ok { OnOk result (Changes (places_set ((place, value) ∷ [])) (keeps self.old) (keeps self.new)) }
         ensures note { IfOk result (λ note. PutsBack note self.old self.new) }
+        ensures stays { OnOk result (Stays (keeps self.old) (keeps self.new)) }
         ensures err { OnErr result (self.new ≡ self.old) }
+        ensures absent { OnErr result (IsTrue (writes_anew (keeps self.old) (places_set ((place, value) ∷ [])))) }
     {
         let Some(place) = place else {
             return Ok(None);

@@ -1,0 +1,78 @@
+-- Where writes are refused memory, nothing stood at one of their sites.
+use Rattle.std.proofs.Common.{◌≡◌, Bool, true, false, cond, ◌||◌, IsTrue, is_some, is_none, Option, Some, None, List, [], ◌∷◌, ◌++◌, refl, ap, sym, ◌∙◌, subst}
+use Rattle.std.specs.List.{zip, list_any}
+use Rattle.std.proofs.lemmas.List.Folds.{list_any-append}
+use Rattle.tabled_grid.specs.declared.border.Border.{Border}
+use Rattle.tabled_grid.specs.declared.place.Place.{Place}
+use Rattle.tabled_grid.specs.declared.position.Position.{Position}
+use Rattle.tabled_grid.specs.Site.{Site, at_spot, same_site}
+use Rattle.tabled_grid.specs.Event.{Written, Event, write, erase, Changes}
+use Rattle.tabled_grid.specs.Drawn.{written}
+use Rattle.tabled_grid.specs.CellBorder.{border_places, border_fields}
+use Rattle.tabled_grid.specs.Calls.{spot_of, places_set, border_set, writes_anew}
+use Rattle.tabled_grid.specs.PutBack.{Stays}
+use Rattle.tabled_grid.proofs.PuttingBack.{by_write, places_set-append}
+
+or-true : (b : Bool) → (b || true) ≡ true
+or-true true = refl
+or-true false = refl
+
+either_more : (a b c d : Bool) → (a ≡ true → c ≡ true) → (b ≡ true → d ≡ true) → (a || b) ≡ true → (c || d) ≡ true
+either_more true b c d f g h = ap (λ x. x || d) (f refl)
+either_more false b c d f g h = ap (λ x. c || x) (g h) ∙ or-true c
+
+nothing : {A : Type 0} (o : Option A) → is_none o ≡ true → o ≡ None
+nothing None h = refl
+nothing (Some x) h = absurd cc
+
+-- the sites of two lists in a row
+written-append : {T : Type 0} (es fs : List (Event T)) → written (es ++ fs) ≡ written es ++ written fs
+written-append [] fs = refl
+written-append (write q w ∷ es) fs = ap (λ qs. q ∷ qs) (written-append es fs)
+written-append (erase region ∷ es) fs = written-append es fs
+
+anew-append : {T : Type 0} (keep : Site → Option (Written T)) (es fs : List (Event T)) → writes_anew keep (es ++ fs) ≡ (writes_anew keep es || writes_anew keep fs)
+anew-append keep es fs = ap (list_any (λ q. is_none (keep q))) (written-append es fs) ∙ list_any-append (λ q. is_none (keep q)) (written es) (written fs)
+
+-- where nothing stands after writes, nothing stood before
+anew_before : {T : Type 0} (old mid : Site → Option (Written T)) (qs : List Site) → Stays old mid → list_any (λ q. is_none (mid q)) qs ≡ true → list_any (λ q. is_none (old q)) qs ≡ true
+unfolding Stays
+anew_before old mid [] stays h = h
+anew_before old mid (q ∷ qs) stays h =
+    either_more (is_none (mid q)) (list_any (λ p. is_none (mid p)) qs) (is_none (old q)) (list_any (λ p. is_none (old p)) qs) (λ e. ap is_none (stays q (nothing (mid q) e))) (anew_before old mid qs stays) h
+
+pub stays_written : {T : Type 0} (site : Site) (w : Written T) (old new : Site → Option (Written T)) → Changes (write site w ∷ []) old new → Stays old new
+unfolding Stays
+stays_written site w old new changes q e = at (same_site q site) (by_write site w old new changes q)
+  where
+    at : (b : Bool) → new q ≡ cond b (Some w) (old q) → old q ≡ None
+    at true is = absurd (let there = ap is_some (sym is ∙ e) in cc)
+    at false is = sym is ∙ e
+
+pub stays_same : {T : Type 0} (keep : Site → Option (Written T)) → Stays keep keep
+unfolding Stays
+stays_same keep q e = e
+
+pub stays_then : {T : Type 0} (old mid new : Site → Option (Written T)) → Stays old mid → Stays mid new → Stays old new
+unfolding Stays
+stays_then old mid new f g q e = f q (g q e)
+
+-- one place
+pub place_anew : {T : Type 0} (place : Option Place) (there : Place) (value : Option T) (given : T) (keep : Site → Option (Written T)) → place ≡ Some there → value ≡ Some given → keep (at_spot (spot_of there)) ≡ None → IsTrue (writes_anew keep (places_set ((place, value) ∷ [])))
+unfolding places_set
+place_anew place there value given keep e f h =
+    subst (λ p. IsTrue (writes_anew keep (places_set ((p, value) ∷ [])))) (sym e) (subst (λ v. IsTrue (writes_anew keep (places_set ((Some there, v) ∷ [])))) (sym f) (ap (λ o. is_none o || false) h))
+
+-- the first of two lists of places, and the second
+pub first_anew : {T : Type 0} (ws vs : List (Option Place × Option T)) (keep : Site → Option (Written T)) → IsTrue (writes_anew keep (places_set ws)) → IsTrue (writes_anew keep (places_set (ws ++ vs)))
+first_anew ws vs keep h =
+    subst (λ es. IsTrue (writes_anew keep es)) (sym (places_set-append ws vs)) (anew-append keep (places_set ws) (places_set vs) ∙ ap (λ b. b || writes_anew keep (places_set vs)) h)
+
+pub second_anew : {T : Type 0} (ws vs : List (Option Place × Option T)) (old mid : Site → Option (Written T)) → Stays old mid → IsTrue (writes_anew mid (places_set vs)) → IsTrue (writes_anew old (places_set (ws ++ vs)))
+second_anew ws vs old mid stays h =
+    subst (λ es. IsTrue (writes_anew old es)) (sym (places_set-append ws vs))
+    (anew-append old (places_set ws) (places_set vs) ∙ ap (λ b. writes_anew old (places_set ws) || b) (anew_before old mid (written (places_set vs)) stays h) ∙ or-true (writes_anew old (places_set ws)))
+
+-- all places of a cell's border
+pub border_anew : {T : Type 0} (pos : Position) (places : Border Place) (border : Border T) (keep : Site → Option (Written T)) → places ≡ border_places pos → IsTrue (writes_anew keep (places_set (zip (border_fields places) (border_fields border)))) → IsTrue (writes_anew keep (border_set pos border))
+border_anew pos places border keep e h = subst (λ p. IsTrue (writes_anew keep (places_set (zip (border_fields p) (border_fields border))))) e h
