@@ -6,7 +6,7 @@ use Rattle.tabled_grid.specs.declared.borders.Borders.{Borders}
 use Rattle.tabled_grid.specs.declared.place.LineOf.{LineOf}
 use Rattle.tabled_grid.specs.Event as grid
 use Rattle.tabled_grid.specs.Keeping.{Keeping, keeps, class_record_set, writes_of}
-use Rattle.tabled_grid.specs.Texts.{Texts}
+use Rattle.tabled_border.specs.Texts.{Texts}
 use Rattle.tabled_grid.proofs.Replay.{kept-nil, kept_cleared, Shows_after, Changes-append, Changes-nil, Changes_from_nothing}
 use Rattle.tabled_grid.specs.Calls.{default_set, lines_erased, offsets_erased}
 use Rattle.tabled_grid.proofs.Writing.{Shows-writes_of}

@@ -1,13 +1,13 @@
 -- Changes of entities in a row, and borders as options.
 use Rattle.std.proofs.Common.{◌≡◌, ◌==◌, ◌||◌, true, false, cond, ℕ, List, [], ◌∷◌, ◌++◌, refl, sym, subst, Result, Ok, Err, OnErr}
-use Rattle.tabled_grid.specs.declared.entity.Entity.{Entity}
-use Rattle.tabled_grid.specs.declared.border.Border.{Border}
+use Rattle.tabled_object.specs.declared.entity.Entity.{Entity}
+use Rattle.tabled_border.specs.declared.border.Border.{Border}
 use Rattle.tabled_grid.specs.declared.borders.Borders.{Borders}
 use Rattle.tabled_grid.specs.Calls.{entity_border_set, entity_border_erased, frame_erased}
 use Rattle.tabled_grid.specs.Event as grid
 use Rattle.tabled_grid.specs.Keeping.{Keeping, keeps, class_record_set}
 use Rattle.tabled_grid.proofs.Replay.{Changes-append, Changes-nil}
-use Rattle.tabled_grid.specs.Texts.{Texts}
+use Rattle.tabled_border.specs.Texts.{Texts}
 use Rattle.tabled_config.specs.Configuration.{Configuration, ConfigEvent, Changes, by_characters}
 use Rattle.tabled_config.specs.Options.{LeadsInTurn, entity_bordered, entity_unbordered, inner_of, table_unbordered}
 use Rattle.tabled_config.proofs.ConfigurationLemmas.{Changes_by_characters, Changes_in_a_row}

@@ -10,7 +10,7 @@ use Rattle.tabled_grid.specs.declared.lines.VerticalLine.{VerticalLine}
 use Rattle.tabled_grid.specs.Calls.{line_set_across, line_set_down}
 use Rattle.tabled_grid.specs.Event as grid
 use Rattle.tabled_grid.specs.Keeping.{Keeping, keeps, class_record_set}
-use Rattle.tabled_grid.specs.Texts.{Texts}
+use Rattle.tabled_border.specs.Texts.{Texts}
 use Rattle.tabled_grid.proofs.Replay.{kept_cleared, Shows_after, Changes-append, Changes-nil}
 use Rattle.tabled_config.specs.Configuration.{Configuration, Changes, borders_replaced, horizontal_lines_put, vertical_lines_put}
 use Rattle.tabled_config.proofs.ConfigurationLemmas.{characters_of-both, colours_of-both}

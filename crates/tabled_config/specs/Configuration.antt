@@ -9,7 +9,7 @@ use Rattle.tabled_grid.specs.declared.borders.Borders.{Borders}
 use Rattle.tabled_grid.specs.Event as grid
 use Rattle.tabled_grid.specs.Calls.{default_set, line_set_across, line_set_down}
 use Rattle.tabled_grid.specs.Keeping.{Keeping, keeps, class_record_set, writes_of}
-use Rattle.tabled_grid.specs.Texts.{Texts}
+use Rattle.tabled_border.specs.Texts.{Texts}
 
 -- what a configuration keeps: the border characters, as their codes, and the border colours, as their texts
 pub record Configuration : Type 0 where

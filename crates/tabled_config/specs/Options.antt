@@ -1,8 +1,8 @@
 -- What options do, entity by entity, and what the border of a cell does to a table.
 use Rattle.std.specs.Prelude.{◌≡◌, ◌==◌, ◌||◌, ◌++◌, ℕ, None, List, [], ◌∷◌, if◌then◌else◌}
-use Rattle.tabled_grid.specs.declared.border.Border.{Border}
+use Rattle.tabled_border.specs.declared.border.Border.{Border}
 use Rattle.tabled_grid.specs.declared.borders.Borders.{Borders}
-use Rattle.tabled_grid.specs.declared.entity.Entity.{Entity}
+use Rattle.tabled_object.specs.declared.entity.Entity.{Entity}
 use Rattle.tabled_grid.specs.Calls.{entity_border_set, entity_border_erased, frame_erased}
 use Rattle.tabled_grid.specs.Site.{across, down, inner}
 use Rattle.tabled_grid.specs.Keeping.{line_classes, has_class, class_record_set}

@@ -3,7 +3,7 @@ use Rattle.std.specs.Prelude.{Bool, ◌&&◌, ◌==◌}
 use Rattle.std.specs.Cmp.{IsPartialEquivalence, IsEquivalence, on_equiv, and_equiv, partial_equiv_from_equiv}
 use Rattle.std.specs.Cmp.Lexicographic.{pointwise, on_texts_equal}
 use Rattle.std.proofs.lemmas.Cmp.{nat_eq_equiv}
-use Rattle.tabled_grid.specs.Texts.{Texts}
+use Rattle.tabled_border.specs.Texts.{Texts}
 use Rattle.tabled_grid.specs.Same.{same_keeping}
 use Rattle.tabled_grid.specs.SameLaws.{keeping_equiv}
 use Rattle.tabled_config.specs.Configuration.{Configuration}

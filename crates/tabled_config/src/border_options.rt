@@ -1,7 +1,7 @@
 //! The border of a cell as an option: around cells, and around a whole table.
 
 ghost use Rattle.std.specs.Prelude.{◌≡◌, Some, IsOk, if◌then◌else◌};
-ghost use Rattle.tabled_grid.specs.declared.entity.Entity.TheVariants as cells;
+ghost use Rattle.tabled_object.specs.declared.entity.Entity.TheVariants as cells;
 ghost use Rattle.tabled_config.specs.Configuration.{Changes};
 ghost use Rattle.tabled_config.specs.Options.{entity_bordered, framed, table_bordered};
 

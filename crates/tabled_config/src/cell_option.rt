@@ -1,7 +1,7 @@
 //! What can be done to cells of a table.
 
 ghost use Rattle.std.specs.Prelude.{◌≡◌, ℕ, take, OnOk, OnErr, Option};
-ghost use Rattle.tabled_grid.specs.declared.entity.Entity.{Entity};
+ghost use Rattle.tabled_object.specs.declared.entity.Entity.{Entity};
 ghost use Rattle.tabled_config.specs.Options.{LeadsInTurn};
 
 use std::alloc::Global;

@@ -61,7 +61,7 @@ impl ColoredConfig {
 
 impl<R, D> TableOption<R, ColoredConfig, D> for Borders<char> {
     ghost use Rattle.std.specs.Prelude.{Some, IsOk, []};
-    ghost use Rattle.tabled_grid.specs.declared.entity.Entity.TheVariants as cells;
+    ghost use Rattle.tabled_object.specs.declared.entity.Entity.TheVariants as cells;
     ghost use Rattle.tabled_config.specs.Configuration.{Changes, borders_replaced};
 
     ghost leads = { λ borders records dims old new. Changes (borders_replaced borders [] []) old new };

@@ -4,7 +4,7 @@
 ghost use Rattle.std.specs.Prelude.{◌≡◌, ◌↔◌, List, ◌++◌, IsTrue};
 ghost use Rattle.tabled_config.specs.Configuration.{Configuration, ConfigEvent, Shows, Changes, all_writes};
 ghost use Rattle.std.specs.List.{flat_map};
-ghost use Rattle.tabled_grid.specs.declared.entity.Entity.{Entity};
+ghost use Rattle.tabled_object.specs.declared.entity.Entity.{Entity};
 ghost use Rattle.tabled_config.specs.Options.{LeadsInTurn};
 
 use crate::{ColoredConfig, SpannedConfig};

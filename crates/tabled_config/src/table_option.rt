@@ -1,7 +1,7 @@
 //! What can be done to a configuration.
 
 ghost use Rattle.std.specs.Prelude.{◌≡◌, OnOk, OnErr, Option};
-ghost use Rattle.tabled_grid.specs.declared.entity.Entity.{Entity};
+ghost use Rattle.tabled_object.specs.declared.entity.Entity.{Entity};
 
 use tabled_grid::{Entity as Cells, OutOfMemory};
 

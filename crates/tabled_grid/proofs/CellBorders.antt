@@ -4,14 +4,14 @@ use Rattle.std.specs.Option.{option_map}
 use Rattle.std.specs.List.{list_any, filter_map}
 use Rattle.std.proofs.lemmas.Bool.Decides.{nat_tests}
 use Rattle.std.proofs.lemmas.List.Folds.{list_any-append}
-use Rattle.tabled_grid.specs.declared.border.Border.{Border}
+use Rattle.tabled_border.specs.declared.border.Border.{Border}
 use Rattle.tabled_grid.specs.declared.place.Place.{Place}
-use Rattle.tabled_grid.specs.declared.position.Position.{Position}
+use Rattle.tabled_object.specs.declared.position.Position.{Position}
 use Rattle.tabled_grid.specs.Site.{Site, at_spot, same_site}
 use Rattle.tabled_grid.specs.Event.{Written, Region, these_sites, within, erase, kept, Changes}
 use Rattle.tabled_grid.specs.Keeping.{Keeping, keeps}
 use Rattle.tabled_grid.specs.Value.{plain_value}
-use Rattle.tabled_grid.specs.Border.{no_border}
+use Rattle.tabled_border.specs.Border.{no_border}
 use Rattle.tabled_grid.specs.Calls.{spot_of, cell_erased, places_erased, border_erased}
 use Rattle.tabled_grid.specs.CellBorder.{border_places, border_fields, border_shown}
 use Rattle.tabled_grid.proofs.Replay.{kept-nil, kept_cleared}

@@ -8,8 +8,8 @@ use Rattle.tabled_grid.specs.declared.borders.Borders.{Borders}
 use Rattle.tabled_grid.specs.declared.lines.HorizontalLine.{HorizontalLine}
 use Rattle.tabled_grid.specs.declared.lines.VerticalLine.{VerticalLine}
 use Rattle.tabled_grid.specs.declared.place.LineOf.{LineOf}
-use Rattle.tabled_grid.specs.declared.position.Position.{Position}
-use Rattle.tabled_grid.specs.declared.position.EdgePlace.{EdgePlace}
+use Rattle.tabled_object.specs.declared.position.Position.{Position}
+use Rattle.tabled_grid.specs.declared.keys.EdgePlace.{EdgePlace}
 use Rattle.tabled_grid.specs.Keys.{position_cmp, edge_place_cmp, positions_total, edge_places_total}
 use Rattle.tabled_grid.specs.Site.{across, down, Class, Part, edge, crossing, Site, the_default, of_class, of_line, at_spot, from_end, from_start, level, same_site}
 use Rattle.tabled_grid.specs.Event.{Written, sign, Region, level_sites, offset_sites, line_sites, these_sites, within, write, erase, covered, kept, Shows, Changes}

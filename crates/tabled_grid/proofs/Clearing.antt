@@ -5,8 +5,8 @@ use Rattle.std.proofs.lemmas.List.{append_assoc, map-append}
 use Rattle.std.proofs.lemmas.Bool.Decides.{nat_tests}
 use Rattle.std.proofs.lemmas.List.Folds.{list_any-append}
 use Rattle.std.proofs.lemmas.List.FromFn.{map-range_with_len_more}
-use Rattle.tabled_grid.specs.declared.position.Position.{Position}
-use Rattle.tabled_grid.specs.Entities.{is_inside}
+use Rattle.tabled_object.specs.declared.position.Position.{Position}
+use Rattle.tabled_object.specs.Entities.{is_inside}
 use Rattle.tabled_grid.specs.Site.{Spot, Site, at_spot, same_site}
 use Rattle.tabled_grid.specs.Event.{these_sites, erase, Changes}
 use Rattle.tabled_grid.specs.Keeping.{Keeping, keeps}

@@ -1,10 +1,10 @@
 -- Borders written cell by cell.
 use Rattle.std.proofs.Common.{◌≡◌, ℕ, true, false, cond, Option, List, [], ◌∷◌, refl, sym, subst}
 use Rattle.std.specs.List.{flat_map, filter}
-use Rattle.tabled_grid.specs.declared.border.Border.{Border}
+use Rattle.tabled_border.specs.declared.border.Border.{Border}
 use Rattle.tabled_grid.specs.declared.place.Place.{Place}
-use Rattle.tabled_grid.specs.declared.position.Position.{Position}
-use Rattle.tabled_grid.specs.Entities.{is_inside}
+use Rattle.tabled_object.specs.declared.position.Position.{Position}
+use Rattle.tabled_object.specs.Entities.{is_inside}
 use Rattle.tabled_grid.specs.Event.{Changes}
 use Rattle.tabled_grid.specs.Keeping.{Keeping, keeps}
 use Rattle.tabled_grid.specs.Calls.{border_set, borders_of}

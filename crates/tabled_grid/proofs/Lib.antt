@@ -18,14 +18,8 @@ pub mod DrawnLemmas
 pub mod ClassWrites
 pub mod LookUps
 pub mod BordersLemmas
-pub mod EventListLemmas
 pub mod CellBorders
 pub mod PuttingBack
-pub mod Rectangles
-pub mod Listings
-pub mod Coverings
-pub mod Differences
 pub mod EntityBorders
 pub mod Clearing
-pub mod Sets
 pub mod WritingAnew

@@ -4,8 +4,8 @@ use Rattle.std.specs.Option.{option_map}
 use Rattle.std.specs.Ordering.{nat_cmp, ordering_then, eq_by_cmp, is_eq}
 use Rattle.std.specs.FinMap as map
 use Rattle.tabled_grid.specs.declared.place.LineOf.{LineOf}
-use Rattle.tabled_grid.specs.declared.position.Position.{Position}
-use Rattle.tabled_grid.specs.declared.position.EdgePlace.{EdgePlace}
+use Rattle.tabled_object.specs.declared.position.Position.{Position}
+use Rattle.tabled_grid.specs.declared.keys.EdgePlace.{EdgePlace}
 use Rattle.tabled_grid.specs.Keys.{position_cmp, edge_place_cmp, exact_positions, exact_edge_places}
 use Rattle.tabled_grid.specs.Site.{across, down, Class, Part, edge, crossing, Site, the_default, of_class, of_line, at_spot, from_end, from_start, same_site}
 use Rattle.tabled_grid.specs.Event.{sign, Event, write, line_sites, within, covered, kept, Shows}

@@ -2,9 +2,9 @@
 use Rattle.std.proofs.Common.{◌≡◌, Bool, true, false, cond, ◌||◌, IsTrue, is_some, is_none, Option, Some, None, List, [], ◌∷◌, ◌++◌, refl, ap, sym, ◌∙◌, subst}
 use Rattle.std.specs.List.{zip, list_any}
 use Rattle.std.proofs.lemmas.List.Folds.{list_any-append}
-use Rattle.tabled_grid.specs.declared.border.Border.{Border}
+use Rattle.tabled_border.specs.declared.border.Border.{Border}
 use Rattle.tabled_grid.specs.declared.place.Place.{Place}
-use Rattle.tabled_grid.specs.declared.position.Position.{Position}
+use Rattle.tabled_object.specs.declared.position.Position.{Position}
 use Rattle.tabled_grid.specs.Site.{Site, at_spot, same_site}
 use Rattle.tabled_grid.specs.Event.{Written, Event, write, erase, Changes}
 use Rattle.tabled_grid.specs.Drawn.{written}

@@ -1,16 +1,16 @@
 -- The events of the store's calls.
 use Rattle.std.specs.Prelude.{ℕ, ◌+◌, Bool, ◌==◌, ◌||◌, if◌then◌else◌, Option, Some, None, is_none, List, [], ◌∷◌, ◌++◌, map, option_map}
 use Rattle.std.specs.List.{zip, filter, filter_map, flat_map, list_any}
-use Rattle.tabled_grid.specs.declared.border.Border.{Border}
+use Rattle.tabled_border.specs.declared.border.Border.{Border}
 use Rattle.tabled_grid.specs.declared.lines.HorizontalLine.{HorizontalLine}
 use Rattle.tabled_grid.specs.declared.lines.VerticalLine.{VerticalLine}
 use Rattle.tabled_grid.specs.declared.offset.Offset.{Offset}
 use Rattle.tabled_grid.specs.declared.place.LineOf.{LineOf}
 use Rattle.tabled_grid.specs.declared.place.Place.{Place}
-use Rattle.tabled_grid.specs.declared.position.Position.{Position}
-use Rattle.tabled_grid.specs.declared.entity.Entity.{Entity}
+use Rattle.tabled_object.specs.declared.position.Position.{Position}
+use Rattle.tabled_object.specs.declared.entity.Entity.{Entity}
 use Rattle.tabled_grid.specs.CellBorder.{border_places, border_fields}
-use Rattle.tabled_grid.specs.Entities.{below, cells_of, is_inside}
+use Rattle.tabled_object.specs.Entities.{below, cells_of, is_inside}
 use Rattle.tabled_grid.specs.Site.{Direction, across, down, Spot, edge, crossing, Site, the_default, at_spot, from_end, from_start}
 use Rattle.tabled_grid.specs.Event.{sign, Written, Event, write, erase, level_sites, offset_sites, line_sites, these_sites}
 use Rattle.tabled_grid.specs.Drawn.{written}

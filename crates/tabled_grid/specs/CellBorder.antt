@@ -1,12 +1,12 @@
 -- The sides and the corners of one cell: where they are, and what shows there.
 use Rattle.std.specs.Prelude.{ℕ, ◌+◌, ◌^◌, ◌&&◌, nat_lt, if◌then◌else◌, Option, Some, None, List, [], ◌∷◌, option_and_then}
-use Rattle.tabled_grid.specs.declared.border.Border.{Border}
+use Rattle.tabled_border.specs.declared.border.Border.{Border}
 use Rattle.tabled_grid.specs.declared.place.Place.{Place}
-use Rattle.tabled_grid.specs.declared.position.Position.{Position}
+use Rattle.tabled_object.specs.declared.position.Position.{Position}
 use Rattle.tabled_grid.specs.Site.{Site}
 use Rattle.tabled_grid.specs.Event.{Written}
 use Rattle.tabled_grid.specs.Value.{plain_value}
-use Rattle.tabled_grid.specs.Border.{no_border}
+use Rattle.tabled_border.specs.Border.{no_border}
 
 -- the line behind line n; a store's numbers are below 2^64, and the last has none behind it
 abbrev pub next_line : ℕ → Option ℕ

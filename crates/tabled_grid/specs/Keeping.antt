@@ -7,8 +7,8 @@ use Rattle.tabled_grid.specs.declared.borders.Borders.{Borders}
 use Rattle.tabled_grid.specs.declared.lines.HorizontalLine.{HorizontalLine}
 use Rattle.tabled_grid.specs.declared.lines.VerticalLine.{VerticalLine}
 use Rattle.tabled_grid.specs.declared.place.LineOf.{LineOf}
-use Rattle.tabled_grid.specs.declared.position.Position.{Position}
-use Rattle.tabled_grid.specs.declared.position.EdgePlace.{EdgePlace}
+use Rattle.tabled_object.specs.declared.position.Position.{Position}
+use Rattle.tabled_grid.specs.declared.keys.EdgePlace.{EdgePlace}
 use Rattle.tabled_grid.specs.Keys.{position_cmp, edge_place_cmp}
 use Rattle.tabled_grid.specs.Site.{Direction, across, down, Rank, first, inner, closing, stands, Class, edges, crossings, class_value, Part, mark, main_edges, meeting, horizontal_meeting, vertical_meeting, edge, crossing, Site, the_default, of_class, of_line, at_spot, from_end, from_start}
 use Rattle.tabled_grid.specs.Event.{Written, sign, standing, Event, write, erase, level_sites}

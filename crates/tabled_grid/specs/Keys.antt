@@ -8,8 +8,8 @@ use Rattle.std.specs.FinMap.{IsAntisymmetric}
 use Rattle.std.proofs.Common.{ap}
 use Rattle.std.proofs.lemmas.Cmp.{on_total, then_total}
 use Rattle.std.proofs.lemmas.Map.Lookups.{exact_pairs, exact_unsigned}
-use Rattle.tabled_grid.specs.declared.position.Position.{Position}
-use Rattle.tabled_grid.specs.declared.position.EdgePlace.{EdgePlace}
+use Rattle.tabled_object.specs.declared.position.Position.{Position}
+use Rattle.tabled_grid.specs.declared.keys.EdgePlace.{EdgePlace}
 
 -- by row, and then by column
 abbrev pub position_cmp : Position → Position → Ordering

@@ -10,15 +10,8 @@ pub mod Keys
 pub mod Counted
 pub mod Reading
 pub mod Calls
-pub mod Converting
-pub mod Border
-pub mod Texts
-pub mod LentTexts
 pub mod CustomLines
-pub mod EventList
 pub mod Same
 pub mod SameLaws
 pub mod CellBorder
 pub mod PutBack
-pub mod Entities
-pub mod Listing

@@ -8,7 +8,7 @@ ghost use Rattle.tabled_grid.specs.Keys.{position_cmp, edge_place_cmp};
 ghost use Rattle.tabled_grid.specs.Counted.{number_at};
 
 use crate::kept_map::KeptMap;
-use crate::position::EdgePlace;
+use crate::keys::EdgePlace;
 use crate::tally::{lower, raise};
 use crate::{OutOfMemory, Position};
 

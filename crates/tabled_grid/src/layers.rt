@@ -14,8 +14,8 @@ mod tests;
 use crate::cells::{put, put_crossing, put_edge, take_crossing, take_edge};
 use crate::custom_lines::{put_horizontal, put_vertical, take_horizontal, take_vertical};
 use crate::kept_map::KeptMap;
+use crate::keys::EdgePlace;
 use crate::number::Number;
-use crate::position::EdgePlace;
 use crate::{
     Borders, HorizontalLine, LineOf, Offset, OutOfMemory, Place, Position, Probes, VerticalLine,
 };

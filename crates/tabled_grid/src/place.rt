@@ -40,8 +40,9 @@ impl Place {
         }
     }
 
-    /// Whether it has this place, where its edge is `size` characters long.
-    pub(crate) fn is_inside(self, shape: (usize, usize), size: usize) -> bool
+    /// Whether a table of `shape.0` rows and `shape.1` columns has this place, where its edge is `size`
+    /// characters long. A crossing has no length.
+    pub fn is_inside(self, shape: (usize, usize), size: usize) -> bool
         ensures { result ≡ inside shape size self }
     {
         match self {
@@ -56,8 +57,8 @@ impl Place {
 impl LineOf {
     ghost use Rattle.tabled_grid.specs.Drawn.{number};
 
-    /// The line's number among those of its direction.
-    pub(crate) fn number(self) -> usize
+    /// The line's number among those of its direction, counted from 0.
+    pub fn number(self) -> usize
         ensures { result ≡ number self }
     {
         match self {

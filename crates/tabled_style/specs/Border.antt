@@ -1,6 +1,6 @@
 -- The border of one cell.
 use Rattle.std.specs.Prelude.{ℕ, Some}
-use Rattle.tabled_grid.specs.declared.border.Border.{Border}
+use Rattle.tabled_border.specs.declared.border.Border.{Border}
 
 -- a border with all its sides and corners given
 abbrev pub full_border : ℕ → ℕ → ℕ → ℕ → ℕ → ℕ → ℕ → ℕ → Border ℕ

@@ -1,7 +1,7 @@
 -- The call that replaces the frame of a style.
 use Rattle.std.specs.Prelude.{ℕ, Bool, ◌&&◌, [], ◌∷◌, is_some}
 use Rattle.std.specs.List.{list_any}
-use Rattle.tabled_grid.specs.declared.border.Border.{Border}
+use Rattle.tabled_border.specs.declared.border.Border.{Border}
 use Rattle.tabled_style.specs.Shown.{Shown}
 use Rattle.tabled_style.specs.Lines.{each_line, given_ends_across, given_ends_down}
 use Rattle.tabled_style.specs.LineCalls.{space_where}

@@ -25,7 +25,7 @@ pub struct Border<T, B, L, R> {
 
 impl<T, B, L, R> Model for Border<T, B, L, R> {
     ghost use Rattle.std.specs.Prelude.{ℕ};
-    ghost use Rattle.tabled_grid.specs.declared.border.Border.{Border};
+    ghost use Rattle.tabled_border.specs.declared.border.Border.{Border};
 
     ghost Value = { Border ℕ };
 
@@ -35,7 +35,7 @@ impl<T, B, L, R> Model for Border<T, B, L, R> {
 }
 
 impl Border<(), (), (), ()> {
-    ghost use Rattle.tabled_grid.specs.Border.{no_border};
+    ghost use Rattle.tabled_border.specs.Border.{no_border};
 
     /// A border with nothing given.
     pub fn new() -> Self
@@ -273,7 +273,7 @@ impl<T, L> Border<T, On, L, On> {
 
 /// Nothing is given.
 impl<T, B, L, R> Default for Border<T, B, L, R> {
-    ghost use Rattle.tabled_grid.specs.Border.{no_border};
+    ghost use Rattle.tabled_border.specs.Border.{no_border};
 
     ghost is_default = { λ border. border ≡ no_border };
 

@@ -1,7 +1,7 @@
 //! Laws of lines and styles. Each is the contract of a function that does nothing, so that it is proved with the crate.
 
 ghost use Rattle.std.specs.Prelude.{◌≡◌, ℕ};
-ghost use Rattle.tabled_grid.specs.declared.border.Border.{Border as Frame};
+ghost use Rattle.tabled_border.specs.declared.border.Border.{Border as Frame};
 ghost use Rattle.tabled_grid.specs.declared.lines.HorizontalLine.{HorizontalLine as Across};
 ghost use Rattle.tabled_grid.specs.declared.lines.VerticalLine.{VerticalLine as Down};
 ghost use Rattle.tabled_style.specs.Shown.{Shown, horizontal_of, top_of, bottom_of, vertical_of, left_of, right_of, frame_of};

@@ -7,8 +7,7 @@ mod tests;
 
 use super::Layers;
 use super::notes::is_inside;
-use crate::entity::EntityIterator;
-use crate::{Entity, Place};
+use crate::{Entity, EntityIterator, Place};
 
 impl<T> Layers<T> {
     ghost use Rattle.tabled_grid.specs.Event.{Changes};

@@ -1,7 +1,7 @@
 //! Writes at the cell level that are made whole or not at all.
 
 ghost use Rattle.std.specs.Prelude.{◌≡◌, [], ◌∷◌, OnOk, OnErr};
-ghost use Rattle.tabled_grid.specs.Entities.{is_inside};
+ghost use Rattle.tabled_object.specs.Entities.{is_inside};
 ghost use Rattle.tabled_grid.specs.PutBack.{PutsBackAll};
 
 #[cfg(test)]
@@ -9,8 +9,7 @@ mod tests;
 
 use super::Layers;
 use super::cell_border::places;
-use crate::entity::EntityIterator;
-use crate::{Border, Entity, Keep, OutOfMemory, Place, Position};
+use crate::{Border, Entity, EntityIterator, Keep, OutOfMemory, Place, Position};
 use std::alloc::Global;
 use std::marker::Model;
 

@@ -11,8 +11,8 @@ ghost use Rattle.tabled_grid.specs.Keeping.{class_draws as class_drawn};
 
 use super::Layers;
 use crate::kept_map::KeptMap;
+use crate::keys::EdgePlace;
 use crate::number::Number;
-use crate::position::EdgePlace;
 use crate::{
     Borders, HorizontalLine, Keep, LineOf, OutOfMemory, Place, Position, Probes, VerticalLine,
 };

@@ -2,8 +2,8 @@
 
 use super::Layers;
 use crate::kept_map::KeptMap;
+use crate::keys::EdgePlace;
 use crate::number::Number;
-use crate::position::EdgePlace;
 use crate::{
     Border, Borders, HorizontalLine, Keep, Offset, OutOfMemory, Place, Position, Probes,
     VerticalLine,

@@ -1,6 +1,6 @@
 use Rattle.std.proofs.Common.{length, take, refl, sym, subst, ◌∙◌}
-use Rattle.tabled_grid.specs.Listing.{Lists}
-use Rattle.tabled_grid.proofs.Listings.{given_so_far, given_all}
+use Rattle.tabled_object.specs.Listing.{Lists}
+use Rattle.tabled_object.proofs.Listings.{given_so_far, given_all}
 use Rattle.tabled_config.specs.Options.{LeadsInTurn}
 use Rattle.tabled_config.proofs.InTurn.{one_more, none_made, where_refused}
 use Rattle.tabled_config.proofs.cell_option.modify.Goals as goal

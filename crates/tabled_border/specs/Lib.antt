@@ -1,0 +1,4 @@
+pub mod Converting
+pub mod Border
+pub mod Texts
+pub mod LentTexts

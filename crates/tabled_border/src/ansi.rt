@@ -1,0 +1,301 @@
+//! Colours, as the texts that a terminal reads before and after what is coloured.
+
+ghost use Rattle.std.specs.Prelude.{◌≡◌, ◌↔◌, [], ◌++◌, ◌==◌, ℕ, List, IsTrue, IfOk, IsOk, OnOk};
+ghost use Rattle.std.specs.String.{string_bytes};
+ghost use Rattle.std.specs.Cmp.{partial_order_from_own_ties};
+ghost use Rattle.std.specs.Cmp.Rules.{comparing};
+ghost use Rattle.std.specs.Cmp.Lexicographic.{slice_cmp, pointwise};
+ghost use Rattle.std.specs.Ordering.{nat_cmp, on, then_cmp, eq_of_both, as_partial_cmp};
+ghost use Rattle.std.proofs.Common.{rules};
+
+#[cfg(test)]
+mod tests;
+
+use crate::{Keep, OutOfMemory};
+use std::alloc::Global;
+use std::cmp::Ordering;
+use std::fmt;
+use std::hash::{Hash, Hasher};
+use std::marker::Model;
+
+/// A value that writes a text before and a text after what it is wrapped around.
+pub trait ANSIFmt {
+    ghost prefix_text: { Self → List ℕ };
+
+    ghost suffix_text: { Self → List ℕ };
+
+    /// Writes the text before. A fault of the writer is passed on.
+    fn fmt_ansi_prefix<W: fmt::Write>(&self, f: &mut W) -> fmt::Result
+        ensures { OnOk result (W.write_str_gives f.old (prefix_text self.now) f.new) };
+
+    /// Writes the text after. A fault of the writer is passed on.
+    fn fmt_ansi_suffix<W: fmt::Write>(&self, f: &mut W) -> fmt::Result
+        ensures { OnOk result (W.write_str_gives f.old (suffix_text self.now) f.new) };
+}
+
+/// A colour that lends its two texts.
+pub trait AnsiText {
+    ghost prefix_text: { Self → List ℕ };
+
+    ghost suffix_text: { Self → List ℕ };
+
+    /// The text before what is coloured.
+    fn prefix(&self) -> &str
+        ensures { result.now ≡ prefix_text self.now };
+
+    /// The text after what is coloured.
+    fn suffix(&self) -> &str
+        ensures { result.now ≡ suffix_text self.now };
+}
+
+/// A colour that owns its texts.
+///
+/// Two colours are equal where their texts are. Colours are ordered by prefix, then by suffix.
+#[derive(Debug, Drop)]
+pub struct ANSIBuf {
+    prefix: String,
+    suffix: String,
+}
+
+impl Model for ANSIBuf {
+    ghost use Rattle.tabled_border.specs.Texts.{Texts};
+    ghost use Rattle.std.specs.String.{string_bytes};
+
+    ghost Value = { Texts };
+
+    ghost view = { λ colour. record { prefix = string_bytes colour.prefix; suffix = string_bytes colour.suffix } };
+}
+
+impl ANSIBuf {
+    /// The colour of these two texts, which are copied. Empty texts take no memory.
+    pub fn new(alloc: Global, prefix: &str, suffix: &str) -> Result<Self, OutOfMemory>
+        ensures texts { IfOk result (λ colour. colour ≡ record { prefix = prefix.now; suffix = suffix.now }) }
+        ensures empty { prefix.now ≡ [] → suffix.now ≡ [] → IsOk result }
+    {
+        Ok(ANSIBuf {
+            prefix: copied(alloc, prefix)?,
+            suffix: copied(alloc, suffix)?,
+        })
+    }
+
+    /// The text before what is coloured.
+    pub fn get_prefix(&self) -> &str
+        ensures { result.now ≡ self.now.prefix }
+    {
+        self.prefix.as_str()
+    }
+
+    /// The text after what is coloured.
+    pub fn get_suffix(&self) -> &str
+        ensures { result.now ≡ self.now.suffix }
+    {
+        self.suffix.as_str()
+    }
+
+    /// Whether both texts are empty.
+    pub fn is_empty(&self) -> bool
+        ensures { IsTrue result ↔ ((self.now.prefix ≡ []) × (self.now.suffix ≡ [])) }
+    {
+        self.prefix.is_empty() && self.suffix.is_empty()
+    }
+}
+
+/// A copy of a text. An empty one takes no memory.
+fn copied(alloc: Global, text: &str) -> Result<String, OutOfMemory>
+    ensures copy { IfOk result (λ copy. string_bytes copy ≡ text.now) }
+    ensures empty { text.now ≡ [] → IsOk result }
+{
+    let mut copy = String::with_capacity(alloc, text.len())?;
+    copy.push_str(text)?;
+    Ok(copy)
+}
+
+impl Keep for ANSIBuf {
+    /// A copy of the colour with its texts. The empty colour takes no memory.
+    fn keep(&self, alloc: Global) -> Result<Self, OutOfMemory>
+        ensures copy { IfOk result (λ copy. copy ≡ self.now) }
+        ensures empty { self.now.prefix ≡ [] → self.now.suffix ≡ [] → IsOk result }
+    {
+        ANSIBuf::new(alloc, self.get_prefix(), self.get_suffix())
+    }
+}
+
+impl AnsiText for ANSIBuf {
+    ghost prefix_text = { λ colour. colour.prefix };
+
+    ghost suffix_text = { λ colour. colour.suffix };
+
+    fn prefix(&self) -> &str {
+        self.get_prefix()
+    }
+
+    fn suffix(&self) -> &str {
+        self.get_suffix()
+    }
+}
+
+impl ANSIFmt for ANSIBuf {
+    ghost prefix_text = { λ colour. colour.prefix };
+
+    ghost suffix_text = { λ colour. colour.suffix };
+
+    fn fmt_ansi_prefix<W: fmt::Write>(&self, f: &mut W) -> fmt::Result {
+        f.write_str(self.get_prefix())
+    }
+
+    fn fmt_ansi_suffix<W: fmt::Write>(&self, f: &mut W) -> fmt::Result {
+        f.write_str(self.get_suffix())
+    }
+}
+
+impl PartialEq for ANSIBuf {
+    ghost eq = { eq_of_both (on (λ a. a.prefix) (pointwise ◌==◌)) (on (λ a. a.suffix) (pointwise ◌==◌)) };
+
+    ghost laws = { Prim.search (comparing, rules) };
+
+    fn eq(&self, other: &ANSIBuf) -> bool {
+        self.get_prefix() == other.get_prefix() && self.get_suffix() == other.get_suffix()
+    }
+}
+
+impl Eq for ANSIBuf {
+    ghost laws = { Prim.search (comparing, rules) };
+}
+
+impl Ord for ANSIBuf {
+    ghost cmp = { then_cmp (on (λ a. a.prefix) (slice_cmp nat_cmp)) (on (λ a. a.suffix) (slice_cmp nat_cmp)) };
+
+    ghost total = { Prim.search (comparing, rules) };
+
+    ghost matches_partial_cmp = { Prim.search (comparing, rules) };
+
+    ghost matches_eq = { Prim.search (comparing, rules) };
+
+    fn cmp(&self, other: &ANSIBuf) -> Ordering {
+        self.get_prefix()
+            .cmp(other.get_prefix())
+            .then(self.get_suffix().cmp(other.get_suffix()))
+    }
+}
+
+impl PartialOrd for ANSIBuf {
+    ghost partial_cmp = { as_partial_cmp (then_cmp (on (λ a. a.prefix) (slice_cmp nat_cmp)) (on (λ a. a.suffix) (slice_cmp nat_cmp))) };
+
+    ghost laws = { partial_order_from_own_ties (Prim.search (comparing, rules)) (Prim.search (comparing, rules)) };
+
+    fn partial_cmp(&self, other: &ANSIBuf) -> Option<Ordering> {
+        Some(self.cmp(other))
+    }
+}
+
+impl Hash for ANSIBuf {
+    ghost use Rattle.std.specs.Hash as fed;
+    ghost use Rattle.std.specs.Cmp.Rules.{hashing};
+
+    ghost hash_input = { λ a. fed.str a.prefix ++ fed.str a.suffix };
+
+    ghost respects_eq = { Prim.search (hashing, rules) };
+
+    fn hash<H: Hasher>(&self, state: &mut H) {
+        self.get_prefix().hash(state);
+        self.get_suffix().hash(state);
+    }
+}
+
+/// A colour that lends its texts for as long as they live.
+#[derive(Clone, Copy, Debug, PartialEq, Eq, PartialOrd, Ord, Hash)]
+pub struct ANSIStr<'a> {
+    prefix: &'a str,
+    suffix: &'a str,
+}
+
+impl<'a> ANSIStr<'a> {
+    ghost use Rattle.tabled_border.specs.LentTexts.{lent_texts};
+
+    /// The colour of these two texts.
+    pub const fn new(prefix: &'a str, suffix: &'a str) -> Self
+        ensures { lent_texts result ≡ record { prefix = prefix.now; suffix = suffix.now } }
+    {
+        ANSIStr { prefix, suffix }
+    }
+
+    /// The colour of two empty texts.
+    pub const fn empty() -> Self
+        ensures { lent_texts result ≡ record { prefix = []; suffix = [] } }
+    {
+        ANSIStr::new("", "")
+    }
+
+    /// The text before what is coloured.
+    pub const fn get_prefix(&self) -> &'a str
+        ensures { result.now ≡ (lent_texts self.now).prefix }
+    {
+        self.prefix
+    }
+
+    /// The text after what is coloured.
+    pub const fn get_suffix(&self) -> &'a str
+        ensures { result.now ≡ (lent_texts self.now).suffix }
+    {
+        self.suffix
+    }
+
+    /// Whether both texts are empty.
+    pub fn is_empty(&self) -> bool
+        ensures { IsTrue result ↔ (((lent_texts self.now).prefix ≡ []) × ((lent_texts self.now).suffix ≡ [])) }
+    {
+        self.get_prefix().is_empty() && self.get_suffix().is_empty()
+    }
+}
+
+impl<'a> Default for ANSIStr<'a> {
+    ghost use Rattle.tabled_border.specs.LentTexts.{lent_texts};
+
+    ghost is_default = { λ colour. lent_texts colour ≡ record { prefix = []; suffix = [] } };
+
+    fn default() -> Self {
+        ANSIStr::empty()
+    }
+}
+
+impl<'a> Keep for ANSIStr<'a> {
+    /// A copy, which takes no memory, as the texts are lent on.
+    fn keep(&self, _alloc: Global) -> Result<Self, OutOfMemory>
+        ensures copy { IfOk result (λ copy. copy ≡ self.now) }
+        ensures always { IsOk result }
+    {
+        Ok(*self)
+    }
+}
+
+impl<'a> AnsiText for ANSIStr<'a> {
+    ghost use Rattle.tabled_border.specs.LentTexts.{lent_texts};
+
+    ghost prefix_text = { λ colour. (lent_texts colour).prefix };
+
+    ghost suffix_text = { λ colour. (lent_texts colour).suffix };
+
+    fn prefix(&self) -> &str {
+        self.get_prefix()
+    }
+
+    fn suffix(&self) -> &str {
+        self.get_suffix()
+    }
+}
+
+impl<'a> ANSIFmt for ANSIStr<'a> {
+    ghost use Rattle.tabled_border.specs.LentTexts.{lent_texts};
+
+    ghost prefix_text = { λ colour. (lent_texts colour).prefix };
+
+    ghost suffix_text = { λ colour. (lent_texts colour).suffix };
+
+    fn fmt_ansi_prefix<W: fmt::Write>(&self, f: &mut W) -> fmt::Result {
+        f.write_str(self.prefix)
+    }
+
+    fn fmt_ansi_suffix<W: fmt::Write>(&self, f: &mut W) -> fmt::Result {
+        f.write_str(self.suffix)
+    }
+}

@@ -1,0 +1,23 @@
+//! Which cells: the counts and sizes of a table, positions, entities, and objects that name cells before the table
+//! is known.
+//!
+//! `docs/DEFINITIONS.md` explains the words of the contracts. Users name these items by `tabled_grid`.
+#![tactic(auto)]
+
+mod dimension;
+mod entity;
+mod laws;
+mod object;
+mod position;
+mod records;
+
+pub use dimension::{Dimension, FixedDimension};
+pub use entity::{Entity, EntityIterator};
+pub use laws::{entities_have_what_they_cover, listed_by_two, listed_without_order};
+pub use object::{
+    Cell, Column, Columns, Combine, Difference, DifferenceIterator, FirstColumn, FirstRow,
+    LastColumn, LastColumnOffset, LastRow, LastRowOffset, Object, Row, Rows, Segment, SegmentAll,
+    Union,
+};
+pub use position::Position;
+pub use records::{ExactRecords, Records, Shape};

@@ -1,0 +1,40 @@
+//! Objects: cells of a table, named before the table is known.
+
+ghost use Rattle.std.specs.Prelude.{◌≡◌, ℕ, List, IfOk};
+ghost use Rattle.tabled_object.specs.declared.entity.Entity.{Entity};
+ghost use Rattle.tabled_object.specs.Listing.{Lists};
+
+mod cell;
+mod columns;
+mod combined;
+mod covering;
+mod difference;
+mod rows;
+mod segment;
+#[cfg(test)]
+mod tests;
+
+use crate::{Entity, ExactRecords, Records};
+pub use cell::Cell;
+pub use columns::{Column, Columns, FirstColumn, LastColumn, LastColumnOffset};
+pub use combined::{Combine, Union};
+pub use difference::{Difference, DifferenceIterator};
+pub use rows::{FirstRow, LastRow, LastRowOffset, Row, Rows};
+pub use segment::{Segment, SegmentAll};
+use std::alloc::Global;
+use tabled_border::OutOfMemory;
+
+/// Cells of a table, named before the table is known.
+pub trait Object<R: Records + ExactRecords> {
+    /// What gives the entities, one by one.
+    type Iter: Iterator<Item = Entity>;
+
+    /// What the object lists, in order, in a table of so many rows and so many columns.
+    ghost listing: { Self → ℕ → ℕ → List Entity };
+
+    /// The entities of the object in that table. The memory for them, where there is need of any, comes from
+    /// `alloc`.
+    fn cells(&self, alloc: Global, records: &R) -> Result<Self::Iter, OutOfMemory>
+        ensures { IfOk result (λ items. Lists Self.Iter.can_next Self.Iter.next_gives Self.Iter.remaining items
+            (listing self.now (R.row_count records.now) (R.column_count records.now))) };
+}

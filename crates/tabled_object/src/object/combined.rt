@@ -1,0 +1,55 @@
+//! Two objects as one.
+
+ghost use Rattle.std.specs.Prelude.{◌≡◌, ◌++◌};
+
+use crate::{Difference, Entity, ExactRecords, Object, Records};
+use std::alloc::Global;
+use std::iter::Chain;
+use tabled_border::OutOfMemory;
+
+/// How an object and another make one.
+pub trait Combine: Sized {
+    /// What this object lists, and then what the other one lists.
+    fn and<O>(self, other: O) -> Union<Self, O>
+        ensures left { result.left ≡ self }
+        ensures right { result.right ≡ other }
+    {
+        Union {
+            left: self,
+            right: other,
+        }
+    }
+
+    /// The cells of the table that this object covers and the other one does not, in row order.
+    fn not<O>(self, other: O) -> Difference<Self, O>
+        ensures kept { result.kept ≡ self }
+        ensures left_out { result.left_out ≡ other }
+    {
+        Difference {
+            kept: self,
+            left_out: other,
+        }
+    }
+}
+
+/// Two objects, one after the other.
+#[derive(Debug, Drop)]
+pub struct Union<A, B> {
+    /// What is listed first.
+    pub left: A,
+    /// What is listed then.
+    pub right: B,
+}
+
+impl<R: Records + ExactRecords, A: Object<R>, B: Object<R>> Object<R> for Union<A, B> {
+    type Iter = Chain<A::Iter, B::Iter>;
+
+    ghost listing = { λ both rows cols. A.listing both.left rows cols ++ B.listing both.right rows cols };
+
+    fn cells(&self, alloc: Global, records: &R) -> Result<Self::Iter, OutOfMemory> {
+        let left = self.left.cells(alloc, records)?;
+        Ok(left.chain(self.right.cells(alloc, records)?))
+    }
+}
+
+impl<A, B> Combine for Union<A, B> {}
