@@ -19,15 +19,20 @@ use tabled_grid::{LineOf, Place};
 /// Which way an edge runs: as part of a horizontal line, or of a vertical one.
 #[derive(Clone, Copy, Debug, PartialEq, Eq)]
 pub enum Direction {
+    /// Part of a horizontal line.
     Across,
+    /// Part of a vertical line.
     Down,
 }
 
 /// Where a line stands among those of its direction.
 #[derive(Clone, Copy, Debug, PartialEq, Eq)]
 pub enum Rank {
+    /// Line 0.
     First,
+    /// A line between the first and the closing one.
     Inner,
+    /// The line that closes the table.
     Closing,
 }
 
@@ -81,7 +86,9 @@ pub enum Written {
 /// A write, or an erasure.
 #[derive(Clone, Copy, Debug, PartialEq, Eq)]
 pub enum Event {
+    /// What is kept at a site from now on.
     Write(Site, Written),
+    /// Nothing is kept at the sites of the region from now on.
     Erase(Region),
 }
 
