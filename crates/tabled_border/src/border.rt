@@ -1,12 +1,14 @@
 //! The border of one cell: its four sides and its four corners.
 
-ghost use Rattle.std.specs.Prelude.{◌≡◌, ◌↔◌, IsTrue, Some, [], ◌∷◌, is_some};
+ghost use Rattle.std.specs.Prelude.{◌≡◌, ◌↔◌, IsTrue, Some, ⊤, [], ◌∷◌, is_some};
 ghost use Rattle.std.specs.List.{list_any, list_all};
 ghost use Rattle.std.specs.Option.{option_eq};
 ghost use Rattle.tabled_border.specs.Converting.{Converts};
 
+use std::alloc::AllocError;
+
 /// A character or a colour for each side and each corner of one cell. What is missing is not given.
-#[derive(Clone, Copy, Debug, Drop, PartialEq, Eq, PartialOrd, Ord, Hash)]
+#[derive(Copy, Debug, Drop, PartialEq, Eq, PartialOrd, Ord, Hash)]
 pub struct Border<T> {
     /// The upper side.
     pub top: Option<T>,
@@ -24,6 +26,17 @@ pub struct Border<T> {
     pub right_top_corner: Option<T>,
     /// The lower right corner.
     pub right_bottom_corner: Option<T>,
+}
+
+/// Values are copied where `T` is copied.
+impl<T: Copy> Clone for Border<T> {
+    ghost is_clone = { λ value copy. copy ≡ value };
+
+    ghost is_infallible = { λ _. ⊤ };
+
+    fn clone(&self) -> Result<Self, AllocError> {
+        Ok(*self)
+    }
 }
 
 impl<T> Border<T> {

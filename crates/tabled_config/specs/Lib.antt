@@ -10,5 +10,4 @@ pub mod Texts
 pub mod Along
 pub mod Picture
 pub mod Refusal
-pub mod Examples
 pub mod Options

@@ -6,7 +6,6 @@
 mod border_options;
 mod cell_option;
 mod colored_config;
-mod examples;
 mod laws;
 mod print;
 mod print_error;

@@ -1,9 +1,11 @@
 //! The class record: one character for each kind of border place.
 
-ghost use Rattle.std.specs.Prelude.{◌≡◌, ◌↔◌, None, IsTrue, option_copied};
+ghost use Rattle.std.specs.Prelude.{◌≡◌, ◌↔◌, None, IsTrue, ⊤, option_copied};
+
+use std::alloc::AllocError;
 
 /// A value for each of the fifteen kinds of border place, as characters or colours of a whole table.
-#[derive(Clone, Copy, Debug, Drop, PartialEq, Eq, PartialOrd, Ord, Hash)]
+#[derive(Copy, Debug, Drop, PartialEq, Eq, PartialOrd, Ord, Hash)]
 pub struct Borders<T> {
     /// The edges of horizontal line 0.
     pub top: Option<T>,
@@ -35,6 +37,17 @@ pub struct Borders<T> {
     pub vertical: Option<T>,
     /// The crossings of the other lines.
     pub intersection: Option<T>,
+}
+
+/// Values are copied where `T` is copied.
+impl<T: Copy> Clone for Borders<T> {
+    ghost is_clone = { λ value copy. copy ≡ value };
+
+    ghost is_infallible = { λ _. ⊤ };
+
+    fn clone(&self) -> Result<Self, AllocError> {
+        Ok(*self)
+    }
 }
 
 impl<T> Borders<T> {

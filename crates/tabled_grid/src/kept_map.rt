@@ -139,8 +139,10 @@ fn put_copy<K: Key, V: Keep>(
 
 impl<K: Key, V: Keep> Keep for KeptMap<K, V> {
     fn keep(&self, alloc: Global) -> Result<Self, OutOfMemory> {
-        // a look at the entries gives the checker their bound, which the copy keeps to
-        let _ = &self.entries;
+        // one field more, or a list in place of a value, and this does not compile; a look at the entries also gives
+        // the checker their bound, which the copy keeps to
+        let KeptMap { entries } = self;
+        let _: &BTreeMap<K, V> = entries;
         Ok(KeptMap {
             entries: self.copy(alloc)?,
         })

@@ -1,10 +1,12 @@
 //! Custom lines, which stand at one index in place of what the class record says there.
 
-ghost use Rattle.std.specs.Prelude.{◌≡◌, is_some, option_copied};
+ghost use Rattle.std.specs.Prelude.{◌≡◌, is_some, ⊤, option_copied};
 ghost use Rattle.tabled_grid.specs.Table.{passes};
 
+use std::alloc::AllocError;
+
 /// A custom horizontal line. A character that is missing leaves the place to the levels below.
-#[derive(Clone, Copy, Debug, Drop, PartialEq, Eq, PartialOrd, Ord, Hash)]
+#[derive(Copy, Debug, Drop, PartialEq, Eq, PartialOrd, Ord, Hash)]
 pub struct HorizontalLine<T> {
     /// Along the edges.
     pub main: Option<T>,
@@ -16,8 +18,19 @@ pub struct HorizontalLine<T> {
     pub right: Option<T>,
 }
 
+/// Values are copied where `T` is copied.
+impl<T: Copy> Clone for HorizontalLine<T> {
+    ghost is_clone = { λ value copy. copy ≡ value };
+
+    ghost is_infallible = { λ _. ⊤ };
+
+    fn clone(&self) -> Result<Self, AllocError> {
+        Ok(*self)
+    }
+}
+
 /// A custom vertical line. A character that is missing leaves the place to the levels below.
-#[derive(Clone, Copy, Debug, Drop, PartialEq, Eq, PartialOrd, Ord, Hash)]
+#[derive(Copy, Debug, Drop, PartialEq, Eq, PartialOrd, Ord, Hash)]
 pub struct VerticalLine<T> {
     /// Along the edges.
     pub main: Option<T>,
@@ -27,6 +40,17 @@ pub struct VerticalLine<T> {
     pub top: Option<T>,
     /// At the crossing with the closing horizontal line.
     pub bottom: Option<T>,
+}
+
+/// Values are copied where `T` is copied.
+impl<T: Copy> Clone for VerticalLine<T> {
+    ghost is_clone = { λ value copy. copy ≡ value };
+
+    ghost is_infallible = { λ _. ⊤ };
+
+    fn clone(&self) -> Result<Self, AllocError> {
+        Ok(*self)
+    }
 }
 
 /// Whether there is a line with a left.

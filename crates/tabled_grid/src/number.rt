@@ -44,7 +44,10 @@ impl Number {
     pub(crate) fn copy(&self) -> Self
         ensures { result ≡ self.now }
     {
-        Number { kept: self.kept }
+        // one field more, and this does not compile
+        let Number { kept } = self;
+        let kept: u128 = *kept;
+        Number { kept }
     }
 
     /// Counts what was put, and no more what was taken for it.

@@ -1,24 +1,10 @@
 //! `tabled_show STYLE` reads rows of cells from standard input, and writes them as a framed table.
 //!
-//! A row is a line of the input, and its cells stand between tabs.
+//! A row is a line of the input, and its cells stand between tabs. What the program does stands in `tabled_pages`.
 #![tactic(auto)]
 
-mod bytes;
-mod error;
-mod faults;
-mod page;
-mod read;
-mod run;
-mod styles;
-mod table;
-#[cfg(test)]
-mod tests;
-mod words;
-
-use error::ShowError;
-use run::run;
 use std::process::ExitCode;
-use words::all_words;
+use tabled_pages::{ShowError, all_words, run};
 
 /// Runs the program over its words, its standard input and its standard output.
 fn show(rt: &HostRuntime) -> Result<(), ShowError> {

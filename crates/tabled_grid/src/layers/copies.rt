@@ -3,19 +3,62 @@
 ghost use Rattle.std.specs.Prelude.{◌≡◌, IfOk};
 
 use super::Layers;
-use crate::{Keep, OutOfMemory};
+use crate::kept_map::KeptMap;
+use crate::keys::EdgePlace;
+use crate::number::Number;
+use crate::{Borders, HorizontalLine, Keep, OutOfMemory, Position, VerticalLine};
 use std::alloc::Global;
 
-/// The copy keeps `alloc` for the calls that need memory.
+/// What is kept under the number of a line.
+type Lines<V> = KeptMap<usize, V>;
+
+/// What is kept under the position of an edge or of a crossing.
+type Spots<T> = KeptMap<Position, T>;
+
+/// What is kept under an edge and a number on it.
+type Offsets<T> = KeptMap<EdgePlace, T>;
+
+/// The copy keeps `alloc` for the calls that need memory. The pattern names each field, and the copies name their
+/// types, so this does not compile over a store that has one field more, or a list in place of a value.
 impl<T: Keep> Keep for Layers<T> {
     fn keep(&self, alloc: Global) -> Result<Self, OutOfMemory> {
-        let lines = keep_two(&self.vertical_lines, &self.horizontal_lines, alloc)?;
-        let edges = keep_two(&self.edges_across, &self.edges_down, alloc)?;
-        let crosses = self.crosses.keep(alloc)?;
-        let ends = keep_two(&self.ends_across, &self.ends_down, alloc)?;
-        let starts = keep_two(&self.starts_across, &self.starts_down, alloc)?;
-        let numbers = keep_two(&self.on_rows, &self.on_cols, alloc)?;
-        let below = keep_two(&self.default_value, &self.class_record, alloc)?;
+        let Layers {
+            alloc: _,
+            default_value,
+            class_record,
+            vertical_lines,
+            horizontal_lines,
+            edges_across,
+            edges_down,
+            crosses,
+            ends_across,
+            ends_down,
+            starts_across,
+            starts_down,
+            on_rows,
+            on_cols,
+            tops,
+            bottoms,
+            lefts,
+            rights,
+            betweens,
+        } = self;
+        let lines: (Lines<VerticalLine<T>>, Lines<HorizontalLine<T>>) = keep_two(
+            vertical_lines,
+            horizontal_lines,
+            alloc,
+        )?;
+        let edges: (Spots<T>, Spots<T>) = keep_two(edges_across, edges_down, alloc)?;
+        let crosses: Spots<T> = crosses.keep(alloc)?;
+        let ends: (Offsets<T>, Offsets<T>) = keep_two(ends_across, ends_down, alloc)?;
+        let starts: (Offsets<T>, Offsets<T>) = keep_two(starts_across, starts_down, alloc)?;
+        let numbers: (Lines<u128>, Lines<u128>) = keep_two(on_rows, on_cols, alloc)?;
+        let below: (Option<T>, Borders<T>) = keep_two(default_value, class_record, alloc)?;
+        let tops: Number = tops.copy();
+        let bottoms: Number = bottoms.copy();
+        let lefts: Number = lefts.copy();
+        let rights: Number = rights.copy();
+        let betweens: Number = betweens.copy();
         Ok(Layers {
             alloc,
             default_value: below.0,
@@ -31,11 +74,11 @@ impl<T: Keep> Keep for Layers<T> {
             starts_down: starts.1,
             on_rows: numbers.0,
             on_cols: numbers.1,
-            tops: self.tops.copy(),
-            bottoms: self.bottoms.copy(),
-            lefts: self.lefts.copy(),
-            rights: self.rights.copy(),
-            betweens: self.betweens.copy(),
+            tops,
+            bottoms,
+            lefts,
+            rights,
+            betweens,
         })
     }
 }

@@ -1,0 +1,8 @@
+//! Uses of the library whose contracts are computed or proved: tables drawn by hand, by the definitions alone.
+//!
+//! `docs/DEFINITIONS.md` explains the words of the contracts.
+#![tactic(auto)]
+
+mod examples;
+
+pub use examples::{drawn_lines, lines_of_their_own, places_and_levels};
