@@ -1,6 +1,7 @@
 -- Configurations by the events of their stores.
 use Rattle.std.proofs.Common.{◌≡◌, ℕ, None, List, [], ◌∷◌, ◌++◌, map, refl, sym, ap, subst, ◌∙◌}
 use Rattle.std.proofs.lemmas.List.{append-nil}
+use Rattle.std.proofs.lemmas.List.Elements.{filter_map-append}
 use Rattle.tabled_grid.specs.Site.{across, down, Site, the_default, of_class, of_line, at_spot, from_end, from_start}
 use Rattle.tabled_grid.specs.declared.borders.Borders.{Borders}
 use Rattle.tabled_grid.specs.declared.place.LineOf.{LineOf}
@@ -10,7 +11,7 @@ use Rattle.tabled_border.specs.Texts.{Texts}
 use Rattle.tabled_grid.proofs.Replay.{kept-nil, kept_cleared, Shows_after, Changes-append, Changes-nil, Changes_from_nothing}
 use Rattle.tabled_grid.specs.Calls.{default_set, lines_erased, offsets_erased}
 use Rattle.tabled_grid.proofs.Writing.{Shows-writes_of}
-use Rattle.tabled_config.specs.Configuration.{Configuration, ConfigEvent, of_characters, of_colours, characters_of, colours_of, by_characters, by_colours, all_but_offsets, default_color_set, Shows, Changes, all_writes, borders_set, borders_removed}
+use Rattle.tabled_config.specs.Configuration.{Configuration, ConfigEvent, of_characters, of_colours, character_event, colour_event, characters_of, colours_of, by_characters, by_colours, all_but_offsets, default_color_set, Shows, Changes, all_writes, borders_set, borders_removed}
 
 -- the events of each kind, in lists of one kind and in two lists in a row
 pub characters_of-by_characters : (es : List (grid.Event ℕ)) → characters_of (by_characters es) ≡ es
@@ -29,22 +30,12 @@ colours_of-by_colours : (es : List (grid.Event Texts)) → colours_of (by_colour
 colours_of-by_colours [] = refl
 colours_of-by_colours (e ∷ es) = ap (λ rest. e ∷ rest) (colours_of-by_colours es)
 
-pub characters_of-append : (es fs : List ConfigEvent) → characters_of (es ++ fs) ≡ characters_of es ++ characters_of fs
-characters_of-append [] fs = refl
-characters_of-append (of_characters e ∷ es) fs = ap (λ rest. e ∷ rest) (characters_of-append es fs)
-characters_of-append (of_colours e ∷ es) fs = characters_of-append es fs
-
-colours_of-append : (es fs : List ConfigEvent) → colours_of (es ++ fs) ≡ colours_of es ++ colours_of fs
-colours_of-append [] fs = refl
-colours_of-append (of_characters e ∷ es) fs = colours_of-append es fs
-colours_of-append (of_colours e ∷ es) fs = ap (λ rest. e ∷ rest) (colours_of-append es fs)
-
 -- what there is of each kind in the two kinds in a row
 pub characters_of-both : (es : List (grid.Event ℕ)) (fs : List (grid.Event Texts)) → characters_of (by_characters es ++ by_colours fs) ≡ es
-characters_of-both es fs = characters_of-append (by_characters es) (by_colours fs) ∙ ap (λ rest. characters_of (by_characters es) ++ rest) (characters_of-by_colours fs) ∙ append-nil (characters_of (by_characters es)) ∙ characters_of-by_characters es
+characters_of-both es fs = filter_map-append character_event (by_characters es) (by_colours fs) ∙ ap (λ rest. characters_of (by_characters es) ++ rest) (characters_of-by_colours fs) ∙ append-nil (characters_of (by_characters es)) ∙ characters_of-by_characters es
 
 pub colours_of-both : (es : List (grid.Event ℕ)) (fs : List (grid.Event Texts)) → colours_of (by_characters es ++ by_colours fs) ≡ fs
-colours_of-both es fs = colours_of-append (by_characters es) (by_colours fs) ∙ ap (λ start. start ++ colours_of (by_colours fs)) (colours_of-by_characters es) ∙ colours_of-by_colours fs
+colours_of-both es fs = filter_map-append colour_event (by_characters es) (by_colours fs) ∙ ap (λ start. start ++ colours_of (by_colours fs)) (colours_of-by_characters es) ∙ colours_of-by_colours fs
 
 -- a change of the characters alone, and of the colours alone
 pub Changes_by_characters : (es : List (grid.Event ℕ)) (before after : Keeping ℕ) (colours : Keeping Texts) (old : Configuration) → record { characters = before; colours = colours } ≡ old → grid.Changes es (keeps before) (keeps after) → Changes (by_characters es) old (record { characters = after; colours = colours })
@@ -134,13 +125,6 @@ Shows-all_writes cfg = record {
 -- a list that was shown before a change, followed by its events, is shown after it
 pub Shows_after_change : (before es : List ConfigEvent) (old new : Configuration) → Changes es old new → Shows before old → Shows (before ++ es) new
 Shows_after_change before es old new changes shows = record {
-  characters_shown = subst (λ all. grid.Shows all (keeps new.characters)) (sym (characters_of-append before es)) (Shows_after (characters_of before) (characters_of es) (keeps old.characters) (keeps new.characters) changes.characters_changed shows.characters_shown);
-  colours_shown = subst (λ all. grid.Shows all (keeps new.colours)) (sym (colours_of-append before es)) (Shows_after (colours_of before) (colours_of es) (keeps old.colours) (keeps new.colours) changes.colours_changed shows.colours_shown);
-}
-
--- two changes in a row
-pub Changes_in_a_row : (es fs : List ConfigEvent) (old mid new : Configuration) → Changes es old mid → Changes fs mid new → Changes (es ++ fs) old new
-Changes_in_a_row es fs old mid new by_es by_fs = record {
-  characters_changed = subst (λ all. grid.Changes all (keeps old.characters) (keeps new.characters)) (sym (characters_of-append es fs)) (Changes-append (characters_of es) (characters_of fs) (keeps old.characters) (keeps mid.characters) (keeps new.characters) by_es.characters_changed by_fs.characters_changed);
-  colours_changed = subst (λ all. grid.Changes all (keeps old.colours) (keeps new.colours)) (sym (colours_of-append es fs)) (Changes-append (colours_of es) (colours_of fs) (keeps old.colours) (keeps mid.colours) (keeps new.colours) by_es.colours_changed by_fs.colours_changed);
+  characters_shown = subst (λ all. grid.Shows all (keeps new.characters)) (sym (filter_map-append character_event before es)) (Shows_after (characters_of before) (characters_of es) (keeps old.characters) (keeps new.characters) changes.characters_changed shows.characters_shown);
+  colours_shown = subst (λ all. grid.Shows all (keeps new.colours)) (sym (filter_map-append colour_event before es)) (Shows_after (colours_of before) (colours_of es) (keeps old.colours) (keeps new.colours) changes.colours_changed shows.colours_shown);
 }

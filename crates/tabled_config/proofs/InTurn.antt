@@ -1,5 +1,6 @@
 -- Changes of entities in a row, and borders as options.
-use Rattle.std.proofs.Common.{◌≡◌, ◌==◌, ◌||◌, true, false, cond, ℕ, List, [], ◌∷◌, ◌++◌, refl, sym, subst, Result, Ok, Err, OnErr}
+use Rattle.std.proofs.Common.{◌≡◌, ◌==◌, ◌||◌, true, false, cond, ℕ, List, [], ◌∷◌, ◌++◌, map, refl, sym, ap, subst, ◌∙◌, append_assoc, Result, Ok, Err, IsOk, OnOk, OnErr}
+use Rattle.std.proofs.lemmas.List.{append-nil}
 use Rattle.tabled_object.specs.declared.entity.Entity.{Entity}
 use Rattle.tabled_border.specs.declared.border.Border.{Border}
 use Rattle.tabled_grid.specs.declared.borders.Borders.{Borders}
@@ -9,26 +10,49 @@ use Rattle.tabled_grid.specs.Keeping.{Keeping, keeps, class_record_set}
 use Rattle.tabled_grid.proofs.Replay.{Changes-append, Changes-nil}
 use Rattle.tabled_border.specs.Texts.{Texts}
 use Rattle.tabled_config.specs.Configuration.{Configuration, ConfigEvent, Changes, by_characters}
-use Rattle.tabled_config.specs.Options.{LeadsInTurn, entity_bordered, entity_unbordered, inner_of, table_unbordered}
-use Rattle.tabled_config.proofs.ConfigurationLemmas.{Changes_by_characters, Changes_in_a_row}
+use Rattle.tabled_config.specs.Options.{MakesInTurn, entity_bordered, entity_unbordered, inner_of, table_unbordered}
+use Rattle.tabled_config.proofs.ConfigurationLemmas.{Changes_by_characters}
 use Rattle.std.specs.List.{flat_map}
 
-module _ {C : Type 0} (leads : Entity → C → C → Type 0) where
-  -- one more change at the end
-  pub one_more : (entities : List Entity) (entity : Entity) (old between new : C) → LeadsInTurn leads entities old between → leads entity between new → LeadsInTurn leads (entities ++ entity ∷ []) old new
-  unfolding LeadsInTurn
-  one_more [] entity old between new same one = (new, subst (λ cfg. leads entity cfg new) same one, refl)
-  one_more (first ∷ rest) entity old between new made one = (made.0, made.1, one_more rest entity made.0 between new made.2 one)
+module _ {C E : Type 0} (changes : List E → C → C → Type 0) where
+  -- one more step at the end
+  pub one_more : (steps : List (C → List E)) (step : C → List E) (made : List E) (old between new : C) → MakesInTurn changes steps made old between → changes (step between) between new → MakesInTurn changes (steps ++ step ∷ []) (made ++ step between) old new
+  unfolding MakesInTurn
+  one_more [] step made old between new by one =
+      (new, [], subst (λ cfg. changes (step cfg) cfg new) by.0 one, (refl, refl),
+      ap (λ start. start ++ step between) by.1 ∙ ap step by.0 ∙ sym (append-nil (step old)))
+  one_more (first ∷ rest) step made old between new by one =
+      (by.0, by.1 ++ step between, by.2, one_more rest step by.1 by.0 between new by.3 one,
+      ap (λ start. start ++ step between) by.4 ∙ append_assoc (first old) by.1 (step between))
 
-  -- no change was made
-  pub none_made : (cfg : C) → LeadsInTurn leads [] cfg cfg
-  unfolding LeadsInTurn
-  none_made cfg = refl
+  -- no step was made
+  pub none_made : (cfg : C) → MakesInTurn changes [] [] cfg cfg
+  unfolding MakesInTurn
+  none_made cfg = (refl, refl)
+
+  -- all of them are the change by their events
+  pub by_all_events : ((cfg : C) → changes [] cfg cfg) → ((es fs : List E) (old between new : C) → changes es old between → changes fs between new → changes (es ++ fs) old new) → (steps : List (C → List E)) (made : List E) (old new : C) → MakesInTurn changes steps made old new → changes made old new
+  unfolding MakesInTurn
+  by_all_events none both [] made old new by =
+      subst (λ es. changes es old new) (sym by.1) (subst (λ cfg. changes [] old cfg) (sym by.0) (none old))
+  by_all_events none both (step ∷ steps) made old new by =
+      subst (λ es. changes es old new) (sym by.4) (both (step old) by.1 old by.0 new by.2 (by_all_events none both steps by.1 by.0 new by.3))
+
+-- where no step reads what stands before it, what was made are their events
+pub all_unread : {A C E : Type 0} (changes : List E → C → C → Type 0) (events : A → List E) (members : List A) (made : List E) (old new : C) → MakesInTurn changes (map (λ member _. events member) members) made old new → made ≡ flat_map events members
+unfolding MakesInTurn
+all_unread changes events [] made old new by = by.1
+all_unread changes events (member ∷ members) made old new by = by.4 ∙ ap (λ rest. events member ++ rest) (all_unread changes events members by.1 by.0 new by.3)
 
 -- what holds of any answer holds of a refusal
 pub where_refused : {A E P : Type 0} (result : Result A E) → P → OnErr result P
 where_refused (Ok x) p = tt
 where_refused (Err e) p = p
+
+-- what holds of an answer that is no refusal holds
+pub where_sure : {A E P : Type 0} (result : Result A E) → IsOk result → OnOk result P → P
+where_sure (Ok x) sure p = p
+where_sure (Err e) sure p = absurd cc
 
 -- a border around the cells of an entity
 pub Changes-entity_bordered : (border : Border ℕ) (shape : ℕ × ℕ) (entity : Entity) (before after : Keeping ℕ) (colours : Keeping Texts) (old : Configuration) → record { characters = before; colours = colours } ≡ old → grid.Changes (entity_border_set entity shape border) (keeps before) (keeps after) → Changes (entity_bordered border shape entity) old (record { characters = after; colours = colours })
@@ -55,11 +79,3 @@ Changes-table_unbordered rows cols class result before between after colours old
     (Changes_by_characters (class_record_set (inner_of class) ++ frame_erased (rows, cols)) before after colours old is
     (Changes-append (class_record_set (inner_of class)) (frame_erased (rows, cols)) (keeps before) (keeps between) (keeps after)
     (subst (λ borders. grid.Changes (class_record_set borders) (keeps before) (keeps between)) inner sets) erases))
-
--- changes of entities in a row, each by its events
-pub by_all_events : (events : Entity → List ConfigEvent) (entities : List Entity) (old new : Configuration) → LeadsInTurn (λ entity. Changes (events entity)) entities old new → Changes (flat_map events entities) old new
-unfolding LeadsInTurn
-by_all_events events [] old new same =
-    subst (λ cfg. Changes [] old cfg) (sym same) (record { characters_changed = Changes-nil (keeps old.characters); colours_changed = Changes-nil (keeps old.colours) })
-by_all_events events (entity ∷ entities) old new made =
-    Changes_in_a_row (events entity) (flat_map events entities) old made.0 new made.1 (by_all_events events entities made.0 new made.2)

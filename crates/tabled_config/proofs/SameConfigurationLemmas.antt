@@ -5,7 +5,8 @@ use Rattle.std.specs.Cmp.Lexicographic.{pointwise, same_text}
 use Rattle.tabled_grid.specs.Same.{same_keeping}
 use Rattle.tabled_grid.proofs.SameLemmas.{IsExact, both, exact_keeping}
 use Rattle.tabled_config.specs.Configuration.{Configuration}
-use Rattle.tabled_config.specs.SameConfiguration.{same_texts, same_configuration, configuration_equiv}
+use Rattle.tabled_config.specs.Colored.{Colored}
+use Rattle.tabled_config.specs.SameConfiguration.{same_texts, same_configuration, configuration_equiv, same_colored, colored_equiv}
 
 -- where the characters are the same, the test of the colours answers for the configurations
 pub colours_answer : (a b c d : Configuration) (characters colours : Bool) → a ≡ c → b ≡ d → characters ≡ same_keeping nat_eq a.characters b.characters → characters ≡ true → colours ≡ same_keeping same_texts a.colours b.colours → colours ≡ same_configuration c d
@@ -29,3 +30,11 @@ exact_configurations a b h =
 pub same_configuration-exact : (a b : Configuration) → IsTrue (same_configuration a b) ↔ (a ≡ b)
 same_configuration-exact a b =
     (λ h. exact_configurations a b h, λ is. subst (λ c. same_configuration a c ≡ true) is (configuration_equiv.refl a))
+
+-- and so do what options change
+exact_colored : IsExact same_colored
+exact_colored a b h = λ i. record { spanned = exact_configurations a.spanned b.spanned h i }
+
+pub same_colored-exact : (a b : Colored) → IsTrue (same_colored a b) ↔ (a ≡ b)
+same_colored-exact a b =
+    (λ h. exact_colored a b h, λ is. subst (λ c. same_colored a c ≡ true) is (colored_equiv.refl a))

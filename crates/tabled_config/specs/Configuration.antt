@@ -1,8 +1,8 @@
 -- What a configuration keeps, and what changes it.
-use Rattle.std.specs.Prelude.{ℕ, List, [], ◌∷◌, ◌++◌, map}
+use Rattle.std.specs.Prelude.{ℕ, Option, Some, None, List, [], ◌∷◌, ◌++◌, map}
 use Rattle.std.specs.Coded.{Coded, codes}
 use Rattle.std.specs.FinMap as finmap
-use Rattle.std.specs.List.{flat_map}
+use Rattle.std.specs.List.{flat_map, filter_map}
 use Rattle.tabled_grid.specs.declared.lines.HorizontalLine.{HorizontalLine}
 use Rattle.tabled_grid.specs.declared.lines.VerticalLine.{VerticalLine}
 use Rattle.tabled_grid.specs.declared.borders.Borders.{Borders}
@@ -25,16 +25,21 @@ pub data ConfigEvent : Type 0 where
   of_characters : grid.Event ℕ → ConfigEvent
   of_colours : grid.Event Texts → ConfigEvent
 
+-- the event as one of characters, and as one of colours
+abbrev pub character_event : ConfigEvent → Option (grid.Event ℕ)
+character_event (of_characters e) = Some e
+character_event _ = None
+
+abbrev pub colour_event : ConfigEvent → Option (grid.Event Texts)
+colour_event (of_colours e) = Some e
+colour_event _ = None
+
 -- those of a list that concern characters, and those that concern colours
 abbrev pub characters_of : List ConfigEvent → List (grid.Event ℕ)
-characters_of [] = []
-characters_of (of_characters e ∷ es) = e ∷ characters_of es
-characters_of (of_colours e ∷ es) = characters_of es
+characters_of es = filter_map character_event es
 
 abbrev pub colours_of : List ConfigEvent → List (grid.Event Texts)
-colours_of [] = []
-colours_of (of_characters e ∷ es) = colours_of es
-colours_of (of_colours e ∷ es) = e ∷ colours_of es
+colours_of es = filter_map colour_event es
 
 -- the configuration keeps what the events leave
 pub record Shows (es : List ConfigEvent) (cfg : Configuration) : Type 0 where

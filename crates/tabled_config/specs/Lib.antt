@@ -5,6 +5,8 @@ pub use Rattle.tabled_grid.specs.Drawn
 pub use Rattle.tabled_grid.specs.Keeping
 pub use Rattle.tabled_grid.specs.Probing
 pub mod Configuration
+pub mod Colored
+pub mod ChangeLaws
 pub mod SameConfiguration
 pub mod Texts
 pub mod Along

@@ -8,10 +8,12 @@ use Rattle.tabled_grid.specs.Site.{across, down, inner}
 use Rattle.tabled_grid.specs.Keeping.{line_classes, has_class, class_record_set}
 use Rattle.tabled_config.specs.Configuration.{ConfigEvent, by_characters, borders_set}
 
--- one change for each entity of a list, in its order
-unfoldable pub LeadsInTurn : {C : Type 0} → (Entity → C → C → Type 0) → List Entity → C → C → Type 0
-LeadsInTurn leads [] old new = new ≡ old
-LeadsInTurn {C = C} leads (entity ∷ entities) old new = (between : C) × leads entity old between × LeadsInTurn leads entities between new
+-- steps in a row, each a change by the events that it makes of what stands before it; what was made are the events of them
+-- all, one after the other
+unfoldable pub MakesInTurn : {C E : Type 0} → (List E → C → C → Type 0) → List (C → List E) → List E → C → C → Type 0
+MakesInTurn changes [] made old new = (new ≡ old) × (made ≡ [])
+MakesInTurn {C = C} {E = E} changes (step ∷ steps) made old new =
+    (between : C) × (rest : List E) × changes (step old) old between × MakesInTurn changes steps rest between new × (made ≡ step old ++ rest)
 
 -- a border put around each cell of an entity, in a table of so many rows and columns
 unfoldable pub entity_bordered : Border ℕ → ℕ × ℕ → Entity → List ConfigEvent

@@ -7,6 +7,7 @@ use Rattle.tabled_border.specs.Texts.{Texts}
 use Rattle.tabled_grid.specs.Same.{same_keeping}
 use Rattle.tabled_grid.specs.SameLaws.{keeping_equiv}
 use Rattle.tabled_config.specs.Configuration.{Configuration}
+use Rattle.tabled_config.specs.Colored.{Colored}
 
 -- two colours: the same text before, and the same text after
 abbrev pub same_texts : Texts → Texts → Bool
@@ -16,7 +17,11 @@ same_texts a b = pointwise ◌==◌ a.prefix b.prefix && pointwise ◌==◌ a.su
 unfoldable pub same_configuration : Configuration → Configuration → Bool
 same_configuration a b = same_keeping ◌==◌ a.characters b.characters && same_keeping same_texts a.colours b.colours
 
--- both are equivalences
+-- the same with what options change beside
+abbrev pub same_colored : Colored → Colored → Bool
+same_colored a b = same_configuration a.spanned b.spanned
+
+-- all are equivalences
 pub texts_equiv : IsEquivalence same_texts
 texts_equiv = and_equiv (on_texts_equal (λ texts. texts.prefix)) (on_texts_equal (λ texts. texts.suffix))
 
@@ -26,3 +31,9 @@ configuration_equiv = and_equiv (on_equiv (λ cfg. cfg.characters) (keeping_equi
 
 pub configuration_per : IsPartialEquivalence same_configuration
 configuration_per = partial_equiv_from_equiv configuration_equiv
+
+pub colored_equiv : IsEquivalence same_colored
+colored_equiv = on_equiv (λ cfg. cfg.spanned) configuration_equiv
+
+pub colored_per : IsPartialEquivalence same_colored
+colored_per = partial_equiv_from_equiv colored_equiv

@@ -2,14 +2,14 @@
 
 ghost use Rattle.std.specs.Prelude.{◌≡◌, Some, IsOk, if◌then◌else◌};
 ghost use Rattle.tabled_object.specs.declared.entity.Entity.TheVariants as cells;
-ghost use Rattle.tabled_config.specs.Configuration.{Changes};
+ghost use Rattle.tabled_config.specs.Colored.{Changes};
 ghost use Rattle.tabled_config.specs.Options.{entity_bordered, framed, table_bordered};
 
 use crate::{CellOption, ColoredConfig, TableOption};
 use tabled_grid::{Border, Borders, Entity, ExactRecords, OutOfMemory, Records};
 
 impl<R: Records + ExactRecords> CellOption<R, ColoredConfig> for Border<char> {
-    ghost leads = { λ border records entity old new. Changes (entity_bordered border (R.row_count records, R.column_count records) entity) old new };
+    ghost makes = { λ border records entity old. entity_bordered border (R.row_count records, R.column_count records) entity };
 
     ghost hinted = { λ border. Some cells.Global };
 
@@ -31,7 +31,7 @@ impl<R: Records + ExactRecords> CellOption<R, ColoredConfig> for Border<char> {
 }
 
 impl<R, D> TableOption<R, ColoredConfig, D> for Border<char> {
-    ghost leads = { λ border records dims old new. Changes (table_bordered border old.characters.class_record) old new };
+    ghost makes = { λ border records dims old. table_bordered border old.spanned.characters.class_record };
 
     ghost hinted = { λ border. Some cells.Global };
 
@@ -47,7 +47,7 @@ impl<R, D> TableOption<R, ColoredConfig, D> for Border<char> {
         _dims: &mut D,
     ) -> Result<(), OutOfMemory>
         ensures always { IsOk result }
-        ensures ok { Changes (table_bordered self cfg.old.characters.class_record) cfg.old cfg.new }
+        ensures ok { Changes (table_bordered self cfg.old.spanned.characters.class_record) cfg.old cfg.new }
         ensures records { _records.new ≡ _records.old }
         ensures sizes { _dims.new ≡ _dims.old }
     {

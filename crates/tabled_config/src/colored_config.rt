@@ -2,7 +2,7 @@
 
 ghost use Rattle.std.specs.Prelude.{◌≡◌};
 
-use crate::{SpannedConfig, TableOption};
+use crate::{BorderEvent, Configured, SpannedConfig, TableOption};
 use std::alloc::Global;
 use std::marker::Model;
 use tabled_grid::{Borders, Entity, Keep, OutOfMemory};
@@ -14,13 +14,26 @@ pub struct ColoredConfig {
 }
 
 impl Model for ColoredConfig {
-    ghost use Rattle.tabled_config.specs.Configuration.{Configuration, configuration_code};
+    ghost use Rattle.tabled_config.specs.Colored.{Colored, colored_code};
 
-    ghost Value = { Configuration };
+    ghost Value = { Colored };
 
-    ghost coded = { configuration_code };
+    ghost coded = { colored_code };
 
-    ghost view = { λ cfg. cfg.config };
+    ghost view = { λ cfg. record { spanned = cfg.config } };
+}
+
+impl Configured for ColoredConfig {
+    ghost use Rattle.tabled_config.specs.Colored.{Changes};
+    ghost use Rattle.tabled_config.specs.ChangeLaws as laws;
+
+    type Event = BorderEvent;
+
+    ghost changes = { Changes };
+
+    ghost none_change = { laws.none_change };
+
+    ghost both_change = { laws.both_change };
 }
 
 impl ColoredConfig {
@@ -30,29 +43,29 @@ impl ColoredConfig {
 
     /// A configuration over the given one.
     pub fn new(config: SpannedConfig) -> Self
-        ensures { result ≡ config }
+        ensures { result ≡ record { spanned = config } }
     {
         ColoredConfig { config }
     }
 
     /// The configuration of the borders.
     pub fn config(&self) -> &SpannedConfig
-        ensures { result.now ≡ self.now }
+        ensures { result.now ≡ self.now.spanned }
     {
         &self.config
     }
 
     /// The configuration of the borders, to be changed. What is written there is this configuration's.
     pub fn config_mut(&mut self) -> &mut SpannedConfig
-        ensures* writes_back { sem 𝓛 (Lends the_row spanned_row self.entry result (λ config. config)) }
-        ensures value { result.now ≡ self.old }
+        ensures* writes_back { sem 𝓛 (Lends the_row spanned_row self.entry result (λ config. record self.old { spanned = config })) }
+        ensures value { result.now ≡ self.old.spanned }
     {
         &mut self.config
     }
 
     /// The configuration of the borders, given up by this one.
     pub fn into_inner(self) -> SpannedConfig
-        ensures { result ≡ self }
+        ensures { result ≡ self.spanned }
     {
         let ColoredConfig { config } = self;
         config
@@ -62,9 +75,10 @@ impl ColoredConfig {
 impl<R, D> TableOption<R, ColoredConfig, D> for Borders<char> {
     ghost use Rattle.std.specs.Prelude.{Some, IsOk, []};
     ghost use Rattle.tabled_object.specs.declared.entity.Entity.TheVariants as cells;
-    ghost use Rattle.tabled_config.specs.Configuration.{Changes, borders_replaced};
+    ghost use Rattle.tabled_config.specs.Configuration.{borders_replaced};
+    ghost use Rattle.tabled_config.specs.Colored.{Changes};
 
-    ghost leads = { λ borders records dims old new. Changes (borders_replaced borders [] []) old new };
+    ghost makes = { λ borders records dims old. borders_replaced borders [] [] };
 
     ghost hinted = { λ borders. Some cells.Global };
 
@@ -98,11 +112,11 @@ impl Keep for ColoredConfig {
 
 /// Equality is that of the configurations of the borders.
 impl PartialEq for ColoredConfig {
-    ghost use Rattle.tabled_config.specs.SameConfiguration.{same_configuration, configuration_per};
+    ghost use Rattle.tabled_config.specs.SameConfiguration.{same_colored, colored_per};
 
-    ghost eq = { same_configuration };
+    ghost eq = { same_colored };
 
-    ghost laws = { configuration_per };
+    ghost laws = { colored_per };
 
     fn eq(&self, other: &Self) -> bool {
         self.config == other.config
@@ -110,13 +124,13 @@ impl PartialEq for ColoredConfig {
 }
 
 impl Eq for ColoredConfig {
-    ghost use Rattle.tabled_config.specs.SameConfiguration.{configuration_equiv};
+    ghost use Rattle.tabled_config.specs.SameConfiguration.{colored_equiv};
 
-    ghost laws = { configuration_equiv };
+    ghost laws = { colored_equiv };
 }
 
 impl From<SpannedConfig> for ColoredConfig {
-    ghost from_gives = { λ config result. result ≡ config };
+    ghost from_gives = { λ config result. result ≡ record { spanned = config } };
 
     fn from(config: SpannedConfig) -> Self {
         ColoredConfig::new(config)

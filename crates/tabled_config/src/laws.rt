@@ -1,40 +1,77 @@
 //! The laws of changes of a configuration, and of equal ones. Each is the contract of a function that
 //! does nothing, so that the gate proves it.
 
-ghost use Rattle.std.specs.Prelude.{◌≡◌, ◌↔◌, List, ◌++◌, IsTrue};
-ghost use Rattle.tabled_config.specs.Configuration.{Configuration, ConfigEvent, Shows, Changes, all_writes};
+ghost use Rattle.std.specs.Prelude.{◌≡◌, ◌↔◌, ℕ, List, [], ◌∷◌, ◌++◌, map, IsTrue};
 ghost use Rattle.std.specs.List.{flat_map};
 ghost use Rattle.tabled_object.specs.declared.entity.Entity.{Entity};
-ghost use Rattle.tabled_config.specs.Options.{LeadsInTurn};
+ghost use Rattle.tabled_grid.specs.declared.place.LineOf.{LineOf};
+ghost use Rattle.tabled_grid.specs.declared.place.Place.{Place};
+ghost use Rattle.tabled_grid.specs.Event.{kept};
+ghost use Rattle.tabled_grid.specs.Keeping.{keeps};
+ghost use Rattle.tabled_grid.specs.Value.{value};
+ghost use Rattle.tabled_grid.specs.Drawn.{Drawn, drawn};
+ghost use Rattle.tabled_config.specs.Configuration.{ConfigEvent, characters_of, colours_of, all_writes};
+ghost use Rattle.tabled_config.specs.Configuration as borders;
+ghost use Rattle.tabled_config.specs.Colored.{Colored, Shows, Changes};
+ghost use Rattle.tabled_config.specs.Options.{MakesInTurn};
+ghost use Rattle.tabled_config.specs.Picture.{printed};
+ghost use Rattle.tabled_config.specs.Texts.{Table};
 
-use crate::{ColoredConfig, SpannedConfig};
+use crate::{ColoredConfig, Configured, SpannedConfig};
 
 /// A list of events that was shown before a change, followed by the events of the change, is shown after it.
 pub fn shown_after_change()
-    ensures { (before es : List ConfigEvent) (old new : Configuration)
+    ensures spanned { (before es : List ConfigEvent) (old new : borders.Configuration)
+        → borders.Changes es old new → borders.Shows before old → borders.Shows (before ++ es) new }
+    ensures colored { (before es : List ConfigEvent) (old new : Colored)
         → Changes es old new → Shows before old → Shows (before ++ es) new }
 {}
 
 /// Two changes in a row are the change by the events of both.
 pub fn changes_in_a_row()
-    ensures { (es fs : List ConfigEvent) (old between new : Configuration)
+    ensures spanned { (es fs : List ConfigEvent) (old between new : borders.Configuration)
+        → borders.Changes es old between → borders.Changes fs between new → borders.Changes (es ++ fs) old new }
+    ensures colored { (es fs : List ConfigEvent) (old between new : Colored)
         → Changes es old between → Changes fs between new → Changes (es ++ fs) old new }
 {}
 
-/// Where each entity's change is one by its events, changes of entities in a row are the change by all of
-/// these events, in the order of the entities: so `modify` makes the events of its option for each entity.
-pub fn changes_of_entities_in_turn()
-    ensures { (events : Entity → List ConfigEvent) (entities : List Entity) (old new : Configuration)
-        → LeadsInTurn (λ entity. Changes (events entity)) entities old new → Changes (flat_map events entities) old new }
+/// Any list of steps, each of which may read what stands before it, is the change by the events of them all, in order; for
+/// every kind of configuration. What options make stands in one list so, whatever their types.
+pub fn steps_in_turn<C: Configured>()
+    ensures none { (cfg : C) → MakesInTurn C.changes [] [] cfg cfg }
+    ensures one_more { (steps : List (C → List C.Event)) (step : C → List C.Event) (made : List C.Event) (old between new : C)
+        → MakesInTurn C.changes steps made old between → C.changes (step between) between new
+        → MakesInTurn C.changes (steps ++ step ∷ []) (made ++ step between) old new }
+    ensures all { (steps : List (C → List C.Event)) (made : List C.Event) (old new : C)
+        → MakesInTurn C.changes steps made old new → C.changes made old new }
+{}
+
+/// After any list of steps, on a configuration that showed some list of events, it shows that list followed by the events
+/// that the steps made; so each place has the character and the colour that these leave, each line is drawn where these
+/// draw it, and their text is the one that is printed.
+pub fn any_list()
+    ensures shows { (steps : List (Colored → List ConfigEvent)) (before made : List ConfigEvent) (old new : Colored)
+        → MakesInTurn Changes steps made old new → Shows before old → Shows (before ++ made) new }
+    ensures characters { (es : List ConfigEvent) (cfg : Colored) (shape : ℕ × ℕ) (size : ℕ) (place : Place)
+        → Shows es cfg → value (keeps cfg.spanned.characters) shape size place ≡ value (kept (characters_of es)) shape size place }
+    ensures colours { (es : List ConfigEvent) (cfg : Colored) (shape : ℕ × ℕ) (size : ℕ) (place : Place)
+        → Shows es cfg → value (keeps cfg.spanned.colours) shape size place ≡ value (kept (colours_of es)) shape size place }
+    ensures lines { (es : List ConfigEvent) (cfg : Colored) (count : ℕ) (line : LineOf)
+        → Shows es cfg → Drawn (keeps cfg.spanned.characters) count line ↔ IsTrue (drawn (characters_of es) count line) }
+    ensures text { (es fs : List ConfigEvent) (cfg : Colored) (shape : ℕ × ℕ) (widths heights : ℕ → ℕ) (cells : Table)
+        → Shows es cfg → Shows fs cfg → printed es shape widths heights cells ≡ printed fs shape widths heights cells }
+    ensures unread { (events : Entity → List ConfigEvent) (entities : List Entity) (made : List ConfigEvent) (old new : Colored)
+        → MakesInTurn Changes (map (λ entity _. events entity) entities) made old new → made ≡ flat_map events entities }
 {}
 
 /// Whatever a configuration keeps, there is a list of events that it shows: the writes of all of it.
 pub fn shows_its_writes()
-    ensures { (cfg : Configuration) → Shows (all_writes cfg) cfg }
+    ensures spanned { (cfg : borders.Configuration) → borders.Shows (all_writes cfg) cfg }
+    ensures colored { (cfg : Colored) → Shows (all_writes cfg.spanned) cfg }
 {}
 
 /// Two configurations are equal by `==` just where they keep the same characters and colours.
 pub fn equal_where_same_is_kept()
-    ensures spanned { (a b : Configuration) → IsTrue (⟦<SpannedConfig as PartialEq>⟧.eq a b) ↔ (a ≡ b) }
-    ensures colored { (a b : Configuration) → IsTrue (⟦<ColoredConfig as PartialEq>⟧.eq a b) ↔ (a ≡ b) }
+    ensures spanned { (a b : borders.Configuration) → IsTrue (⟦<SpannedConfig as PartialEq>⟧.eq a b) ↔ (a ≡ b) }
+    ensures colored { (a b : Colored) → IsTrue (⟦<ColoredConfig as PartialEq>⟧.eq a b) ↔ (a ≡ b) }
 {}

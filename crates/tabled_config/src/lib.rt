@@ -6,6 +6,7 @@
 mod border_options;
 mod cell_option;
 mod colored_config;
+mod configured;
 mod laws;
 mod print;
 mod print_error;
@@ -15,9 +16,10 @@ mod table_option;
 
 pub use cell_option::{CellOption, modify};
 pub use colored_config::ColoredConfig;
+pub use configured::{BorderEvent, Configured};
 pub use laws::{
-    changes_in_a_row, changes_of_entities_in_turn, equal_where_same_is_kept, shown_after_change,
-    shows_its_writes,
+    any_list, changes_in_a_row, equal_where_same_is_kept, shown_after_change, shows_its_writes,
+    steps_in_turn,
 };
 pub use print::print_plain;
 pub use print_error::PrintError;

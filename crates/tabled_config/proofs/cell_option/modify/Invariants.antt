@@ -1,5 +1,5 @@
-use Rattle.std.proofs.Common.{◌≡◌}
-use Rattle.tabled_config.specs.Options.{LeadsInTurn}
+use Rattle.std.proofs.Common.{◌≡◌, List, map}
+use Rattle.tabled_config.specs.Options.{MakesInTurn}
 use Rattle.tabled_config.proofs.cell_option.modify.Given as goal
 
 abbrev pub invariant-loop-entity : goal.invariant-loop-entity
@@ -7,4 +7,4 @@ invariant-loop-entity g l =
     (goal.iterator-loop-entity g).can_next l.entity-iterator ×
     (goal.iterator-loop-entity g).is_finite l.entity-iterator ×
     l.records ≡ l.fn.records ×
-    LeadsInTurn (g.P.CellOption.leads l.fn.option l.fn.records) l.yielded l.fn.cfg l.cfg
+    ((made : List g.row.C-Event.Denot) × MakesInTurn g.C.Configured.changes (map (g.P.CellOption.makes l.fn.option l.fn.records) l.yielded) made l.fn.cfg l.cfg)

@@ -1,0 +1,27 @@
+-- The laws of changes: no events change nothing, and two changes in a row are the change by the events of both.
+use Rattle.std.specs.Prelude.{◌≡◌, List, [], ◌++◌}
+use Rattle.std.proofs.Common.{sym, subst}
+use Rattle.std.proofs.lemmas.List.Elements.{filter_map-append}
+use Rattle.tabled_grid.specs.Event as grid
+use Rattle.tabled_grid.specs.Keeping.{keeps}
+use Rattle.tabled_grid.proofs.Replay.{Changes-append, Changes-nil}
+use Rattle.tabled_config.specs.Configuration as borders
+use Rattle.tabled_config.specs.Configuration.{Configuration, ConfigEvent, character_event, colour_event, characters_of, colours_of}
+use Rattle.tabled_config.specs.Colored.{Colored, Changes}
+
+-- of the configuration of the borders
+pub none_change_borders : (cfg : Configuration) → borders.Changes [] cfg cfg
+none_change_borders cfg = record { characters_changed = Changes-nil (keeps cfg.characters); colours_changed = Changes-nil (keeps cfg.colours) }
+
+pub both_change_borders : (es fs : List ConfigEvent) (old between new : Configuration) → borders.Changes es old between → borders.Changes fs between new → borders.Changes (es ++ fs) old new
+both_change_borders es fs old between new by_es by_fs = record {
+  characters_changed = subst (λ all. grid.Changes all (keeps old.characters) (keeps new.characters)) (sym (filter_map-append character_event es fs)) (Changes-append (characters_of es) (characters_of fs) (keeps old.characters) (keeps between.characters) (keeps new.characters) by_es.characters_changed by_fs.characters_changed);
+  colours_changed = subst (λ all. grid.Changes all (keeps old.colours) (keeps new.colours)) (sym (filter_map-append colour_event es fs)) (Changes-append (colours_of es) (colours_of fs) (keeps old.colours) (keeps between.colours) (keeps new.colours) by_es.colours_changed by_fs.colours_changed);
+}
+
+-- of the whole
+pub none_change : (cfg : Colored) → Changes [] cfg cfg
+none_change cfg = none_change_borders cfg.spanned
+
+pub both_change : (es fs : List ConfigEvent) (old between new : Colored) → Changes es old between → Changes fs between new → Changes (es ++ fs) old new
+both_change es fs old between new by_es by_fs = both_change_borders es fs old.spanned between.spanned new.spanned by_es by_fs
