@@ -54,6 +54,10 @@ pub where_sure : {A E P : Type 0} (result : Result A E) → IsOk result → OnOk
 where_sure (Ok x) sure p = p
 where_sure (Err e) sure p = absurd cc
 
+-- a change of a configuration that was lent is one of the configuration that it was lent of
+pub changes_lent : (es fs : List ConfigEvent) (old lent new : Configuration) → lent ≡ old → fs ≡ es → Changes fs lent new → Changes es old new
+changes_lent es fs old lent new same events changes = subst (λ all. Changes all old new) events (subst (λ cfg. Changes fs cfg new) same changes)
+
 -- a border around the cells of an entity
 pub Changes-entity_bordered : (border : Border ℕ) (shape : ℕ × ℕ) (entity : Entity) (before after : Keeping ℕ) (colours : Keeping Texts) (old : Configuration) → record { characters = before; colours = colours } ≡ old → grid.Changes (entity_border_set entity shape border) (keeps before) (keeps after) → Changes (entity_bordered border shape entity) old (record { characters = after; colours = colours })
 unfolding entity_bordered

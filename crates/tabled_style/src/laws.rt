@@ -16,7 +16,8 @@ ghost use Rattle.tabled_grid.specs.Event.{kept};
 ghost use Rattle.tabled_grid.specs.Value.{value};
 ghost use Rattle.tabled_grid.specs.Drawn.{Drawn, drawn};
 ghost use Rattle.tabled_grid.specs.Keeping.{keeps};
-ghost use Rattle.tabled_config.specs.Configuration.{Configuration, Changes, borders_replaced};
+ghost use Rattle.tabled_config.specs.Colored.{Colored, Changes};
+ghost use Rattle.tabled_config.specs.Configuration.{borders_replaced};
 ghost use Rattle.tabled_style.specs.Deciding.{written_by};
 
 use crate::HorizontalLine;
@@ -46,13 +47,13 @@ pub fn inherited_again()
 /// by the shape of the table and the length of the edge, and no place has a colour, whatever was there before. A class
 /// record that is applied as an option makes the same events as a style without custom lines, so it holds there too.
 pub fn style_alone_decides()
-    ensures characters { (style : Shown) (old new : Configuration) (shape : ℕ × ℕ) (size : ℕ) (place : At)
+    ensures characters { (style : Shown) (old new : Colored) (shape : ℕ × ℕ) (size : ℕ) (place : At)
         → Changes (borders_replaced style.borders style.horizontals style.verticals) old new
-        → value (keeps new.characters) shape size place ≡ value (kept (written_by style)) shape size place }
-    ensures colours { (style : Shown) (old new : Configuration) (shape : ℕ × ℕ) (size : ℕ) (place : At)
+        → value (keeps new.spanned.characters) shape size place ≡ value (kept (written_by style)) shape size place }
+    ensures colours { (style : Shown) (old new : Colored) (shape : ℕ × ℕ) (size : ℕ) (place : At)
         → Changes (borders_replaced style.borders style.horizontals style.verticals) old new
-        → value (keeps new.colours) shape size place ≡ None }
-    ensures lines { (style : Shown) (old new : Configuration) (count : ℕ) (line : Line)
+        → value (keeps new.spanned.colours) shape size place ≡ None }
+    ensures lines { (style : Shown) (old new : Colored) (count : ℕ) (line : Line)
         → Changes (borders_replaced style.borders style.horizontals style.verticals) old new
-        → Drawn (keeps new.characters) count line ↔ IsTrue (drawn (written_by style) count line) }
+        → Drawn (keeps new.spanned.characters) count line ↔ IsTrue (drawn (written_by style) count line) }
 {}

@@ -2,7 +2,7 @@
 
 ghost use Rattle.std.specs.Prelude.{None};
 ghost use Rattle.tabled_grid.specs.Calls.{default_set};
-ghost use Rattle.tabled_config.specs.Configuration.{Changes, by_characters};
+ghost use Rattle.tabled_config.specs.Configuration.{by_characters};
 
 use crate::tables::prints;
 use std::test::Fail;
@@ -16,7 +16,7 @@ struct Everywhere {
 }
 
 impl<R, D> TableOption<R, ColoredConfig, D> for Everywhere {
-    ghost leads = { λ option records dims old new. Changes (by_characters (default_set option.character)) old new };
+    ghost makes = { λ option records dims old. by_characters (default_set option.character) };
 
     ghost hinted = { λ option. None };
 

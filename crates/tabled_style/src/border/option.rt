@@ -2,7 +2,7 @@
 
 ghost use Rattle.std.specs.Prelude.{◌≡◌, Some, IsOk};
 ghost use Rattle.tabled_object.specs.declared.entity.Entity.TheVariants as cells;
-ghost use Rattle.tabled_config.specs.Configuration.{Changes};
+ghost use Rattle.tabled_config.specs.Colored.{Changes};
 ghost use Rattle.tabled_config.specs.Options.{entity_bordered, table_bordered, entity_unbordered, table_unbordered};
 
 use super::{Border, EmptyBorder};
@@ -11,8 +11,7 @@ use tabled_grid::{Entity, ExactRecords, OutOfMemory, Records};
 
 impl<T, B, L, R, Data: Records + ExactRecords> CellOption<Data, ColoredConfig>
     for Border<T, B, L, R> {
-    ghost leads = { λ border records entity old new.
-        Changes (entity_bordered border (Data.row_count records, Data.column_count records) entity) old new };
+    ghost makes = { λ border records entity old. entity_bordered border (Data.row_count records, Data.column_count records) entity };
 
     ghost hinted = { λ border. Some cells.Global };
 
@@ -33,8 +32,7 @@ impl<T, B, L, R, Data: Records + ExactRecords> CellOption<Data, ColoredConfig>
 }
 
 impl<T, B, L, R, Data, Dims> TableOption<Data, ColoredConfig, Dims> for Border<T, B, L, R> {
-    ghost leads = { λ border records dims old new.
-        Changes (table_bordered border old.characters.class_record) old new };
+    ghost makes = { λ border records dims old. table_bordered border old.spanned.characters.class_record };
 
     ghost hinted = { λ border. Some cells.Global };
 
@@ -49,7 +47,7 @@ impl<T, B, L, R, Data, Dims> TableOption<Data, ColoredConfig, Dims> for Border<T
         dims: &mut Dims,
     ) -> Result<(), OutOfMemory>
         ensures always { IsOk result }
-        ensures ok { Changes (table_bordered self cfg.old.characters.class_record) cfg.old cfg.new }
+        ensures ok { Changes (table_bordered self cfg.old.spanned.characters.class_record) cfg.old cfg.new }
         ensures records { records.new ≡ records.old }
         ensures sizes { dims.new ≡ dims.old }
     {
@@ -62,8 +60,7 @@ impl<T, B, L, R, Data, Dims> TableOption<Data, ColoredConfig, Dims> for Border<T
 }
 
 impl<Data: Records + ExactRecords> CellOption<Data, ColoredConfig> for EmptyBorder {
-    ghost leads = { λ border records entity old new.
-        Changes (entity_unbordered (Data.row_count records, Data.column_count records) entity) old new };
+    ghost makes = { λ border records entity old. entity_unbordered (Data.row_count records, Data.column_count records) entity };
 
     ghost hinted = { λ border. Some cells.Global };
 
@@ -90,8 +87,7 @@ impl<Data: Records + ExactRecords> CellOption<Data, ColoredConfig> for EmptyBord
 }
 
 impl<Data: Records + ExactRecords, Dims> TableOption<Data, ColoredConfig, Dims> for EmptyBorder {
-    ghost leads = { λ border records dims old new.
-        Changes (table_unbordered (Data.row_count records, Data.column_count records) old.characters.class_record) old new };
+    ghost makes = { λ border records dims old. table_unbordered (Data.row_count records, Data.column_count records) old.spanned.characters.class_record };
 
     ghost hinted = { λ border. Some cells.Global };
 
@@ -105,7 +101,7 @@ impl<Data: Records + ExactRecords, Dims> TableOption<Data, ColoredConfig, Dims> 
         dims: &mut Dims,
     ) -> Result<(), OutOfMemory>
         ensures always { IsOk result }
-        ensures ok { Changes (table_unbordered (Data.row_count records.old, Data.column_count records.old) cfg.old.characters.class_record) cfg.old cfg.new }
+        ensures ok { Changes (table_unbordered (Data.row_count records.old, Data.column_count records.old) cfg.old.spanned.characters.class_record) cfg.old cfg.new }
         ensures records { records.new ≡ records.old }
         ensures sizes { dims.new ≡ dims.old }
     {

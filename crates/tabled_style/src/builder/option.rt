@@ -1,7 +1,8 @@
 //! A style as an option of a table.
 
 ghost use Rattle.std.specs.Prelude.{◌≡◌, [], None, IsOk, OnOk, OnErr};
-ghost use Rattle.tabled_config.specs.Configuration.{Changes, borders_replaced};
+ghost use Rattle.tabled_config.specs.Colored.{Changes};
+ghost use Rattle.tabled_config.specs.Configuration.{borders_replaced};
 
 use super::Style;
 use tabled_config::{ColoredConfig, TableOption};
@@ -12,8 +13,7 @@ impl<T, B, L, R, H, V, const HN: usize, const VN: usize, Data, Dims> TableOption
     ColoredConfig,
     Dims,
 > for Style<T, B, L, R, H, V, HN, VN> {
-    ghost leads = { λ style records dims old new.
-        Changes (borders_replaced style.borders style.horizontals style.verticals) old new };
+    ghost makes = { λ style records dims old. borders_replaced style.borders style.horizontals style.verticals };
 
     ghost hinted = { λ style. None };
 

@@ -6,11 +6,11 @@ use Rattle.tabled_style.proofs.laws.style_alone_decides.Goals as goal
 
 pub returns-clause-characters : goal.returns-clause-characters
 returns-clause-characters c = λ style old new shape size place changes.
-    value-shown (written_by style) (keeps new.characters) shape size place (characters_shown style old new changes)
+    value-shown (written_by style) (keeps new.spanned.characters) shape size place (characters_shown style old.spanned new.spanned changes)
 
 pub returns-clause-colours : goal.returns-clause-colours
-returns-clause-colours c = λ style old new shape size place changes. colourless style old new shape size place changes
+returns-clause-colours c = λ style old new shape size place changes. colourless style old.spanned new.spanned shape size place changes
 
 pub returns-clause-lines : goal.returns-clause-lines
 returns-clause-lines c = λ style old new count line changes.
-    Drawn-drawn (written_by style) (keeps new.characters) count line (characters_shown style old new changes)
+    Drawn-drawn (written_by style) (keeps new.spanned.characters) count line (characters_shown style old.spanned new.spanned changes)
