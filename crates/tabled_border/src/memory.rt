@@ -1,11 +1,9 @@
 //! The one refusal that every call may meet which needs memory.
 
 use std::alloc::{AllocError, AllocFailed};
-use thiserror::Error;
 
 /// Memory was asked for and refused. What the call was to change is as it was before.
-#[derive(Clone, Copy, Debug, PartialEq, Eq, Error)]
-#[error("out of memory")]
+#[derive(Clone, Copy, Debug, PartialEq, Eq)]
 pub struct OutOfMemory;
 
 impl From<AllocError> for OutOfMemory {
