@@ -1,17 +1,19 @@
 -- Configurations by the events of their stores.
-use Rattle.std.proofs.Common.{◌≡◌, ℕ, None, List, [], ◌∷◌, ◌++◌, map, refl, sym, ap, subst, ◌∙◌}
+use Rattle.std.proofs.Common.{◌≡◌, ℕ, None, List, [], ◌∷◌, ◌++◌, map, refl, sym, ap, subst, ◌∙◌, Result, Ok, Err, OnOk}
 use Rattle.std.proofs.lemmas.List.{append-nil}
 use Rattle.std.proofs.lemmas.List.Elements.{filter_map-append}
 use Rattle.tabled_grid.specs.Site.{across, down, Site, the_default, of_class, of_line, at_spot, from_end, from_start}
 use Rattle.tabled_grid.specs.declared.borders.Borders.{Borders}
 use Rattle.tabled_grid.specs.declared.place.LineOf.{LineOf}
+use Rattle.tabled_grid.specs.declared.writes.Write.{Write}
 use Rattle.tabled_grid.specs.Event as grid
+use Rattle.tabled_grid.specs.Writes.{writes_made}
 use Rattle.tabled_grid.specs.Keeping.{Keeping, keeps, class_record_set, writes_of}
 use Rattle.tabled_border.specs.Texts.{Texts}
 use Rattle.tabled_grid.proofs.Replay.{kept-nil, kept_cleared, Shows_after, Changes-append, Changes-nil, Changes_from_nothing}
 use Rattle.tabled_grid.specs.Calls.{default_set, lines_erased, offsets_erased}
 use Rattle.tabled_grid.proofs.Writing.{Shows-writes_of}
-use Rattle.tabled_config.specs.Configuration.{Configuration, ConfigEvent, of_characters, of_colours, character_event, colour_event, characters_of, colours_of, by_characters, by_colours, all_but_offsets, default_color_set, Shows, Changes, all_writes, borders_set, borders_removed}
+use Rattle.tabled_config.specs.Configuration.{Configuration, ConfigEvent, of_characters, of_colours, character_event, colour_event, characters_of, colours_of, by_characters, by_colours, writes_applied, all_but_offsets, default_color_set, Shows, Changes, all_writes, borders_set, borders_removed}
 
 -- the events of each kind, in lists of one kind and in two lists in a row
 pub characters_of-by_characters : (es : List (grid.Event ℕ)) → characters_of (by_characters es) ≡ es
@@ -51,6 +53,20 @@ Changes_by_colours es characters before after old is changes =
       characters_changed = subst (λ all. grid.Changes all (keeps characters) (keeps characters)) (sym (characters_of-by_colours es)) (Changes-nil (keeps characters));
       colours_changed = subst (λ all. grid.Changes all (keeps before) (keeps after)) (sym (colours_of-by_colours es)) changes;
     })
+
+-- a change of both
+pub Changes_by_both : (es : List (grid.Event ℕ)) (fs : List (grid.Event Texts)) (old new : Configuration) → grid.Changes es (keeps old.characters) (keeps new.characters) → grid.Changes fs (keeps old.colours) (keeps new.colours) → Changes (by_characters es ++ by_colours fs) old new
+Changes_by_both es fs old new of_es of_fs = record {
+  characters_changed = subst (λ all. grid.Changes all (keeps old.characters) (keeps new.characters)) (sym (characters_of-both es fs)) of_es;
+  colours_changed = subst (λ all. grid.Changes all (keeps old.colours) (keeps new.colours)) (sym (colours_of-both es fs)) of_fs;
+}
+
+-- two lists of writes made
+pub Changes-writes_applied : {A E : Type 0} (result : Result A E) (characters : List (Write ℕ)) (colours : List (Write Texts)) (before after : Configuration) (old : Configuration) → before ≡ old → OnOk result (grid.Changes (writes_made characters) (keeps before.characters) (keeps after.characters)) → OnOk result (grid.Changes (writes_made colours) (keeps before.colours) (keeps after.colours)) → OnOk result (Changes (writes_applied characters colours) old after)
+unfolding writes_applied
+Changes-writes_applied (Ok x) characters colours before after old is first second =
+    subst (λ cfg. Changes (writes_applied characters colours) cfg after) is (Changes_by_both (writes_made characters) (writes_made colours) before after first second)
+Changes-writes_applied (Err e) characters colours before after old is first second = tt
 
 -- the class record set whole
 pub Changes-borders_set : (borders : Borders ℕ) (before after : Keeping ℕ) (colours : Keeping Texts) (old : Configuration) → record { characters = before; colours = colours } ≡ old → grid.Changes (class_record_set borders) (keeps before) (keeps after) → Changes (borders_set borders) old (record { characters = after; colours = colours })

@@ -18,12 +18,20 @@ module _ {C E : Type 0} (changes : List E → C → C → Type 0) where
   -- one more step at the end
   pub one_more : (steps : List (C → List E)) (step : C → List E) (made : List E) (old between new : C) → MakesInTurn changes steps made old between → changes (step between) between new → MakesInTurn changes (steps ++ step ∷ []) (made ++ step between) old new
   unfolding MakesInTurn
-  one_more [] step made old between new by one =
-      (new, [], subst (λ cfg. changes (step cfg) cfg new) by.0 one, (refl, refl),
-      ap (λ start. start ++ step between) by.1 ∙ ap step by.0 ∙ sym (append-nil (step old)))
-  one_more (first ∷ rest) step made old between new by one =
-      (by.0, by.1 ++ step between, by.2, one_more rest step by.1 by.0 between new by.3 one,
-      ap (λ start. start ++ step between) by.4 ∙ append_assoc (first old) by.1 (step between))
+  one_more [] step made old between new by one = (
+    new,
+    [],
+    subst (λ cfg. changes (step cfg) cfg new) by.0 one,
+    (refl, refl),
+    ap (λ start. start ++ step between) by.1 ∙ ap step by.0 ∙ sym (append-nil (step old)),
+  )
+  one_more (first ∷ rest) step made old between new by one = (
+    by.0,
+    by.1 ++ step between,
+    by.2,
+    one_more rest step by.1 by.0 between new by.3 one,
+    ap (λ start. start ++ step between) by.4 ∙ append_assoc (first old) by.1 (step between),
+  )
 
   -- no step was made
   pub none_made : (cfg : C) → MakesInTurn changes [] [] cfg cfg

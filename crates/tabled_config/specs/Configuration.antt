@@ -6,7 +6,9 @@ use Rattle.std.specs.List.{flat_map, filter_map}
 use Rattle.tabled_grid.specs.declared.lines.HorizontalLine.{HorizontalLine}
 use Rattle.tabled_grid.specs.declared.lines.VerticalLine.{VerticalLine}
 use Rattle.tabled_grid.specs.declared.borders.Borders.{Borders}
+use Rattle.tabled_grid.specs.declared.writes.Write.{Write}
 use Rattle.tabled_grid.specs.Event as grid
+use Rattle.tabled_grid.specs.Writes.{writes_made}
 use Rattle.tabled_grid.specs.Calls.{default_set, line_set_across, line_set_down}
 use Rattle.tabled_grid.specs.Keeping.{Keeping, keeps, class_record_set, writes_of}
 use Rattle.tabled_border.specs.Texts.{Texts}
@@ -61,6 +63,10 @@ by_characters es = map of_characters es
 
 abbrev pub by_colours : List (grid.Event Texts) → List ConfigEvent
 by_colours es = map of_colours es
+
+-- lists of writes, of characters and of colours
+unfoldable pub writes_applied : List (Write ℕ) → List (Write Texts) → List ConfigEvent
+writes_applied characters colours = by_characters (writes_made characters) ++ by_colours (writes_made colours)
 
 -- the erasures of every level but the offsets
 abbrev pub all_but_offsets : {T : Type 0} → List (grid.Event T)

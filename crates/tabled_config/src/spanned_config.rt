@@ -5,6 +5,7 @@ ghost use Rattle.tabled_grid.specs.Event as grid;
 ghost use Rattle.tabled_grid.specs.Keeping.{keeps};
 ghost use Rattle.tabled_config.specs.Configuration.{all_but_offsets};
 
+mod applying;
 mod cells;
 mod colors;
 mod copies;

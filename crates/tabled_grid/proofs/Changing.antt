@@ -80,6 +80,11 @@ offset_put values p v r c n =
     ap (option_map sign) (map.get-insert edge_places_total values p v (edge_place r c n) ∙ ap (λ b. cond b (Some v) (map.get values (edge_place r c n))) (same_edge_place r c n p))
     ∙ signs_put ((r == p.row) && (c == p.col) && (n == p.number)) v (map.get values (edge_place r c n))
 
+offset_taken : {T : Type 0} (values : map.FinMap edge_place_cmp T) (p : EdgePlace) (r c n : ℕ) → option_map sign (map.get (map.remove values p) (edge_place r c n)) ≡ cond (((r == p.row) && (c == p.col) && (n == p.number)) || false) None (option_map sign (map.get values (edge_place r c n)))
+offset_taken values p r c n =
+    ap (option_map sign) (map.get-remove edge_places_total values p (edge_place r c n) ∙ ap (λ b. cond b None (map.get values (edge_place r c n))) (same_edge_place r c n p ∙ sym (or-none ((r == p.row) && (c == p.col) && (n == p.number)))))
+    ∙ signs_taken (((r == p.row) && (c == p.col) && (n == p.number)) || false) (map.get values (edge_place r c n))
+
 no_spot_left : {T : Type 0} (p : Position) → option_map sign (map.get (map.empty {X = T} {R = position_cmp}) p) ≡ None
 no_spot_left {T} p = ap (option_map sign) (map.get-empty {X = T} position_cmp p)
 
@@ -397,6 +402,74 @@ start_down_set_sites k spot v (from_start down r c n) = offset_put k.starts_down
 -- an offset written, counted from the start of an edge of a vertical line
 pub start_down_set : {T : Type 0} (k : Keeping T) (spot : EdgePlace) (v : T) → Changes (write (from_start down spot.row spot.col spot.number) (sign v) ∷ []) (keeps k) (keeps (record k { starts_down = map.insert k.starts_down spot v }))
 start_down_set k spot v = one_write (from_start down spot.row spot.col spot.number) (sign v) (keeps k) (keeps (record k { starts_down = map.insert k.starts_down spot v })) (start_down_set_sites k spot v)
+
+end_across_erased_sites : {T : Type 0} (k : Keeping T) (spot : EdgePlace) (q : Site) → keeps (record k { ends_across = map.remove k.ends_across spot }) q ≡ cond (within (these_sites (from_end across spot.row spot.col spot.number ∷ [])) q) None (keeps k q)
+end_across_erased_sites k spot (the_default) = refl
+end_across_erased_sites k spot (of_class c) = refl
+end_across_erased_sites k spot (of_line (LineOf.Vertical n) p) = refl
+end_across_erased_sites k spot (of_line (LineOf.Horizontal n) p) = refl
+end_across_erased_sites k spot (at_spot (edge across r c)) = refl
+end_across_erased_sites k spot (at_spot (edge down r c)) = refl
+end_across_erased_sites k spot (at_spot (crossing r c)) = refl
+end_across_erased_sites k spot (from_end across r c n) = offset_taken k.ends_across spot r c n
+end_across_erased_sites k spot (from_end down r c n) = refl
+end_across_erased_sites k spot (from_start across r c n) = refl
+end_across_erased_sites k spot (from_start down r c n) = refl
+
+-- an offset erased, counted from the end of an edge of a horizontal line
+pub end_across_erased : {T : Type 0} (k : Keeping T) (spot : EdgePlace) → Changes (erase (these_sites (from_end across spot.row spot.col spot.number ∷ [])) ∷ []) (keeps k) (keeps (record k { ends_across = map.remove k.ends_across spot }))
+end_across_erased k spot = one_erasure (these_sites (from_end across spot.row spot.col spot.number ∷ [])) (keeps k) (keeps (record k { ends_across = map.remove k.ends_across spot })) (end_across_erased_sites k spot)
+
+end_down_erased_sites : {T : Type 0} (k : Keeping T) (spot : EdgePlace) (q : Site) → keeps (record k { ends_down = map.remove k.ends_down spot }) q ≡ cond (within (these_sites (from_end down spot.row spot.col spot.number ∷ [])) q) None (keeps k q)
+end_down_erased_sites k spot (the_default) = refl
+end_down_erased_sites k spot (of_class c) = refl
+end_down_erased_sites k spot (of_line (LineOf.Vertical n) p) = refl
+end_down_erased_sites k spot (of_line (LineOf.Horizontal n) p) = refl
+end_down_erased_sites k spot (at_spot (edge across r c)) = refl
+end_down_erased_sites k spot (at_spot (edge down r c)) = refl
+end_down_erased_sites k spot (at_spot (crossing r c)) = refl
+end_down_erased_sites k spot (from_end across r c n) = refl
+end_down_erased_sites k spot (from_end down r c n) = offset_taken k.ends_down spot r c n
+end_down_erased_sites k spot (from_start across r c n) = refl
+end_down_erased_sites k spot (from_start down r c n) = refl
+
+-- an offset erased, counted from the end of an edge of a vertical line
+pub end_down_erased : {T : Type 0} (k : Keeping T) (spot : EdgePlace) → Changes (erase (these_sites (from_end down spot.row spot.col spot.number ∷ [])) ∷ []) (keeps k) (keeps (record k { ends_down = map.remove k.ends_down spot }))
+end_down_erased k spot = one_erasure (these_sites (from_end down spot.row spot.col spot.number ∷ [])) (keeps k) (keeps (record k { ends_down = map.remove k.ends_down spot })) (end_down_erased_sites k spot)
+
+start_across_erased_sites : {T : Type 0} (k : Keeping T) (spot : EdgePlace) (q : Site) → keeps (record k { starts_across = map.remove k.starts_across spot }) q ≡ cond (within (these_sites (from_start across spot.row spot.col spot.number ∷ [])) q) None (keeps k q)
+start_across_erased_sites k spot (the_default) = refl
+start_across_erased_sites k spot (of_class c) = refl
+start_across_erased_sites k spot (of_line (LineOf.Vertical n) p) = refl
+start_across_erased_sites k spot (of_line (LineOf.Horizontal n) p) = refl
+start_across_erased_sites k spot (at_spot (edge across r c)) = refl
+start_across_erased_sites k spot (at_spot (edge down r c)) = refl
+start_across_erased_sites k spot (at_spot (crossing r c)) = refl
+start_across_erased_sites k spot (from_end across r c n) = refl
+start_across_erased_sites k spot (from_end down r c n) = refl
+start_across_erased_sites k spot (from_start across r c n) = offset_taken k.starts_across spot r c n
+start_across_erased_sites k spot (from_start down r c n) = refl
+
+-- an offset erased, counted from the start of an edge of a horizontal line
+pub start_across_erased : {T : Type 0} (k : Keeping T) (spot : EdgePlace) → Changes (erase (these_sites (from_start across spot.row spot.col spot.number ∷ [])) ∷ []) (keeps k) (keeps (record k { starts_across = map.remove k.starts_across spot }))
+start_across_erased k spot = one_erasure (these_sites (from_start across spot.row spot.col spot.number ∷ [])) (keeps k) (keeps (record k { starts_across = map.remove k.starts_across spot })) (start_across_erased_sites k spot)
+
+start_down_erased_sites : {T : Type 0} (k : Keeping T) (spot : EdgePlace) (q : Site) → keeps (record k { starts_down = map.remove k.starts_down spot }) q ≡ cond (within (these_sites (from_start down spot.row spot.col spot.number ∷ [])) q) None (keeps k q)
+start_down_erased_sites k spot (the_default) = refl
+start_down_erased_sites k spot (of_class c) = refl
+start_down_erased_sites k spot (of_line (LineOf.Vertical n) p) = refl
+start_down_erased_sites k spot (of_line (LineOf.Horizontal n) p) = refl
+start_down_erased_sites k spot (at_spot (edge across r c)) = refl
+start_down_erased_sites k spot (at_spot (edge down r c)) = refl
+start_down_erased_sites k spot (at_spot (crossing r c)) = refl
+start_down_erased_sites k spot (from_end across r c n) = refl
+start_down_erased_sites k spot (from_end down r c n) = refl
+start_down_erased_sites k spot (from_start across r c n) = refl
+start_down_erased_sites k spot (from_start down r c n) = offset_taken k.starts_down spot r c n
+
+-- an offset erased, counted from the start of an edge of a vertical line
+pub start_down_erased : {T : Type 0} (k : Keeping T) (spot : EdgePlace) → Changes (erase (these_sites (from_start down spot.row spot.col spot.number ∷ [])) ∷ []) (keeps k) (keeps (record k { starts_down = map.remove k.starts_down spot }))
+start_down_erased k spot = one_erasure (these_sites (from_start down spot.row spot.col spot.number ∷ [])) (keeps k) (keeps (record k { starts_down = map.remove k.starts_down spot })) (start_down_erased_sites k spot)
 
 offsets_across_erased_sites : {T : Type 0} (k : Keeping T) (q : Site) → keeps (record k { ends_across = map.empty; starts_across = map.empty }) q ≡ cond (within (offset_sites across) q) None (keeps k q)
 offsets_across_erased_sites k (the_default) = refl

@@ -1,35 +1,88 @@
--- Borders written cell by cell.
-use Rattle.std.proofs.Common.{◌≡◌, ℕ, true, false, cond, Option, List, [], ◌∷◌, refl, sym, subst}
-use Rattle.std.specs.List.{flat_map, filter}
+-- The writes of borders, cell by cell.
+use Rattle.std.proofs.Common.{◌≡◌, ℕ, true, false, cond, IsTrue, Option, Some, None, List, [], ◌∷◌, ◌++◌, refl, ap, sym, subst, ◌∙◌, append_assoc, Result, Ok, Err, IsOk, OnErr}
+use Rattle.std.proofs.lemmas.List.{append-nil}
+use Rattle.std.proofs.lemmas.List.Elements.{filter_map-append}
+use Rattle.std.specs.List.{flat_map, filter, zip}
 use Rattle.tabled_border.specs.declared.border.Border.{Border}
 use Rattle.tabled_grid.specs.declared.place.Place.{Place}
+use Rattle.tabled_grid.specs.declared.writes.Target.{Target}
+use Rattle.tabled_grid.specs.declared.writes.Write.{Write}
 use Rattle.tabled_object.specs.declared.position.Position.{Position}
 use Rattle.tabled_object.specs.Entities.{is_inside}
-use Rattle.tabled_grid.specs.Event.{Changes}
-use Rattle.tabled_grid.specs.Keeping.{Keeping, keeps}
-use Rattle.tabled_grid.specs.Calls.{border_set, borders_of}
-use Rattle.tabled_grid.specs.PutBack.{PutsBackAll}
-use Rattle.tabled_grid.proofs.Replay.{Changes-append, Changes-nil}
+use Rattle.tabled_grid.specs.Site.{Site}
+use Rattle.tabled_grid.specs.Event.{Event, Written}
+use Rattle.tabled_grid.specs.CellBorder.{border_places, border_fields}
+use Rattle.tabled_grid.specs.Calls.{border_set, borders_of, places_set, writes_anew}
+use Rattle.tabled_grid.specs.Writes.{given_event, writes_made}
+use Rattle.tabled_grid.proofs.PuttingBack.{places_set-append}
 
 -- a cell inside, and then the others
-pub one_inside : {T : Type 0} (rows cols : ℕ) (border : Border T) (pos : Position) (rest : List Position) (old mid end : Keeping T) → is_inside rows cols pos ≡ true → Changes (border_set pos border) (keeps old) (keeps mid) → Changes (borders_of (rows, cols) border rest) (keeps mid) (keeps end) → Changes (borders_of (rows, cols) border (pos ∷ rest)) (keeps old) (keeps end)
+pub borders_inside : {T : Type 0} (rows cols : ℕ) (border : Border T) (pos : Position) (rest : List Position) → is_inside rows cols pos ≡ true → borders_of (rows, cols) border (pos ∷ rest) ≡ border_set pos border ++ borders_of (rows, cols) border rest
 unfolding borders_of
-one_inside rows cols border pos rest old mid end inside one others =
-    subst (λ b. Changes (flat_map (λ p. border_set p border) (cond b (pos ∷ filter (is_inside rows cols) rest) (filter (is_inside rows cols) rest))) (keeps old) (keeps end)) (sym inside)
-    (Changes-append (border_set pos border) (flat_map (λ p. border_set p border) (filter (is_inside rows cols) rest)) (keeps old) (keeps mid) (keeps end) one others)
+borders_inside rows cols border pos rest inside =
+    ap (λ b. flat_map (λ p. border_set p border) (cond b (pos ∷ filter (is_inside rows cols) rest) (filter (is_inside rows cols) rest))) inside
 
 -- a cell outside is passed over
-pub one_outside : {T : Type 0} (rows cols : ℕ) (border : Border T) (pos : Position) (rest : List Position) (old end : Keeping T) → is_inside rows cols pos ≡ false → Changes (borders_of (rows, cols) border rest) (keeps old) (keeps end) → Changes (borders_of (rows, cols) border (pos ∷ rest)) (keeps old) (keeps end)
+pub borders_outside : {T : Type 0} (rows cols : ℕ) (border : Border T) (pos : Position) (rest : List Position) → is_inside rows cols pos ≡ false → borders_of (rows, cols) border (pos ∷ rest) ≡ borders_of (rows, cols) border rest
 unfolding borders_of
-one_outside rows cols border pos rest old end outside others =
-    subst (λ b. Changes (flat_map (λ p. border_set p border) (cond b (pos ∷ filter (is_inside rows cols) rest) (filter (is_inside rows cols) rest))) (keeps old) (keeps end)) (sym outside) others
+borders_outside rows cols border pos rest outside =
+    ap (λ b. flat_map (λ p. border_set p border) (cond b (pos ∷ filter (is_inside rows cols) rest) (filter (is_inside rows cols) rest))) outside
 
 -- no cell is left
-pub none_left : {T : Type 0} (shape : ℕ × ℕ) (border : Border T) (cells : List Position) (store : Keeping T) → cells ≡ [] → Changes (borders_of shape border cells) (keeps store) (keeps store)
+pub no_borders_left : {T : Type 0} (shape : ℕ × ℕ) (border : Border T) (cells : List Position) → cells ≡ [] → borders_of shape border cells ≡ []
 unfolding borders_of
-none_left shape border cells store e = subst (λ rest. Changes (borders_of shape border rest) (keeps store) (keeps store)) (sym e) (Changes-nil (keeps store))
+no_borders_left shape border cells e = ap (borders_of shape border) e
 
--- no notes put nothing back
-pub nothing_noted : {T : Type 0} (notes : List (Place × Option T)) (store : Keeping T) → notes ≡ [] → PutsBackAll notes store store
-unfolding PutsBackAll
-nothing_noted notes store e = subst (λ ns. PutsBackAll ns store store) (sym e) refl
+-- cells of which none lies inside
+pub some_inside : (rows cols : ℕ) (pos : Position) (rest cells : List Position) → cells ≡ pos ∷ rest → is_inside rows cols pos ≡ true → filter (is_inside rows cols) cells ≡ [] → ⊥
+some_inside rows cols pos rest cells is inside none =
+    let e : pos ∷ filter (is_inside rows cols) rest ≡ [] = sym (ap (λ b. cond b (pos ∷ filter (is_inside rows cols) rest) (filter (is_inside rows cols) rest)) inside) ∙ sym (ap (filter (is_inside rows cols)) is) ∙ none in cc
+
+pub none_after : (rows cols : ℕ) (pos : Position) (rest cells : List Position) → cells ≡ pos ∷ rest → is_inside rows cols pos ≡ false → filter (is_inside rows cols) cells ≡ [] → filter (is_inside rows cols) rest ≡ []
+none_after rows cols pos rest cells is outside none =
+    sym (ap (λ b. cond b (pos ∷ filter (is_inside rows cols) rest) (filter (is_inside rows cols) rest)) outside) ∙ sym (ap (filter (is_inside rows cols)) is) ∙ none
+
+no_borders : {T : Type 0} (shape : ℕ × ℕ) (border : Border T) (cells : List Position) → filter (is_inside shape.0 shape.1) cells ≡ [] → borders_of shape border cells ≡ []
+unfolding borders_of
+no_borders shape border cells none = ap (flat_map (λ p. border_set p border)) none
+
+-- where no cell lies inside nothing is written, so nothing of it is new
+pub sure_without_cells : {A E T : Type 0} (shape : ℕ × ℕ) (border : Border T) (cells : List Position) (keep : Site → Option (Written T)) (events : List (Event T)) (result : Result A E) → events ≡ borders_of shape border cells → filter (is_inside shape.0 shape.1) cells ≡ [] → OnErr result (IsTrue (writes_anew keep events)) → IsOk result
+sure_without_cells shape border cells keep events (Ok x) are none absent = refl
+sure_without_cells shape border cells keep events (Err e) are none absent =
+    absurd (let nothing : writes_anew keep events ≡ false = ap (writes_anew keep) (are ∙ no_borders shape border cells none) in cc)
+
+-- lists of writes in a row
+pub writes_made-append : {T : Type 0} (ws vs : List (Write T)) → writes_made (ws ++ vs) ≡ writes_made ws ++ writes_made vs
+unfolding writes_made
+writes_made-append ws vs = filter_map-append (λ entry. given_event entry.target entry.value) ws vs
+
+pub nothing_written : {T : Type 0} (ws : List (Write T)) → ws ≡ [] → writes_made ws ≡ []
+unfolding writes_made
+nothing_written ws e = ap writes_made e
+
+-- one write more
+one_entry : {T : Type 0} (there : Place) (value : Option T) → writes_made (record { target = Some (Target.Cell there); value = value } ∷ []) ≡ places_set ((Some there, value) ∷ [])
+unfolding writes_made places_set
+one_entry there (Some x) = refl
+one_entry there None = refl
+
+pub added : {T : Type 0} (all ws : List (Write T)) (target : Option Target) (value : Option T) (place : Option Place) (there : Place) → place ≡ Some there → target ≡ Some (Target.Cell there) → all ≡ ws ++ record { target = target; value = value } ∷ [] → writes_made all ≡ writes_made ws ++ places_set ((place, value) ∷ [])
+unfolding writes_made places_set
+added all ws target value place there is at more =
+    ap writes_made more ∙ writes_made-append ws (record { target = target; value = value } ∷ [])
+    ∙ ap (λ t. writes_made ws ++ writes_made (record { target = t; value = value } ∷ [])) at
+    ∙ ap (λ es. writes_made ws ++ es) (one_entry there value) ∙ ap (λ p. writes_made ws ++ places_set ((p, value) ∷ [])) (sym is)
+
+pub none_added : {T : Type 0} (ws : List (Write T)) (value : Option T) (place : Option Place) → place ≡ None → writes_made ws ≡ writes_made ws ++ places_set ((place, value) ∷ [])
+unfolding places_set
+none_added ws value place is = sym (append-nil (writes_made ws)) ∙ ap (λ p. writes_made ws ++ places_set ((p, value) ∷ [])) (sym is)
+
+-- two lists of places in a row
+pub added_then : {T : Type 0} (xs ys zs : List (Event T)) (ws vs : List (Option Place × Option T)) → ys ≡ xs ++ places_set ws → zs ≡ ys ++ places_set vs → zs ≡ xs ++ places_set (ws ++ vs)
+added_then xs ys zs ws vs one other =
+    other ∙ ap (λ start. start ++ places_set vs) one ∙ append_assoc xs (places_set ws) (places_set vs) ∙ ap (λ es. xs ++ es) (sym (places_set-append ws vs))
+
+-- all places of a cell's border
+pub border_added : {T : Type 0} (xs zs : List (Event T)) (pos : Position) (places : Border Place) (border : Border T) → places ≡ border_places pos → zs ≡ xs ++ places_set (zip (border_fields places) (border_fields border)) → zs ≡ xs ++ border_set pos border
+border_added xs zs pos places border e h = h ∙ ap (λ p. xs ++ places_set (zip (border_fields p) (border_fields border))) e

@@ -23,3 +23,4 @@ pub mod PuttingBack
 pub mod EntityBorders
 pub mod Clearing
 pub mod WritingAnew
+pub mod WritesLemmas

@@ -1,4 +1,4 @@
--- Writes at the cell level, and what puts them back.
+-- Single writes, and what puts them back.
 use Rattle.std.proofs.Common.{◌≡◌, ℕ, Bool, true, false, cond, ◌&&◌, ◌||◌, ◌==◌, Option, Some, None, is_some, IsSome, List, [], ◌∷◌, ◌++◌, refl, ap, sym, ◌∙◌, subst, option_and_then, Result, Ok, Err, OnOk, OnErr}
 use Rattle.std.specs.Option.{option_map}
 use Rattle.std.specs.List.{zip, cons_option}
@@ -13,11 +13,14 @@ use Rattle.tabled_grid.specs.declared.place.Place.{Place}
 use Rattle.tabled_object.specs.declared.position.Position.{Position}
 use Rattle.tabled_grid.specs.Keys.{position_cmp, edge_place_cmp, positions_total, exact_positions, edge_places_total, exact_edge_places}
 use Rattle.tabled_grid.specs.Site.{across, down, first, inner, closing, Class, edges, crossings, class_value, Part, mark, main_edges, meeting, Spot, edge, crossing, Site, the_default, of_class, of_line, at_spot, from_end, from_start, same_site}
-use Rattle.tabled_grid.specs.Event.{Written, sign, standing, Event, write, kept, these_sites, Changes}
+use Rattle.tabled_grid.specs.Event.{Written, sign, standing, Event, write, erase, kept, these_sites, Changes}
 use Rattle.tabled_grid.specs.Keeping.{Keeping, keeps, position, edge_place, horizontal_part, vertical_part}
 use Rattle.tabled_grid.specs.CellBorder.{border_places, border_fields}
-use Rattle.tabled_grid.specs.Calls.{spot_of, cell_set, cell_erased, given_write, places_set, border_set}
-use Rattle.tabled_grid.specs.PutBack.{PutsBackAt, PutsBack, PutsBoth, PutsBackTwo, PutsBackFour, PutsBackAll}
+use Rattle.tabled_grid.specs.Calls.{spot_of, cell_set, given_write, places_set, border_set}
+use Rattle.tabled_grid.specs.declared.offset.Offset.{Offset}
+use Rattle.tabled_grid.specs.declared.writes.Target.{Target}
+use Rattle.tabled_grid.specs.Writes.{site_of, PutsBackAt}
+use Rattle.tabled_grid.specs.PutBack.{PutsNoteBack, PutsBoth, PutsBackTwo, PutsBackFour}
 use Rattle.tabled_grid.proofs.Replay.{kept_one, Changes-append, Changes-nil}
 use Rattle.tabled_grid.proofs.LineWrites.{same_number}
 use Rattle.tabled_grid.proofs.SameSite.{same_site-eq}
@@ -123,79 +126,70 @@ spot_itself (edge across r c) = two_same r c
 spot_itself (edge down r c) = two_same r c
 spot_itself (crossing r c) = two_same r c
 
+three_same : (r c n : ℕ) → ((r == r) && (c == c) && (n == n)) ≡ true
+three_same r c n = ap (λ b. b && (n == n)) (two_same r c) ∙ same_number n
+
+pub target_itself : (target : Target) → same_site (site_of target) (site_of target) ≡ true
+target_itself (Target.Cell place) = spot_itself (spot_of place)
+target_itself (Target.Horizontal pos (Offset.Start n)) = three_same pos.row pos.col n
+target_itself (Target.Horizontal pos (Offset.End n)) = three_same pos.row pos.col n
+target_itself (Target.Vertical pos (Offset.Start n)) = three_same pos.row pos.col n
+target_itself (Target.Vertical pos (Offset.End n)) = three_same pos.row pos.col n
+
 some_there : {A : Type 0} (o : Option A) (x : A) → o ≡ Some x → IsSome o
 some_there o x e = ap is_some e
 
--- a value written over what stood at a place
-pub written_over : {T : Type 0} (place : Place) (value : T) (before : Option T) (old new : Keeping T) → option_map sign before ≡ keeps old (at_spot (spot_of place)) → Changes (cell_set place value) (keeps old) (keeps new) → PutsBackAt place before old new
+-- a value written over what stood at a target
+pub written_over : {T : Type 0} (target : Target) (value : T) (before : Option T) (old new : Keeping T) → option_map sign before ≡ keeps old (site_of target) → Changes (write (site_of target) (sign value) ∷ []) (keeps old) (keeps new) → PutsBackAt (site_of target) before old new
 unfolding PutsBackAt
-written_over place value before old new was changes = (
-  some_there _ (sign value) (at_site (at_spot (spot_of place)) ∙ ap (λ b. cond b (Some (sign value)) (keeps old (at_spot (spot_of place)))) (spot_itself (spot_of place))),
-  λ q. elsewhere q (same_site q (at_spot (spot_of place))) refl,
+written_over target value before old new was changes = (
+  some_there _ (sign value) (at_site (site_of target) ∙ ap (λ b. cond b (Some (sign value)) (keeps old (site_of target))) (target_itself target)),
+  λ q. elsewhere q (same_site q (site_of target)) refl,
 )
   where
-    at_site : (q : Site) → keeps new q ≡ cond (same_site q (at_spot (spot_of place))) (Some (sign value)) (keeps old q)
-    at_site q = by_write (at_spot (spot_of place)) (sign value) (keeps old) (keeps new) changes q
+    at_site : (q : Site) → keeps new q ≡ cond (same_site q (site_of target)) (Some (sign value)) (keeps old q)
+    at_site q = by_write (site_of target) (sign value) (keeps old) (keeps new) changes q
 
-    elsewhere : (q : Site) (b : Bool) → same_site q (at_spot (spot_of place)) ≡ b → keeps old q ≡ cond b (option_map sign before) (keeps new q)
-    elsewhere q true e = ap (keeps old) (same_site-eq q (at_spot (spot_of place)) e) ∙ sym was
+    elsewhere : (q : Site) (b : Bool) → same_site q (site_of target) ≡ b → keeps old q ≡ cond b (option_map sign before) (keeps new q)
+    elsewhere q true e = ap (keeps old) (same_site-eq q (site_of target) e) ∙ sym was
     elsewhere q false e = sym (at_site q ∙ ap (λ b. cond b (Some (sign value)) (keeps old q)) e)
 
 -- what stood there written again, which memory can't be refused for
-pub value_back : {A E T : Type 0} (result : Result A E) (place : Place) (before : Option T) (value : T) (old now new : Keeping T) → before ≡ Some value → OnOk result (Changes (cell_set place value) (keeps now) (keeps new)) → OnErr result (keeps now (at_spot (spot_of place)) ≡ None) → PutsBackAt place before old now → new ≡ old
+pub value_back : {A E T : Type 0} (result : Result A E) (site : Site) (before : Option T) (value : T) (old now new : Keeping T) → before ≡ Some value → OnOk result (Changes (write site (sign value) ∷ []) (keeps now) (keeps new)) → OnErr result (keeps now site ≡ None) → PutsBackAt site before old now → new ≡ old
 unfolding PutsBackAt
-value_back (Ok x) place before value old now new is ok absent puts =
-    same_keeping new old (λ q. by_write (at_spot (spot_of place)) (sign value) (keeps now) (keeps new) ok q
-    ∙ ap (λ o. cond (same_site q (at_spot (spot_of place))) (option_map sign o) (keeps now q)) (sym is) ∙ sym (puts.1 q))
-value_back (Err e) place before value old now new is ok absent puts = absurd (let e = ap is_some absent in let is_there = puts.0 in cc)
+value_back (Ok x) site before value old now new is ok absent puts =
+    same_keeping new old (λ q. by_write site (sign value) (keeps now) (keeps new) ok q
+    ∙ ap (λ o. cond (same_site q site) (option_map sign o) (keeps now q)) (sym is) ∙ sym (puts.1 q))
+value_back (Err e) site before value old now new is ok absent puts = absurd (let e = ap is_some absent in let is_there = puts.0 in cc)
 
 -- nothing stood there, and what stands is taken
-pub nothing_back : {T : Type 0} (place : Place) (before : Option T) (old now new : Keeping T) → before ≡ None → Changes (cell_erased place) (keeps now) (keeps new) → PutsBackAt place before old now → new ≡ old
+pub nothing_back : {T : Type 0} (site : Site) (before : Option T) (old now new : Keeping T) → before ≡ None → Changes (erase (these_sites (site ∷ [])) ∷ []) (keeps now) (keeps new) → PutsBackAt site before old now → new ≡ old
 unfolding PutsBackAt
-nothing_back place before old now new is changes puts =
-    same_keeping new old (λ q. by_erasure (these_sites (at_spot (spot_of place) ∷ [])) (keeps now) (keeps new) changes q
-    ∙ ap (λ b. cond b None (keeps now q)) (or-none (same_site q (at_spot (spot_of place))))
-    ∙ ap (λ o. cond (same_site q (at_spot (spot_of place))) (option_map sign o) (keeps now q)) (sym is) ∙ sym (puts.1 q))
+nothing_back site before old now new is changes puts =
+    same_keeping new old (λ q. by_erasure (these_sites (site ∷ [])) (keeps now) (keeps new) changes q
+    ∙ ap (λ b. cond b None (keeps now q)) (or-none (same_site q site))
+    ∙ ap (λ o. cond (same_site q site) (option_map sign o) (keeps now q)) (sym is) ∙ sym (puts.1 q))
 
 -- the later of two changes is put back first
 both_back : {A B T : Type 0} (one : A → Keeping T → Keeping T → Type 0) (other : B → Keeping T → Keeping T → Type 0) (notes : A × B) (now mid new : Keeping T) → ((old : Keeping T) → other notes.1 old now → mid ≡ old) → ((old : Keeping T) → one notes.0 old mid → new ≡ old) → (old : Keeping T) → PutsBoth one other notes old now → new ≡ old
 both_back one other notes now mid new later sooner old puts =
     sooner old (subst (λ k. one notes.0 old k) (sym (later puts.0 puts.2)) puts.1)
 
-pub two_back : {T : Type 0} (notes : Option (Place × Option T) × Option (Place × Option T)) (now mid new : Keeping T) → ((old : Keeping T) → PutsBack notes.1 old now → mid ≡ old) → ((old : Keeping T) → PutsBack notes.0 old mid → new ≡ old) → (old : Keeping T) → PutsBackTwo notes old now → new ≡ old
+pub two_back : {T : Type 0} (notes : Option (Place × Option T) × Option (Place × Option T)) (now mid new : Keeping T) → ((old : Keeping T) → PutsNoteBack notes.1 old now → mid ≡ old) → ((old : Keeping T) → PutsNoteBack notes.0 old mid → new ≡ old) → (old : Keeping T) → PutsBackTwo notes old now → new ≡ old
 unfolding PutsBackTwo
-two_back notes now mid new later sooner old puts = both_back PutsBack PutsBack notes now mid new later sooner old puts
+two_back notes now mid new later sooner old puts = both_back PutsNoteBack PutsNoteBack notes now mid new later sooner old puts
 
 pub four_back : {T : Type 0} (notes : (Option (Place × Option T) × Option (Place × Option T)) × (Option (Place × Option T) × Option (Place × Option T))) (now mid new : Keeping T) → ((old : Keeping T) → PutsBackTwo notes.1 old now → mid ≡ old) → ((old : Keeping T) → PutsBackTwo notes.0 old mid → new ≡ old) → (old : Keeping T) → PutsBackFour notes old now → new ≡ old
 unfolding PutsBackFour
 four_back notes now mid new later sooner old puts = both_back PutsBackTwo PutsBackTwo notes now mid new later sooner old puts
 
-pub two_noted : {T : Type 0} (a b : Option (Place × Option T)) (old between new : Keeping T) → PutsBack a old between → PutsBack b between new → PutsBackTwo (a, b) old new
+pub two_noted : {T : Type 0} (a b : Option (Place × Option T)) (old between new : Keeping T) → PutsNoteBack a old between → PutsNoteBack b between new → PutsBackTwo (a, b) old new
 unfolding PutsBackTwo
 two_noted a b old between new f g = (between, f, g)
 
 pub four_noted : {T : Type 0} (a b : Option (Place × Option T) × Option (Place × Option T)) (old between new : Keeping T) → PutsBackTwo a old between → PutsBackTwo b between new → PutsBackFour (a, b) old new
 unfolding PutsBackFour
 four_noted a b old between new f g = (between, f, g)
-
--- one more note at the end of a list
-pub all_noted : {T : Type 0} (notes : List (Place × Option T)) (place : Place) (before : Option T) (old between new : Keeping T) → PutsBackAll notes old between → PutsBackAt place before between new → PutsBackAll (notes ++ (place, before) ∷ []) old new
-unfolding PutsBackAll
-all_noted [] place before old between new same one = (new, subst (λ k. PutsBackAt place before k new) same one, refl)
-all_noted (note ∷ notes) place before old between new puts one = (puts.0, puts.1, all_noted notes place before puts.0 between new puts.2 one)
-
-pub last_noted : {T : Type 0} (notes : List (Place × Option T)) (place : Place) (before : Option T) (old new : Keeping T) → PutsBackAll (notes ++ (place, before) ∷ []) old new → (between : Keeping T) × PutsBackAll notes old between × PutsBackAt place before between new
-unfolding PutsBackAll
-last_noted [] place before old new puts = (old, refl, subst (λ k. PutsBackAt place before old k) (sym puts.2) puts.1)
-last_noted (note ∷ notes) place before old new puts = let rest = last_noted notes place before puts.0 new puts.2 in (rest.0, (puts.0, puts.1, rest.1), rest.2)
-
--- the last one put back, and then the others
-pub all_back : {T : Type 0} (notes : List (Place × Option T)) (place : Place) (before : Option T) (old now mid : Keeping T) → ((between : Keeping T) → PutsBackAt place before between now → mid ≡ between) → PutsBackAll (notes ++ (place, before) ∷ []) old now → PutsBackAll notes old mid
-all_back notes place before old now mid one puts = let last = last_noted notes place before old now puts in subst (λ k. PutsBackAll notes old k) (sym (one last.0 last.2)) last.1
-
-pub none_back : {T : Type 0} (notes : List (Place × Option T)) (old now : Keeping T) → notes ≡ [] → PutsBackAll notes old now → now ≡ old
-unfolding PutsBackAll
-none_back notes old now e puts = subst (λ ns. PutsBackAll ns old now) e puts
 
 -- the writes of places and values, list by list
 in_front : {T : Type 0} (o : Option (Event T)) (es fs : List (Event T)) → cons_option o (es ++ fs) ≡ cons_option o es ++ fs

@@ -1,5 +1,5 @@
 -- From a store's fields to what its contracts see.
-use Rattle.std.proofs.Common.{◌≡◌, Option, List, sym, ap, subst, Result, Ok, Err, OnOk, OnErr}
+use Rattle.std.proofs.Common.{◌≡◌, Option, List, sym, ap, subst, Result, Ok, Err, IfOk, OnOk, OnErr}
 use Rattle.std.specs.Ordering.{nat_cmp}
 use Rattle.std.specs.FinMap as map
 use Rattle.tabled_grid.specs.declared.borders.Borders.{Borders}
@@ -82,6 +82,10 @@ with_offsets_down k a b c d p q = λ i. record k { ends_down = p i; starts_down 
 pub on_ok : {A E P Q : Type 0} (r : Result A E) → (P → Q) → OnOk r P → OnOk r Q
 on_ok (Ok x) f h = f h
 on_ok (Err e) f h = tt
+
+pub if_ok : {A E : Type 0} {P Q : A → Type 0} (r : Result A E) → ((x : A) → P x → Q x) → IfOk r P → IfOk r Q
+if_ok (Ok x) f h = f x h
+if_ok (Err e) f h = tt
 
 pub if_err : {A E P : Type 0} (r : Result A E) → P → OnErr r P
 if_err (Ok x) h = tt

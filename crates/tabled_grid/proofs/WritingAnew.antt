@@ -10,10 +10,10 @@ use Rattle.tabled_grid.specs.Event.{Written, Event, write, erase, Changes}
 use Rattle.tabled_grid.specs.Drawn.{written}
 use Rattle.tabled_grid.specs.CellBorder.{border_places, border_fields}
 use Rattle.tabled_grid.specs.Calls.{spot_of, places_set, border_set, writes_anew}
-use Rattle.tabled_grid.specs.PutBack.{Stays}
+use Rattle.tabled_grid.specs.Writes.{Stays}
 use Rattle.tabled_grid.proofs.PuttingBack.{by_write, places_set-append}
 
-or-true : (b : Bool) → (b || true) ≡ true
+pub or-true : (b : Bool) → (b || true) ≡ true
 or-true true = refl
 or-true false = refl
 
@@ -31,11 +31,11 @@ written-append [] fs = refl
 written-append (write q w ∷ es) fs = ap (λ qs. q ∷ qs) (written-append es fs)
 written-append (erase region ∷ es) fs = written-append es fs
 
-anew-append : {T : Type 0} (keep : Site → Option (Written T)) (es fs : List (Event T)) → writes_anew keep (es ++ fs) ≡ (writes_anew keep es || writes_anew keep fs)
+pub anew-append : {T : Type 0} (keep : Site → Option (Written T)) (es fs : List (Event T)) → writes_anew keep (es ++ fs) ≡ (writes_anew keep es || writes_anew keep fs)
 anew-append keep es fs = ap (list_any (λ q. is_none (keep q))) (written-append es fs) ∙ list_any-append (λ q. is_none (keep q)) (written es) (written fs)
 
 -- where nothing stands after writes, nothing stood before
-anew_before : {T : Type 0} (old mid : Site → Option (Written T)) (qs : List Site) → Stays old mid → list_any (λ q. is_none (mid q)) qs ≡ true → list_any (λ q. is_none (old q)) qs ≡ true
+pub anew_before : {T : Type 0} (old mid : Site → Option (Written T)) (qs : List Site) → Stays old mid → list_any (λ q. is_none (mid q)) qs ≡ true → list_any (λ q. is_none (old q)) qs ≡ true
 unfolding Stays
 anew_before old mid [] stays h = h
 anew_before old mid (q ∷ qs) stays h =

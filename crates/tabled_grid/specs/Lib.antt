@@ -14,4 +14,5 @@ pub mod CustomLines
 pub mod Same
 pub mod SameLaws
 pub mod CellBorder
+pub mod Writes
 pub mod PutBack

@@ -4,28 +4,12 @@ ghost use Rattle.std.specs.Prelude.{◌≡◌, ◌+◌, ◌<◌, ◌^◌, ℕ, �
 ghost use Rattle.std.specs.Ordering.{nat_cmp};
 ghost use Rattle.std.specs.FinMap as map;
 ghost use Rattle.tabled_grid.specs.Table.{table, one_if};
-ghost use Rattle.tabled_grid.specs.Keys.{position_cmp, edge_place_cmp};
+ghost use Rattle.tabled_grid.specs.Keys.{position_cmp};
 ghost use Rattle.tabled_grid.specs.Counted.{number_at};
 
 use crate::kept_map::KeptMap;
-use crate::keys::EdgePlace;
 use crate::tally::{lower, raise};
 use crate::{OutOfMemory, Position};
-
-/// Puts a value at a numbered place of an edge. Where memory is refused nothing changes, and nothing stood
-/// there.
-pub(crate) fn put<T: Drop>(
-    values: &mut KeptMap<EdgePlace, T>,
-    place: EdgePlace,
-    value: T,
-) -> Result<(), OutOfMemory>
-    ensures ok { OnOk result (table edge_place_cmp values.new ≡ map.insert (table edge_place_cmp values.old) place value) }
-    ensures err { OnErr result (values.new ≡ values.old) }
-    ensures absent { OnErr result (map.get (table edge_place_cmp values.old) place ≡ None) }
-{
-    values.insert(place, value)?;
-    Ok(())
-}
 
 /// Puts a value at an edge of that line, and answers the one that stood there. Where memory is refused
 /// nothing changes, and nothing stood there.

@@ -89,6 +89,15 @@ impl<K: Key, V> KeptMap<K, V> {
         self.entries.remove(&key)
     }
 
+    /// Takes what is kept under a key, and lets it go.
+    pub(crate) fn take(&mut self, key: K)
+    where
+        V: Drop,
+        ensures { table K.cmp self.new ≡ map.remove (table K.cmp self.old) key }
+    {
+        let _ = self.remove(key);
+    }
+
     /// A copy of the entries, whose memory comes from `alloc`.
     pub(crate) fn copy(&self, alloc: Global) -> Result<BTreeMap<K, V>, OutOfMemory>
     where

@@ -5,13 +5,14 @@ ghost use Rattle.std.specs.Prelude.{◌≡◌, ◌↔◌, [], ◌∷◌, IsTrue,
 mod cell_border;
 mod clearing;
 mod copies;
+mod entity_border;
 mod equality;
-mod notes;
 mod reads;
 #[cfg(test)]
 mod tests;
+mod writes;
 
-use crate::cells::{put, put_crossing, put_edge, take_crossing, take_edge};
+use crate::cells::{put_crossing, put_edge, take_crossing, take_edge};
 use crate::custom_lines::{put_horizontal, put_vertical, take_horizontal, take_vertical};
 use crate::kept_map::KeptMap;
 use crate::keys::EdgePlace;
@@ -19,7 +20,7 @@ use crate::number::Number;
 use crate::{
     Borders, HorizontalLine, LineOf, Offset, OutOfMemory, Place, Position, Probes, VerticalLine,
 };
-pub use notes::Notes;
+pub use entity_border::border_writes;
 use std::alloc::Global;
 use std::marker::Model;
 use std::mem;
@@ -371,56 +372,15 @@ impl<T> Layers<T> {
         ensures absent { OnErr result (IsSomeAnd (offset_site place offset) (λ site. keeps self.old site ≡ None)) }
     {
         match place {
-            Place::Horizontal { row, col, .. } => self.set_offset_across(row, col, offset, value),
-            Place::Vertical { row, col, .. } => self.set_offset_down(row, col, offset, value),
-            Place::Cross { .. } => Ok(()),
-        }
-    }
-
-    fn set_offset_across(
-        &mut self,
-        row: usize,
-        col: usize,
-        offset: Offset,
-        value: T,
-    ) -> Result<(), OutOfMemory>
-    where
-        T: Drop,
-        ensures ok { OnOk result (Changes (edge_offset across row col offset value) (keeps self.old) (keeps self.new)) }
-        ensures err { OnErr result (self.new ≡ self.old) }
-        ensures absent { OnErr result (keeps self.old (edge_site across row col offset) ≡ None) }
-    {
-        match offset {
-            Offset::Start(number) => put(
-                &mut self.starts_across,
-                EdgePlace { row, col, number },
-                value,
-            ),
-            Offset::End(number) => {
-                put(&mut self.ends_across, EdgePlace { row, col, number }, value)
+            Place::Horizontal { row, col, .. } => {
+                self.replace_horizontal(Position { row, col }, offset, value)?;
             }
-        }
-    }
-
-    fn set_offset_down(
-        &mut self,
-        row: usize,
-        col: usize,
-        offset: Offset,
-        value: T,
-    ) -> Result<(), OutOfMemory>
-    where
-        T: Drop,
-        ensures ok { OnOk result (Changes (edge_offset down row col offset value) (keeps self.old) (keeps self.new)) }
-        ensures err { OnErr result (self.new ≡ self.old) }
-        ensures absent { OnErr result (keeps self.old (edge_site down row col offset) ≡ None) }
-    {
-        match offset {
-            Offset::Start(number) => {
-                put(&mut self.starts_down, EdgePlace { row, col, number }, value)
+            Place::Vertical { row, col, .. } => {
+                self.replace_vertical(Position { row, col }, offset, value)?;
             }
-            Offset::End(number) => put(&mut self.ends_down, EdgePlace { row, col, number }, value),
+            Place::Cross { .. } => {}
         }
+        Ok(())
     }
 
     /// Erases all offsets on the edges of horizontal lines.

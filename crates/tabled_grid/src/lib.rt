@@ -21,12 +21,13 @@ mod offset;
 mod place;
 mod probes;
 mod tally;
+mod writes;
 
 pub use borders::Borders;
 pub use laws::{
     changes_in_a_row, equal_where_same_is_kept, read_alike, shown_after_change, shows_its_writes,
 };
-pub use layers::{Layers, Notes};
+pub use layers::{Layers, border_writes};
 pub use lines::{HorizontalLine, VerticalLine};
 pub use offset::Offset;
 pub use place::{LineOf, Place};
@@ -38,3 +39,4 @@ pub use tabled_object::{
     LastColumnOffset, LastRow, LastRowOffset, Object, Position, Records, Row, Rows, Segment,
     SegmentAll, Shape, Union, entities_have_what_they_cover, listed_by_two, listed_without_order,
 };
+pub use writes::{Target, Write};

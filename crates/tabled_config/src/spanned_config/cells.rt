@@ -1,6 +1,8 @@
 //! Borders of single cells.
 
-ghost use Rattle.std.specs.Prelude.{◌≡◌, OnOk, OnErr, IsTrue, option_copied};
+ghost use Rattle.std.specs.Prelude.{◌≡◌, [], OnOk, OnErr, IsOk, IsTrue, option_copied};
+ghost use Rattle.std.specs.List.{filter};
+ghost use Rattle.tabled_object.specs.Entities.{cells_of, is_inside};
 ghost use Rattle.tabled_grid.specs.Calls.{border_set, border_erased, writes_anew};
 ghost use Rattle.tabled_grid.specs.CellBorder.{border_shown};
 ghost use Rattle.tabled_grid.specs.Keeping.{keeps};
@@ -24,7 +26,7 @@ impl SpannedConfig {
 
     /// Writes the given sides and corners of each cell of an entity that lies in a table of `shape.0` rows
     /// and `shape.1` columns, row by row: for what two cells share the later one counts. Cells outside are
-    /// passed over. Where memory is refused nothing changes.
+    /// passed over. Where memory is refused nothing changes; without a cell inside none is asked for.
     pub fn set_entity_border(
         &mut self,
         entity: Entity,
@@ -33,6 +35,7 @@ impl SpannedConfig {
     ) -> Result<(), OutOfMemory>
         ensures ok { OnOk result (Changes (entity_bordered border.now shape entity) self.old self.new) }
         ensures err { OnErr result (self.new ≡ self.old) }
+        ensures without_cells { filter (is_inside shape.0 shape.1) (cells_of entity shape.0 shape.1) ≡ [] → IsOk result }
     {
         self.characters.set_entity_border(entity, shape, border)
     }

@@ -4,7 +4,7 @@ ghost use Rattle.std.specs.Prelude.{◌≡◌, [], ◌∷◌, OnOk, OnErr, IfOk,
 ghost use Rattle.tabled_grid.specs.CellBorder.{next_line, side_across, side_down, corner, border_places, border_shown};
 
 use super::Layers;
-use crate::{Border, OutOfMemory, Place, Position};
+use crate::{Border, OutOfMemory, Place, Position, Target};
 
 /// What stood at a place before it was written; none where nothing was written.
 type Note<T> = Option<(Place, Option<T>)>;
@@ -14,7 +14,8 @@ impl<T> Layers<T> {
     ghost use Rattle.tabled_grid.specs.Value.{plain_value};
     ghost use Rattle.tabled_grid.specs.Keeping.{Keeping, keeps};
     ghost use Rattle.tabled_grid.specs.Calls.{border_set, places_set, writes_anew, border_erased, places_erased};
-    ghost use Rattle.tabled_grid.specs.PutBack.{PutsBackAt, PutsBack, PutsBackTwo, PutsBackFour, Stays};
+    ghost use Rattle.tabled_grid.specs.PutBack.{PutsNoteBack, PutsBackTwo, PutsBackFour};
+    ghost use Rattle.tabled_grid.specs.Writes.{Stays};
 
     /// Writes what the border gives at the cell level of a cell's sides and corners, whatever the shape of
     /// the table. What it does not give stays as it is, and past the last number of a line nothing is
@@ -98,7 +99,7 @@ impl<T> Layers<T> {
         match self.write_place(places.1, values.1) {
             Ok(second) => Ok((first, second)),
             Err(error) => {
-                self.put_back(first);
+                self.put_note_back(first);
                 Err(error)
             }
         }
@@ -113,7 +114,7 @@ impl<T> Layers<T> {
     where
         T: Drop,
         ensures ok { OnOk result (Changes (places_set ((place, value) ∷ [])) (keeps self.old) (keeps self.new)) }
-        ensures note { IfOk result (λ note. PutsBack note self.old self.new) }
+        ensures note { IfOk result (λ note. PutsNoteBack note self.old self.new) }
         ensures stays { OnOk result (Stays (keeps self.old) (keeps self.new)) }
         ensures err { OnErr result (self.new ≡ self.old) }
         ensures absent { OnErr result (IsTrue (writes_anew (keeps self.old) (places_set ((place, value) ∷ [])))) }
@@ -144,33 +145,19 @@ impl<T> Layers<T> {
         T: Drop,
         ensures { (old : Keeping T) → PutsBackTwo notes old self.old → self.new ≡ old }
     {
-        self.put_back(notes.1);
-        self.put_back(notes.0);
+        self.put_note_back(notes.1);
+        self.put_note_back(notes.0);
     }
 
     /// Puts back what a write replaced, which takes no memory.
-    fn put_back(&mut self, note: Note<T>)
+    fn put_note_back(&mut self, note: Note<T>)
     where
         T: Drop,
-        ensures { (old : Keeping T) → PutsBack note old self.old → self.new ≡ old }
+        ensures { (old : Keeping T) → PutsNoteBack note old self.old → self.new ≡ old }
     {
         match note {
-            Some((place, before)) => self.put_back_at(place, before),
+            Some((place, before)) => self.put_back_at(Target::Cell(place), before),
             None => {}
-        }
-    }
-
-    /// Puts back what stood at a place where something stands, which takes no memory.
-    pub(super) fn put_back_at(&mut self, place: Place, before: Option<T>)
-    where
-        T: Drop,
-        ensures { (old : Keeping T) → PutsBackAt place before old self.old → self.new ≡ old }
-    {
-        match before {
-            Some(value) => {
-                let _ = self.set_cell(place, value);
-            }
-            None => self.erase_cell(place),
         }
     }
 

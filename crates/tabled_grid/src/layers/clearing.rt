@@ -6,7 +6,7 @@ ghost use Rattle.std.specs.Prelude.{◌≡◌};
 mod tests;
 
 use super::Layers;
-use super::notes::is_inside;
+use super::entity_border::is_inside;
 use crate::{Entity, EntityIterator, Place};
 
 impl<T> Layers<T> {

@@ -1,6 +1,8 @@
 //! The border of a cell as an option: around cells, and around a whole table.
 
-ghost use Rattle.std.specs.Prelude.{◌≡◌, Some, IsOk};
+ghost use Rattle.std.specs.Prelude.{◌≡◌, [], Some, IsOk, OnOk, OnErr};
+ghost use Rattle.std.specs.List.{filter};
+ghost use Rattle.tabled_object.specs.Entities.{cells_of, is_inside};
 ghost use Rattle.tabled_object.specs.declared.entity.Entity.TheVariants as cells;
 ghost use Rattle.tabled_config.specs.Colored.{Changes};
 ghost use Rattle.tabled_config.specs.Options.{entity_bordered, table_bordered, entity_unbordered, table_unbordered};
@@ -16,13 +18,19 @@ impl<T, B, L, R, Data: Records + ExactRecords> CellOption<Data, ColoredConfig>
     ghost hinted = { λ border. Some cells.Global };
 
     /// Writes the given sides and corners of each cell of the entity that lies in the table, row by row: for what
-    /// two cells share the later one counts. What is not given stays as it is.
+    /// two cells share the later one counts. What is not given stays as it is. Without a cell inside it takes no memory
+    /// and answers Ok.
     fn change(
         &self,
         records: &mut Data,
         cfg: &mut ColoredConfig,
         entity: Entity,
-    ) -> Result<(), OutOfMemory> {
+    ) -> Result<(), OutOfMemory>
+        ensures ok { OnOk result (Changes (entity_bordered self.now (Data.row_count records.old, Data.column_count records.old) entity) cfg.old cfg.new) }
+        ensures err { OnErr result (cfg.new ≡ cfg.old) }
+        ensures without_cells { filter (is_inside (Data.row_count records.old) (Data.column_count records.old)) (cells_of entity (Data.row_count records.old) (Data.column_count records.old)) ≡ [] → IsOk result }
+        ensures records { records.new ≡ records.old }
+    {
         CellOption::change(&self.border, records, cfg, entity)
     }
 

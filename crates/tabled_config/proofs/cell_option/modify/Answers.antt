@@ -19,14 +19,16 @@ loop-entity-init g c =
 pub loop-entity-preserved : goal.loop-entity-preserved
 loop-entity-preserved g c =
     let makes : Entity → g.row.C.Denot → List g.row.C-Event.Denot = g.P.CellOption.makes c.args.option.now c.args.records.now in (
-  (c.in-Some.ensures.goes.on c.loop-entity.invariant.1).0,
-  (c.in-Some.ensures.goes.on c.loop-entity.invariant.1).1,
-  c.in_ok-change.ensures.records ∙ c.loop-entity.invariant.2,
-  (c.loop-entity.invariant.3.0 ++ makes c.in-Some.entity c.loop-entity.cfg,
-  subst (λ steps. MakesInTurn g.C.Configured.changes steps (c.loop-entity.invariant.3.0 ++ makes c.in-Some.entity c.loop-entity.cfg) c.args.cfg.now c.change.new.cfg) (sym (map-append makes c.loop-entity.yielded (c.in-Some.entity ∷ [])))
-      (one_more g.C.Configured.changes (map makes c.loop-entity.yielded) (makes c.in-Some.entity) c.loop-entity.invariant.3.0 c.args.cfg.now c.loop-entity.cfg c.change.new.cfg c.loop-entity.invariant.3.1
-      (subst (λ records. g.C.Configured.changes (g.P.CellOption.makes c.args.option.now records c.in-Some.entity c.loop-entity.cfg) c.loop-entity.cfg c.change.new.cfg) c.loop-entity.invariant.2 c.in_ok-change.ensures.ok))),
-)
+      (c.in-Some.ensures.goes.on c.loop-entity.invariant.1).0,
+      (c.in-Some.ensures.goes.on c.loop-entity.invariant.1).1,
+      c.in_ok-change.ensures.records ∙ c.loop-entity.invariant.2,
+      (
+        c.loop-entity.invariant.3.0 ++ makes c.in-Some.entity c.loop-entity.cfg,
+        subst (λ steps. MakesInTurn g.C.Configured.changes steps (c.loop-entity.invariant.3.0 ++ makes c.in-Some.entity c.loop-entity.cfg) c.args.cfg.now c.change.new.cfg) (sym (map-append makes c.loop-entity.yielded (c.in-Some.entity ∷ [])))
+            (one_more g.C.Configured.changes (map makes c.loop-entity.yielded) (makes c.in-Some.entity) c.loop-entity.invariant.3.0 c.args.cfg.now c.loop-entity.cfg c.change.new.cfg c.loop-entity.invariant.3.1
+            (subst (λ records. g.C.Configured.changes (g.P.CellOption.makes c.args.option.now records c.in-Some.entity c.loop-entity.cfg) c.loop-entity.cfg c.change.new.cfg) c.loop-entity.invariant.2 c.in_ok-change.ensures.ok)),
+      ),
+    )
 
 pub returns-in_err-change-clause-err : goal.returns-in_err-change-clause-err
 returns-in_err-change-clause-err g c =
@@ -34,7 +36,8 @@ returns-in_err-change-clause-err g c =
     let lists = subst (λ items. Lists g.O.Iter.Iterator.can_next g.O.Iter.Iterator.next_gives g.O.Iter.Iterator.remaining items listing) (sym c.into_iter-entity-iterator.ensures.into_iter_gives) c.in_ok-entity-items.ensures in
     let makes : Entity → g.row.C.Denot → List g.row.C-Event.Denot = g.P.CellOption.makes c.args.option.now c.args.records.now in
     where_refused c.from_residual-in_err-change.result (
-      length c.loop-entity.yielded, c.loop-entity.invariant.3.0,
+      length c.loop-entity.yielded,
+      c.loop-entity.invariant.3.0,
       subst (λ cfg. MakesInTurn g.C.Configured.changes (map makes (take (length c.loop-entity.yielded) listing)) c.loop-entity.invariant.3.0 c.args.cfg.now cfg) (sym c.in_err-change.ensures.err)
           (subst (λ entities. MakesInTurn g.C.Configured.changes (map makes entities) c.loop-entity.invariant.3.0 c.args.cfg.now c.loop-entity.cfg) (given_so_far lists c.loop-entity.yielded c.loop-entity.entity-iterator c.loop-entity.yielded_by) c.loop-entity.invariant.3.1),
     )

@@ -1,5 +1,7 @@
-use Rattle.tabled_grid.proofs.EntityBorders.{nothing_noted}
+use Rattle.tabled_grid.specs.Calls.{writes_anew}
+use Rattle.tabled_grid.specs.Keeping.{keeps}
+use Rattle.tabled_grid.proofs.EntityBorders.{sure_without_cells}
 use Rattle.tabled_grid.proofs.layers.Layers.set_entity_border.Goals as goal
 
-pub returns-in-Err-clause-err : goal.returns-in-Err-clause-err
-returns-in-Err-clause-err g c = c.put_all_back.ensures c.args.self.now (c.in-Err.ensures.noted c.args.self.now (nothing_noted c.new-notes.result c.args.self.now c.new-notes.ensures))
+pub returns-clause-without_cells : goal.returns-clause-without_cells
+returns-clause-without_cells g c = λ none. sure_without_cells c.args.shape c.args.border.now _ (keeps c.args.self.now) _ c.write_all.result c.in_ok-writes.ensures.ok none c.write_all.ensures.absent

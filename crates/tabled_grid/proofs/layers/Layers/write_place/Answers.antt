@@ -1,6 +1,7 @@
 use Rattle.tabled_grid.proofs.PuttingBack.{written_over, no_place, no_value, value_set}
 use Rattle.tabled_grid.proofs.WritingAnew.{stays_same, stays_written, place_anew}
 use Rattle.tabled_grid.proofs.Seen.{if_err}
+use Rattle.tabled_grid.specs.declared.writes.Target.{Target}
 use Rattle.tabled_grid.specs.Site.{at_spot}
 use Rattle.tabled_grid.specs.Event.{sign}
 use Rattle.tabled_grid.specs.Calls.{spot_of}
@@ -17,7 +18,7 @@ pub returns-clause-ok : goal.returns-clause-ok
 returns-clause-ok g c = value_set c.args.place c.in-Some.place c.args.value c.in-Some-value.value _ _ c.in-Some.is c.in-Some-value.is c.in_ok-before.ensures.ok
 
 pub returns-clause-note : goal.returns-clause-note
-returns-clause-note g c = written_over c.in-Some.place c.in-Some-value.value c.in_ok-before.before _ _ c.in_ok-before.ensures.before c.in_ok-before.ensures.ok
+returns-clause-note g c = written_over (Target.Cell c.in-Some.place) c.in-Some-value.value c.in_ok-before.before _ _ c.in_ok-before.ensures.before c.in_ok-before.ensures.ok
 
 pub returns-in_default-clause-stays : goal.returns-in_default-clause-stays
 returns-in_default-clause-stays g c = stays_same (keeps c.args.self.now)

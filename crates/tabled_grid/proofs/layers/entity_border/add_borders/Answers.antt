@@ -1,0 +1,43 @@
+use Rattle.std.proofs.Common.{◌≡◌, [], ◌++◌, ap, sym, ◌∙◌, append_assoc}
+use Rattle.std.proofs.lemmas.List.{append-nil}
+use Rattle.std.specs.List.{filter}
+use Rattle.tabled_object.specs.Entities.{is_inside}
+use Rattle.tabled_grid.specs.Calls.{border_set, borders_of}
+use Rattle.tabled_grid.specs.Writes.{writes_made}
+use Rattle.tabled_grid.proofs.EntityBorders.{borders_inside, borders_outside, no_borders_left, some_inside, none_after}
+use Rattle.tabled_grid.proofs.layers.entity_border.add_borders.Goals as goal
+
+pub returns-in_err-copy-clause-without_cells : goal.returns-in_err-copy-clause-without_cells
+returns-in_err-copy-clause-without_cells g c = λ none.
+    absurd (some_inside c.args.shape.0 c.args.shape.1 c.in-Some.pos c.next.new.self c.loop-pos.pos-iterator c.in-Some.ensures.steps (sym c.is_inside.ensures ∙ c.if-is_inside.true) (c.loop-pos.invariant.3 none))
+
+pub returns-in_err-add_border-clause-without_cells : goal.returns-in_err-add_border-clause-without_cells
+returns-in_err-add_border-clause-without_cells g c = λ none.
+    absurd (some_inside c.args.shape.0 c.args.shape.1 c.in-Some.pos c.next.new.self c.loop-pos.pos-iterator c.in-Some.ensures.steps (sym c.is_inside.ensures ∙ c.if-is_inside.true) (c.loop-pos.invariant.3 none))
+
+pub loop-pos-preserved-in-Continue-branch-2 : goal.loop-pos-preserved-in-Continue-branch-2
+loop-pos-preserved-in-Continue-branch-2 g c =
+    let rest = borders_of c.args.shape c.args.border.now c.next.new.self in (
+      tt,
+      tt,
+      (ap (λ es. es ++ rest) (c.in_ok-add_border.ensures ∙ ap (λ border. writes_made c.loop-pos.writes.items ++ border_set c.in-Some.pos border) c.in_ok-copy.ensures)
+          ∙ append_assoc (writes_made c.loop-pos.writes.items) (border_set c.in-Some.pos c.args.border.now) rest
+          ∙ ap (λ es. writes_made c.loop-pos.writes.items ++ es) (sym (borders_inside c.args.shape.0 c.args.shape.1 c.args.border.now c.in-Some.pos c.next.new.self (sym c.is_inside.ensures ∙ c.if-is_inside.true)) ∙ ap (borders_of c.args.shape c.args.border.now) (sym c.in-Some.ensures.steps))
+          ∙ c.loop-pos.invariant.2),
+      (λ none. absurd (some_inside c.args.shape.0 c.args.shape.1 c.in-Some.pos c.next.new.self c.loop-pos.pos-iterator c.in-Some.ensures.steps (sym c.is_inside.ensures ∙ c.if-is_inside.true) (c.loop-pos.invariant.3 none))),
+    )
+
+pub loop-pos-preserved : goal.loop-pos-preserved
+loop-pos-preserved g c = (
+  tt,
+  tt,
+  (ap (λ es. writes_made c.loop-pos.writes.items ++ es) (sym (borders_outside c.args.shape.0 c.args.shape.1 c.args.border.now c.in-Some.pos c.next.new.self (sym c.is_inside.ensures ∙ c.if-is_inside.false)) ∙ ap (borders_of c.args.shape c.args.border.now) (sym c.in-Some.ensures.steps))
+      ∙ c.loop-pos.invariant.2),
+  (λ none. none_after c.args.shape.0 c.args.shape.1 c.in-Some.pos c.next.new.self c.loop-pos.pos-iterator c.in-Some.ensures.steps (sym c.is_inside.ensures ∙ c.if-is_inside.false) (c.loop-pos.invariant.3 none)),
+)
+
+pub returns-clause-ok : goal.returns-clause-ok
+returns-clause-ok g c =
+    sym (append-nil (writes_made c.loop-pos.writes.items))
+    ∙ ap (λ es. writes_made c.loop-pos.writes.items ++ es) (sym (no_borders_left c.args.shape c.args.border.now c.loop-pos.pos-iterator c.in-None.ensures.steps.0))
+    ∙ c.loop-pos.invariant.2

@@ -1,0 +1,119 @@
+//! The borders of many cells.
+
+ghost use Rattle.std.specs.Prelude.{◌≡◌, ◌++◌, [], ◌∷◌, OnOk, OnErr, IfOk, IsOk};
+ghost use Rattle.std.specs.List.{filter};
+ghost use Rattle.tabled_object.specs.Entities.{cells_of, is_inside};
+ghost use Rattle.tabled_grid.specs.Calls.{border_set, borders_of, entity_border_set, places_set};
+ghost use Rattle.tabled_grid.specs.Writes.{writes_made};
+
+use super::Layers;
+use super::cell_border::places;
+use crate::{Border, Entity, EntityIterator, Keep, OutOfMemory, Place, Position, Target, Write};
+use std::alloc::Global;
+
+/// The writes of a border around each cell that the entity names in a table of `shape.0` rows and `shape.1` columns,
+/// row by row: of what two cells share the later one counts. Cells outside are passed over; without a cell inside no
+/// memory is asked for.
+pub fn border_writes<T: Keep>(
+    alloc: Global,
+    entity: Entity,
+    shape: (usize, usize),
+    border: &Border<T>,
+) -> Result<Vec<Write<T>>, OutOfMemory>
+    ensures ok { IfOk result (λ writes. writes_made writes.items ≡ entity_border_set entity shape border.now) }
+    ensures without_cells { filter (is_inside shape.0 shape.1) (cells_of entity shape.0 shape.1) ≡ [] → IsOk result }
+{
+    let mut writes = Vec::new(alloc);
+    add_borders(&mut writes, entity.iter(shape.0, shape.1), shape, border)?;
+    Ok(writes)
+}
+
+/// Adds the writes of a border around each of these cells that lies inside.
+fn add_borders<T: Keep>(
+    writes: &mut Vec<Write<T>>,
+    cells: EntityIterator,
+    shape: (usize, usize),
+    border: &Border<T>,
+) -> Result<(), OutOfMemory>
+    ensures ok { OnOk result (writes_made writes.new.items ≡ writes_made writes.old.items ++ borders_of shape border.now cells) }
+    ensures without_cells { filter (is_inside shape.0 shape.1) cells ≡ [] → IsOk result }
+{
+    for pos in cells {
+        if is_inside(pos, shape) {
+            let copy = border.keep(*writes.allocator())?;
+            add_border(writes, pos, copy)?;
+        }
+    }
+    Ok(())
+}
+
+/// Adds the writes of a border around a cell.
+fn add_border<T: Drop>(
+    writes: &mut Vec<Write<T>>,
+    pos: Position,
+    border: Border<T>,
+) -> Result<(), OutOfMemory>
+    ensures { OnOk result (writes_made writes.new.items ≡ writes_made writes.old.items ++ border_set pos border) }
+{
+    let places = places(pos);
+    add(writes, places.top, border.top)?;
+    add(writes, places.bottom, border.bottom)?;
+    add(writes, places.left, border.left)?;
+    add(writes, places.right, border.right)?;
+    add(writes, places.left_top_corner, border.left_top_corner)?;
+    add(writes, places.left_bottom_corner, border.left_bottom_corner)?;
+    add(writes, places.right_top_corner, border.right_top_corner)?;
+    add(
+        writes,
+        places.right_bottom_corner,
+        border.right_bottom_corner,
+    )
+}
+
+/// Adds a write at the cell level of a place, where both the place and the value are there.
+fn add<T: Drop>(
+    writes: &mut Vec<Write<T>>,
+    place: Option<Place>,
+    value: Option<T>,
+) -> Result<(), OutOfMemory>
+    ensures { OnOk result (writes_made writes.new.items ≡ writes_made writes.old.items ++ places_set ((place, value) ∷ [])) }
+{
+    let Some(place) = place else {
+        return Ok(());
+    };
+    let target = Some(Target::Cell(place));
+    writes.push(Write { target, value })?;
+    Ok(())
+}
+
+impl<T> Layers<T> {
+    ghost use Rattle.tabled_grid.specs.Event.{Changes};
+    ghost use Rattle.tabled_grid.specs.Keeping.{keeps};
+
+    /// Writes what the border gives at the cell level of the sides and corners of each cell that the entity
+    /// names in a table of `shape.0` rows and `shape.1` columns, row by row: for what two cells share the
+    /// later one counts. Cells outside are passed over. Where memory is refused nothing changes; without a cell inside
+    /// none is asked for.
+    pub fn set_entity_border(
+        &mut self,
+        entity: Entity,
+        shape: (usize, usize),
+        border: &Border<T>,
+    ) -> Result<(), OutOfMemory>
+    where
+        T: Keep,
+        ensures ok { OnOk result (Changes (entity_border_set entity shape border.now) (keeps self.old) (keeps self.new)) }
+        ensures err { OnErr result (self.new ≡ self.old) }
+        ensures without_cells { filter (is_inside shape.0 shape.1) (cells_of entity shape.0 shape.1) ≡ [] → IsOk result }
+    {
+        let writes = border_writes(self.alloc, entity, shape, border)?;
+        self.write_all(writes)
+    }
+}
+
+/// Whether a cell lies in a table of `shape.0` rows and `shape.1` columns.
+pub(super) fn is_inside(pos: Position, shape: (usize, usize)) -> bool
+    ensures { result ≡ is_inside shape.0 shape.1 pos }
+{
+    pos.row < shape.0 && pos.col < shape.1
+}
