@@ -1,6 +1,6 @@
 //! Single cells as objects.
 
-ghost use Rattle.std.specs.Prelude.{◌≡◌};
+ghost use Rattle.std.specs.Prelude.{⊤, ◌≡◌};
 ghost use Rattle.tabled_object.specs.Listing.{one_cell};
 
 use crate::{Combine, Entity, ExactRecords, Object, Position, Records};
@@ -32,6 +32,8 @@ impl<R: Records + ExactRecords> Object<R> for Cell {
 
     ghost listing = { λ cell _ _. one_cell cell.row cell.col };
 
+    ghost takes_no_memory = { λ _. ⊤ };
+
     fn cells(&self, _alloc: Global, _records: &R) -> Result<Self::Iter, OutOfMemory> {
         Ok(iter::once(Entity::Cell(self.row, self.col)))
     }
@@ -44,6 +46,8 @@ impl<R: Records + ExactRecords> Object<R> for Position {
 
     ghost listing = { λ cell _ _. one_cell cell.row cell.col };
 
+    ghost takes_no_memory = { λ _. ⊤ };
+
     fn cells(&self, _alloc: Global, _records: &R) -> Result<Self::Iter, OutOfMemory> {
         Ok(iter::once(Entity::Cell(self.row, self.col)))
     }
@@ -55,6 +59,8 @@ impl<R: Records + ExactRecords> Object<R> for (usize, usize) {
     type Iter = Once<Entity>;
 
     ghost listing = { λ cell _ _. one_cell cell.0 cell.1 };
+
+    ghost takes_no_memory = { λ _. ⊤ };
 
     fn cells(&self, _alloc: Global, _records: &R) -> Result<Self::Iter, OutOfMemory> {
         let (row, col) = *self;

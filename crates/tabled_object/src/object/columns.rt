@@ -1,6 +1,6 @@
 //! Columns as objects.
 
-ghost use Rattle.std.specs.Prelude.{◌≡◌};
+ghost use Rattle.std.specs.Prelude.{⊤, ◌≡◌};
 ghost use Rattle.tabled_object.specs.Listing.{one_column, first_column, last_column, column_before_last};
 
 use crate::{Combine, Entity, ExactRecords, Object, Records};
@@ -43,6 +43,8 @@ impl<R: Records + ExactRecords> Object<R> for Column {
 
     ghost listing = { λ column _ _. one_column column.index };
 
+    ghost takes_no_memory = { λ _. ⊤ };
+
     fn cells(&self, _alloc: Global, _records: &R) -> Result<Self::Iter, OutOfMemory> {
         Ok(iter::once(Entity::Column(self.index)))
     }
@@ -58,6 +60,8 @@ impl<R: Records + ExactRecords> Object<R> for FirstColumn {
     type Iter = Once<Entity>;
 
     ghost listing = { λ _ _ cols. first_column cols };
+
+    ghost takes_no_memory = { λ _. ⊤ };
 
     fn cells(&self, _alloc: Global, records: &R) -> Result<Self::Iter, OutOfMemory> {
         if records.count_columns() == 0 {
@@ -87,6 +91,8 @@ impl<R: Records + ExactRecords> Object<R> for LastColumn {
 
     ghost listing = { λ _ _ cols. last_column cols };
 
+    ghost takes_no_memory = { λ _. ⊤ };
+
     fn cells(&self, _alloc: Global, records: &R) -> Result<Self::Iter, OutOfMemory> {
         let last = records.count_columns().checked_sub(1);
         Ok(last.map(Entity::Column).into_iter())
@@ -106,6 +112,8 @@ impl<R: Records + ExactRecords> Object<R> for LastColumnOffset {
     type Iter = Once<Entity>;
 
     ghost listing = { λ column _ cols. column_before_last column.offset cols };
+
+    ghost takes_no_memory = { λ _. ⊤ };
 
     fn cells(&self, _alloc: Global, records: &R) -> Result<Self::Iter, OutOfMemory> {
         let count = records.count_columns();

@@ -46,6 +46,8 @@ impl<R: Records + ExactRecords, A: Object<R>, B: Object<R>> Object<R> for Union<
 
     ghost listing = { λ both rows cols. A.listing both.left rows cols ++ B.listing both.right rows cols };
 
+    ghost takes_no_memory = { λ both. A.takes_no_memory both.left × B.takes_no_memory both.right };
+
     fn cells(&self, alloc: Global, records: &R) -> Result<Self::Iter, OutOfMemory> {
         let left = self.left.cells(alloc, records)?;
         Ok(left.chain(self.right.cells(alloc, records)?))

@@ -1,6 +1,6 @@
 //! Rows as objects.
 
-ghost use Rattle.std.specs.Prelude.{◌≡◌};
+ghost use Rattle.std.specs.Prelude.{⊤, ◌≡◌};
 ghost use Rattle.tabled_object.specs.Listing.{one_row, first_row, last_row, row_above_last};
 
 use crate::{Combine, Entity, ExactRecords, Object, Records};
@@ -43,6 +43,8 @@ impl<R: Records + ExactRecords> Object<R> for Row {
 
     ghost listing = { λ row _ _. one_row row.index };
 
+    ghost takes_no_memory = { λ _. ⊤ };
+
     fn cells(&self, _alloc: Global, _records: &R) -> Result<Self::Iter, OutOfMemory> {
         Ok(iter::once(Entity::Row(self.index)))
     }
@@ -58,6 +60,8 @@ impl<R: Records + ExactRecords> Object<R> for FirstRow {
     type Iter = Once<Entity>;
 
     ghost listing = { λ _ rows _. first_row rows };
+
+    ghost takes_no_memory = { λ _. ⊤ };
 
     fn cells(&self, _alloc: Global, records: &R) -> Result<Self::Iter, OutOfMemory> {
         if records.count_rows() == 0 {
@@ -87,6 +91,8 @@ impl<R: Records + ExactRecords> Object<R> for LastRow {
 
     ghost listing = { λ _ rows _. last_row rows };
 
+    ghost takes_no_memory = { λ _. ⊤ };
+
     fn cells(&self, _alloc: Global, records: &R) -> Result<Self::Iter, OutOfMemory> {
         let last = records.count_rows().checked_sub(1);
         Ok(last.map(Entity::Row).into_iter())
@@ -106,6 +112,8 @@ impl<R: Records + ExactRecords> Object<R> for LastRowOffset {
     type Iter = Once<Entity>;
 
     ghost listing = { λ row rows _. row_above_last row.offset rows };
+
+    ghost takes_no_memory = { λ _. ⊤ };
 
     fn cells(&self, _alloc: Global, records: &R) -> Result<Self::Iter, OutOfMemory> {
         let count = records.count_rows();

@@ -1,5 +1,6 @@
 //! Whole tables as objects.
 
+ghost use Rattle.std.specs.Prelude.{⊤};
 ghost use Rattle.tabled_object.specs.Listing.{all_cells};
 
 use crate::{Combine, Entity, ExactRecords, Object, Records};
@@ -26,6 +27,8 @@ impl<R: Records + ExactRecords> Object<R> for SegmentAll {
     type Iter = Once<Entity>;
 
     ghost listing = { λ _ _ _. all_cells };
+
+    ghost takes_no_memory = { λ _. ⊤ };
 
     fn cells(&self, _alloc: Global, _records: &R) -> Result<Self::Iter, OutOfMemory> {
         Ok(iter::once(Entity::Global))
