@@ -1,6 +1,6 @@
 //! What can be done to cells of a table.
 
-ghost use Rattle.std.specs.Prelude.{◌≡◌, ℕ, map, take, OnOk, OnErr, List, Option};
+ghost use Rattle.std.specs.Prelude.{◌≡◌, ℕ, [], map, take, IsOk, OnOk, OnErr, List, Option};
 ghost use Rattle.tabled_object.specs.declared.entity.Entity.{Entity};
 ghost use Rattle.tabled_config.specs.Options.{MakesInTurn};
 
@@ -30,7 +30,8 @@ pub trait CellOption<R, C: Configured> {
 
 /// Makes the option's change for each entity that the object lists, in its order, by the events that it makes of what
 /// stands before it. Where memory is refused, the changes for the first ones of them may have been made, each whole.
-/// `alloc` gives the memory for the listing, where that needs any.
+/// `alloc` gives the memory for the listing, where that needs any; where it needs none and nothing is listed, the answer
+/// is Ok.
 pub fn modify<R, C, O, P>(
     alloc: Global,
     records: &mut R,
@@ -48,6 +49,7 @@ where
         (map (P.makes option.now records.old) (O.listing object.now (R.row_count records.old) (R.column_count records.old))) made cfg.old cfg.new) }
     ensures err { OnErr result ((count : ℕ) × (made : List C.Event) × MakesInTurn C.changes
         (map (P.makes option.now records.old) (take count (O.listing object.now (R.row_count records.old) (R.column_count records.old)))) made cfg.old cfg.new) }
+    ensures without_entities { O.takes_no_memory object.now → O.listing object.now (R.row_count records.old) (R.column_count records.old) ≡ [] → IsOk result }
     ensures records { records.new ≡ records.old }
 {
     for entity in object.cells(alloc, records)? {

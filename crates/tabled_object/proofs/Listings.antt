@@ -1,6 +1,6 @@
 -- What an iterator gives, shown from what its calls give.
-use Rattle.std.proofs.Common.{◌≡◌, List, ◌++◌, Bool, true, false, cond, T, Option, None, length, take, sym, map-id, ◌∙◌}
-use Rattle.std.specs.Iterator.{Count, Yields}
+use Rattle.std.proofs.Common.{◌≡◌, List, [], ◌∷◌, ◌++◌, Bool, true, false, cond, T, Option, Some, None, length, take, sym, subst, map-id, ◌∙◌}
+use Rattle.std.specs.Iterator.{Count, Yields, AlwaysYields}
 use Rattle.std.specs.Iterator.Adapters.{chain_first, chain_second, chain_first_done, chain_second_done, chain_steps, chain_left}
 use Rattle.std.specs.declared.iter.Chain.{Chain}
 use Rattle.std.proofs.lemmas.Iterator.{YieldsList}
@@ -37,3 +37,15 @@ module _ {S : Type 0} {can : S → Type 0} {steps : S → Option Entity → S �
   -- an iterator that gives no more has given all that it lists
   pub given_all : Yields steps items given now → (answer : Option Entity) (then : S) → answer ≡ None → steps now answer then → given ≡ entities
   given_all gave answer then none step = sym (map-id given) ∙ (YieldsList-end given_in_order given now gave answer then none step).0
+
+-- an iterator that lists nothing gives nothing
+pub nothing_given : {S : Type 0} {can : S → Type 0} {steps : S → Option Entity → S → Type 0} {left : S → Count} {items : S} (entities : List Entity) → Lists can steps left items entities → entities ≡ [] → (given : List Entity) (now : S) → Yields steps items given now → (entity : Entity) (then : S) → steps now (Some entity) then → ⊥
+nothing_given {steps = steps} {items = items} entities lists none given now gave entity then step =
+    at given gave
+  where
+    in_order : AlwaysYields steps (λ e. e) items []
+    in_order = subst (AlwaysYields steps (λ e. e) items) none lists.in_order
+
+    at : (given : List Entity) → Yields steps items given now → ⊥
+    at [] gave = in_order entity then (subst (λ s. steps s (Some entity) then) (sym gave) step)
+    at (first ∷ rest) gave = in_order first gave.0 gave.1

@@ -2,7 +2,7 @@ use Rattle.std.proofs.Common.{List, [], ◌∷◌, ◌++◌, map, length, take, 
 use Rattle.std.proofs.lemmas.List.{map-append}
 use Rattle.tabled_object.specs.declared.entity.Entity.{Entity}
 use Rattle.tabled_object.specs.Listing.{Lists}
-use Rattle.tabled_object.proofs.Listings.{given_so_far, given_all}
+use Rattle.tabled_object.proofs.Listings.{given_so_far, given_all, nothing_given}
 use Rattle.tabled_config.specs.Options.{MakesInTurn}
 use Rattle.tabled_config.proofs.InTurn.{one_more, none_made, where_refused}
 use Rattle.tabled_config.proofs.cell_option.modify.Goals as goal
@@ -13,7 +13,7 @@ returns-in_err-entity-items-clause-err g c = where_refused c.from_residual.resul
 pub loop-entity-init : goal.loop-entity-init
 loop-entity-init g c =
     let listing = g.O.Object.listing c.args.object.now (g.R.ExactRecords.row_count c.args.records.now) (g.R.Records.column_count c.args.records.now) in
-    let lists = subst (λ items. Lists g.O.Iter.Iterator.can_next g.O.Iter.Iterator.next_gives g.O.Iter.Iterator.remaining items listing) (sym c.into_iter-entity-iterator.ensures.into_iter_gives) c.in_ok-entity-items.ensures in
+    let lists = subst (λ items. Lists g.O.Iter.Iterator.can_next g.O.Iter.Iterator.next_gives g.O.Iter.Iterator.remaining items listing) (sym c.into_iter-entity-iterator.ensures.into_iter_gives) c.in_ok-entity-items.ensures.listed in
     (lists.may_begin, lists.ends, refl, ([], none_made _ c.args.cfg.now))
 
 pub loop-entity-preserved : goal.loop-entity-preserved
@@ -33,7 +33,7 @@ loop-entity-preserved g c =
 pub returns-in_err-change-clause-err : goal.returns-in_err-change-clause-err
 returns-in_err-change-clause-err g c =
     let listing = g.O.Object.listing c.args.object.now (g.R.ExactRecords.row_count c.args.records.now) (g.R.Records.column_count c.args.records.now) in
-    let lists = subst (λ items. Lists g.O.Iter.Iterator.can_next g.O.Iter.Iterator.next_gives g.O.Iter.Iterator.remaining items listing) (sym c.into_iter-entity-iterator.ensures.into_iter_gives) c.in_ok-entity-items.ensures in
+    let lists = subst (λ items. Lists g.O.Iter.Iterator.can_next g.O.Iter.Iterator.next_gives g.O.Iter.Iterator.remaining items listing) (sym c.into_iter-entity-iterator.ensures.into_iter_gives) c.in_ok-entity-items.ensures.listed in
     let makes : Entity → g.row.C.Denot → List g.row.C-Event.Denot = g.P.CellOption.makes c.args.option.now c.args.records.now in
     where_refused c.from_residual-in_err-change.result (
       length c.loop-entity.yielded,
@@ -45,6 +45,15 @@ returns-in_err-change-clause-err g c =
 pub returns-clause-ok : goal.returns-clause-ok
 returns-clause-ok g c =
     let listing = g.O.Object.listing c.args.object.now (g.R.ExactRecords.row_count c.args.records.now) (g.R.Records.column_count c.args.records.now) in
-    let lists = subst (λ items. Lists g.O.Iter.Iterator.can_next g.O.Iter.Iterator.next_gives g.O.Iter.Iterator.remaining items listing) (sym c.into_iter-entity-iterator.ensures.into_iter_gives) c.in_ok-entity-items.ensures in
+    let lists = subst (λ items. Lists g.O.Iter.Iterator.can_next g.O.Iter.Iterator.next_gives g.O.Iter.Iterator.remaining items listing) (sym c.into_iter-entity-iterator.ensures.into_iter_gives) c.in_ok-entity-items.ensures.listed in
     let makes : Entity → g.row.C.Denot → List g.row.C-Event.Denot = g.P.CellOption.makes c.args.option.now c.args.records.now in
     (c.loop-entity.invariant.3.0, subst (λ entities. MakesInTurn g.C.Configured.changes (map makes entities) c.loop-entity.invariant.3.0 c.args.cfg.now c.loop-entity.cfg) (given_all lists c.loop-entity.yielded c.loop-entity.entity-iterator c.loop-entity.yielded_by c.next.result c.next.new.self c.in-None.is c.next.ensures.steps) c.loop-entity.invariant.3.1)
+
+pub returns-in_err-entity-items-clause-without_entities : goal.returns-in_err-entity-items-clause-without_entities
+returns-in_err-entity-items-clause-without_entities g c = λ free none. absurd (let sure = c.in_err-entity-items.ensures.always free in cc)
+
+pub returns-in_err-change-clause-without_entities : goal.returns-in_err-change-clause-without_entities
+returns-in_err-change-clause-without_entities g c = λ free none.
+    let listing = g.O.Object.listing c.args.object.now (g.R.ExactRecords.row_count c.args.records.now) (g.R.Records.column_count c.args.records.now) in
+    let lists = subst (λ items. Lists g.O.Iter.Iterator.can_next g.O.Iter.Iterator.next_gives g.O.Iter.Iterator.remaining items listing) (sym c.into_iter-entity-iterator.ensures.into_iter_gives) c.in_ok-entity-items.ensures.listed in
+    absurd (nothing_given listing lists none c.loop-entity.yielded c.loop-entity.entity-iterator c.loop-entity.yielded_by c.in-Some.entity c.next.new.self c.in-Some.ensures.steps)
