@@ -1,7 +1,7 @@
 //! The program without its surroundings.
 
-ghost use Rattle.std.specs.Prelude.{◌≡◌, ◌≢◌, ◌↔◌, None, map, string_bytes, IsSome, IfSome, IfErr, OnOk, IsErrOf};
-ghost use Rattle.std.specs.Io.KnownBytes.{Appends, IsAtEnd, Keeps};
+ghost use Rattle.std.specs.Prelude.{◌≡◌, ◌≢◌, ◌↔◌, ◌≤◌, ◌+◌, ℕ, List, None, length, map, string_bytes, IsSome, IfSome, IfErr, OnOk, IsErrOf};
+ghost use Rattle.std.specs.Io.KnownBytes.{Appends, Consumes, IsAtEnd, Keeps};
 ghost use Rattle.tabled_pages.specs.Input.{fault_of};
 ghost use Rattle.tabled_pages.specs.Page.{page};
 ghost use Rattle.tabled_pages.specs.Refusal.{answer_of, exit_status};
@@ -9,13 +9,14 @@ ghost use Rattle.tabled_pages.specs.Style.{style_of};
 
 use crate::error::ShowError;
 use crate::page::page;
-use crate::read::read_input;
+use crate::read::{INPUT_LIMIT, read_input};
 use crate::styles::style_of;
 use std::alloc::Global;
 use std::io::{Read, Write};
 
 /// Writes the table of what is read, in the style that the words after the program's name ask for.
-/// Nothing is written before the input has been found good. How much was written before a write failed
+/// At most one byte past the limit is read, and nothing is written before the input has been found good. How much was
+/// written before a write failed
 /// is left open.
 pub fn run<R: Read, W: Write>(
     alloc: Global,
@@ -27,6 +28,9 @@ pub fn run<R: Read, W: Write>(
     ensures whole { OnOk result (IsAtEnd (R.remaining input.new)) }
     ensures written { OnOk result (IfSome (R.remaining input.old) (λ bytes. IfSome (style_of (map string_bytes words.now))
         (λ style. Appends (W.contents output.old) (W.contents output.new) (page style bytes)))) }
+
+    // No more was read than one byte past the limit.
+    ensures at_most { (taken : List ℕ) × Consumes (R.remaining input.old) (R.remaining input.new) taken × (length taken ≤ INPUT_LIMIT + 1) }
 
     // When each refusal comes.
     ensures usage { IsErrOf result ShowError.Usage ↔ (style_of (map string_bytes words.now) ≡ None) }
