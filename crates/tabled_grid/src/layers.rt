@@ -8,8 +8,6 @@ mod copies;
 mod equality;
 mod notes;
 mod reads;
-#[cfg(test)]
-mod tests;
 
 use crate::cells::{put, put_crossing, put_edge, take_crossing, take_edge};
 use crate::custom_lines::{put_horizontal, put_vertical, take_horizontal, take_vertical};

@@ -4,9 +4,6 @@ ghost use Rattle.std.specs.Prelude.{◌≡◌, [], ◌∷◌, OnOk, OnErr};
 ghost use Rattle.tabled_object.specs.Entities.{is_inside};
 ghost use Rattle.tabled_grid.specs.PutBack.{PutsBackAll};
 
-#[cfg(test)]
-mod tests;
-
 use super::Layers;
 use super::cell_border::places;
 use crate::{Border, Entity, EntityIterator, Keep, OutOfMemory, Place, Position};
