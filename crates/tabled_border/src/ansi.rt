@@ -8,9 +8,6 @@ ghost use Rattle.std.specs.Cmp.Lexicographic.{slice_cmp, pointwise};
 ghost use Rattle.std.specs.Ordering.{nat_cmp, on, then_cmp, eq_of_both, as_partial_cmp};
 ghost use Rattle.std.proofs.Common.{rules};
 
-#[cfg(test)]
-mod tests;
-
 use crate::{Keep, OutOfMemory};
 use std::alloc::Global;
 use std::cmp::Ordering;

@@ -7,9 +7,6 @@ ghost use Rattle.tabled_grid.specs.Table.{table};
 ghost use Rattle.tabled_grid.specs.Same.{same_map};
 ghost use Rattle.tabled_grid.specs.Probing.{IsCounted, IsRaised};
 
-#[cfg(test)]
-mod tests;
-
 use crate::{Keep, OutOfMemory, Probes};
 use std::alloc::Global;
 use std::collections::BTreeMap;

@@ -8,8 +8,6 @@ mod copies;
 mod entity_border;
 mod equality;
 mod reads;
-#[cfg(test)]
-mod tests;
 mod writes;
 
 use crate::cells::{put_crossing, put_edge, take_crossing, take_edge};

@@ -4,9 +4,6 @@ ghost use Rattle.std.specs.Prelude.{◌≡◌, ◌+◌, ◌<◌, ◌≤◌, ◌^
 ghost use Rattle.tabled_grid.specs.Table.{one_if};
 ghost use Rattle.tabled_grid.specs.Probing.{IsCounted, IsRaised};
 
-#[cfg(test)]
-mod tests;
-
 use crate::Probes;
 use std::marker::Model;
 

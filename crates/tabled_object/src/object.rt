@@ -11,8 +11,6 @@ mod covering;
 mod difference;
 mod rows;
 mod segment;
-#[cfg(test)]
-mod tests;
 
 use crate::{Entity, ExactRecords, Records};
 pub use cell::Cell;

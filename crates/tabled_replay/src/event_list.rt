@@ -11,9 +11,6 @@ ghost use Rattle.tabled_grid.specs.Drawn.{draws as is_drawing, drawn as is_drawn
 ghost use Rattle.tabled_replay.specs.EventList.{rank_of, site_of, region_of, written_of, event_of};
 ghost use Rattle.tabled_grid.specs.declared.place.LineOf.{LineOf as Line};
 
-#[cfg(test)]
-mod tests;
-
 use tabled_grid::{LineOf, Place};
 
 /// Which way an edge runs: as part of a horizontal line, or of a vertical one.

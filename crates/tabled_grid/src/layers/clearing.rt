@@ -2,9 +2,6 @@
 
 ghost use Rattle.std.specs.Prelude.{◌≡◌};
 
-#[cfg(test)]
-mod tests;
-
 use super::Layers;
 use super::entity_border::is_inside;
 use crate::{Entity, EntityIterator, Place};

@@ -1,13 +1,12 @@
-//! The store beside the plain reader, over many mixed writes and erasures, and single cases.
+//! The store beside the plain reader, over many mixed writes and erasures.
 
-ghost use Rattle.std.specs.Prelude.{◌<◌};
-
-use super::{Direction, Event, Rank, Region, Site, Written, drawn, value};
+use crate::dice::Dice;
 use std::process::Abort;
 use std::test::Fail;
 use tabled_grid::{
     Borders, HorizontalLine, Layers, LineOf, Offset, OutOfMemory, Place, Probes, VerticalLine,
 };
+use tabled_replay::{Direction, Event, Rank, Region, Site, Written, drawn, value};
 
 /// The numbers of the lines, rows, columns and offsets that the calls name.
 const NUMBERS: [usize; 11] = [0, 1, 2, 3, 4, 5, 254, 255, 256, 257, 258];
@@ -20,98 +19,6 @@ const TABLES: [(usize, usize, usize); 5] = [
     (257, 255, 257),
     (0, 3, 2),
 ];
-
-/// A generator of numbers, the same in each run.
-#[derive(Drop)]
-struct Dice {
-    state: u32,
-}
-
-impl Dice {
-    fn below(&mut self, count: u32) -> u32
-        requires { 0 < count }
-        ensures { result < count }
-    {
-        self.state = self
-            .state
-            .wrapping_mul(1_664_525)
-            .wrapping_add(1_013_904_223);
-        (self.state >> 16) % count
-    }
-
-    /// Mostly 0 or 1, so that calls meet, else a number of 0 to 5 or, now and then, of 254 to 258.
-    fn number(&mut self) -> usize {
-        if self.below(4) > 0 {
-            return self.below(2) as usize;
-        }
-        let number = self.below(16);
-        if number < 11 {
-            (number % 6) as usize
-        } else {
-            (number + 243) as usize
-        }
-    }
-
-    fn sign(&mut self) -> char {
-        match self.below(4) {
-            0 => '-',
-            1 => '|',
-            2 => '+',
-            _ => '\u{2550}',
-        }
-    }
-
-    /// A character, once in so many times.
-    fn given(&mut self, times: u32) -> Option<char>
-        requires { 0 < times }
-    {
-        if self.below(times) == 0 {
-            Some(self.sign())
-        } else {
-            None
-        }
-    }
-
-    fn place(&mut self) -> Place {
-        let row = self.number();
-        let col = self.number();
-        let at = self.number();
-        match self.below(3) {
-            0 => Place::Horizontal { row, col, at },
-            1 => Place::Vertical { row, col, at },
-            _ => Place::Cross { row, col },
-        }
-    }
-
-    fn offset(&mut self) -> Offset {
-        let number = self.number();
-        if self.below(2) == 0 {
-            Offset::Start(number)
-        } else {
-            Offset::End(number)
-        }
-    }
-
-    fn class_record(&mut self) -> Borders<char> {
-        Borders {
-            top: self.given(8),
-            bottom: self.given(8),
-            left: self.given(8),
-            right: self.given(8),
-            top_left: self.given(8),
-            top_right: self.given(8),
-            bottom_left: self.given(8),
-            bottom_right: self.given(8),
-            top_intersection: self.given(8),
-            bottom_intersection: self.given(8),
-            left_intersection: self.given(8),
-            right_intersection: self.given(8),
-            horizontal: self.given(8),
-            vertical: self.given(8),
-            intersection: self.given(8),
-        }
-    }
-}
 
 /// A store, and the events of the calls that were made on it.
 #[derive(Drop)]
@@ -376,110 +283,6 @@ fn reads_what_the_events_leave(rt: HostRuntime) -> Result<(), Fail> {
             drop(both);
             walked?;
         }
-    }
-    Ok(())
-}
-
-/// Sets a crossing twice, and erases it.
-fn set_twice_and_erase(store: &mut Layers<char>, crossing: Place) -> Result<(), OutOfMemory> {
-    store.set_cell(crossing, 'a')?;
-    store.set_cell(crossing, 'b')?;
-    store.erase_cell(crossing);
-    Ok(())
-}
-
-#[test]
-fn a_crossing_set_twice_and_erased_draws_nothing(rt: HostRuntime) -> Result<(), Fail> {
-    let mut store = Layers::new(rt.alloc());
-    let written = set_twice_and_erase(&mut store, Place::Cross { row: 1, col: 2 });
-    let mut across = Probes::new();
-    let draws_across = store.draws(LineOf::Horizontal(1), 3, &mut across);
-    let mut down = Probes::new();
-    let draws_down = store.draws(LineOf::Vertical(2), 3, &mut down);
-    drop(store);
-    written?;
-    assert!(rt; !draws_across);
-    assert!(rt; across.count() <= 6);
-    assert!(rt; !draws_down);
-    assert!(rt; down.count() <= 6);
-    Ok(())
-}
-
-#[test]
-fn a_fresh_store_has_nothing(rt: HostRuntime) {
-    let store: Layers<char> = Layers::new(rt.alloc());
-    let (row, col, at) = (1, 1, 0);
-    for place in [
-        Place::Horizontal { row, col, at },
-        Place::Vertical { row, col, at },
-        Place::Cross { row, col },
-    ] {
-        let mut probes = Probes::new();
-        assert_eq!(rt; store.at(place, (3, 3), 4, &mut probes).copied(), None);
-        assert!(rt; probes.count() <= 6);
-    }
-}
-
-/// What the third place of the edge shows, of three and of four, after these offset characters.
-fn shown_after(
-    store: &mut Layers<char>,
-    writes: [(Offset, char); 2],
-) -> Result<[Option<char>; 2], OutOfMemory> {
-    let edge = Place::Horizontal {
-        row: 0,
-        col: 0,
-        at: 2,
-    };
-    let [first, second] = writes;
-    store.set_offset(edge, first.0, first.1)?;
-    store.set_offset(edge, second.0, second.1)?;
-    let of_three = store.at(edge, (1, 1), 3, &mut Probes::new()).copied();
-    let of_four = store.at(edge, (1, 1), 4, &mut Probes::new()).copied();
-    Ok([of_three, of_four])
-}
-
-#[test]
-fn offsets_that_meet_show_the_one_from_the_start(rt: HostRuntime) -> Result<(), Fail> {
-    let start = (Offset::Start(2), 's');
-    let end = (Offset::End(0), 'e');
-    for writes in [[start, end], [end, start]] {
-        let mut store = Layers::new(rt.alloc());
-        let shown = shown_after(&mut store, writes);
-        drop(store);
-        let [of_three, of_four] = shown?;
-        assert_eq!(rt; of_three, Some('s'));
-        assert_eq!(rt; of_four, Some('s'));
-    }
-    Ok(())
-}
-
-/// Whether one of five places of an edge of three shows an offset character.
-fn shows_somewhere(store: &mut Layers<char>, offset: Offset) -> Result<bool, OutOfMemory> {
-    let (row, col) = (0, 0);
-    store.set_offset(Place::Horizontal { row, col, at: 0 }, offset, 'x')?;
-    for at in 0..5 {
-        let place = Place::Horizontal { row, col, at };
-        let shown = store.at(place, (1, 1), 3, &mut Probes::new()).copied();
-        if shown.is_some() {
-            return Ok(true);
-        }
-    }
-    Ok(false)
-}
-
-#[test]
-fn an_offset_past_the_width_shows_nowhere(rt: HostRuntime) -> Result<(), Fail> {
-    let wanted = [
-        (Offset::Start(2), true),
-        (Offset::Start(3), false),
-        (Offset::End(2), true),
-        (Offset::End(3), false),
-    ];
-    for (offset, is_shown) in wanted {
-        let mut store = Layers::new(rt.alloc());
-        let shown = shows_somewhere(&mut store, offset);
-        drop(store);
-        assert_eq!(rt; shown?, is_shown, "{offset:?}");
     }
     Ok(())
 }

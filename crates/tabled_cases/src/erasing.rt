@@ -1,9 +1,9 @@
-//! What erasures of many places leave of a table of two rows and two columns.
+//! What erasures leave of a table of two rows and two columns.
 
-use crate::layers::tests::seen;
-use crate::{Border, Entity, Keep, Layers, OutOfMemory, Position};
+use crate::borders::seen;
 use std::alloc::Global;
 use std::test::Fail;
+use tabled_grid::{Border, Entity, Keep, Layers, LineOf, OutOfMemory, Place, Position, Probes};
 
 /// Writes at all edges and crossings of the table.
 fn write_all(store: &mut Layers<char>) -> Result<(), OutOfMemory> {
@@ -43,23 +43,52 @@ fn a_frame_erased_leaves_what_is_inside(rt: HostRuntime) -> Result<(), Fail> {
     Ok(())
 }
 
-/// Whether a store is as before after erasures of a column outside and of frames of tables that have none.
+/// Whether a store is as before after a border of a row outside, and after erasures of a column outside and of
+/// frames of tables that have none.
 fn stays(store: &mut Layers<char>, alloc: Global) -> Result<bool, OutOfMemory> {
     write_all(store)?;
     let before = store.keep(alloc)?;
+    let written = store.set_entity_border(Entity::Row(2), (2, 2), &Border::filled('y'));
     store.erase_entity_border(Entity::Column(2), (2, 2));
     store.erase_frame((0, 2));
     store.erase_frame((2, 0));
     let is_same = *store == before;
     drop(before);
+    written?;
     Ok(is_same)
 }
 
 #[test]
-fn what_is_not_there_is_not_erased(rt: HostRuntime) -> Result<(), Fail> {
+fn what_lies_outside_is_passed_over(rt: HostRuntime) -> Result<(), Fail> {
     let mut store = Layers::new(rt.alloc());
     let is_same = stays(&mut store, rt.alloc());
     drop(store);
     assert!(rt; is_same?);
+    Ok(())
+}
+
+/// Whether a line of a table of two rows and two columns is drawn.
+fn draws(store: &Layers<char>, line: LineOf) -> bool {
+    store.draws(line, 2, &mut Probes::new())
+}
+
+/// Sets a crossing twice, and erases it.
+fn set_twice_and_erase(store: &mut Layers<char>, crossing: Place) -> Result<(), OutOfMemory> {
+    store.set_cell(crossing, 'a')?;
+    store.set_cell(crossing, 'b')?;
+    store.erase_cell(crossing);
+    Ok(())
+}
+
+#[test]
+fn a_crossing_set_twice_and_erased_draws_nothing(rt: HostRuntime) -> Result<(), Fail> {
+    let mut store = Layers::new(rt.alloc());
+    let written = set_twice_and_erase(&mut store, Place::Cross { row: 1, col: 2 });
+    let draws_across = draws(&store, LineOf::Horizontal(1));
+    let draws_down = draws(&store, LineOf::Vertical(2));
+    drop(store);
+    written?;
+    assert!(rt; !draws_across);
+    assert!(rt; !draws_down);
     Ok(())
 }

@@ -1,0 +1,178 @@
+//! What objects list, by hand; and that a listing comes where memory is there.
+
+use std::alloc::Global;
+use std::test::Fail;
+use tabled_grid::{
+    Cell, Columns, Combine, Entity, Object, OutOfMemory, Position, Rows, Segment, Shape,
+};
+
+const TABLE: Shape = Shape { rows: 3, cols: 4 };
+
+const EMPTY: Shape = Shape { rows: 0, cols: 0 };
+
+/// Whether the object lists these entities in a table of that shape.
+fn lists<O: Object<Shape>>(
+    alloc: Global,
+    object: &O,
+    shape: Shape,
+    wanted: &[Entity],
+) -> Result<bool, OutOfMemory> {
+    let listed: Vec<Entity> = object.cells(alloc, &shape)?.collect(alloc)?;
+    Ok(listed.as_slice() == wanted)
+}
+
+/// Whether rows that are found from either end list themselves.
+fn ends_of_rows_are_listed(alloc: Global) -> Result<bool, OutOfMemory> {
+    Ok(
+        lists(alloc, &Rows::first(), TABLE, &[Entity::Row(0)])?
+            && lists(alloc, &Rows::last(), TABLE, &[Entity::Row(2)])?
+            && lists(alloc, &Rows::last().offset(2), TABLE, &[Entity::Row(0)])?
+            && lists(alloc, &Rows::last().offset(3), TABLE, &[])?,
+    )
+}
+
+/// Whether columns that are found from either end list themselves.
+fn ends_of_columns_are_listed(alloc: Global) -> Result<bool, OutOfMemory> {
+    Ok(
+        lists(alloc, &Columns::first(), TABLE, &[Entity::Column(0)])?
+            && lists(alloc, &Columns::last(), TABLE, &[Entity::Column(3)])?
+            && lists(
+                alloc,
+                &Columns::last().offset(3),
+                TABLE,
+                &[Entity::Column(0)],
+            )?
+            && lists(alloc, &Columns::last().offset(4), TABLE, &[])?,
+    )
+}
+
+#[test]
+fn rows_and_columns_are_found_from_either_end(rt: HostRuntime) -> Result<(), Fail> {
+    assert!(rt; ends_of_rows_are_listed(rt.alloc())?);
+    assert!(rt; ends_of_columns_are_listed(rt.alloc())?);
+    Ok(())
+}
+
+/// Whether the first and the last row and column list nothing in a table that has none.
+fn ends_list_nothing(alloc: Global) -> Result<bool, OutOfMemory> {
+    Ok(
+        lists(alloc, &Rows::first(), EMPTY, &[])?
+            && lists(alloc, &Rows::last(), EMPTY, &[])?
+            && lists(alloc, &Rows::last().offset(0), EMPTY, &[])?
+            && lists(alloc, &Columns::first(), EMPTY, &[])?
+            && lists(alloc, &Columns::last(), EMPTY, &[])?
+            && lists(alloc, &Columns::last().offset(0), EMPTY, &[])?,
+    )
+}
+
+#[test]
+fn an_empty_table_has_no_first_and_no_last(rt: HostRuntime) -> Result<(), Fail> {
+    assert!(rt; ends_list_nothing(rt.alloc())?);
+    Ok(())
+}
+
+/// Whether what has a name in any table lists itself: a cell, a row and a column by their numbers, and all cells.
+fn named_ones_list_themselves(alloc: Global, shape: Shape) -> Result<bool, OutOfMemory> {
+    let cell = [Entity::Cell(7, 1)];
+    Ok(
+        lists(alloc, &Cell::new(7, 1), shape, &cell)?
+            && lists(alloc, &Position::new(7, 1), shape, &cell)?
+            && lists(alloc, &(7, 1), shape, &cell)?
+            && lists(alloc, &Rows::one(5), shape, &[Entity::Row(5)])?
+            && lists(alloc, &Columns::one(5), shape, &[Entity::Column(5)])?
+            && lists(alloc, &Segment::all(), shape, &[Entity::Global])?,
+    )
+}
+
+#[test]
+fn what_has_a_name_in_any_table_lists_itself(rt: HostRuntime) -> Result<(), Fail> {
+    for shape in [TABLE, EMPTY] {
+        assert!(rt; named_ones_list_themselves(rt.alloc(), shape)?);
+    }
+    Ok(())
+}
+
+#[test]
+fn two_objects_are_listed_in_a_row(rt: HostRuntime) -> Result<(), Fail> {
+    let object = Rows::last().and((0, 0)).and(Columns::one(9)).and((0, 0));
+    let wanted = [
+        Entity::Row(2),
+        Entity::Cell(0, 0),
+        Entity::Column(9),
+        Entity::Cell(0, 0),
+    ];
+    assert!(rt; lists(rt.alloc(), &object, TABLE, &wanted)?);
+    Ok(())
+}
+
+#[test]
+fn a_difference_lists_what_is_left(rt: HostRuntime) -> Result<(), Fail> {
+    let inner = Segment::all().not(Rows::first().and(Columns::first()));
+    let wanted = [
+        Entity::Cell(1, 1),
+        Entity::Cell(1, 2),
+        Entity::Cell(1, 3),
+        Entity::Cell(2, 1),
+        Entity::Cell(2, 2),
+        Entity::Cell(2, 3),
+    ];
+    assert!(rt; lists(rt.alloc(), &inner, TABLE, &wanted)?);
+    assert!(rt; lists(rt.alloc(), &inner, EMPTY, &[])?);
+    Ok(())
+}
+
+#[test]
+fn a_difference_lists_cells_in_row_order(rt: HostRuntime) -> Result<(), Fail> {
+    // listed backwards, twice, over one another, and partly outside
+    let crossed = Columns::one(1).and(Rows::one(0)).and((2, 1)).and((9, 9));
+    let without = crossed.not(Rows::one(1).and((0, 2)));
+    let wanted = [
+        Entity::Cell(0, 0),
+        Entity::Cell(0, 1),
+        Entity::Cell(0, 3),
+        Entity::Cell(2, 1),
+    ];
+    assert!(rt; lists(rt.alloc(), &without, TABLE, &wanted)?);
+    Ok(())
+}
+
+#[test]
+fn a_difference_takes_no_memory_for_cells(rt: HostRuntime) -> Result<(), Fail> {
+    let vast = Shape {
+        rows: usize::MAX,
+        cols: usize::MAX,
+    };
+    let mut cells = Segment::all()
+        .not(Columns::first())
+        .cells(rt.alloc(), &vast)?;
+    let first = cells.next();
+    let second = cells.next();
+    drop(cells);
+    assert!(rt; [first, second] == [Some(Entity::Cell(0, 1)), Some(Entity::Cell(0, 2))]);
+    Ok(())
+}
+
+/// Whether these are the cells of the entity in a table of two rows and three columns.
+fn walks(entity: Entity, wanted: &[(usize, usize)]) -> bool {
+    let mut left = wanted;
+    for cell in entity.iter(2, 3) {
+        match left {
+            [first, rest @ ..] if *first == (cell.row, cell.col) => left = rest,
+            _ => return false,
+        }
+    }
+    left.is_empty()
+}
+
+#[test]
+fn entities_have_their_cells_in_row_order(rt: HostRuntime) {
+    let last = usize::MAX;
+    let all = [(0, 0), (0, 1), (0, 2), (1, 0), (1, 1), (1, 2)];
+    assert!(rt; walks(Entity::Global, &all));
+    assert!(rt; walks(Entity::Row(1), &[(1, 0), (1, 1), (1, 2)]));
+    assert!(rt; walks(Entity::Column(last), &[(0, last), (1, last)]));
+    assert!(rt; walks(Entity::Cell(last, last), &[(last, last)]));
+    for entity in [Entity::Global, Entity::Row(0), Entity::Column(0)] {
+        assert!(rt; entity.iter(0, 0).next().is_none());
+    }
+}
