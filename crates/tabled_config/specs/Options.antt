@@ -1,8 +1,9 @@
 -- What options do, entity by entity, and what the border of a cell does to a table.
-use Rattle.std.specs.Prelude.{◌≡◌, ◌==◌, ◌||◌, ◌++◌, ℕ, None, List, [], ◌∷◌, if◌then◌else◌}
+use Rattle.std.specs.Prelude.{◌≡◌, ◌==◌, ◌||◌, ◌++◌, ℕ, List, [], ◌∷◌, if◌then◌else◌}
 use Rattle.tabled_border.specs.declared.border.Border.{Border}
 use Rattle.tabled_grid.specs.declared.borders.Borders.{Borders}
 use Rattle.tabled_object.specs.declared.entity.Entity.{Entity}
+use Rattle.tabled_grid.specs.CustomLines.{no_borders}
 use Rattle.tabled_grid.specs.Calls.{entity_border_set, entity_border_erased, frame_erased}
 use Rattle.tabled_grid.specs.Site.{across, down, inner}
 use Rattle.tabled_grid.specs.Keeping.{line_classes, has_class, class_record_set}
@@ -50,19 +51,7 @@ entity_unbordered shape entity = by_characters (entity_border_erased entity shap
 
 -- a class record without its frame and the crossings on it
 abbrev pub inner_of : Borders ℕ → Borders ℕ
-inner_of class = record {
-  top = None;
-  bottom = None;
-  left = None;
-  right = None;
-  top_left = None;
-  top_right = None;
-  bottom_left = None;
-  bottom_right = None;
-  top_intersection = None;
-  bottom_intersection = None;
-  left_intersection = None;
-  right_intersection = None;
+inner_of class = record no_borders {
   horizontal = class.horizontal;
   vertical = class.vertical;
   intersection = class.intersection;

@@ -9,6 +9,7 @@ use Rattle.tabled_grid.specs.declared.lines.VerticalLine.{VerticalLine}
 use Rattle.tabled_grid.specs.declared.place.LineOf.{LineOf}
 use Rattle.tabled_object.specs.declared.position.Position.{Position}
 use Rattle.tabled_grid.specs.declared.keys.EdgePlace.{EdgePlace}
+pub use Rattle.tabled_object.specs.Entities.{position}
 use Rattle.tabled_grid.specs.Keys.{position_cmp, edge_place_cmp}
 use Rattle.tabled_grid.specs.Site.{Direction, across, down, Rank, first, inner, closing, stands, Class, edges, crossings, class_value, Part, mark, main_edges, meeting, horizontal_meeting, vertical_meeting, edge, crossing, Site, the_default, of_class, of_line, at_spot, from_end, from_start}
 use Rattle.tabled_grid.specs.Event.{Written, sign, standing, Event, write, erase, level_sites}
@@ -40,9 +41,6 @@ end_values down keeping = keeping.ends_down
 abbrev pub start_values : {T : Type 0} → Direction → Keeping T → FinMap edge_place_cmp T
 start_values across keeping = keeping.starts_across
 start_values down keeping = keeping.starts_down
-
-abbrev pub position : ℕ → ℕ → Position
-position r c = record { row = r; col = c }
 
 abbrev pub edge_place : ℕ → ℕ → ℕ → EdgePlace
 edge_place r c n = record { row = r; col = c; number = n }

@@ -1,9 +1,8 @@
 -- The keys of kept maps and their orders.
-use Rattle.std.specs.Prelude.{ℕ, refl}
+use Rattle.std.specs.Prelude.{ℕ}
 use Rattle.std.specs.Ordering.{nat_cmp, ordering_then}
 use Rattle.std.specs.declared.cmp.Ordering.{Ordering}
 use Rattle.std.specs.Cmp.{IsTotalOrder, nat_cmp_total}
-use Rattle.std.specs.Coded.{Coded, code_by, coded×, coded_ℕ}
 use Rattle.std.specs.FinMap.{IsAntisymmetric}
 use Rattle.std.proofs.Common.{ap}
 use Rattle.std.proofs.lemmas.Cmp.{on_total, then_total}
@@ -18,12 +17,6 @@ position_cmp a b = ordering_then (nat_cmp a.row b.row) (nat_cmp a.col b.col)
 -- by row, by column, and then by number
 abbrev pub edge_place_cmp : EdgePlace → EdgePlace → Ordering
 edge_place_cmp a b = ordering_then (nat_cmp a.row b.row) (ordering_then (nat_cmp a.col b.col) (nat_cmp a.number b.number))
-
-abbrev pub position_code : Coded Position
-position_code = code_by (ℕ × ℕ) (coded× coded_ℕ coded_ℕ) (λ p. (p.row, p.col)) (λ n. record { row = n.0; col = n.1 }) (λ _. refl)
-
-abbrev pub edge_place_code : Coded EdgePlace
-edge_place_code = code_by (ℕ × (ℕ × ℕ)) (coded× coded_ℕ (coded× coded_ℕ coded_ℕ)) (λ p. (p.row, (p.col, p.number))) (λ n. record { row = n.0; col = n.1.0; number = n.1.1 }) (λ _. refl)
 
 pub exact_positions : IsAntisymmetric position_cmp
 exact_positions a b h = ap (λ (p : ℕ × ℕ). record { row = p.0; col = p.1 }) (exact_pairs nat_cmp nat_cmp exact_unsigned exact_unsigned (a.row, a.col) (b.row, b.col) h)

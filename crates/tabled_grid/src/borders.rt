@@ -53,26 +53,11 @@ impl<T: Copy> Clone for Borders<T> {
 impl<T> Borders<T> {
     ghost use Rattle.tabled_grid.specs.Site.{across, down, first, inner, closing, edges, crossings, rank, class_value};
     ghost use Rattle.tabled_grid.specs.Keeping.{line_classes, has_class, HasNothing};
+    ghost use Rattle.tabled_grid.specs.CustomLines.{no_borders};
 
     /// A record with nothing set.
     pub const fn empty() -> Self
-        ensures { result ≡ record {
-          top = None;
-          bottom = None;
-          left = None;
-          right = None;
-          top_left = None;
-          top_right = None;
-          bottom_left = None;
-          bottom_right = None;
-          top_intersection = None;
-          bottom_intersection = None;
-          left_intersection = None;
-          right_intersection = None;
-          horizontal = None;
-          vertical = None;
-          intersection = None;
-        } }
+        ensures { result ≡ no_borders }
     {
         Borders {
             top: None,

@@ -4,7 +4,8 @@ use Prim.Native.String.{String}
 use Rattle.tabled_grid.specs.declared.borders.Borders.{Borders}
 use Rattle.tabled_grid.specs.declared.lines.HorizontalLine.{HorizontalLine}
 use Rattle.tabled_grid.specs.CustomLines.{no_horizontal}
-use Rattle.tabled_style.specs.Shown.{Shown, no_borders}
+use Rattle.tabled_grid.specs.CustomLines.{no_borders}
+use Rattle.tabled_style.specs.Shown.{Shown}
 use Rattle.tabled_style.specs.Lines.{full_horizontal}
 
 -- the one character of a text

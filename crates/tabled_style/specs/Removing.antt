@@ -3,7 +3,6 @@ use Rattle.std.specs.Prelude.{ℕ, None}
 use Rattle.tabled_grid.specs.declared.borders.Borders.{Borders}
 use Rattle.tabled_grid.specs.declared.lines.HorizontalLine.{HorizontalLine}
 use Rattle.tabled_grid.specs.declared.lines.VerticalLine.{VerticalLine}
-use Rattle.tabled_style.specs.Shown.{no_borders}
 
 abbrev pub without_top : Borders ℕ → Borders ℕ
 without_top borders = record borders { top = None; top_intersection = None; top_left = None; top_right = None }
@@ -26,14 +25,6 @@ without_horizontal borders =
 abbrev pub without_vertical : Borders ℕ → Borders ℕ
 without_vertical borders =
     record borders { vertical = None; top_intersection = None; bottom_intersection = None; intersection = None }
-
--- a record that has nothing but the lines between rows and between columns, and where the two cross
-abbrev pub inner_lines : Borders ℕ → Borders ℕ
-inner_lines borders = record no_borders {
-  horizontal = borders.horizontal;
-  vertical = borders.vertical;
-  intersection = borders.intersection;
-}
 
 -- a custom line without its two ends
 abbrev pub without_ends_across : HorizontalLine ℕ → HorizontalLine ℕ

@@ -95,22 +95,3 @@ frame_of borders = record {
   right_bottom_corner = borders.bottom_right;
 }
 
--- a record with nothing set
-abbrev pub no_borders : Borders ℕ
-no_borders = record {
-  top = None;
-  bottom = None;
-  left = None;
-  right = None;
-  top_left = None;
-  top_right = None;
-  bottom_left = None;
-  bottom_right = None;
-  top_intersection = None;
-  bottom_intersection = None;
-  left_intersection = None;
-  right_intersection = None;
-  horizontal = None;
-  vertical = None;
-  intersection = None;
-}

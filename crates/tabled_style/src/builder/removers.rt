@@ -177,13 +177,14 @@ impl<T, B, L, R, H, const HN: usize, const VN: usize> Style<T, B, L, R, H, On, H
 
 #[tactic(auto, using(crate::proofs::InPlace::each_of_each))]
 impl<H, V, const HN: usize, const VN: usize> Style<On, On, On, On, H, V, HN, VN> {
-    ghost use Rattle.tabled_style.specs.Removing.{inner_lines, without_ends_across, without_ends_down};
+    ghost use Rattle.tabled_config.specs.Options.{inner_of};
+    ghost use Rattle.tabled_style.specs.Removing.{without_ends_across, without_ends_down};
 
     /// Drops the frame: the bottom, the top, the left and the right side. What stays are the lines between rows
     /// and between columns with the crossings of the two, and the custom lines without their ends.
     pub fn remove_frame(self) -> Style<(), (), (), (), H, V, HN, VN>
         ensures { result ≡ record {
-          borders = inner_lines self.borders;
+          borders = inner_of self.borders;
           horizontals = each_line without_ends_across self.horizontals;
           verticals = each_line without_ends_down self.verticals;
         } }
