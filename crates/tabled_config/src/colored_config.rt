@@ -122,6 +122,3 @@ impl From<SpannedConfig> for ColoredConfig {
         ColoredConfig::new(config)
     }
 }
-
-#[cfg(test)]
-mod tests;
