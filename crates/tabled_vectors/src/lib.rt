@@ -12,6 +12,8 @@ mod crossings;
 #[cfg(test)]
 mod levels;
 #[cfg(test)]
+mod markers;
+#[cfg(test)]
 mod options;
 #[cfg(test)]
 mod own_option;
