@@ -18,6 +18,8 @@ mod options;
 #[cfg(test)]
 mod own_option;
 #[cfg(test)]
+mod pages;
+#[cfg(test)]
 mod printing;
 #[cfg(test)]
 mod styles;
