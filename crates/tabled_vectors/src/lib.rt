@@ -22,6 +22,8 @@ mod pages;
 #[cfg(test)]
 mod printing;
 #[cfg(test)]
+mod readme;
+#[cfg(test)]
 mod styles;
 #[cfg(test)]
 mod tables;
