@@ -100,6 +100,3 @@ fn chosen(first: bool, one: Option<char>, other: Option<char>) -> Option<char>
 {
     if first { one } else { other }
 }
-
-#[cfg(test)]
-mod tests;

@@ -136,6 +136,3 @@ impl From<SpannedConfig> for ColoredConfig {
         ColoredConfig::new(config)
     }
 }
-
-#[cfg(test)]
-mod tests;

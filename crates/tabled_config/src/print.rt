@@ -283,6 +283,3 @@ pub fn print_plain<D: Dimension>(
     }
     Ok(())
 }
-
-#[cfg(test)]
-mod tests;

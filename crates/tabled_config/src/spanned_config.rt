@@ -165,6 +165,3 @@ fn erase_all<T: Drop>(layers: &mut Layers<T>)
     layers.erase_horizontal_offsets();
     layers.erase_vertical_offsets();
 }
-
-#[cfg(test)]
-mod tests;

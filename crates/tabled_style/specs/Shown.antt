@@ -94,4 +94,3 @@ frame_of borders = record {
   right_top_corner = borders.top_right;
   right_bottom_corner = borders.bottom_right;
 }
-

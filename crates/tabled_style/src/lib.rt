@@ -14,6 +14,3 @@ pub use horizontal_line::HorizontalLine;
 pub use laws::{inherited_again, style_alone_decides, turned_and_back};
 pub use on::On;
 pub use vertical_line::VerticalLine;
-
-#[cfg(test)]
-mod tests;

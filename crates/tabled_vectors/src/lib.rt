@@ -1,4 +1,4 @@
-//! Worked tables that cross crates: each expected text is drawn by hand.
+//! Tests of the crates below, over their public calls: each expected text is drawn by hand.
 #![tactic(auto)]
 
 #[cfg(test)]
@@ -6,11 +6,23 @@ mod borders;
 #[cfg(test)]
 mod colors;
 #[cfg(test)]
+mod copies;
+#[cfg(test)]
 mod crossings;
 #[cfg(test)]
 mod levels;
 #[cfg(test)]
+mod markers;
+#[cfg(test)]
+mod options;
+#[cfg(test)]
 mod own_option;
+#[cfg(test)]
+mod pages;
+#[cfg(test)]
+mod printing;
+#[cfg(test)]
+mod readme;
 #[cfg(test)]
 mod styles;
 #[cfg(test)]

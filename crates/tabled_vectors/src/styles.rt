@@ -1,22 +1,11 @@
 //! Styles and borders as options.
 
-use crate::tables::{prints, prints_at_widths};
+use crate::tables::{apply, config, prints, prints_at_widths};
 use std::alloc::Global;
 use std::test::Fail;
-use tabled_config::{CellOption, ColoredConfig, SpannedConfig, TableOption};
-use tabled_grid::{Entity, FixedDimension, OutOfMemory, Shape};
+use tabled_config::{CellOption, ColoredConfig};
+use tabled_grid::{Entity, OutOfMemory, Shape};
 use tabled_style::{Border, EmptyBorder, HorizontalLine, Style};
-
-/// Applies an option to a configuration. It reads neither records nor sizes.
-fn apply<O: TableOption<Shape, ColoredConfig, FixedDimension>>(
-    alloc: Global,
-    cfg: &mut ColoredConfig,
-    option: O,
-) -> Result<(), OutOfMemory> {
-    let mut shape = Shape { rows: 1, cols: 1 };
-    let mut dims = FixedDimension::new(Vec::new(alloc), Vec::new(alloc));
-    option.change(&mut shape, cfg, &mut dims)
-}
 
 /// Applies an option to the cells of an entity of a table of three rows and one column.
 fn apply_to<O: CellOption<Shape, ColoredConfig>>(
@@ -26,10 +15,6 @@ fn apply_to<O: CellOption<Shape, ColoredConfig>>(
 ) -> Result<(), OutOfMemory> {
     let mut shape = Shape { rows: 3, cols: 1 };
     option.change(&mut shape, cfg, entity)
-}
-
-fn config(alloc: Global) -> ColoredConfig {
-    ColoredConfig::new(SpannedConfig::new(alloc))
 }
 
 fn cell_top_in_a_frame(alloc: Global, cfg: &mut ColoredConfig) -> Result<(), OutOfMemory> {

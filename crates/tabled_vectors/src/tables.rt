@@ -1,8 +1,8 @@
 //! Configurations and printed tables for the worked rows.
 
 use std::alloc::Global;
-use tabled_config::{PrintError, SpannedConfig, print_plain};
-use tabled_grid::{Borders, FixedDimension, OutOfMemory};
+use tabled_config::{ColoredConfig, PrintError, SpannedConfig, TableOption, print_plain};
+use tabled_grid::{Borders, FixedDimension, OutOfMemory, Shape};
 
 /// A class record whose lines are of `-`, `|` and `+`.
 pub(crate) fn ascii_borders() -> Borders<char> {
@@ -32,25 +32,52 @@ pub(crate) fn ascii(alloc: Global) -> SpannedConfig {
     cfg
 }
 
-/// What printing answers and writes, for columns of these widths and rows of one line.
-fn printed(
+/// A configuration that options can change, in which nothing was set.
+pub(crate) fn config(alloc: Global) -> ColoredConfig {
+    ColoredConfig::new(SpannedConfig::new(alloc))
+}
+
+/// Applies an option to a configuration. It reads neither records nor sizes.
+pub(crate) fn apply<O: TableOption<Shape, ColoredConfig, FixedDimension>>(
+    alloc: Global,
+    cfg: &mut ColoredConfig,
+    option: O,
+) -> Result<(), OutOfMemory> {
+    let mut shape = Shape { rows: 1, cols: 1 };
+    let mut dims = FixedDimension::new(Vec::new(alloc), Vec::new(alloc));
+    option.change(&mut shape, cfg, &mut dims)
+}
+
+/// The texts of one row.
+fn row_of(alloc: Global, row: &[&str]) -> Result<Vec<String>, OutOfMemory> {
+    let mut texts = Vec::new(alloc);
+    for text in row {
+        texts.push(String::from_str(alloc, text)?)?;
+    }
+    Ok(texts)
+}
+
+/// The texts of rows.
+fn cells_of(alloc: Global, rows: &[&[&str]]) -> Result<Vec<Vec<String>>, OutOfMemory> {
+    let mut cells = Vec::new(alloc);
+    for row in rows {
+        cells.push(row_of(alloc, row)?)?;
+    }
+    Ok(cells)
+}
+
+/// What printing a table of these sizes answers, and what it makes of a text that begins so.
+pub(crate) fn printed(
     alloc: Global,
     cfg: &SpannedConfig,
     rows: &[&[&str]],
-    widths: Vec<usize>,
+    dims: &FixedDimension,
+    beginning: &str,
 ) -> Result<(Result<(), PrintError>, String), OutOfMemory> {
-    let shape = (rows.len(), widths.len());
-    let dims = FixedDimension::new(widths, vec![in alloc; 1usize; rows.len()]?);
-    let mut cells = Vec::new(alloc);
-    for row in rows {
-        let mut texts = Vec::new(alloc);
-        for text in *row {
-            texts.push(String::from_str(alloc, text)?)?;
-        }
-        cells.push(texts)?;
-    }
-    let mut text = String::new(alloc);
-    let answer = print_plain(&mut text, cfg, &dims, shape, &cells);
+    let shape = (dims.heights.len(), dims.widths.len());
+    let cells = cells_of(alloc, rows)?;
+    let mut text = String::from_str(alloc, beginning)?;
+    let answer = print_plain(&mut text, cfg, dims, shape, &cells);
     Ok((answer, text))
 }
 
@@ -63,9 +90,15 @@ pub(crate) fn prints_at_widths(
     widths: Vec<usize>,
     text: &str,
 ) -> bool {
-    match printed(alloc, cfg, rows, widths) {
-        Ok((Ok(()), shown)) => shown.as_str() == text,
-        Ok((Err(_), _)) | Err(_) => false,
+    match vec![in alloc; 1usize; rows.len()] {
+        Ok(heights) => {
+            let dims = FixedDimension::new(widths, heights);
+            match printed(alloc, cfg, rows, &dims, "") {
+                Ok((Ok(()), shown)) => shown.as_str() == text,
+                Ok((Err(_), _)) | Err(_) => false,
+            }
+        }
+        Err(_) => false,
     }
 }
 
