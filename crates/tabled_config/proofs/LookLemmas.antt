@@ -16,7 +16,6 @@ use Rattle.tabled_config.proofs.ConfigurationLemmas.{Shows-all_writes}
 
 -- what the configuration answers of a line is how the table looks
 pub own_across : (cfg : Configuration) (shape : ℕ × ℕ) (widths heights : ℕ → ℕ) (line : ℕ) (answer : Bool) → IsTrue answer ↔ Drawn (keeps cfg.characters) shape.0 (LineOf.Horizontal line) → answer ≡ (look (all_writes cfg) shape widths heights).across line
-unfolding look
 own_across cfg shape widths heights line answer says =
     drawn-answer (characters_of (all_writes cfg)) (keeps cfg.characters) shape.0 (LineOf.Horizontal line) answer (Shows-all_writes cfg).characters_shown says
 
@@ -24,17 +23,11 @@ pub own_drawn : (cfg : Configuration) (count : ℕ) (line : LineOf) (answer : Bo
 own_drawn cfg count line answer says =
     drawn-answer (characters_of (all_writes cfg)) (keeps cfg.characters) count line answer (Shows-all_writes cfg).characters_shown says
 
-pub own_down : (cfg : Configuration) (shape : ℕ × ℕ) (widths heights : ℕ → ℕ) → (look (all_writes cfg) shape widths heights).down ≡ (λ c. drawn (characters_of (all_writes cfg)) shape.1 (LineOf.Vertical c))
-unfolding look
-own_down cfg shape widths heights = refl
-
 -- what it answers of a place too
-pub own_shown : (cfg : Configuration) (shape : ℕ × ℕ) (widths heights : ℕ → ℕ) (place : Place) (size : ℕ) (found : Option ℕ) → size ≡ edge_size widths heights place → found ≡ value (keeps cfg.characters) shape size place → unwrap_or found 32 ≡ (look (all_writes cfg) shape widths heights).shown place
-unfolding look
+pub own_shown : (cfg : Configuration) (shape : ℕ × ℕ) (widths heights : ℕ → ℕ) (place : Place) (size : ℕ) (found : Option ℕ) → size ≡ edge_size widths heights place → found ≡ value (keeps cfg.characters) shape size place → found ≡ (look (all_writes cfg) shape widths heights).shown place
 own_shown cfg shape widths heights place size found sized is =
-    ap (λ o. unwrap_or o 32)
-    (is ∙ ap (λ s. value (keeps cfg.characters) shape s place) sized
-    ∙ value-shown (characters_of (all_writes cfg)) (keeps cfg.characters) shape (edge_size widths heights place) place (Shows-all_writes cfg).characters_shown)
+    is ∙ ap (λ s. value (keeps cfg.characters) shape s place) sized
+    ∙ value-shown (characters_of (all_writes cfg)) (keeps cfg.characters) shape (edge_size widths heights place) place (Shows-all_writes cfg).characters_shown
 
 -- the lines that are drawn, listed
 pub listed_within : {X : Type 0} (f : ℕ → X) (xs : List X) (n k : ℕ) → xs ≡ map f (below (n + 1)) → k ≤ n → k < length xs
@@ -53,7 +46,6 @@ listed_more cfg cols n m answer before after same listed says pushed =
 
 -- two lists of events that a configuration shows give one look
 pub same_look : (cfg : Configuration) (es fs : List ConfigEvent) (shape : ℕ × ℕ) (widths heights : ℕ → ℕ) → Shows es cfg → Shows fs cfg → look es shape widths heights ≡ look fs shape widths heights
-unfolding look
 same_look cfg es fs shape widths heights by with =
     let keep : Site → Option (Written ℕ) = keeps cfg.characters in
     let same_kept : kept (characters_of es) ≡ kept (characters_of fs) = sym (kept-shown (characters_of es) keep by.characters_shown) ∙ kept-shown (characters_of fs) keep with.characters_shown in
@@ -62,7 +54,10 @@ same_look cfg es fs shape widths heights by with =
     let there = Drawn-drawn (characters_of es) keep count line by.characters_shown in
     drawn-answer (characters_of fs) keep count line (drawn (characters_of es) count line) with.characters_shown (there.1, there.0) in
     λ i. record {
+      shape = shape;
+      widths = widths;
+      heights = heights;
       across = λ r. same_drawn shape.0 (LineOf.Horizontal r) i;
       down = λ c. same_drawn shape.1 (LineOf.Vertical c) i;
-      shown = λ place. unwrap_or (value (same_kept i) shape (edge_size widths heights place) place) 32;
+      shown = λ place. value (same_kept i) shape (edge_size widths heights place) place;
     }
