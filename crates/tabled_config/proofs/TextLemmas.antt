@@ -41,6 +41,14 @@ edge_more f place n =
     ∙ shown_append f (map place (below n)) (place n ∷ [])
     ∙ ap (λ bs. text_shown (map f (map place (below n))) ++ bs) (shown_one (character (f (place n))))
 
+-- the same, where what it shows was found before
+pub alike_more : {X : Type 0} (f : X → Option ℕ) (place : ℕ → X) (n : ℕ) (found : Option ℕ) (start middle end : List ℕ) → middle ≡ start ++ text_shown (map f (map place (below n)))
+    → end ≡ middle ++ encode_utf8 (character found) → found ≡ f (place n) → end ≡ start ++ text_shown (map f (map place (below (n + 1))))
+alike_more f place n found start middle end p q is =
+    let before : List ℕ = text_shown (map f (map place (below n))) in
+    q ∙ ap (λ bs. bs ++ encode_utf8 (character found)) p ∙ append_assoc start before (encode_utf8 (character found))
+    ∙ ap (λ bs. start ++ bs) (ap (λ shown. before ++ encode_utf8 (character shown)) is ∙ sym (edge_more f place n))
+
 -- one more crossing and edge of a line
 pub line_more : {X : Type 0} (f : X → Option ℕ) (crossing edge : ℕ → List X) (n : ℕ) → text_shown (map f (flat_map (λ k. crossing k ++ edge k) (below (n + 1)))) ≡ text_shown (map f (flat_map (λ k. crossing k ++ edge k) (below n))) ++ (text_shown (map f (crossing n)) ++ text_shown (map f (edge n)))
 line_more f crossing edge n =

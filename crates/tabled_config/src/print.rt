@@ -7,7 +7,7 @@ ghost use Rattle.tabled_grid.specs.Drawn.{drawn};
 ghost use Rattle.tabled_config.specs.Configuration.{ConfigEvent, Shows, all_writes, characters_of};
 ghost use Rattle.tabled_config.specs.Texts.{Appends, texts, pieces};
 ghost use Rattle.tabled_config.specs.Along.{below, is_empty};
-ghost use Rattle.tabled_config.specs.Picture.{look, text_lines, printed};
+ghost use Rattle.tabled_config.specs.Picture.{character, look, text_lines, printed};
 ghost use Rattle.tabled_config.specs.Refusal.{first_refusal};
 
 use crate::refusals::first_fault;
@@ -31,7 +31,7 @@ impl<D: Dimension> Frame<'_, D> {
     ghost use Rattle.tabled_grid.specs.declared.place.Place.{Place as Spot};
     ghost use Rattle.tabled_grid.specs.declared.place.LineOf.{LineOf as Line};
     ghost use Rattle.tabled_config.specs.Along.{below, crossing_at};
-    ghost use Rattle.tabled_config.specs.Picture.{edge_size, character, text_shown, shown_along, side_shown, cell_line, row_lines, line_if_drawn, text_lines};
+    ghost use Rattle.tabled_config.specs.Picture.{edge_size, text_shown, shown_along, side_shown, cell_line, row_lines, line_if_drawn, text_lines};
     ghost use Rattle.tabled_config.specs.Framed.{framed};
 
     /// The length of a place's edge; a crossing has none.
@@ -53,9 +53,7 @@ impl<D: Dimension> Frame<'_, D> {
     {
         let size = self.edge_size(place);
         let mut probes = Probes::new();
-        self.cfg
-            .char_at(place, self.shape, size, &mut probes)
-            .unwrap_or(' ')
+        printed_as(self.cfg.char_at(place, self.shape, size, &mut probes))
     }
 
     /// Whether a vertical line is drawn.
@@ -79,13 +77,30 @@ impl<D: Dimension> Frame<'_, D> {
         Ok(())
     }
 
-    /// Writes the edge of a horizontal line over a column.
-    fn push_edge(&self, text: &mut String, row: usize, col: usize) -> Result<(), AllocError>
+    /// Writes the edge of a horizontal line over a column, place by place.
+    fn push_each_place(&self, text: &mut String, row: usize, col: usize) -> Result<(), AllocError>
         ensures { let view = framed D.width_of D.height_of self.now in
             Appends result text.old text.new (text_shown (map view.shown (map (λ k. Spot.Horizontal row col k) (below (view.widths col))))) }
     {
         for at in 0..self.dims.get_width(col) {
             text.push(self.character(Place::Horizontal { row, col, at }))?;
+        }
+        Ok(())
+    }
+
+    /// Writes the edge of a horizontal line over a column. Where no offset character is kept, all its places
+    /// show the same.
+    fn push_edge(&self, text: &mut String, row: usize, col: usize) -> Result<(), AllocError>
+        ensures { let view = framed D.width_of D.height_of self.now in
+            Appends result text.old text.new (text_shown (map view.shown (map (λ k. Spot.Horizontal row col k) (below (view.widths col))))) }
+    {
+        if self.cfg.has_horizontal_offsets() {
+            return self.push_each_place(text, row, col);
+        }
+        let edge = Place::Horizontal { row, col, at: 0 };
+        let shown = printed_as(self.cfg.plain_char_at(edge, self.shape));
+        for _ in 0..self.dims.get_width(col) {
+            text.push(shown)?;
         }
         Ok(())
     }
@@ -182,6 +197,13 @@ impl<D: Dimension> Frame<'_, D> {
         }
         self.push_line(text, rows)
     }
+}
+
+/// The character that is printed for what a place shows, a space for nothing.
+fn printed_as(shown: Option<char>) -> char
+    ensures { result ≡ character shown }
+{
+    shown.unwrap_or(' ')
 }
 
 /// The piece of a text between two line feeds, counted from 0, and nothing where it has no such piece.
