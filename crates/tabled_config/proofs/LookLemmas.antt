@@ -1,13 +1,16 @@
 -- How a table looks, by what its configuration answers.
-use Rattle.std.proofs.Common.{◌≡◌, ℕ, ◌+◌, ◌≤◌, ◌<◌, Bool, Option, unwrap_or, List, [], ◌∷◌, ◌++◌, length, get_or, map, refl, sym, ap, ◌∙◌, IsTrue, ◌↔◌, arith}
+use Rattle.std.proofs.Common.{◌≡◌, ℕ, ◌+◌, ◌-◌, ◌≤◌, ◌<◌, Bool, true, false, ◌&&◌, if◌then◌else◌, Option, None, option_map, unwrap_or, List, [], ◌∷◌, ◌++◌, length, get_or, map, refl, sym, ap, ◌∙◌, IsTrue, ◌↔◌, arith}
+use Rattle.std.specs.FinMap.{get, get-empty}
+use Rattle.std.proofs.lemmas.Bool.{lt-ltb}
 use Rattle.std.proofs.lemmas.List.FromFn.{length-map-range_with_len, get_or-map-range_with_len, map-range_with_len_more}
 use Rattle.tabled_grid.specs.declared.place.Place.{Place}
 use Rattle.tabled_grid.specs.declared.place.LineOf.{LineOf}
-use Rattle.tabled_grid.specs.Site.{Site}
-use Rattle.tabled_grid.specs.Event.{Written, kept}
-use Rattle.tabled_grid.specs.Value.{value}
+use Rattle.tabled_grid.specs.Site.{across, Site, from_start, from_end}
+use Rattle.tabled_grid.specs.Event.{Written, sign, kept}
+use Rattle.tabled_grid.specs.Value.{has_spot, plain_sites, sign_or, first_sign, value, plain_value}
 use Rattle.tabled_grid.specs.Drawn.{drawn, Drawn}
-use Rattle.tabled_grid.specs.Keeping.{keeps}
+use Rattle.tabled_grid.specs.Keeping.{Keeping, keeps, edge_place, HasNoOffsets}
+use Rattle.tabled_grid.specs.Keys.{edge_place_cmp}
 use Rattle.tabled_grid.proofs.DrawnLemmas.{drawn-answer, Drawn-drawn, kept-shown, value-shown}
 use Rattle.tabled_config.specs.Configuration.{Configuration, ConfigEvent, characters_of, Shows, all_writes}
 use Rattle.tabled_config.specs.Along.{below}
@@ -16,7 +19,6 @@ use Rattle.tabled_config.proofs.ConfigurationLemmas.{Shows-all_writes}
 
 -- what the configuration answers of a line is how the table looks
 pub own_across : (cfg : Configuration) (shape : ℕ × ℕ) (widths heights : ℕ → ℕ) (line : ℕ) (answer : Bool) → IsTrue answer ↔ Drawn (keeps cfg.characters) shape.0 (LineOf.Horizontal line) → answer ≡ (look (all_writes cfg) shape widths heights).across line
-unfolding look
 own_across cfg shape widths heights line answer says =
     drawn-answer (characters_of (all_writes cfg)) (keeps cfg.characters) shape.0 (LineOf.Horizontal line) answer (Shows-all_writes cfg).characters_shown says
 
@@ -24,17 +26,35 @@ pub own_drawn : (cfg : Configuration) (count : ℕ) (line : LineOf) (answer : Bo
 own_drawn cfg count line answer says =
     drawn-answer (characters_of (all_writes cfg)) (keeps cfg.characters) count line answer (Shows-all_writes cfg).characters_shown says
 
-pub own_down : (cfg : Configuration) (shape : ℕ × ℕ) (widths heights : ℕ → ℕ) → (look (all_writes cfg) shape widths heights).down ≡ (λ c. drawn (characters_of (all_writes cfg)) shape.1 (LineOf.Vertical c))
-unfolding look
-own_down cfg shape widths heights = refl
-
 -- what it answers of a place too
-pub own_shown : (cfg : Configuration) (shape : ℕ × ℕ) (widths heights : ℕ → ℕ) (place : Place) (size : ℕ) (found : Option ℕ) → size ≡ edge_size widths heights place → found ≡ value (keeps cfg.characters) shape size place → unwrap_or found 32 ≡ (look (all_writes cfg) shape widths heights).shown place
-unfolding look
+pub own_shown : (cfg : Configuration) (shape : ℕ × ℕ) (widths heights : ℕ → ℕ) (place : Place) (size : ℕ) (found : Option ℕ) → size ≡ edge_size widths heights place → found ≡ value (keeps cfg.characters) shape size place → found ≡ (look (all_writes cfg) shape widths heights).shown place
 own_shown cfg shape widths heights place size found sized is =
-    ap (λ o. unwrap_or o 32)
-    (is ∙ ap (λ s. value (keeps cfg.characters) shape s place) sized
-    ∙ value-shown (characters_of (all_writes cfg)) (keeps cfg.characters) shape (edge_size widths heights place) place (Shows-all_writes cfg).characters_shown)
+    is ∙ ap (λ s. value (keeps cfg.characters) shape s place) sized
+    ∙ value-shown (characters_of (all_writes cfg)) (keeps cfg.characters) shape (edge_size widths heights place) place (Shows-all_writes cfg).characters_shown
+
+and_true : (b : Bool) → b && true ≡ b
+and_true true = refl
+and_true false = refl
+
+-- without offsets each place of a horizontal edge has what the edge has below them
+plain_edge : {T : Type 0} (keeping : Keeping T) (shape : ℕ × ℕ) (size r c n : ℕ) → HasNoOffsets across keeping → n < size
+    → value (keeps keeping) shape size (Place.Horizontal r c n) ≡ plain_value (keeps keeping) shape (Place.Horizontal r c 0)
+unfolding value plain_value
+plain_edge {T} keeping shape size r c n none within =
+    let spot : Bool = has_spot shape (Place.Horizontal r c 0) in
+    let from_start : Option (Written T) = keeps keeping (from_start across r c n) in
+    let from_end : Option (Written T) = keeps keeping (from_end across r c (size - 1 - n)) in
+    let below_offsets : Option T = first_sign (keeps keeping) (plain_sites shape (Place.Horizontal r c 0)) in
+    ap (λ b. if b then sign_or from_start (sign_or from_end below_offsets) else None) (ap (λ b. spot && b) (lt-ltb n size within) ∙ and_true spot)
+    ∙ ap (λ found. if spot then sign_or (option_map sign found) (sign_or from_end below_offsets) else None)
+    (ap (λ m. get m (edge_place r c n)) none.0 ∙ get-empty edge_place_cmp (edge_place r c n))
+    ∙ ap (λ found. if spot then sign_or (option_map sign found) below_offsets else None)
+    (ap (λ m. get m (edge_place r c (size - 1 - n))) none.1 ∙ get-empty edge_place_cmp (edge_place r c (size - 1 - n)))
+
+pub own_plain : (cfg : Configuration) (shape : ℕ × ℕ) (widths heights : ℕ → ℕ) (r c n : ℕ) (found : Option ℕ) → HasNoOffsets across cfg.characters
+    → found ≡ plain_value (keeps cfg.characters) shape (Place.Horizontal r c 0) → n < widths c → found ≡ (look (all_writes cfg) shape widths heights).shown (Place.Horizontal r c n)
+own_plain cfg shape widths heights r c n found none is within =
+    own_shown cfg shape widths heights (Place.Horizontal r c n) (widths c) found refl (is ∙ sym (plain_edge cfg.characters shape (widths c) r c n none within))
 
 -- the lines that are drawn, listed
 pub listed_within : {X : Type 0} (f : ℕ → X) (xs : List X) (n k : ℕ) → xs ≡ map f (below (n + 1)) → k ≤ n → k < length xs
@@ -53,7 +73,6 @@ listed_more cfg cols n m answer before after same listed says pushed =
 
 -- two lists of events that a configuration shows give one look
 pub same_look : (cfg : Configuration) (es fs : List ConfigEvent) (shape : ℕ × ℕ) (widths heights : ℕ → ℕ) → Shows es cfg → Shows fs cfg → look es shape widths heights ≡ look fs shape widths heights
-unfolding look
 same_look cfg es fs shape widths heights by with =
     let keep : Site → Option (Written ℕ) = keeps cfg.characters in
     let same_kept : kept (characters_of es) ≡ kept (characters_of fs) = sym (kept-shown (characters_of es) keep by.characters_shown) ∙ kept-shown (characters_of fs) keep with.characters_shown in
@@ -62,7 +81,10 @@ same_look cfg es fs shape widths heights by with =
     let there = Drawn-drawn (characters_of es) keep count line by.characters_shown in
     drawn-answer (characters_of fs) keep count line (drawn (characters_of es) count line) with.characters_shown (there.1, there.0) in
     λ i. record {
+      shape = shape;
+      widths = widths;
+      heights = heights;
       across = λ r. same_drawn shape.0 (LineOf.Horizontal r) i;
       down = λ c. same_drawn shape.1 (LineOf.Vertical c) i;
-      shown = λ place. unwrap_or (value (same_kept i) shape (edge_size widths heights place) place) 32;
+      shown = λ place. value (same_kept i) shape (edge_size widths heights place) place;
     }

@@ -1,5 +1,5 @@
 -- The bytes of a text, written part by part.
-use Rattle.std.proofs.Common.{◌≡◌, ℕ, ◌+◌, ◌-◌, ◌<◌, ◌≤◌, Bool, true, false, cond, List, [], ◌∷◌, ◌++◌, length, take, map, refl, sym, ap, subst, ◌∙◌, arith, lit<, if◌then◌else◌, get_or, encode_utf8, encode_utf8_all, Result, Ok, Err, OnOk, OnErr, is_err, rules, String, string_len, Vec, string_bytes}
+use Rattle.std.proofs.Common.{◌≡◌, ℕ, ◌+◌, ◌-◌, ◌<◌, ◌≤◌, Bool, true, false, cond, Option, List, [], ◌∷◌, ◌++◌, length, take, map, refl, sym, ap, subst, ◌∙◌, arith, lit<, if◌then◌else◌, get_or, encode_utf8, encode_utf8_all, ◌||◌, nat_lt, Result, Ok, Err, MatchResult, is_err, rules, String, string_len, Vec, string_bytes}
 use Rattle.std.specs.List.{flat_map, join_with_byte}
 use Rattle.std.proofs.lemmas.List.{append-nil, append_assoc, map-append, take_at, take_all, length-append, take-take, get_or-map, get_or_at}
 use Rattle.std.proofs.lemmas.List.Concat.{flat_map-append}
@@ -7,11 +7,12 @@ use Rattle.std.proofs.lemmas.List.FromFn.{map-range_with_len_more}
 use Rattle.std.proofs.lemmas.Str.{encodes-append, encode_ascii, IsCharBoundary-from_take, IsUtf8-string_bytes}
 use Rattle.std.specs.Str.{IsUtf8}
 use Rattle.std.specs.String.Boundary.{IsSplitPoint}
-use Rattle.std.proofs.lemmas.Result.{on_ok_weaker}
+use Rattle.std.proofs.lemmas.Bool.{le-ltb}
 use Rattle.tabled_grid.specs.declared.place.Place.{Place}
 use Rattle.tabled_grid.specs.declared.place.LineOf.{LineOf}
 use Rattle.tabled_config.specs.Texts.{texts}
 use Rattle.tabled_config.specs.Along.{below, is_empty, along, along_line}
+use Rattle.tabled_config.specs.Picture.{character, text_shown}
 
 -- the numbers below n + 1 are those below n, and n
 pub below_push : (n : ℕ) → below (n + 1) ≡ below n ++ n ∷ []
@@ -24,37 +25,48 @@ below_push n = sym (map_same (below (n + 1))) ∙ map-range_with_len_more (λ k.
 pub flat_map_below : {A : Type 0} (f : ℕ → List A) (n : ℕ) → flat_map f (below (n + 1)) ≡ flat_map f (below n) ++ f n
 flat_map_below f n = ap (flat_map f) (below_push n) ∙ flat_map-append f (below n) (n ∷ []) ∙ ap (λ xs. flat_map f (below n) ++ xs) (append-nil (f n))
 
--- the bytes of characters that are shown one after another
-pub shown_append : {X : Type 0} (f : X → ℕ) (xs ys : List X) → encode_utf8_all (map f (xs ++ ys)) ≡ encode_utf8_all (map f xs) ++ encode_utf8_all (map f ys)
-shown_append f xs ys = ap encode_utf8_all (map-append f xs ys) ∙ encodes-append (map f xs) (map f ys)
+-- the text of what is shown one after another
+pub shown_append : {X : Type 0} (f : X → Option ℕ) (xs ys : List X) → text_shown (map f (xs ++ ys)) ≡ text_shown (map f xs) ++ text_shown (map f ys)
+shown_append f xs ys =
+    ap text_shown (map-append f xs ys) ∙ ap encode_utf8_all (map-append character (map f xs) (map f ys))
+    ∙ encodes-append (map character (map f xs)) (map character (map f ys))
 
 pub shown_one : (c : ℕ) → encode_utf8_all (c ∷ []) ≡ encode_utf8 c
 shown_one c = append-nil (encode_utf8 c)
 
 -- one more place of an edge
-pub edge_more : {X : Type 0} (f : X → ℕ) (place : ℕ → X) (n : ℕ) → encode_utf8_all (map f (map place (below (n + 1)))) ≡ encode_utf8_all (map f (map place (below n))) ++ encode_utf8 (f (place n))
+pub edge_more : {X : Type 0} (f : X → Option ℕ) (place : ℕ → X) (n : ℕ) → text_shown (map f (map place (below (n + 1)))) ≡ text_shown (map f (map place (below n))) ++ encode_utf8 (character (f (place n)))
 edge_more f place n =
-    ap (λ ps. encode_utf8_all (map f ps)) (map-range_with_len_more place 0 n n (omega arith))
+    ap (λ ps. text_shown (map f ps)) (map-range_with_len_more place 0 n n (omega arith))
     ∙ shown_append f (map place (below n)) (place n ∷ [])
-    ∙ ap (λ bs. encode_utf8_all (map f (map place (below n))) ++ bs) (shown_one (f (place n)))
+    ∙ ap (λ bs. text_shown (map f (map place (below n))) ++ bs) (shown_one (character (f (place n))))
+
+-- the same, where what it shows was found before
+pub alike_more : {X : Type 0} (f : X → Option ℕ) (place : ℕ → X) (n : ℕ) (found : Option ℕ) (start middle end : List ℕ) → middle ≡ start ++ text_shown (map f (map place (below n)))
+    → end ≡ middle ++ encode_utf8 (character found) → found ≡ f (place n) → end ≡ start ++ text_shown (map f (map place (below (n + 1))))
+alike_more f place n found start middle end p q is =
+    let before : List ℕ = text_shown (map f (map place (below n))) in
+    q ∙ ap (λ bs. bs ++ encode_utf8 (character found)) p ∙ append_assoc start before (encode_utf8 (character found))
+    ∙ ap (λ bs. start ++ bs) (ap (λ shown. before ++ encode_utf8 (character shown)) is ∙ sym (edge_more f place n))
 
 -- one more crossing and edge of a line
-pub line_more : {X : Type 0} (f : X → ℕ) (crossing edge : ℕ → List X) (n : ℕ) → encode_utf8_all (map f (flat_map (λ k. crossing k ++ edge k) (below (n + 1)))) ≡ encode_utf8_all (map f (flat_map (λ k. crossing k ++ edge k) (below n))) ++ (encode_utf8_all (map f (crossing n)) ++ encode_utf8_all (map f (edge n)))
+pub line_more : {X : Type 0} (f : X → Option ℕ) (crossing edge : ℕ → List X) (n : ℕ) → text_shown (map f (flat_map (λ k. crossing k ++ edge k) (below (n + 1)))) ≡ text_shown (map f (flat_map (λ k. crossing k ++ edge k) (below n))) ++ (text_shown (map f (crossing n)) ++ text_shown (map f (edge n)))
 line_more f crossing edge n =
-    ap (λ ps. encode_utf8_all (map f ps)) (flat_map_below (λ k. crossing k ++ edge k) n)
+    ap (λ ps. text_shown (map f ps)) (flat_map_below (λ k. crossing k ++ edge k) n)
     ∙ shown_append f (flat_map (λ k. crossing k ++ edge k) (below n)) (crossing n ++ edge n)
-    ∙ ap (λ bs. encode_utf8_all (map f (flat_map (λ k. crossing k ++ edge k) (below n))) ++ bs) (shown_append f (crossing n) (edge n))
+    ∙ ap (λ bs. text_shown (map f (flat_map (λ k. crossing k ++ edge k) (below n))) ++ bs) (shown_append f (crossing n) (edge n))
 
 -- the closing crossing
-pub line_closed : {X : Type 0} (f : X → ℕ) (step : ℕ → List X) (close : List X) (n count : ℕ) → n ≡ count → encode_utf8_all (map f (flat_map step (below count) ++ close)) ≡ encode_utf8_all (map f (flat_map step (below n))) ++ encode_utf8_all (map f close)
+pub line_closed : {X : Type 0} (f : X → Option ℕ) (step : ℕ → List X) (close : List X) (n count : ℕ) → n ≡ count → text_shown (map f (flat_map step (below count) ++ close)) ≡ text_shown (map f (flat_map step (below n))) ++ text_shown (map f close)
 line_closed f step close n count e =
     shown_append f (flat_map step (below count)) close
-    ∙ ap (λ m. encode_utf8_all (map f (flat_map step (below m))) ++ encode_utf8_all (map f close)) (sym e)
+    ∙ ap (λ m. text_shown (map f (flat_map step (below m))) ++ text_shown (map f close)) (sym e)
 
--- a horizontal line of a table that has places
-pub along_any : (f : Place → ℕ) (across down : ℕ → Bool) (shape : ℕ × ℕ) (widths heights : ℕ → ℕ) (r : ℕ) → is_empty shape ≡ false → encode_utf8_all (map f (along across down shape widths heights (LineOf.Horizontal r))) ≡ encode_utf8_all (map f (along_line down widths shape.1 (λ c. Place.Cross r c) (λ c k. Place.Horizontal r c k)))
-along_any f across down shape widths heights r any =
-    ap (λ b. encode_utf8_all (map f (cond b [] (along_line down widths shape.1 (λ c. Place.Cross r c) (λ c k. Place.Horizontal r c k))))) any
+-- a horizontal line of a table that has places, none past the closing one
+pub along_any : (across down : ℕ → Bool) (shape : ℕ × ℕ) (widths heights : ℕ → ℕ) (r : ℕ) → is_empty shape ≡ false → r ≤ shape.0 → along across down shape widths heights (LineOf.Horizontal r) ≡ along_line down widths shape.1 (λ c. Place.Cross r c) (λ c k. Place.Horizontal r c k)
+along_any across down shape widths heights r any within =
+    let places : List Place = along_line down widths shape.1 (λ c. Place.Cross r c) (λ c k. Place.Horizontal r c k) in
+    ap (λ b. cond (b || nat_lt shape.0 r) [] places) any ∙ ap (λ b. cond b [] places) (le-ltb shape.0 r within)
 
 -- a line feed is one byte
 pub line_fed : (middle end : List ℕ) → end ≡ middle ++ encode_utf8 10 → end ≡ middle ++ 10 ∷ []
@@ -64,9 +76,9 @@ line_fed middle end e = e ∙ ap (λ bs. middle ++ bs) (encode_ascii 10 (lit< tt
 abbrev pub ended : List ℕ → List ℕ
 ended line = line ++ 10 ∷ []
 
-pub line_drawn : (b : Bool) (line start middle end places : List ℕ) → b ≡ true → line ≡ places → middle ≡ start ++ places → end ≡ middle ++ 10 ∷ [] → end ≡ start ++ flat_map ended (if b then line ∷ [] else [])
-line_drawn b line start middle end places is e p q =
-    q ∙ ap (λ bs. bs ++ 10 ∷ []) (p ∙ ap (λ bs. start ++ bs) (sym e)) ∙ append_assoc start line (10 ∷ [])
+pub line_drawn : (b : Bool) (line start middle end : List ℕ) → b ≡ true → middle ≡ start ++ line → end ≡ middle ++ 10 ∷ [] → end ≡ start ++ flat_map ended (if b then line ∷ [] else [])
+line_drawn b line start middle end is p q =
+    q ∙ ap (λ bs. bs ++ 10 ∷ []) p ∙ append_assoc start line (10 ∷ [])
     ∙ ap (λ bs. start ++ bs) (sym (append-nil (ended line)))
     ∙ ap (λ c. start ++ flat_map ended (if c then line ∷ [] else [])) (sym is)
 
@@ -118,9 +130,10 @@ written_both start first second third x y z w p q r e =
     r ∙ ap (λ bs. bs ++ z) (q ∙ ap (λ bs. bs ++ y) p)
     ∙ append_assoc (start ++ x) y z ∙ append_assoc start x (y ++ z) ∙ ap (λ bs. start ++ bs) (sym e)
 
-pub written_last : {T E : Type 0} (r : Result T E) (start first second x y w : List ℕ) → first ≡ start ++ x → w ≡ x ++ y → OnOk r (second ≡ first ++ y) → OnOk r (second ≡ start ++ w)
-written_last r start first second x y w p e =
-    on_ok_weaker r (λ q. q ∙ ap (λ bs. bs ++ y) p ∙ append_assoc start x y ∙ ap (λ bs. start ++ bs) (sym e))
+pub appends_last : {T E : Type 0} (r : Result T E) (old middle new x y w : List ℕ) → middle ≡ old ++ x → w ≡ x ++ y
+    → MatchResult r (λ _. new ≡ middle ++ y) (λ _. take (length middle) new ≡ middle) → MatchResult r (λ _. new ≡ old ++ w) (λ _. take (length old) new ≡ old)
+appends_last (Ok t) old middle new x y w p e h = h ∙ ap (λ bs. bs ++ y) p ∙ append_assoc old x y ∙ ap (λ bs. old ++ bs) (sym e)
+appends_last (Err t) old middle new x y w p e h = kept_after old x middle new p h
 
 -- lines that each end in a line feed are the joined lines and one line feed
 ended_joined : (line : List ℕ) (lines : List (List ℕ)) → flat_map ended (line ∷ lines) ≡ join_with_byte 10 (line ∷ lines) ++ 10 ∷ []
@@ -162,14 +175,14 @@ cut_at_start old new n same kept within =
     (subst IsUtf8 (sym (ap (λ k. take k (string_bytes new)) same ∙ kept)) (IsUtf8-string_bytes old)) in
     (boundary.0, λ _ inside large. boundary.1 inside large)
 
--- what a call that may be refused says of its answer
-pub where_ok : {T E P : Type 0} (r : Result T E) → is_err r ≡ false → OnOk r P → P
-where_ok (Ok x) e p = p
-where_ok (Err y) e p = absurd cc
+-- what a call that appends has done, by its answer
+pub appended : {T E : Type 0} (r : Result T E) (old new bytes : List ℕ) → is_err r ≡ false → MatchResult r (λ _. new ≡ old ++ bytes) (λ _. take (length old) new ≡ old) → new ≡ old ++ bytes
+appended (Ok x) old new bytes e p = p
+appended (Err y) old new bytes e p = absurd cc
 
-pub where_err : {T E P : Type 0} (r : Result T E) → is_err r ≡ true → OnErr r P → P
-where_err (Ok x) e p = absurd cc
-where_err (Err y) e p = p
+pub not_appended : {T E : Type 0} (r : Result T E) (old new bytes : List ℕ) → is_err r ≡ true → MatchResult r (λ _. new ≡ old ++ bytes) (λ _. take (length old) new ≡ old) → take (length old) new ≡ old
+not_appended (Ok x) old new bytes e p = absurd cc
+not_appended (Err y) old new bytes e p = p
 
 pub string_len-is : {Z : Type 0} (text : String Z) → string_len text ≡ length (string_bytes text)
 string_len-is text = search rules

@@ -1,5 +1,5 @@
 -- The places along a line, in order.
-use Rattle.std.specs.Prelude.{ℕ, Bool, ◌==◌, ◌||◌, if◌then◌else◌, List, [], ◌∷◌, ◌++◌, map}
+use Rattle.std.specs.Prelude.{ℕ, Bool, ◌==◌, ◌||◌, nat_lt, if◌then◌else◌, List, [], ◌∷◌, ◌++◌, map}
 use Rattle.std.specs.List.{flat_map, range_with_len}
 use Rattle.tabled_grid.specs.declared.place.Place.{Place}
 use Rattle.tabled_grid.specs.declared.place.LineOf.{LineOf}
@@ -22,9 +22,9 @@ abbrev pub along_line : (ℕ → Bool) → (ℕ → ℕ) → ℕ → (ℕ → Pl
 along_line drawn size count crossing place =
     flat_map (λ n. crossing_at drawn crossing n ++ map (place n) (below (size n))) (below count) ++ crossing_at drawn crossing count
 
--- the places along a line of a table of that shape, where the drawn lines and the sizes are these
+-- the places along a line of a table of that shape, up to the closing line, where the drawn lines and the sizes are these
 abbrev pub along : (ℕ → Bool) → (ℕ → Bool) → ℕ × ℕ → (ℕ → ℕ) → (ℕ → ℕ) → LineOf → List Place
 along across down (rows, cols) widths heights (LineOf.Horizontal r) =
-    if is_empty (rows, cols) then [] else along_line down widths cols (λ c. Place.Cross r c) (λ c k. Place.Horizontal r c k)
+    if is_empty (rows, cols) || nat_lt rows r then [] else along_line down widths cols (λ c. Place.Cross r c) (λ c k. Place.Horizontal r c k)
 along across down (rows, cols) widths heights (LineOf.Vertical c) =
-    if is_empty (rows, cols) then [] else along_line across heights rows (λ r. Place.Cross r c) (λ r k. Place.Vertical r c k)
+    if is_empty (rows, cols) || nat_lt cols c then [] else along_line across heights rows (λ r. Place.Cross r c) (λ r k. Place.Vertical r c k)

@@ -11,5 +11,6 @@ pub mod SameConfiguration
 pub mod Texts
 pub mod Along
 pub mod Picture
+pub mod Framed
 pub mod Refusal
 pub mod Options

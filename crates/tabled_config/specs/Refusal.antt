@@ -2,6 +2,7 @@
 use Rattle.std.specs.Prelude.{ℕ, Bool, ◌==◌, ◌||◌, if◌then◌else◌, Option, List, [], ◌∷◌, ◌++◌, length, slice_get}
 use Rattle.std.specs.List.{flat_map, list_all, enumerate_from}
 use Rattle.tabled_config.specs.declared.print_error.PrintError.{PrintError}
+use Rattle.tabled_config.specs.Configuration.{Configuration}
 use Rattle.tabled_config.specs.Texts.{Table, pieces, width_of_text}
 
 -- the fault, unless the fact holds
@@ -25,10 +26,14 @@ module _ (widths heights : ℕ → ℕ) where
   abbrev pub row_faults : ℕ → ℕ × List (List ℕ) → List PrintError
   row_faults cols (r, cells) = unless (length cells == cols) (PrintError.ColumnCount r) ++ flat_map (cell_faults r) (enumerate_from 0 cells)
 
-  -- all faults of a table of that shape, in the order in which they are looked for
-  abbrev pub faults : ℕ × ℕ → Table → List PrintError
-  faults (rows, cols) cells = unless (length cells == rows) PrintError.RowCount ++ flat_map (row_faults cols) (enumerate_from 0 cells)
+  -- the faults of the cells of a table of that shape, in the order in which they are looked for
+  abbrev pub table_faults : ℕ × ℕ → Table → List PrintError
+  table_faults (rows, cols) cells = unless (length cells == rows) PrintError.RowCount ++ flat_map (row_faults cols) (enumerate_from 0 cells)
 
--- the first of them, for which the table is refused
-abbrev pub first_refusal : ℕ × ℕ → (ℕ → ℕ) → (ℕ → ℕ) → Table → Option PrintError
-first_refusal shape widths heights cells = slice_get (faults widths heights shape cells) 0
+-- the faults of a configuration: its spans. It keeps none yet, so that there is no such fault.
+abbrev pub span_faults : Configuration → List PrintError
+span_faults cfg = []
+
+-- the first of all faults, for which a table is refused; those of the configuration come before those of the cells
+abbrev pub first_refusal : Configuration → ℕ × ℕ → (ℕ → ℕ) → (ℕ → ℕ) → Table → Option PrintError
+first_refusal cfg shape widths heights cells = slice_get (span_faults cfg ++ table_faults widths heights shape cells) 0

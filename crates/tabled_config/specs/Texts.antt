@@ -1,5 +1,5 @@
 -- Cell texts: bytes that are cut at line feeds, and how wide they are on a terminal.
-use Rattle.std.specs.Prelude.{ℕ, false, ◌==◌, List, map, chars}
+use Rattle.std.specs.Prelude.{◌≡◌, ℕ, false, ◌==◌, List, ◌++◌, map, length, take, chars, MatchResult, Result}
 use Rattle.std.specs.List.{slice_split}
 use Rattle.std.specs.String.{string_bytes}
 use Rattle.std.specs.declared.string.String.{String}
@@ -21,3 +21,8 @@ pieces text = slice_split (λ byte. byte == 10) text
 -- how many terminal columns a text takes
 abbrev pub width_of_text : List ℕ → ℕ
 width_of_text text = str_width false (chars text)
+
+-- where a call succeeds these bytes follow what the text was, and where it is refused the text still begins with that
+abbrev pub Appends : {T E Z : Type 0} → Result T E → String Z → String Z → List ℕ → Type 0
+Appends result old new bytes =
+    MatchResult result (λ _. string_bytes new ≡ string_bytes old ++ bytes) (λ _. take (length (string_bytes old)) (string_bytes new) ≡ string_bytes old)

@@ -1,14 +1,13 @@
 //! Prints a table as plain text.
 
-ghost use Rattle.std.specs.Prelude.{◌≡◌, ℕ, ◌+◌, ◌≤◌, ◌++◌, [], ◌∷◌, false, OnOk, OnErr, IfOk, MatchOption, IsOkUnless, List, length, map, take, encode_utf8_all, string_bytes, slice_index_or};
+ghost use Rattle.std.specs.Prelude.{◌≡◌, ℕ, ◌+◌, ◌≤◌, ◌++◌, [], ◌∷◌, false, OnOk, OnErr, IfOk, MatchOption, IsOkUnless, List, length, map, string_bytes, slice_index_or};
 ghost use Rattle.std.specs.List.{All, flat_map};
-ghost use Rattle.tabled_grid.specs.declared.place.Place.{Place};
 ghost use Rattle.tabled_grid.specs.declared.place.LineOf.{LineOf};
 ghost use Rattle.tabled_grid.specs.Drawn.{drawn};
 ghost use Rattle.tabled_config.specs.Configuration.{ConfigEvent, Shows, all_writes, characters_of};
-ghost use Rattle.tabled_config.specs.Texts.{texts, pieces};
-ghost use Rattle.tabled_config.specs.Along.{below, is_empty, crossing_at, along_line};
-ghost use Rattle.tabled_config.specs.Picture.{edge_size, look, line_if_drawn, side_characters, cell_line, text_lines, printed};
+ghost use Rattle.tabled_config.specs.Texts.{Appends, texts, pieces};
+ghost use Rattle.tabled_config.specs.Along.{below, is_empty};
+ghost use Rattle.tabled_config.specs.Picture.{character, look, text_lines, printed};
 ghost use Rattle.tabled_config.specs.Refusal.{first_refusal};
 
 use crate::refusals::first_fault;
@@ -16,22 +15,29 @@ use crate::{PrintError, SpannedConfig};
 use std::alloc::{AllocError, Global};
 use tabled_grid::{Dimension, OutOfMemory, Place, Probes};
 
-/// How a table is framed: its borders and its sizes, and which of its vertical lines are drawn.
+/// How a table that has places is framed: its borders and its sizes, and which of its vertical lines are drawn.
 #[derive(Drop)]
-struct Frame<'a, D: Dimension> {
+struct Frame<'a, D> {
     cfg: &'a SpannedConfig,
     dims: &'a D,
     shape: (usize, usize),
     sides: &'a [bool],
     ghost has_places: { is_empty shape ≡ false },
-    ghost sides_drawn: { sides.now ≡ map (look (all_writes cfg.now) shape (D.width_of dims.now) (D.height_of dims.now)).down (below (shape.1 + 1)) },
+    ghost sides_drawn: { sides.now ≡ map (λ c. drawn (characters_of (all_writes cfg.now)) shape.1 (LineOf.Vertical c)) (below (shape.1 + 1)) },
 }
 
 #[tactic(auto, using(crate::proofs::TextLemmas::writing))]
 impl<D: Dimension> Frame<'_, D> {
+    ghost use Rattle.tabled_grid.specs.declared.place.Place.{Place as Spot};
+    ghost use Rattle.tabled_grid.specs.declared.place.LineOf.{LineOf as Line};
+    ghost use Rattle.tabled_config.specs.Along.{below, crossing_at};
+    ghost use Rattle.tabled_config.specs.Picture.{edge_size, text_shown, shown_along, side_shown, cell_line, row_lines, line_if_drawn, text_lines};
+    ghost use Rattle.tabled_config.specs.Framed.{framed};
+
     /// The length of a place's edge; a crossing has none.
     fn edge_size(&self, place: Place) -> usize
-        ensures { result ≡ edge_size (D.width_of self.now.dims.now) (D.height_of self.now.dims.now) place }
+        ensures { let view = framed D.width_of D.height_of self.now in
+            result ≡ edge_size view.widths view.heights place }
     {
         match place {
             Place::Horizontal { col, .. } => self.dims.get_width(col),
@@ -40,26 +46,20 @@ impl<D: Dimension> Frame<'_, D> {
         }
     }
 
-    /// The character that shows at a place, a space where the place has none.
-    fn shown(&self, place: Place) -> char
-        ensures { let widths = D.width_of self.now.dims.now in
-            let heights = D.height_of self.now.dims.now in
-            let view = look (all_writes self.now.cfg.now) self.now.shape widths heights in
-            result ≡ view.shown place }
+    /// The character that is printed for a place, a space where the place shows none.
+    fn character(&self, place: Place) -> char
+        ensures { let view = framed D.width_of D.height_of self.now in
+            result ≡ character (view.shown place) }
     {
         let size = self.edge_size(place);
         let mut probes = Probes::new();
-        self.cfg
-            .char_at(place, self.shape, size, &mut probes)
-            .unwrap_or(' ')
+        printed_as(self.cfg.char_at(place, self.shape, size, &mut probes))
     }
 
     /// Whether a vertical line is drawn.
     fn has_side(&self, col: usize) -> bool
         requires { col ≤ self.now.shape.1 }
-        ensures { let widths = D.width_of self.now.dims.now in
-            let heights = D.height_of self.now.dims.now in
-            let view = look (all_writes self.now.cfg.now) self.now.shape widths heights in
+        ensures { let view = framed D.width_of D.height_of self.now in
             result ≡ view.down col }
     {
         self.sides[col]
@@ -68,39 +68,48 @@ impl<D: Dimension> Frame<'_, D> {
     /// Writes the crossing of two lines, if the vertical one is drawn.
     fn push_crossing(&self, text: &mut String, row: usize, col: usize) -> Result<(), AllocError>
         requires { col ≤ self.now.shape.1 }
-        ensures written { let widths = D.width_of self.now.dims.now in
-            let heights = D.height_of self.now.dims.now in
-            let view = look (all_writes self.now.cfg.now) self.now.shape widths heights in
-            OnOk result (string_bytes text.new ≡ string_bytes text.old ++ encode_utf8_all (map view.shown (crossing_at view.down (λ c. Place.Cross row c) col))) }
-        ensures kept { OnErr result (take (length (string_bytes text.old)) (string_bytes text.new) ≡ string_bytes text.old) }
+        ensures { let view = framed D.width_of D.height_of self.now in
+            Appends result text.old text.new (text_shown (map view.shown (crossing_at view.down (λ c. Spot.Cross row c) col))) }
     {
         if self.has_side(col) {
-            text.push(self.shown(Place::Cross { row, col }))?;
+            text.push(self.character(Place::Cross { row, col }))?;
         }
         Ok(())
     }
 
-    /// Writes the edge of a horizontal line over a column.
-    fn push_edge(&self, text: &mut String, row: usize, col: usize) -> Result<(), AllocError>
-        ensures written { let widths = D.width_of self.now.dims.now in
-            let heights = D.height_of self.now.dims.now in
-            let view = look (all_writes self.now.cfg.now) self.now.shape widths heights in
-            OnOk result (string_bytes text.new ≡ string_bytes text.old ++ encode_utf8_all (map view.shown (map (λ k. Place.Horizontal row col k) (below (widths col))))) }
-        ensures kept { OnErr result (take (length (string_bytes text.old)) (string_bytes text.new) ≡ string_bytes text.old) }
+    /// Writes the edge of a horizontal line over a column, place by place.
+    fn push_each_place(&self, text: &mut String, row: usize, col: usize) -> Result<(), AllocError>
+        ensures { let view = framed D.width_of D.height_of self.now in
+            Appends result text.old text.new (text_shown (map view.shown (map (λ k. Spot.Horizontal row col k) (below (view.widths col))))) }
     {
         for at in 0..self.dims.get_width(col) {
-            text.push(self.shown(Place::Horizontal { row, col, at }))?;
+            text.push(self.character(Place::Horizontal { row, col, at }))?;
         }
         Ok(())
     }
 
-    /// Writes a horizontal line.
+    /// Writes the edge of a horizontal line over a column. Where no offset character is kept, all its places
+    /// show the same.
+    fn push_edge(&self, text: &mut String, row: usize, col: usize) -> Result<(), AllocError>
+        ensures { let view = framed D.width_of D.height_of self.now in
+            Appends result text.old text.new (text_shown (map view.shown (map (λ k. Spot.Horizontal row col k) (below (view.widths col))))) }
+    {
+        if self.cfg.has_horizontal_offsets() {
+            return self.push_each_place(text, row, col);
+        }
+        let edge = Place::Horizontal { row, col, at: 0 };
+        let shown = printed_as(self.cfg.plain_char_at(edge, self.shape));
+        for _ in 0..self.dims.get_width(col) {
+            text.push(shown)?;
+        }
+        Ok(())
+    }
+
+    /// Writes a horizontal line, which is none past the closing one.
     fn push_places(&self, text: &mut String, row: usize) -> Result<(), AllocError>
-        ensures written { let widths = D.width_of self.now.dims.now in
-            let heights = D.height_of self.now.dims.now in
-            let view = look (all_writes self.now.cfg.now) self.now.shape widths heights in
-            OnOk result (string_bytes text.new ≡ string_bytes text.old ++ encode_utf8_all (map view.shown (along_line view.down widths self.now.shape.1 (λ c. Place.Cross row c) (λ c k. Place.Horizontal row c k)))) }
-        ensures kept { OnErr result (take (length (string_bytes text.old)) (string_bytes text.new) ≡ string_bytes text.old) }
+        requires { row ≤ self.now.shape.0 }
+        ensures { let view = framed D.width_of D.height_of self.now in
+            Appends result text.old text.new (text_shown (shown_along view (Line.Horizontal row))) }
     {
         let (_, cols) = self.shape;
         for col in 0..cols {
@@ -112,11 +121,8 @@ impl<D: Dimension> Frame<'_, D> {
 
     /// Writes a horizontal line and a line feed, if the line is drawn.
     fn push_line(&self, text: &mut String, row: usize) -> Result<(), AllocError>
-        ensures written { let widths = D.width_of self.now.dims.now in
-            let heights = D.height_of self.now.dims.now in
-            let view = look (all_writes self.now.cfg.now) self.now.shape widths heights in
-            OnOk result (string_bytes text.new ≡ string_bytes text.old ++ flat_map (λ line. line ++ 10 ∷ []) (line_if_drawn view self.now.shape widths heights row)) }
-        ensures kept { OnErr result (take (length (string_bytes text.old)) (string_bytes text.new) ≡ string_bytes text.old) }
+        ensures { let view = framed D.width_of D.height_of self.now in
+            Appends result text.old text.new (flat_map (λ line. line ++ 10 ∷ []) (line_if_drawn view row)) }
     {
         let (rows, _) = self.shape;
         if self.cfg.has_horizontal(row, rows) {
@@ -135,14 +141,11 @@ impl<D: Dimension> Frame<'_, D> {
         at: usize,
     ) -> Result<(), AllocError>
         requires { col ≤ self.now.shape.1 }
-        ensures written { let widths = D.width_of self.now.dims.now in
-            let heights = D.height_of self.now.dims.now in
-            let view = look (all_writes self.now.cfg.now) self.now.shape widths heights in
-            OnOk result (string_bytes text.new ≡ string_bytes text.old ++ encode_utf8_all (side_characters view self.now.shape widths heights row at col)) }
-        ensures kept { OnErr result (take (length (string_bytes text.old)) (string_bytes text.new) ≡ string_bytes text.old) }
+        ensures { let view = framed D.width_of D.height_of self.now in
+            Appends result text.old text.new (text_shown (side_shown view row at col)) }
     {
         if self.has_side(col) {
-            text.push(self.shown(Place::Vertical { row, col, at }))?;
+            text.push(self.character(Place::Vertical { row, col, at }))?;
         }
         Ok(())
     }
@@ -156,11 +159,8 @@ impl<D: Dimension> Frame<'_, D> {
         at: usize,
     ) -> Result<(), AllocError>
         requires { length cells.now ≡ self.now.shape.1 }
-        ensures written { let widths = D.width_of self.now.dims.now in
-            let heights = D.height_of self.now.dims.now in
-            let view = look (all_writes self.now.cfg.now) self.now.shape widths heights in
-            OnOk result (string_bytes text.new ≡ string_bytes text.old ++ cell_line view self.now.shape widths heights row (map string_bytes cells.now) at) }
-        ensures kept { OnErr result (take (length (string_bytes text.old)) (string_bytes text.new) ≡ string_bytes text.old) }
+        ensures { let view = framed D.width_of D.height_of self.now in
+            Appends result text.old text.new (cell_line view row (map string_bytes cells.now) at) }
     {
         let (_, cols) = self.shape;
         for (col, cell) in cells.iter().enumerate() {
@@ -173,11 +173,8 @@ impl<D: Dimension> Frame<'_, D> {
     /// Writes the lines of text of a row, each with a line feed.
     fn push_row(&self, text: &mut String, row: usize, cells: &[String]) -> Result<(), AllocError>
         requires { length cells.now ≡ self.now.shape.1 }
-        ensures written { let widths = D.width_of self.now.dims.now in
-            let heights = D.height_of self.now.dims.now in
-            let view = look (all_writes self.now.cfg.now) self.now.shape widths heights in
-            OnOk result (string_bytes text.new ≡ string_bytes text.old ++ flat_map (λ line. line ++ 10 ∷ []) (map (cell_line view self.now.shape widths heights row (map string_bytes cells.now)) (below (heights row)))) }
-        ensures kept { OnErr result (take (length (string_bytes text.old)) (string_bytes text.new) ≡ string_bytes text.old) }
+        ensures { let view = framed D.width_of D.height_of self.now in
+            Appends result text.old text.new (flat_map (λ line. line ++ 10 ∷ []) (row_lines view row (map string_bytes cells.now))) }
     {
         for at in 0..self.dims.get_height(row) {
             self.push_pieces(text, row, cells, at)?;
@@ -190,11 +187,8 @@ impl<D: Dimension> Frame<'_, D> {
     fn push_table(&self, text: &mut String, cells: &[Vec<String>]) -> Result<(), AllocError>
         requires rows { length cells.now ≡ self.now.shape.0 }
         requires cols { All (λ row. length row ≡ self.now.shape.1) (texts cells.now) }
-        ensures written { let widths = D.width_of self.now.dims.now in
-            let heights = D.height_of self.now.dims.now in
-            let view = look (all_writes self.now.cfg.now) self.now.shape widths heights in
-            OnOk result (string_bytes text.new ≡ string_bytes text.old ++ flat_map (λ line. line ++ 10 ∷ []) (text_lines view self.now.shape widths heights (texts cells.now))) }
-        ensures kept { OnErr result (take (length (string_bytes text.old)) (string_bytes text.new) ≡ string_bytes text.old) }
+        ensures { let view = framed D.width_of D.height_of self.now in
+            Appends result text.old text.new (flat_map (λ line. line ++ 10 ∷ []) (text_lines view (texts cells.now))) }
     {
         let (rows, _) = self.shape;
         for (row, row_cells) in cells.iter().enumerate() {
@@ -203,6 +197,13 @@ impl<D: Dimension> Frame<'_, D> {
         }
         self.push_line(text, rows)
     }
+}
+
+/// The character that is printed for what a place shows, a space for nothing.
+fn printed_as(shown: Option<char>) -> char
+    ensures { result ≡ character shown }
+{
+    shown.unwrap_or(' ')
 }
 
 /// The piece of a text between two line feeds, counted from 0, and nothing where it has no such piece.
@@ -234,11 +235,8 @@ fn push_lines<D: Dimension>(
 ) -> Result<(), OutOfMemory>
     requires rows { length cells.now ≡ shape.0 }
     requires cols { All (λ row. length row ≡ shape.1) (texts cells.now) }
-    ensures written { let widths = D.width_of dims.now in
-        let heights = D.height_of dims.now in
-        let view = look (all_writes cfg.now) shape widths heights in
-        OnOk result (string_bytes text.new ≡ string_bytes text.old ++ flat_map (λ line. line ++ 10 ∷ []) (text_lines view shape widths heights (texts cells.now))) }
-    ensures kept { OnErr result (take (length (string_bytes text.old)) (string_bytes text.new) ≡ string_bytes text.old) }
+    ensures { Appends result text.old text.new (flat_map (λ line. line ++ 10 ∷ [])
+        (text_lines (look (all_writes cfg.now) shape (D.width_of dims.now) (D.height_of dims.now)) (texts cells.now))) }
 {
     let (rows, cols) = shape;
     if rows == 0 || cols == 0 {
@@ -265,9 +263,8 @@ pub fn print_plain<D: Dimension>(
     cells: &[Vec<String>],
 ) -> Result<(), PrintError>
     ensures text { (es : List ConfigEvent) → Shows es cfg.now → OnOk result (string_bytes out.new ≡ string_bytes out.old ++ printed es shape (D.width_of dims.now) (D.height_of dims.now) (texts cells.now)) }
-    ensures own_text { OnOk result (string_bytes out.new ≡ string_bytes out.old ++ printed (all_writes cfg.now) shape (D.width_of dims.now) (D.height_of dims.now) (texts cells.now)) }
     ensures unchanged { OnErr result (string_bytes out.new ≡ string_bytes out.old) }
-    ensures refusal { MatchOption (first_refusal shape (D.width_of dims.now) (D.height_of dims.now) (texts cells.now)) (IsOkUnless result PrintError.OutOfMemory) (λ e. result ≡ Err e) }
+    ensures refusal { MatchOption (first_refusal cfg.now shape (D.width_of dims.now) (D.height_of dims.now) (texts cells.now)) (IsOkUnless result PrintError.OutOfMemory) (λ e. result ≡ Err e) }
 {
     if let Some(fault) = first_fault(dims, shape, cells) {
         return Err(fault);

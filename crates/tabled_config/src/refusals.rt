@@ -3,7 +3,7 @@
 ghost use Rattle.std.specs.Prelude.{◌≡◌, ◌==◌, length, map, slice_get, string_bytes};
 ghost use Rattle.std.specs.List.{list_all};
 ghost use Rattle.tabled_config.specs.Texts.{texts, pieces, width_of_text};
-ghost use Rattle.tabled_config.specs.Refusal.{fits_height, fits_width, cell_faults, row_faults, first_refusal};
+ghost use Rattle.tabled_config.specs.Refusal.{fits_height, fits_width, cell_faults, row_faults, table_faults};
 
 use crate::PrintError;
 use tabled_grid::Dimension;
@@ -73,13 +73,13 @@ fn fault_of_row<D: Dimension>(
     None
 }
 
-/// The first fault of a table, row by row from the top: the number of rows is looked at first.
+/// The first fault of the cells of a table, row by row from the top: the number of rows is looked at first.
 pub(crate) fn first_fault<D: Dimension>(
     dims: &D,
     shape: (usize, usize),
     cells: &[Vec<String>],
 ) -> Option<PrintError>
-    ensures { result ≡ first_refusal shape (D.width_of dims.now) (D.height_of dims.now) (texts cells.now) }
+    ensures { result ≡ slice_get (table_faults (D.width_of dims.now) (D.height_of dims.now) shape (texts cells.now)) 0 }
 {
     let (rows, cols) = shape;
     if cells.len() != rows {

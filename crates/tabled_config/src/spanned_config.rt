@@ -12,6 +12,7 @@ mod copies;
 mod equality;
 mod lines;
 mod offsets;
+mod plain;
 mod removing;
 mod replacing;
 

@@ -38,6 +38,18 @@ module _ {K X : Type 0} {R : K → K → Ordering} (o : IsTotalOrder R) (exact :
   len-table [] = omega (arith, map.len-empty R X)
   len-table (e ∷ es) = omega (arith, map.len-insert o (table R es) e.0 e.1, one_more (map.contains_key (table R es) e.0) (map.len (table R es)) (length es) (len-table es))
 
+  -- it is the empty one just where there are no entries
+  pub no-entries : (es : List (K × X)) → length es ≡ 0 → table R es ≡ map.empty
+  no-entries es none = map.empty_of_len (table R es) (omega (arith, len-table es))
+
+  pub no-keys : (es : List (K × X)) → table R es ≡ map.empty → length es ≡ 0
+  no-keys [] none = refl
+  no-keys (e ∷ es) none =
+      let here : None ≡ Some e.1 =
+      sym (ap (λ m. map.get m e.0) none ∙ map.get-empty R e.0) ∙ get-table (e ∷ es) e.0
+      ∙ ap (λ b. cond b (Some e.1) (lookup (is_at (R e.0)) es)) ((eq_by_cmp_equiv o).refl e.0) in
+      absurd cc
+
 -- the steps from the fields to the value that the clauses see
 abbrev pub table_at : {K X : Type 0} → (R : K → K → Ordering) → K → List (K × X) → Option X
 table_at R k es = map.get (table R es) k

@@ -2,7 +2,7 @@
 use Rattle.std.specs.Prelude.{◌≡◌, ℕ, Bool, ◌&&◌, ◌||◌, is_some, Option, None, Some, List, [], ◌∷◌, ◌++◌, option_map, option_and_then}
 use Rattle.std.specs.List.{list_any, filter_map}
 use Rattle.std.specs.Ordering.{nat_cmp}
-use Rattle.std.specs.FinMap.{FinMap, get, entries}
+use Rattle.std.specs.FinMap.{FinMap, empty, get, entries}
 use Rattle.tabled_grid.specs.declared.borders.Borders.{Borders}
 use Rattle.tabled_grid.specs.declared.lines.HorizontalLine.{HorizontalLine}
 use Rattle.tabled_grid.specs.declared.lines.VerticalLine.{VerticalLine}
@@ -41,6 +41,10 @@ end_values down keeping = keeping.ends_down
 abbrev pub start_values : {T : Type 0} → Direction → Keeping T → FinMap edge_place_cmp T
 start_values across keeping = keeping.starts_across
 start_values down keeping = keeping.starts_down
+
+-- nothing is kept at an offset of an edge of that direction
+abbrev pub HasNoOffsets : {T : Type 0} → Direction → Keeping T → Type 0
+HasNoOffsets d keeping = (start_values d keeping ≡ empty) × (end_values d keeping ≡ empty)
 
 abbrev pub edge_place : ℕ → ℕ → ℕ → EdgePlace
 edge_place r c n = record { row = r; col = c; number = n }

@@ -1,6 +1,6 @@
 //! What a store keeps under keys: one value under each.
 
-ghost use Rattle.std.specs.Prelude.{◌≡◌, ◌<◌, ◌^◌, OnOk, OnErr, IfOk, None, is_some, option_copied, length};
+ghost use Rattle.std.specs.Prelude.{◌≡◌, ◌↔◌, ◌<◌, ◌^◌, OnOk, OnErr, IfOk, None, is_some, option_copied, length, IsTrue};
 ghost use Rattle.std.specs.FinMap as map;
 ghost use Rattle.std.specs.BTreeMap.{insert_entry};
 ghost use Rattle.tabled_grid.specs.Table.{table};
@@ -56,6 +56,13 @@ impl<K: Key, V> KeptMap<K, V> {
     {
         probes.raise();
         self.entries.get(&key)
+    }
+
+    /// Whether nothing is kept.
+    pub(crate) fn is_empty(&self) -> bool
+        ensures { IsTrue result ↔ (table K.cmp self.now ≡ map.empty) }
+    {
+        self.entries.is_empty()
     }
 
     /// Keeps a value under a key, and answers the one that was there. Only a new key needs memory; where

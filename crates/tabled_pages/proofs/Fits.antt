@@ -1,6 +1,6 @@
 -- The padded cells of a table fit their columns, so that the table is not refused.
-use Rattle.std.proofs.Common.{◌≡◌, ℕ, ◌+◌, ◌-◌, ◌<◌, ◌≤◌, zero, suc, max, fold, true, false, ◌&&◌, eqb, List, [], ◌∷◌, ◌++◌, map, length, get_or, None, refl, sym, ap, ◌∙◌, arith, length-append, replicate, eq-eqb, ◌==◌}
-use Rattle.std.specs.Prelude.{slice_index, slice_get, string_bytes, String}
+use Rattle.std.proofs.Common.{◌≡◌, ℕ, ◌+◌, ◌-◌, ◌<◌, ◌≤◌, zero, suc, max, fold, true, false, ◌&&◌, eqb, List, [], ◌∷◌, ◌++◌, map, length, get_or, refl, sym, ap, ◌∙◌, arith, length-append, replicate, eq-eqb, ◌==◌}
+use Rattle.std.specs.Prelude.{slice_index, string_bytes, String}
 use Rattle.std.specs.Global.{Global, Vec}
 use Rattle.std.specs.List.{list_all, enumerate_from, flat_map}
 use Rattle.std.proofs.lemmas.Bool.{and_from}
@@ -15,7 +15,7 @@ use Rattle.std.proofs.lemmas.List.Sums.{AllPass-from_list_all}
 use Rattle.unicode_width.specs.Width.{str_width}
 use Rattle.unicode_width.proofs.Rules.{str_width-printable}
 use Rattle.tabled_config.specs.Texts as printer
-use Rattle.tabled_config.specs.Refusal.{unless, cell_faults, row_faults, first_refusal}
+use Rattle.tabled_config.specs.Refusal.{unless, cell_faults, row_faults, table_faults}
 use Rattle.tabled_config.specs.declared.print_error.PrintError.TheVariants.{RowCount, ColumnCount, Height, Width}
 use Rattle.tabled_pages.specs.declared.bytes.TheConstants.{SPACE, LINE_FEED}
 use Rattle.tabled_pages.specs.Input.{cells_of, rows_of, column_count}
@@ -134,7 +134,7 @@ room-enough rows widths measured k col row_within within =
     omega (arith, fold-max-bound (λ row. length (spaced (cell row col))) 0 rows k [] row_within, here)
 
 pub padded-fits : (rows : List (List (List ℕ))) (widths : List ℕ) (columns count : ℕ) (cells : List (List (List ℕ))) → IsPadded rows widths columns count cells
-    → are_printable rows ≡ true → first_refusal (count, columns) (slice_index widths) (λ row. 1) cells ≡ None
+    → are_printable rows ≡ true → table_faults (slice_index widths) (λ row. 1) (count, columns) cells ≡ []
 padded-fits rows widths columns count cells p printable =
     let row_of : ℕ → List (List ℕ) = λ k. get_or rows k [] in
     let row_faults_of = row_faults (slice_index widths) (λ row. 1) in
@@ -146,8 +146,7 @@ padded-fits rows widths columns count cells p printable =
     ∙ ap (λ cs. row_faults_of (length widths) (0 + k, cs)) this
     ∙ row-fits widths (row_of k) (0 + k) (λ col. list_all-get_or (list_all is_printable) (row_of k) col [] row_printable refl)
     (λ col col_within. room-enough rows widths p.measured k col inside col_within)) in
-    ap (λ fs. slice_get fs 0)
-    (ap (λ b. unless b RowCount ++ flat_map (row_faults_of columns) (enumerate_from 0 cells)) (eq-eqb _ _ (sym p.rows_counted)) ∙ each)
+    ap (λ b. unless b RowCount ++ flat_map (row_faults_of columns) (enumerate_from 0 cells)) (eq-eqb _ _ (sym p.rows_counted)) ∙ each
 
 -- what is printed of them is the table
 pub padded-shown : (style : ReadyStyle) (rows : List (List (List ℕ))) (widths : List ℕ) (columns count : ℕ) (cells : List (List (List ℕ)))

@@ -4,7 +4,7 @@ ghost use Rattle.std.specs.Prelude.{◌≡◌, ◌≤◌, ◌⊎◌, List, ◌++
 ghost use Rattle.std.specs.List.{list_all};
 ghost use Rattle.tabled_config.specs.Configuration.{ConfigEvent, Shows};
 ghost use Rattle.tabled_config.specs.Picture.{printed};
-ghost use Rattle.tabled_config.specs.Refusal.{first_refusal};
+ghost use Rattle.tabled_config.specs.Refusal.{table_faults, first_refusal};
 ghost use Rattle.tabled_pages.specs.Input.{fault_of, is_allowed, rows_of};
 ghost use Rattle.tabled_pages.specs.Page.{framed_table, page};
 ghost use Rattle.tabled_pages.specs.Style.{styled};
@@ -48,7 +48,7 @@ fn append_table(
     columns: &Columns,
     cells: &[Vec<String>],
 ) -> Result<(), ShowError>
-    requires { first_refusal (length cells.now, vec_len columns.now.widths) (slice_index columns.now.widths.items)
+    requires { first_refusal cfg.now (length cells.now, vec_len columns.now.widths) (slice_index columns.now.widths.items)
         (λ row. 1) (texts cells.now) ≡ None }
     ensures text { OnOk result ((es : List ConfigEvent) → Shows es cfg.now → string_bytes text.new ≡ string_bytes text.old
         ++ printed es (length cells.now, vec_len columns.now.widths) (slice_index columns.now.widths.items) (λ row. 1) (texts cells.now)
@@ -73,8 +73,8 @@ fn print_table(
     columns: &Columns,
     cells: &[Vec<String>],
 ) -> Result<String, ShowError>
-    requires { first_refusal (length cells.now, vec_len columns.now.widths) (slice_index columns.now.widths.items)
-        (λ row. 1) (texts cells.now) ≡ None }
+    requires { table_faults (slice_index columns.now.widths.items) (λ row. 1) (length cells.now, vec_len columns.now.widths)
+        (texts cells.now) ≡ [] }
     ensures text { IfOk result (λ text. string_bytes text ≡
         printed (styled style) (length cells.now, vec_len columns.now.widths) (slice_index columns.now.widths.items)
         (λ row. 1) (texts cells.now) ++ LINE_FEED ∷ []) }

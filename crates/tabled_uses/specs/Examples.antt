@@ -4,12 +4,15 @@ use Rattle.std.specs.List.{join_with_byte}
 use Rattle.tabled_grid.specs.declared.borders.Borders.{Borders}
 use Rattle.tabled_grid.specs.declared.lines.HorizontalLine.{HorizontalLine}
 use Rattle.tabled_grid.specs.declared.lines.VerticalLine.{VerticalLine}
+use Rattle.tabled_grid.specs.declared.place.LineOf.{LineOf}
+use Rattle.tabled_grid.specs.declared.place.Place.{Place}
 use Rattle.tabled_grid.specs.Site.{across, down, edge, crossing, Site, the_default, at_spot, from_end, from_start}
 use Rattle.tabled_grid.specs.Event.{sign, write, erase, these_sites}
 use Rattle.tabled_grid.specs.Lines as lines
 use Rattle.tabled_config.specs.Configuration.{ConfigEvent, of_characters, borders_set, borders_replaced}
 use Rattle.tabled_config.specs.Texts.{Table}
-use Rattle.tabled_config.specs.Picture.{printed}
+use Rattle.tabled_config.specs.Along.{along}
+use Rattle.tabled_config.specs.Picture.{look, printed}
 
 -- a table drawn by hand: the events, how many rows and columns, their sizes and the cells
 pub record Drawing : Type 0 where
@@ -22,6 +25,12 @@ pub record Drawing : Type 0 where
 -- the text that the definitions give it
 unfoldable pub text_of : Drawing → List ℕ
 text_of drawing = printed drawing.events drawing.shape (slice_index drawing.widths) (slice_index drawing.heights) drawing.cells
+
+-- the places along a line of it, as the definitions list them
+unfoldable pub places_of : Drawing → LineOf → List Place
+places_of drawing line =
+    let view = look drawing.events drawing.shape (slice_index drawing.widths) (slice_index drawing.heights) in
+    along view.across view.down view.shape view.widths view.heights line
 
 -- the bytes of lines of text
 abbrev pub as_lines : List (List ℕ) → List ℕ
@@ -305,4 +314,14 @@ closing_line = record {
   widths = 3 ∷ [];
   heights = 1 ∷ [];
   cells = (codes " a " ∷ []) ∷ [];
+}
+
+-- two rows, the second two lines high; no line is drawn between them, and the outer vertical lines are not drawn
+unfoldable pub two_heights : Drawing
+two_heights = record {
+  events = borders_set (record nothing { top = Some 45; bottom = Some 45; vertical = Some 124 });
+  shape = (2, 2);
+  widths = 3 ∷ 3 ∷ [];
+  heights = 1 ∷ 2 ∷ [];
+  cells = (codes " a " ∷ codes " b " ∷ []) ∷ ((codes " c " ++ 10 ∷ codes " e ") ∷ (codes " d " ++ 10 ∷ codes " f ") ∷ []) ∷ [];
 }

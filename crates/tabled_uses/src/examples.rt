@@ -4,7 +4,9 @@
 
 ghost use Rattle.std.specs.Prelude.{◌≡◌, [], ◌∷◌, codes};
 ghost use Rattle.tabled_uses.specs.Examples as table;
-ghost use Rattle.tabled_uses.specs.Examples.{text_of, as_lines};
+ghost use Rattle.tabled_uses.specs.Examples.{text_of, as_lines, places_of};
+ghost use Rattle.tabled_grid.specs.declared.place.LineOf.{LineOf};
+ghost use Rattle.tabled_grid.specs.declared.place.Place.{Place};
 
 /// A place has the character of the highest level that has one there; a drawn line shows a space where none is.
 pub fn places_and_levels()
@@ -102,4 +104,24 @@ pub fn drawn_lines()
         codes "*****" ∷
         codes "* a *" ∷
         codes "*****" ∷ []) }
+{}
+
+/// The places along a line are its crossings with the drawn lines of the other direction, and its edges between.
+/// A line past the closing one has none.
+pub fn places_along_lines()
+    ensures two_heights { text_of table.two_heights ≡ as_lines (
+        codes "--- ---" ∷
+        codes " a | b " ∷
+        codes " c | d " ∷
+        codes " e | f " ∷
+        codes "--- ---" ∷ []) }
+    ensures drawn_line { places_of table.two_heights (LineOf.Vertical 1) ≡
+        Place.Cross 0 1 ∷
+        Place.Vertical 0 1 0 ∷
+        Place.Vertical 1 1 0 ∷
+        Place.Vertical 1 1 1 ∷
+        Place.Cross 2 1 ∷ [] }
+    ensures past_the_closing_line { places_of table.two_heights (LineOf.Vertical 3) ≡ [] }
+    ensures below_the_closing_line { places_of table.two_heights (LineOf.Horizontal 3) ≡ [] }
+    ensures no_rows { places_of table.no_rows (LineOf.Vertical 0) ≡ [] }
 {}

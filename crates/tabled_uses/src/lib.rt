@@ -5,4 +5,4 @@
 
 mod examples;
 
-pub use examples::{drawn_lines, lines_of_their_own, places_and_levels};
+pub use examples::{drawn_lines, lines_of_their_own, places_along_lines, places_and_levels};

@@ -1,6 +1,6 @@
 //! How a store is read.
 
-ghost use Rattle.std.specs.Prelude.{◌≡◌, ◌↔◌, IsTrue, ℕ, IfOk, is_some, option_copied, option_and_then};
+ghost use Rattle.std.specs.Prelude.{◌≡◌, ◌↔◌, IsTrue, IsFalse, ℕ, IfOk, is_some, option_copied, option_and_then};
 ghost use Rattle.std.specs.Ordering.{nat_cmp};
 ghost use Rattle.std.specs.FinMap as map;
 ghost use Rattle.tabled_grid.specs.Table.{table};
@@ -21,7 +21,7 @@ use std::collections::BTreeMap;
 impl<T> Layers<T> {
     ghost use Rattle.tabled_grid.specs.Value.{value, plain_value};
     ghost use Rattle.tabled_grid.specs.Drawn.{Drawn};
-    ghost use Rattle.tabled_grid.specs.Keeping.{keeps};
+    ghost use Rattle.tabled_grid.specs.Keeping.{keeps, HasNoOffsets};
     ghost use Rattle.tabled_grid.specs.Reading.{under_across, under_down, under_crossing, plain_across, plain_down, plain_crossing, edge_across, edge_down};
 
     /// The class record.
@@ -112,6 +112,20 @@ impl<T> Layers<T> {
             Place::Vertical { row, col, .. } => self.plain_edge_down(row, col, cols, &mut probes),
             Place::Cross { row, col } => self.plain_crossing(row, col, rows, cols, &mut probes),
         }
+    }
+
+    /// Whether something is kept at an offset of an edge of a horizontal line, from its start or its end.
+    pub fn has_horizontal_offsets(&self) -> bool
+        ensures { IsFalse result ↔ HasNoOffsets going_across self.now }
+    {
+        !(self.starts_across.is_empty() && self.ends_across.is_empty())
+    }
+
+    /// Whether something is kept at an offset of an edge of a vertical line, from its start or its end.
+    pub fn has_vertical_offsets(&self) -> bool
+        ensures { IsFalse result ↔ HasNoOffsets going_down self.now }
+    {
+        !(self.starts_down.is_empty() && self.ends_down.is_empty())
     }
 
     fn at_edge_across(

@@ -1,14 +1,12 @@
 -- The lines so far.
 use Rattle.std.proofs.Common.{◌≡◌, ◌++◌, [], ◌∷◌, map, string_bytes}
 use Rattle.std.specs.List.{flat_map}
-use Rattle.tabled_config.specs.Configuration.{all_writes}
 use Rattle.tabled_config.specs.Along.{below}
-use Rattle.tabled_config.specs.Picture.{Look, look, cell_line}
+use Rattle.tabled_config.specs.Picture.{Look, cell_line}
+use Rattle.tabled_config.specs.Framed.{framed}
 use Rattle.tabled_config.proofs.print.Frame.push_row.Given as goal
 
 abbrev pub invariant-loop-at : goal.invariant-loop-at
 invariant-loop-at g l =
-    let view : Look = look (all_writes l.self.cfg.now) l.self.shape (g.D.Dimension.width_of l.self.dims.now) (g.D.Dimension.height_of l.self.dims.now) in
-    string_bytes l.text
-    ≡ string_bytes l.initial.text
-    ++ flat_map (λ line. line ++ 10 ∷ []) (map (cell_line view l.self.shape (g.D.Dimension.width_of l.self.dims.now) (g.D.Dimension.height_of l.self.dims.now) l.row (map string_bytes l.cells)) (below l.at))
+    let view : Look = framed g.D.Dimension.width_of g.D.Dimension.height_of l.self in
+    string_bytes l.text ≡ string_bytes l.initial.text ++ flat_map (λ line. line ++ 10 ∷ []) (map (cell_line view l.row (map string_bytes l.cells)) (below l.at))

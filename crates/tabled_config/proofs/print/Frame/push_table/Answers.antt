@@ -2,11 +2,11 @@
 use Rattle.std.proofs.Common.{ℕ, ◌<◌, ◌++◌, List, [], length, map, ap, sym, ◌∙◌, string_bytes, slice_index_or, arith}
 use Rattle.std.specs.List.{flat_map}
 use Rattle.std.proofs.lemmas.List.{length-map}
-use Rattle.tabled_config.specs.Configuration.{all_writes}
 use Rattle.tabled_config.specs.Texts.{texts}
 use Rattle.tabled_config.specs.Along.{below, is_empty}
-use Rattle.tabled_config.specs.Picture.{Look, look, line_if_drawn, cell_line}
-use Rattle.tabled_config.proofs.TextLemmas.{ended, texts_at, rows_more, rows_closed, written_both, written_last}
+use Rattle.tabled_config.specs.Picture.{Look, line_if_drawn, row_lines}
+use Rattle.tabled_config.specs.Framed.{framed}
+use Rattle.tabled_config.proofs.TextLemmas.{ended, texts_at, rows_more, rows_closed, written_both, appends_last}
 use Rattle.tabled_config.proofs.print.Frame.push_table.Goals as goal
 
 pub push_row-requires : goal.push_row-requires
@@ -18,21 +18,17 @@ push_row-requires g c =
 
 pub loop-row-preserved : goal.loop-row-preserved
 loop-row-preserved g c =
-    let view : Look = look (all_writes c.args.self.now.cfg.now) c.args.self.now.shape (g.D.Dimension.width_of c.args.self.now.dims.now) (g.D.Dimension.height_of c.args.self.now.dims.now) in
-    let lines : ℕ → List (List ℕ) → List (List ℕ) =
-    λ r row. map (cell_line view c.args.self.now.shape (g.D.Dimension.width_of c.args.self.now.dims.now) (g.D.Dimension.height_of c.args.self.now.dims.now) r row) (below (g.D.Dimension.height_of c.args.self.now.dims.now r)) in
-    let line : ℕ → List (List ℕ) = line_if_drawn view c.args.self.now.shape (g.D.Dimension.width_of c.args.self.now.dims.now) (g.D.Dimension.height_of c.args.self.now.dims.now) in
-    written_both _ _ _ _ _ _ _ _ c.loop-row.invariant c.in_ok-push_line.ensures.written c.in_ok-push_row.ensures.written
-    (rows_more line (λ r. lines r (slice_index_or (texts c.args.cells.now) r [])) c.loop-row.row
-    ∙ ap (λ row. flat_map ended (flat_map (λ r. line r ++ lines r (slice_index_or (texts c.args.cells.now) r [])) (below c.loop-row.row)) ++ (flat_map ended (line c.loop-row.row) ++ flat_map ended (lines c.loop-row.row row)))
+    let view : Look = framed g.D.Dimension.width_of g.D.Dimension.height_of c.args.self.now in
+    let before : List ℕ = flat_map ended (flat_map (λ r. line_if_drawn view r ++ row_lines view r (slice_index_or (texts c.args.cells.now) r [])) (below c.loop-row.row)) in
+    written_both _ _ _ _ _ _ _ _ c.loop-row.invariant c.in_ok-push_line.ensures c.in_ok-push_row.ensures
+    (rows_more (line_if_drawn view) (λ r. row_lines view r (slice_index_or (texts c.args.cells.now) r [])) c.loop-row.row
+    ∙ ap (λ row. before ++ (flat_map ended (line_if_drawn view c.loop-row.row) ++ flat_map ended (row_lines view c.loop-row.row row)))
     (texts_at c.args.cells.now c.loop-row.row c.index-cells-row.result c.deref.result.now c.loop-row-test.true c.index-cells-row.is c.deref.ensures.value))
 
-pub returns-clause-written : goal.returns-clause-written
-returns-clause-written g c =
-    let view : Look = look (all_writes c.args.self.now.cfg.now) c.args.self.now.shape (g.D.Dimension.width_of c.args.self.now.dims.now) (g.D.Dimension.height_of c.args.self.now.dims.now) in
-    let line : ℕ → List (List ℕ) = line_if_drawn view c.args.self.now.shape (g.D.Dimension.width_of c.args.self.now.dims.now) (g.D.Dimension.height_of c.args.self.now.dims.now) in
-    written_last c.push_line-2.result _ _ _ _ _ _ c.loop-row.invariant
-    (rows_closed (is_empty c.args.self.now.shape)
-    (λ r. line r ++ map (cell_line view c.args.self.now.shape (g.D.Dimension.width_of c.args.self.now.dims.now) (g.D.Dimension.height_of c.args.self.now.dims.now) r (slice_index_or (texts c.args.cells.now) r [])) (below (g.D.Dimension.height_of c.args.self.now.dims.now r)))
-    (line c.args.self.now.shape.0) c.loop-row.row c.args.self.now.shape.0 c.args.self.now.has_places (omega arith))
-    c.push_line-2.ensures.written
+pub returns : goal.returns
+returns g c =
+    let view : Look = framed g.D.Dimension.width_of g.D.Dimension.height_of c.args.self.now in
+    appends_last c.push_line-2.result _ _ _ _ _ _ c.loop-row.invariant
+    (rows_closed (is_empty view.shape) (λ r. line_if_drawn view r ++ row_lines view r (slice_index_or (texts c.args.cells.now) r []))
+    (line_if_drawn view view.shape.0) c.loop-row.row view.shape.0 c.args.self.now.has_places (omega arith))
+    c.push_line-2.ensures
