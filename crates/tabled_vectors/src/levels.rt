@@ -1,10 +1,12 @@
 //! What shows at each level: the default, custom lines, cells and offsets.
 
 use crate::tables::{ascii, prints};
+use std::alloc::Global;
 use std::test::Fail;
 use tabled_config::SpannedConfig;
 use tabled_grid::{
-    HorizontalLine, LineOf, Offset, OutOfMemory, Place, Position, Probes, VerticalLine,
+    HorizontalLine, LineOf, Offset, OutOfMemory, Place, Position, Probes, Target, VerticalLine,
+    Write,
 };
 
 const CELL: Position = Position { row: 0, col: 0 };
@@ -177,5 +179,34 @@ fn custom_lines_are_copied_out(rt: HostRuntime) -> Result<(), Fail> {
     drop(cfg);
     made?;
     assert!(rt; copied?);
+    Ok(())
+}
+
+/// Writes an edge and an offset of it by one list.
+fn apply_two(cfg: &mut SpannedConfig, alloc: Global) -> Result<(), OutOfMemory> {
+    let edge = Place::Horizontal {
+        row: 0,
+        col: 0,
+        at: 0,
+    };
+    let targets = [Target::Horizontal(CELL, Offset::End(0)), Target::Cell(edge)];
+    let mut characters = Vec::new(alloc);
+    for (target, character) in targets.iter().zip(['e', '*']) {
+        characters.push(Write {
+            target: Some(*target),
+            value: Some(character),
+        })?;
+    }
+    cfg.apply(characters, Vec::new(alloc))
+}
+
+#[test]
+fn a_list_of_writes_shows_at_each_level(rt: HostRuntime) -> Result<(), Fail> {
+    let mut cfg = ascii(rt.alloc());
+    let made = apply_two(&mut cfg, rt.alloc());
+    let shown = prints(rt.alloc(), &cfg, &[&[" a "]], 1, "+**e+\n| a |\n+---+");
+    drop(cfg);
+    made?;
+    assert!(rt; shown);
     Ok(())
 }
