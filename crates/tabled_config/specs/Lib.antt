@@ -9,6 +9,7 @@ pub mod Colored
 pub mod ChangeLaws
 pub mod SameConfiguration
 pub mod Texts
+pub mod Pieces
 pub mod Along
 pub mod Picture
 pub mod Framed

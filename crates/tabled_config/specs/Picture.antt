@@ -53,11 +53,13 @@ module _ (view : Look) where
   abbrev pub side_shown : ℕ → ℕ → ℕ → List (Option ℕ)
   side_shown r k c = if view.down c then view.shown (Place.Vertical r c k) ∷ [] else []
 
-  -- one line of text of a row: before each cell's piece the side, and the closing side at last
+  -- one line of text of a row: before each column's piece the side, and the closing side at last
+  abbrev pub line_of_pieces : ℕ → ℕ → (ℕ → List ℕ) → List ℕ
+  line_of_pieces r k piece = flat_map (λ c. text_shown (side_shown r k c) ++ piece c) (below view.shape.1) ++ text_shown (side_shown r k view.shape.1)
+
+  -- of the cells of a row, each gives the piece of its number, if it has that many
   abbrev pub cell_line : ℕ → List (List ℕ) → ℕ → List ℕ
-  cell_line r cells k =
-      flat_map (λ c. text_shown (side_shown r k c) ++ slice_index_or (pieces (slice_index_or cells c [])) k []) (below view.shape.1)
-      ++ text_shown (side_shown r k view.shape.1)
+  cell_line r cells k = line_of_pieces r k (λ c. slice_index_or (pieces (slice_index_or cells c [])) k [])
 
   -- horizontal line r as a line of text, if it is drawn
   abbrev pub line_if_drawn : ℕ → List (List ℕ)

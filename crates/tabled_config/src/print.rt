@@ -5,7 +5,8 @@ ghost use Rattle.std.specs.List.{All, flat_map};
 ghost use Rattle.tabled_grid.specs.declared.place.LineOf.{LineOf};
 ghost use Rattle.tabled_grid.specs.Drawn.{drawn};
 ghost use Rattle.tabled_config.specs.Configuration.{ConfigEvent, Shows, all_writes, characters_of};
-ghost use Rattle.tabled_config.specs.Texts.{Appends, texts, pieces};
+ghost use Rattle.tabled_config.specs.Texts.{Appends, texts};
+ghost use Rattle.tabled_config.specs.Pieces.{lent, first_piece, after_first_piece};
 ghost use Rattle.tabled_config.specs.Along.{below, is_empty};
 ghost use Rattle.tabled_config.specs.Picture.{character, look, text_lines, printed};
 ghost use Rattle.tabled_config.specs.Refusal.{first_refusal};
@@ -31,7 +32,7 @@ impl<D: Dimension> Frame<'_, D> {
     ghost use Rattle.tabled_grid.specs.declared.place.Place.{Place as Spot};
     ghost use Rattle.tabled_grid.specs.declared.place.LineOf.{LineOf as Line};
     ghost use Rattle.tabled_config.specs.Along.{below, crossing_at};
-    ghost use Rattle.tabled_config.specs.Picture.{edge_size, text_shown, shown_along, side_shown, cell_line, row_lines, line_if_drawn, text_lines};
+    ghost use Rattle.tabled_config.specs.Picture.{edge_size, text_shown, shown_along, side_shown, line_of_pieces, row_lines, line_if_drawn, text_lines};
     ghost use Rattle.tabled_config.specs.Framed.{framed};
 
     /// The length of a place's edge; a crossing has none.
@@ -120,7 +121,7 @@ impl<D: Dimension> Frame<'_, D> {
     }
 
     /// Writes a horizontal line and a line feed, if the line is drawn.
-    fn push_line(&self, text: &mut String, row: usize) -> Result<(), AllocError>
+    fn push_line(&self, text: &mut String, row: usize) -> Result<(), OutOfMemory>
         ensures { let view = framed D.width_of D.height_of self.now in
             Appends result text.old text.new (flat_map (λ line. line ++ 10 ∷ []) (line_if_drawn view row)) }
     {
@@ -150,41 +151,45 @@ impl<D: Dimension> Frame<'_, D> {
         Ok(())
     }
 
-    /// Writes one line of text of a row.
+    /// Writes one line of text of a row, and takes the first piece off the rest of each cell's text.
     fn push_pieces(
         &self,
         text: &mut String,
         row: usize,
-        cells: &[String],
+        rests: &mut [&str],
         at: usize,
     ) -> Result<(), AllocError>
-        requires { length cells.now ≡ self.now.shape.1 }
-        ensures { let view = framed D.width_of D.height_of self.now in
-            Appends result text.old text.new (cell_line view row (map string_bytes cells.now) at) }
+        requires { length rests.old ≡ self.now.shape.1 }
+        ensures written { let view = framed D.width_of D.height_of self.now in
+            Appends result text.old text.new (line_of_pieces view row at (λ c. first_piece (slice_index_or (lent rests.old) c []))) }
+        ensures rests { OnOk result ((c : ℕ) → slice_index_or (lent rests.new) c [] ≡ after_first_piece (slice_index_or (lent rests.old) c [])) }
     {
         let (_, cols) = self.shape;
-        for (col, cell) in cells.iter().enumerate() {
+        for col in 0..cols {
             self.push_side(text, row, col, at)?;
-            text.push_str(piece(cell.as_str(), at))?;
+            let (piece, rest) = cut(rests[col]);
+            text.push_str(piece)?;
+            rests[col] = rest;
         }
         self.push_side(text, row, cols, at)
     }
 
     /// Writes the lines of text of a row, each with a line feed.
-    fn push_row(&self, text: &mut String, row: usize, cells: &[String]) -> Result<(), AllocError>
+    fn push_row(&self, text: &mut String, row: usize, cells: &[String]) -> Result<(), OutOfMemory>
         requires { length cells.now ≡ self.now.shape.1 }
         ensures { let view = framed D.width_of D.height_of self.now in
             Appends result text.old text.new (flat_map (λ line. line ++ 10 ∷ []) (row_lines view row (map string_bytes cells.now))) }
     {
+        let mut rests = whole_texts(self.cfg.allocator(), cells)?;
         for at in 0..self.dims.get_height(row) {
-            self.push_pieces(text, row, cells, at)?;
+            self.push_pieces(text, row, &mut rests, at)?;
             text.push('\n')?;
         }
         Ok(())
     }
 
     /// Writes the lines of a table, each with a line feed.
-    fn push_table(&self, text: &mut String, cells: &[Vec<String>]) -> Result<(), AllocError>
+    fn push_table(&self, text: &mut String, cells: &[Vec<String>]) -> Result<(), OutOfMemory>
         requires rows { length cells.now ≡ self.now.shape.0 }
         requires cols { All (λ row. length row ≡ self.now.shape.1) (texts cells.now) }
         ensures { let view = framed D.width_of D.height_of self.now in
@@ -206,11 +211,26 @@ fn printed_as(shown: Option<char>) -> char
     shown.unwrap_or(' ')
 }
 
-/// The piece of a text between two line feeds, counted from 0, and nothing where it has no such piece.
-fn piece(text: &str, at: usize) -> &str
-    ensures { result.now ≡ slice_index_or (pieces text.now) at [] }
+/// The piece of a text before its first line feed, and the text after that; without one the whole text, and nothing.
+fn cut(text: &str) -> (&str, &str)
+    ensures piece { result.0.now ≡ first_piece text.now }
+    ensures rest { result.1.now ≡ after_first_piece text.now }
 {
-    text.split('\n').nth(at).unwrap_or("")
+    match text.split_once('\n') {
+        Some(parts) => parts,
+        None => (text, ""),
+    }
+}
+
+/// The texts of cells, lent.
+fn whole_texts(alloc: Global, cells: &[String]) -> Result<Vec<&str>, OutOfMemory>
+    ensures { IfOk result (λ rests. lent rests.items ≡ map string_bytes cells.now) }
+{
+    let mut rests = Vec::with_capacity(alloc, cells.len())?;
+    for cell in cells {
+        rests.push(cell.as_str())?;
+    }
+    Ok(rests)
 }
 
 /// Which of the vertical lines 0 to `cols` are drawn.
@@ -249,8 +269,7 @@ fn push_lines<D: Dimension>(
         shape,
         sides: &sides,
     };
-    frame.push_table(text, cells)?;
-    Ok(())
+    frame.push_table(text, cells)
 }
 
 /// Writes a table after the text that `out` has: `shape` is the number of its rows and of its columns.

@@ -1,18 +1,26 @@
--- A side and a piece are one more step along the line.
-use Rattle.std.proofs.Common.{ℕ, List, [], ◌++◌, map, ap, sym, ◌∙◌, string_bytes, slice_index_or}
-use Rattle.std.proofs.lemmas.List.{get_or-map}
-use Rattle.tabled_config.specs.Texts.{pieces}
+-- A side and a piece are one more step along the line, and one more text has lost its piece.
+use Rattle.std.proofs.Common.{ℕ, ◌<◌, ◌≤◌, List, [], ◌++◌, length, ap, sym, ◌∙◌, slice_index_or, arith}
+use Rattle.std.proofs.lemmas.List.{length-map}
+use Rattle.tabled_config.specs.Pieces.{lent, first_piece}
 use Rattle.tabled_config.specs.Picture.{text_shown, side_shown}
 use Rattle.tabled_config.specs.Framed.{framed}
+use Rattle.tabled_config.proofs.PieceLemmas.{not_cut, cut_more, all_cut, on_ok}
 use Rattle.tabled_config.proofs.TextLemmas.{piece_more, written_both}
 use Rattle.tabled_config.proofs.print.Frame.push_pieces.Goals as goal
 
 pub loop-col-preserved : goal.loop-col-preserved
 loop-col-preserved g c =
     let side : ℕ → List ℕ = λ n. text_shown (side_shown (framed g.D.Dimension.width_of g.D.Dimension.height_of c.args.self.now) c.args.row c.args.at n) in
-    written_both _ _ _ _ _ _ _ _ c.loop-col.invariant c.in_ok-push_side.ensures c.in_ok-push_str.ensures.bytes
-    (piece_more (λ n. side n ++ slice_index_or (pieces (slice_index_or (map string_bytes c.args.cells.now) n [])) c.args.at []) c.loop-col.col (side c.loop-col.col) c.piece.result.now
-    (ap (λ bs. side c.loop-col.col ++ bs)
-    (ap (λ text. slice_index_or (pieces text) c.args.at [])
-    (get_or-map string_bytes c.args.cells.now c.loop-col.col c.index-cells-col.result [] c.loop-col-test.true ∙ ap string_bytes (sym c.index-cells-col.is) ∙ sym c.as_str.ensures.value)
-    ∙ sym c.piece.ensures)))
+    let within : c.loop-col.col < length c.loop-col.rests = omega (arith, c.loop-col.auto.rests, c.requires, c.loop-col-test.true) in
+    record {
+      written =
+          written_both _ _ _ _ _ _ _ _ c.loop-col.invariant.written c.in_ok-push_side.ensures c.in_ok-push_str.ensures.bytes
+          (piece_more (λ n. side n ++ first_piece (slice_index_or (lent c.args.rests.now) n [])) c.loop-col.col (side c.loop-col.col) c.cut.result.0.now
+          (ap (λ bs. side c.loop-col.col ++ bs) (ap first_piece (sym (not_cut c.loop-col.col (lent c.args.rests.now) c.loop-col.rests _ c.loop-col.invariant.cut_below within)) ∙ sym c.cut.ensures.piece)));
+      cut_below = cut_more c.loop-col.col (lent c.args.rests.now) c.loop-col.rests _ c.cut.result.1 c.loop-col.invariant.cut_below within c.cut.ensures.rest;
+    }
+
+pub returns-clause-rests : goal.returns-clause-rests
+returns-clause-rests g c =
+    let all : length (lent c.args.rests.now) ≤ c.loop-col.col = omega (arith, length-map c.args.rests.now (λ text. text.now), c.requires, c.loop-col-test.false) in
+    on_ok c.push_side-2.result (all_cut c.loop-col.col (lent c.args.rests.now) (lent c.loop-col.rests) all c.loop-col.invariant.cut_below)
