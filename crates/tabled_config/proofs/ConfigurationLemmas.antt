@@ -13,7 +13,7 @@ use Rattle.tabled_border.specs.Texts.{Texts}
 use Rattle.tabled_grid.proofs.Replay.{kept-nil, kept_cleared, Shows_after, Changes-append, Changes-nil, Changes_from_nothing}
 use Rattle.tabled_grid.specs.Calls.{default_set, lines_erased, offsets_erased}
 use Rattle.tabled_grid.proofs.Writing.{Shows-writes_of}
-use Rattle.tabled_config.specs.Configuration.{Configuration, ConfigEvent, of_characters, of_colours, character_event, colour_event, characters_of, colours_of, by_characters, by_colours, writes_applied, all_but_offsets, default_color_set, Shows, Changes, all_writes, borders_set, borders_removed}
+use Rattle.tabled_config.specs.Configuration.{Configuration, ConfigEvent, character_event, colour_event, characters_of, colours_of, by_characters, by_colours, writes_applied, all_but_offsets, default_color_set, Shows, Changes, all_writes, borders_set, borders_removed}
 
 -- the events of each kind, in lists of one kind and in two lists in a row
 pub characters_of-by_characters : (es : List (grid.Event ℕ)) → characters_of (by_characters es) ≡ es

@@ -1,5 +1,5 @@
 -- The laws of changes: no events change nothing, and two changes in a row are the change by the events of both.
-use Rattle.std.specs.Prelude.{◌≡◌, List, [], ◌++◌}
+use Rattle.std.specs.Prelude.{List, [], ◌++◌}
 use Rattle.std.proofs.Common.{sym, subst}
 use Rattle.std.proofs.lemmas.List.Elements.{filter_map-append}
 use Rattle.tabled_grid.specs.Event as grid

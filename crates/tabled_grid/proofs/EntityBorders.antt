@@ -1,5 +1,5 @@
 -- The writes of borders, cell by cell.
-use Rattle.std.proofs.Common.{◌≡◌, ℕ, true, false, cond, IsTrue, Option, Some, None, List, [], ◌∷◌, ◌++◌, refl, ap, sym, subst, ◌∙◌, append_assoc, Result, Ok, Err, IsOk, OnErr}
+use Rattle.std.proofs.Common.{◌≡◌, ℕ, true, false, cond, IsTrue, Option, Some, None, List, [], ◌∷◌, ◌++◌, refl, ap, sym, ◌∙◌, append_assoc, Result, Ok, Err, IsOk, OnErr}
 use Rattle.std.proofs.lemmas.List.{append-nil}
 use Rattle.std.proofs.lemmas.List.Elements.{filter_map-append}
 use Rattle.std.specs.List.{flat_map, filter, zip}

@@ -1,18 +1,16 @@
 -- Lists of writes: what is made so far, and what puts it back.
-use Rattle.std.proofs.Common.{◌≡◌, ℕ, ◌+◌, ◌<◌, ◌≤◌, Bool, true, false, ◌||◌, IsTrue, is_none, Option, Some, None, List, [], ◌∷◌, ◌++◌, length, get_or, set, take, drop, refl, ap, sym, subst, ◌∙◌, Result, Ok, Err, OnOk, OnErr, arith}
-use Rattle.std.proofs.lemmas.List.{take_more, take_more_set, drop-drop, drop-set-lt, get_or-drop}
+use Rattle.std.proofs.Common.{◌≡◌, ℕ, ◌+◌, false, ◌||◌, IsTrue, is_none, Option, Some, None, List, [], ◌∷◌, ◌++◌, get_or, set, drop, refl, ap, sym, subst, ◌∙◌, arith}
+use Rattle.std.proofs.lemmas.List.{drop-drop, drop-set-lt, get_or-drop}
 use Rattle.tabled_grid.specs.declared.writes.Target.{Target}
 use Rattle.tabled_grid.specs.declared.writes.Write.{Write}
-use Rattle.tabled_grid.specs.Site.{Site}
-use Rattle.tabled_grid.specs.Event.{sign, Written, Event, write, Changes}
+use Rattle.tabled_grid.specs.Event.{sign, write, Changes}
 use Rattle.tabled_grid.specs.Drawn.{written}
 use Rattle.tabled_grid.specs.Keeping.{Keeping, keeps}
 use Rattle.tabled_grid.specs.Calls.{writes_anew}
-use Rattle.tabled_grid.specs.Writes.{site_of, given_event, writes_made, PutsBackAt, PutsBack, PutsBackAll, Stays}
+use Rattle.tabled_grid.specs.Writes.{site_of, writes_made, PutsBackAt, PutsBack, PutsBackAll, Stays}
 use Rattle.tabled_grid.proofs.Replay.{Changes-append, Changes-nil}
 use Rattle.tabled_grid.proofs.EntityBorders.{writes_made-append}
-use Rattle.tabled_grid.proofs.PuttingBack.{written_over}
-use Rattle.tabled_grid.proofs.WritingAnew.{anew-append, anew_before, or-true, stays_then}
+use Rattle.tabled_grid.proofs.WritingAnew.{anew-append, anew_before, or-true}
 
 module _ {T : Type 0} where
   -- one write that is given

@@ -1,5 +1,5 @@
 -- What a style shows: its class record and its custom lines.
-use Rattle.std.specs.Prelude.{ℕ, Bool, None, List}
+use Rattle.std.specs.Prelude.{ℕ, Bool, List}
 use Rattle.tabled_border.specs.declared.border.Border.{Border}
 use Rattle.tabled_grid.specs.declared.borders.Borders.{Borders}
 use Rattle.tabled_grid.specs.declared.lines.HorizontalLine.{HorizontalLine}

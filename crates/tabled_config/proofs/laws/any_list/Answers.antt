@@ -1,4 +1,4 @@
-use Rattle.std.proofs.Common.{◌≡◌, ap, ◌∙◌, sym}
+use Rattle.std.proofs.Common.{ap}
 use Rattle.std.specs.List.{join_with_byte}
 use Rattle.tabled_grid.specs.Keeping.{keeps}
 use Rattle.tabled_grid.proofs.DrawnLemmas.{value-shown, Drawn-drawn}

@@ -1,5 +1,5 @@
 -- The class record that was framed is that of the configuration that was lent.
-use Rattle.std.proofs.Common.{◌≡◌, sym, ap, subst, ◌∙◌}
+use Rattle.std.proofs.Common.{ap, subst, ◌∙◌}
 use Rattle.tabled_config.specs.Configuration.{Changes, borders_set}
 use Rattle.tabled_config.specs.Options.{framed, table_bordered}
 use Rattle.tabled_config.proofs.border_options.BorderCharTableOptionColoredConfig.change.Goals as goal

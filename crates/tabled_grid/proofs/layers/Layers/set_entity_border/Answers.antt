@@ -1,4 +1,3 @@
-use Rattle.tabled_grid.specs.Calls.{writes_anew}
 use Rattle.tabled_grid.specs.Keeping.{keeps}
 use Rattle.tabled_grid.proofs.EntityBorders.{sure_without_cells}
 use Rattle.tabled_grid.proofs.layers.Layers.set_entity_border.Goals as goal

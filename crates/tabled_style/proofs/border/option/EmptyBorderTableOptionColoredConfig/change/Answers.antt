@@ -1,4 +1,3 @@
-use Rattle.std.proofs.Common.{ℕ, ◌≡◌}
 use Rattle.tabled_config.specs.Options.{table_unbordered}
 use Rattle.tabled_config.proofs.InTurn.{changes_lent}
 use Rattle.tabled_style.proofs.border.option.EmptyBorderTableOptionColoredConfig.change.Goals as goal
