@@ -1,7 +1,7 @@
--- The texts of a colour.
+-- The texts of a color.
 use Rattle.std.specs.Prelude.{ℕ, List}
 
--- what is written before and after what is coloured, each as the bytes of a text
+-- what is written before and after what is colored, each as the bytes of a text
 pub record Texts : Type 0 where
   pub prefix : List ℕ
   pub suffix : List ℕ

@@ -1,4 +1,4 @@
-//! Colours, as the texts that a terminal reads before and after what is coloured.
+//! Colors, as the texts that a terminal reads before and after what is colored.
 
 ghost use Rattle.std.specs.Prelude.{◌≡◌, ◌↔◌, [], ◌++◌, ◌==◌, ℕ, List, IsTrue, IfOk, IsOk, OnOk};
 ghost use Rattle.std.specs.String.{string_bytes};
@@ -30,24 +30,24 @@ pub trait ANSIFmt {
         ensures { OnOk result (W.write_str_gives f.old (suffix_text self.now) f.new) };
 }
 
-/// A colour that lends its two texts.
+/// A color that lends its two texts.
 pub trait AnsiText {
     ghost prefix_text: { Self → List ℕ };
 
     ghost suffix_text: { Self → List ℕ };
 
-    /// The text before what is coloured.
+    /// The text before what is colored.
     fn prefix(&self) -> &str
         ensures { result.now ≡ prefix_text self.now };
 
-    /// The text after what is coloured.
+    /// The text after what is colored.
     fn suffix(&self) -> &str
         ensures { result.now ≡ suffix_text self.now };
 }
 
-/// A colour that owns its texts.
+/// A color that owns its texts.
 ///
-/// Two colours are equal where their texts are. Colours are ordered by prefix, then by suffix.
+/// Two colors are equal where their texts are. Colors are ordered by prefix, then by suffix.
 #[derive(Debug, Drop)]
 pub struct ANSIBuf {
     prefix: String,
@@ -60,13 +60,13 @@ impl Model for ANSIBuf {
 
     ghost Value = { Texts };
 
-    ghost view = { λ colour. record { prefix = string_bytes colour.prefix; suffix = string_bytes colour.suffix } };
+    ghost view = { λ color. record { prefix = string_bytes color.prefix; suffix = string_bytes color.suffix } };
 }
 
 impl ANSIBuf {
-    /// The colour of these two texts, which are copied. Empty texts take no memory.
+    /// The color of these two texts, which are copied. Empty texts take no memory.
     pub fn new(alloc: Global, prefix: &str, suffix: &str) -> Result<Self, OutOfMemory>
-        ensures texts { IfOk result (λ colour. colour ≡ record { prefix = prefix.now; suffix = suffix.now }) }
+        ensures texts { IfOk result (λ color. color ≡ record { prefix = prefix.now; suffix = suffix.now }) }
         ensures empty { prefix.now ≡ [] → suffix.now ≡ [] → IsOk result }
     {
         Ok(ANSIBuf {
@@ -75,14 +75,14 @@ impl ANSIBuf {
         })
     }
 
-    /// The text before what is coloured.
+    /// The text before what is colored.
     pub fn get_prefix(&self) -> &str
         ensures { result.now ≡ self.now.prefix }
     {
         self.prefix.as_str()
     }
 
-    /// The text after what is coloured.
+    /// The text after what is colored.
     pub fn get_suffix(&self) -> &str
         ensures { result.now ≡ self.now.suffix }
     {
@@ -108,7 +108,7 @@ fn copied(alloc: Global, text: &str) -> Result<String, OutOfMemory>
 }
 
 impl Keep for ANSIBuf {
-    /// A copy of the colour with its texts. The empty colour takes no memory.
+    /// A copy of the color with its texts. The empty color takes no memory.
     fn keep(&self, alloc: Global) -> Result<Self, OutOfMemory>
         ensures copy { IfOk result (λ copy. copy ≡ self.now) }
         ensures empty { self.now.prefix ≡ [] → self.now.suffix ≡ [] → IsOk result }
@@ -118,9 +118,9 @@ impl Keep for ANSIBuf {
 }
 
 impl AnsiText for ANSIBuf {
-    ghost prefix_text = { λ colour. colour.prefix };
+    ghost prefix_text = { λ color. color.prefix };
 
-    ghost suffix_text = { λ colour. colour.suffix };
+    ghost suffix_text = { λ color. color.suffix };
 
     fn prefix(&self) -> &str {
         self.get_prefix()
@@ -132,9 +132,9 @@ impl AnsiText for ANSIBuf {
 }
 
 impl ANSIFmt for ANSIBuf {
-    ghost prefix_text = { λ colour. colour.prefix };
+    ghost prefix_text = { λ color. color.prefix };
 
-    ghost suffix_text = { λ colour. colour.suffix };
+    ghost suffix_text = { λ color. color.suffix };
 
     fn fmt_ansi_prefix<W: fmt::Write>(&self, f: &mut W) -> fmt::Result {
         f.write_str(self.get_prefix())
@@ -199,7 +199,7 @@ impl Hash for ANSIBuf {
     }
 }
 
-/// A colour that lends its texts for as long as they live.
+/// A color that lends its texts for as long as they live.
 #[derive(Clone, Copy, Debug, PartialEq, Eq, PartialOrd, Ord, Hash)]
 pub struct ANSIStr<'a> {
     prefix: &'a str,
@@ -209,28 +209,28 @@ pub struct ANSIStr<'a> {
 impl<'a> ANSIStr<'a> {
     ghost use Rattle.tabled_border.specs.LentTexts.{lent_texts};
 
-    /// The colour of these two texts.
+    /// The color of these two texts.
     pub const fn new(prefix: &'a str, suffix: &'a str) -> Self
         ensures { lent_texts result ≡ record { prefix = prefix.now; suffix = suffix.now } }
     {
         ANSIStr { prefix, suffix }
     }
 
-    /// The colour of two empty texts.
+    /// The color of two empty texts.
     pub const fn empty() -> Self
         ensures { lent_texts result ≡ record { prefix = []; suffix = [] } }
     {
         ANSIStr::new("", "")
     }
 
-    /// The text before what is coloured.
+    /// The text before what is colored.
     pub const fn get_prefix(&self) -> &'a str
         ensures { result.now ≡ (lent_texts self.now).prefix }
     {
         self.prefix
     }
 
-    /// The text after what is coloured.
+    /// The text after what is colored.
     pub const fn get_suffix(&self) -> &'a str
         ensures { result.now ≡ (lent_texts self.now).suffix }
     {
@@ -248,7 +248,7 @@ impl<'a> ANSIStr<'a> {
 impl<'a> Default for ANSIStr<'a> {
     ghost use Rattle.tabled_border.specs.LentTexts.{lent_texts};
 
-    ghost is_default = { λ colour. lent_texts colour ≡ record { prefix = []; suffix = [] } };
+    ghost is_default = { λ color. lent_texts color ≡ record { prefix = []; suffix = [] } };
 
     fn default() -> Self {
         ANSIStr::empty()
@@ -268,9 +268,9 @@ impl<'a> Keep for ANSIStr<'a> {
 impl<'a> AnsiText for ANSIStr<'a> {
     ghost use Rattle.tabled_border.specs.LentTexts.{lent_texts};
 
-    ghost prefix_text = { λ colour. (lent_texts colour).prefix };
+    ghost prefix_text = { λ color. (lent_texts color).prefix };
 
-    ghost suffix_text = { λ colour. (lent_texts colour).suffix };
+    ghost suffix_text = { λ color. (lent_texts color).suffix };
 
     fn prefix(&self) -> &str {
         self.get_prefix()
@@ -284,9 +284,9 @@ impl<'a> AnsiText for ANSIStr<'a> {
 impl<'a> ANSIFmt for ANSIStr<'a> {
     ghost use Rattle.tabled_border.specs.LentTexts.{lent_texts};
 
-    ghost prefix_text = { λ colour. (lent_texts colour).prefix };
+    ghost prefix_text = { λ color. (lent_texts color).prefix };
 
-    ghost suffix_text = { λ colour. (lent_texts colour).suffix };
+    ghost suffix_text = { λ color. (lent_texts color).suffix };
 
     fn fmt_ansi_prefix<W: fmt::Write>(&self, f: &mut W) -> fmt::Result {
         f.write_str(self.prefix)

@@ -7,7 +7,7 @@ ghost use Rattle.tabled_border.specs.Converting.{Converts};
 
 use std::alloc::AllocError;
 
-/// A character or a colour for each side and each corner of one cell. What is missing is not given.
+/// A character or a color for each side and each corner of one cell. What is missing is not given.
 #[derive(Copy, Debug, Drop, PartialEq, Eq, PartialOrd, Ord, Hash)]
 pub struct Border<T> {
     /// The upper side.

@@ -1,4 +1,4 @@
-//! What can stand at a border: the border of one cell, the texts that switch a colour on and off, and copies of
+//! What can stand at a border: the border of one cell, the texts that switch a color on and off, and copies of
 //! values that may need memory.
 //!
 //! `docs/DEFINITIONS.md` explains the words of the contracts. Users name these items by `tabled_grid`.

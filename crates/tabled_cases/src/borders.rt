@@ -45,10 +45,10 @@ fn equals_its_copy(
 }
 
 #[test]
-fn a_border_of_colours_is_kept(rt: HostRuntime) -> Result<(), Fail> {
-    let colour = ANSIBuf::new(rt.alloc(), "a", "b")?;
+fn a_border_of_colors_is_kept(rt: HostRuntime) -> Result<(), Fail> {
+    let color = ANSIBuf::new(rt.alloc(), "a", "b")?;
     let mut border = Border {
-        left_top_corner: Some(colour),
+        left_top_corner: Some(color),
         ..Border::empty()
     };
     let seen = equals_its_copy(&mut border, rt.alloc());

@@ -1,4 +1,4 @@
-//! Colours at single values.
+//! Colors at single values.
 
 use std::fmt;
 use std::test::Fail;
@@ -8,13 +8,13 @@ const RED: &str = "\u{1b}[31m";
 
 const PLAIN: &str = "\u{1b}[39m";
 
-/// Whether a colour lends just these two texts.
-fn lends<C: AnsiText>(colour: &C, prefix: &str, suffix: &str) -> bool {
-    colour.prefix() == prefix && colour.suffix() == suffix
+/// Whether a color lends just these two texts.
+fn lends<C: AnsiText>(color: &C, prefix: &str, suffix: &str) -> bool {
+    color.prefix() == prefix && color.suffix() == suffix
 }
 
 #[test]
-fn a_colour_lends_its_texts(rt: HostRuntime) -> Result<(), Fail> {
+fn a_color_lends_its_texts(rt: HostRuntime) -> Result<(), Fail> {
     let red = ANSIBuf::new(rt.alloc(), RED, PLAIN)?;
     let has_own_texts = red.get_prefix() == RED && red.get_suffix() == PLAIN;
     let lends_them = lends(&red, RED, PLAIN);
@@ -27,7 +27,7 @@ fn a_colour_lends_its_texts(rt: HostRuntime) -> Result<(), Fail> {
 }
 
 #[test]
-fn a_lent_colour_lends_its_texts_on(rt: HostRuntime) {
+fn a_lent_color_lends_its_texts_on(rt: HostRuntime) {
     let red = ANSIStr::new(RED, PLAIN);
     assert!(rt; red.get_prefix() == RED && red.get_suffix() == PLAIN);
     assert!(rt; lends(&red, RED, PLAIN) && !red.is_empty());
@@ -36,7 +36,7 @@ fn a_lent_colour_lends_its_texts_on(rt: HostRuntime) {
 }
 
 #[test]
-fn colours_are_compared_by_prefix_and_then_suffix(rt: HostRuntime) -> Result<(), Fail> {
+fn colors_are_compared_by_prefix_and_then_suffix(rt: HostRuntime) -> Result<(), Fail> {
     let low = ANSIBuf::new(rt.alloc(), "a", "c")?;
     let high = ANSIBuf::new(rt.alloc(), "b", "a")?;
     let higher = ANSIBuf::new(rt.alloc(), "b", "b")?;
@@ -61,7 +61,7 @@ impl fmt::Write for Full {
     }
 }
 
-/// Writes one colour's texts around those of the other.
+/// Writes one color's texts around those of the other.
 fn write_around<A: ANSIFmt, B: ANSIFmt>(text: &mut String, outer: &A, inner: &B) -> fmt::Result {
     outer.fmt_ansi_prefix(text)?;
     inner.fmt_ansi_prefix(text)?;
@@ -70,20 +70,20 @@ fn write_around<A: ANSIFmt, B: ANSIFmt>(text: &mut String, outer: &A, inner: &B)
 }
 
 /// Whether the fault of a full writer is passed on by both calls.
-fn passes_faults_on<C: ANSIFmt>(colour: &C) -> bool {
-    colour.fmt_ansi_prefix(&mut Full).is_err() && colour.fmt_ansi_suffix(&mut Full).is_err()
+fn passes_faults_on<C: ANSIFmt>(color: &C) -> bool {
+    color.fmt_ansi_prefix(&mut Full).is_err() && color.fmt_ansi_suffix(&mut Full).is_err()
 }
 
 #[test]
 fn texts_are_written_and_a_fault_is_passed_on(rt: HostRuntime) -> Result<(), Fail> {
-    let colour = ANSIBuf::new(rt.alloc(), "<", ">")?;
+    let color = ANSIBuf::new(rt.alloc(), "<", ">")?;
     let lent = ANSIStr::new("(", ")");
     let mut text = String::new(rt.alloc());
-    let written = write_around(&mut text, &colour, &lent);
+    let written = write_around(&mut text, &color, &lent);
     let is_around = text.as_str() == "<()>";
-    let are_passed_on = passes_faults_on(&colour) && passes_faults_on(&lent);
+    let are_passed_on = passes_faults_on(&color) && passes_faults_on(&lent);
     drop(text);
-    drop(colour);
+    drop(color);
     written?;
     assert!(rt; is_around);
     assert!(rt; are_passed_on);

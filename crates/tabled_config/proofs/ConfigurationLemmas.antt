@@ -8,70 +8,70 @@ use Rattle.tabled_grid.specs.declared.place.LineOf.{LineOf}
 use Rattle.tabled_grid.specs.declared.writes.Write.{Write}
 use Rattle.tabled_grid.specs.Event as grid
 use Rattle.tabled_grid.specs.Writes.{writes_made}
-use Rattle.tabled_grid.specs.Keeping.{Keeping, keeps, class_record_set, writes_of}
+use Rattle.tabled_grid.specs.State.{State, state_at, class_record_set, writes_of}
 use Rattle.tabled_border.specs.Texts.{Texts}
-use Rattle.tabled_grid.proofs.Replay.{kept-nil, kept_cleared, Shows_after, Changes-append, Changes-nil, Changes_from_nothing}
+use Rattle.tabled_grid.proofs.Replay.{replay-nil, replay_cleared, Shows_after, Changes-append, Changes-nil, Changes_from_nothing}
 use Rattle.tabled_grid.specs.Calls.{default_set, lines_erased, offsets_erased}
 use Rattle.tabled_grid.proofs.Writing.{Shows-writes_of}
-use Rattle.tabled_config.specs.Configuration.{Configuration, ConfigEvent, character_event, colour_event, characters_of, colours_of, by_characters, by_colours, writes_applied, all_but_offsets, default_color_set, Shows, Changes, all_writes, borders_set, borders_removed}
+use Rattle.tabled_config.specs.Configuration.{Configuration, ConfigEvent, character_event, color_event, characters_of, colors_of, by_characters, by_colors, writes_applied, all_but_offsets, default_color_set, Shows, Changes, all_writes, borders_set, borders_removed}
 
 -- the events of each kind, in lists of one kind and in two lists in a row
 pub characters_of-by_characters : (es : List (grid.Event ℕ)) → characters_of (by_characters es) ≡ es
 characters_of-by_characters [] = refl
 characters_of-by_characters (e ∷ es) = ap (λ rest. e ∷ rest) (characters_of-by_characters es)
 
-colours_of-by_characters : (es : List (grid.Event ℕ)) → colours_of (by_characters es) ≡ []
-colours_of-by_characters [] = refl
-colours_of-by_characters (e ∷ es) = colours_of-by_characters es
+colors_of-by_characters : (es : List (grid.Event ℕ)) → colors_of (by_characters es) ≡ []
+colors_of-by_characters [] = refl
+colors_of-by_characters (e ∷ es) = colors_of-by_characters es
 
-characters_of-by_colours : (es : List (grid.Event Texts)) → characters_of (by_colours es) ≡ []
-characters_of-by_colours [] = refl
-characters_of-by_colours (e ∷ es) = characters_of-by_colours es
+characters_of-by_colors : (es : List (grid.Event Texts)) → characters_of (by_colors es) ≡ []
+characters_of-by_colors [] = refl
+characters_of-by_colors (e ∷ es) = characters_of-by_colors es
 
-colours_of-by_colours : (es : List (grid.Event Texts)) → colours_of (by_colours es) ≡ es
-colours_of-by_colours [] = refl
-colours_of-by_colours (e ∷ es) = ap (λ rest. e ∷ rest) (colours_of-by_colours es)
+colors_of-by_colors : (es : List (grid.Event Texts)) → colors_of (by_colors es) ≡ es
+colors_of-by_colors [] = refl
+colors_of-by_colors (e ∷ es) = ap (λ rest. e ∷ rest) (colors_of-by_colors es)
 
 -- what there is of each kind in the two kinds in a row
-pub characters_of-both : (es : List (grid.Event ℕ)) (fs : List (grid.Event Texts)) → characters_of (by_characters es ++ by_colours fs) ≡ es
-characters_of-both es fs = filter_map-append character_event (by_characters es) (by_colours fs) ∙ ap (λ rest. characters_of (by_characters es) ++ rest) (characters_of-by_colours fs) ∙ append-nil (characters_of (by_characters es)) ∙ characters_of-by_characters es
+pub characters_of-both : (es : List (grid.Event ℕ)) (fs : List (grid.Event Texts)) → characters_of (by_characters es ++ by_colors fs) ≡ es
+characters_of-both es fs = filter_map-append character_event (by_characters es) (by_colors fs) ∙ ap (λ rest. characters_of (by_characters es) ++ rest) (characters_of-by_colors fs) ∙ append-nil (characters_of (by_characters es)) ∙ characters_of-by_characters es
 
-pub colours_of-both : (es : List (grid.Event ℕ)) (fs : List (grid.Event Texts)) → colours_of (by_characters es ++ by_colours fs) ≡ fs
-colours_of-both es fs = filter_map-append colour_event (by_characters es) (by_colours fs) ∙ ap (λ start. start ++ colours_of (by_colours fs)) (colours_of-by_characters es) ∙ colours_of-by_colours fs
+pub colors_of-both : (es : List (grid.Event ℕ)) (fs : List (grid.Event Texts)) → colors_of (by_characters es ++ by_colors fs) ≡ fs
+colors_of-both es fs = filter_map-append color_event (by_characters es) (by_colors fs) ∙ ap (λ start. start ++ colors_of (by_colors fs)) (colors_of-by_characters es) ∙ colors_of-by_colors fs
 
--- a change of the characters alone, and of the colours alone
-pub Changes_by_characters : (es : List (grid.Event ℕ)) (before after : Keeping ℕ) (colours : Keeping Texts) (old : Configuration) → record { characters = before; colours = colours } ≡ old → grid.Changes es (keeps before) (keeps after) → Changes (by_characters es) old (record { characters = after; colours = colours })
-Changes_by_characters es before after colours old is changes =
-    subst (λ cfg. Changes (by_characters es) cfg (record { characters = after; colours = colours })) is (record {
-      characters_changed = subst (λ all. grid.Changes all (keeps before) (keeps after)) (sym (characters_of-by_characters es)) changes;
-      colours_changed = subst (λ all. grid.Changes all (keeps colours) (keeps colours)) (sym (colours_of-by_characters es)) (Changes-nil (keeps colours));
+-- a change of the characters alone, and of the colors alone
+pub Changes_by_characters : (es : List (grid.Event ℕ)) (before after : State ℕ) (colors : State Texts) (old : Configuration) → record { characters = before; colors = colors } ≡ old → grid.Changes es (state_at before) (state_at after) → Changes (by_characters es) old (record { characters = after; colors = colors })
+Changes_by_characters es before after colors old is changes =
+    subst (λ cfg. Changes (by_characters es) cfg (record { characters = after; colors = colors })) is (record {
+      characters_changed = subst (λ all. grid.Changes all (state_at before) (state_at after)) (sym (characters_of-by_characters es)) changes;
+      colors_changed = subst (λ all. grid.Changes all (state_at colors) (state_at colors)) (sym (colors_of-by_characters es)) (Changes-nil (state_at colors));
     })
 
-pub Changes_by_colours : (es : List (grid.Event Texts)) (characters : Keeping ℕ) (before after : Keeping Texts) (old : Configuration) → record { characters = characters; colours = before } ≡ old → grid.Changes es (keeps before) (keeps after) → Changes (by_colours es) old (record { characters = characters; colours = after })
-Changes_by_colours es characters before after old is changes =
-    subst (λ cfg. Changes (by_colours es) cfg (record { characters = characters; colours = after })) is (record {
-      characters_changed = subst (λ all. grid.Changes all (keeps characters) (keeps characters)) (sym (characters_of-by_colours es)) (Changes-nil (keeps characters));
-      colours_changed = subst (λ all. grid.Changes all (keeps before) (keeps after)) (sym (colours_of-by_colours es)) changes;
+pub Changes_by_colors : (es : List (grid.Event Texts)) (characters : State ℕ) (before after : State Texts) (old : Configuration) → record { characters = characters; colors = before } ≡ old → grid.Changes es (state_at before) (state_at after) → Changes (by_colors es) old (record { characters = characters; colors = after })
+Changes_by_colors es characters before after old is changes =
+    subst (λ cfg. Changes (by_colors es) cfg (record { characters = characters; colors = after })) is (record {
+      characters_changed = subst (λ all. grid.Changes all (state_at characters) (state_at characters)) (sym (characters_of-by_colors es)) (Changes-nil (state_at characters));
+      colors_changed = subst (λ all. grid.Changes all (state_at before) (state_at after)) (sym (colors_of-by_colors es)) changes;
     })
 
 -- a change of both
-pub Changes_by_both : (es : List (grid.Event ℕ)) (fs : List (grid.Event Texts)) (old new : Configuration) → grid.Changes es (keeps old.characters) (keeps new.characters) → grid.Changes fs (keeps old.colours) (keeps new.colours) → Changes (by_characters es ++ by_colours fs) old new
+pub Changes_by_both : (es : List (grid.Event ℕ)) (fs : List (grid.Event Texts)) (old new : Configuration) → grid.Changes es (state_at old.characters) (state_at new.characters) → grid.Changes fs (state_at old.colors) (state_at new.colors) → Changes (by_characters es ++ by_colors fs) old new
 Changes_by_both es fs old new of_es of_fs = record {
-  characters_changed = subst (λ all. grid.Changes all (keeps old.characters) (keeps new.characters)) (sym (characters_of-both es fs)) of_es;
-  colours_changed = subst (λ all. grid.Changes all (keeps old.colours) (keeps new.colours)) (sym (colours_of-both es fs)) of_fs;
+  characters_changed = subst (λ all. grid.Changes all (state_at old.characters) (state_at new.characters)) (sym (characters_of-both es fs)) of_es;
+  colors_changed = subst (λ all. grid.Changes all (state_at old.colors) (state_at new.colors)) (sym (colors_of-both es fs)) of_fs;
 }
 
 -- two lists of writes made
-pub Changes-writes_applied : {A E : Type 0} (result : Result A E) (characters : List (Write ℕ)) (colours : List (Write Texts)) (before after : Configuration) (old : Configuration) → before ≡ old → OnOk result (grid.Changes (writes_made characters) (keeps before.characters) (keeps after.characters)) → OnOk result (grid.Changes (writes_made colours) (keeps before.colours) (keeps after.colours)) → OnOk result (Changes (writes_applied characters colours) old after)
+pub Changes-writes_applied : {A E : Type 0} (result : Result A E) (characters : List (Write ℕ)) (colors : List (Write Texts)) (before after : Configuration) (old : Configuration) → before ≡ old → OnOk result (grid.Changes (writes_made characters) (state_at before.characters) (state_at after.characters)) → OnOk result (grid.Changes (writes_made colors) (state_at before.colors) (state_at after.colors)) → OnOk result (Changes (writes_applied characters colors) old after)
 unfolding writes_applied
-Changes-writes_applied (Ok x) characters colours before after old is first second =
-    subst (λ cfg. Changes (writes_applied characters colours) cfg after) is (Changes_by_both (writes_made characters) (writes_made colours) before after first second)
-Changes-writes_applied (Err e) characters colours before after old is first second = tt
+Changes-writes_applied (Ok x) characters colors before after old is first second =
+    subst (λ cfg. Changes (writes_applied characters colors) cfg after) is (Changes_by_both (writes_made characters) (writes_made colors) before after first second)
+Changes-writes_applied (Err e) characters colors before after old is first second = tt
 
 -- the class record set whole
-pub Changes-borders_set : (borders : Borders ℕ) (before after : Keeping ℕ) (colours : Keeping Texts) (old : Configuration) → record { characters = before; colours = colours } ≡ old → grid.Changes (class_record_set borders) (keeps before) (keeps after) → Changes (borders_set borders) old (record { characters = after; colours = colours })
+pub Changes-borders_set : (borders : Borders ℕ) (before after : State ℕ) (colors : State Texts) (old : Configuration) → record { characters = before; colors = colors } ≡ old → grid.Changes (class_record_set borders) (state_at before) (state_at after) → Changes (borders_set borders) old (record { characters = after; colors = colors })
 unfolding borders_set
-Changes-borders_set borders before after colours old is changes = Changes_by_characters (class_record_set borders) before after colours old is changes
+Changes-borders_set borders before after colors old is changes = Changes_by_characters (class_record_set borders) before after colors old is changes
 
 -- the regions of every level
 all_regions : List grid.Region
@@ -83,25 +83,25 @@ module _ {T : Type 0} where
   all_erasures = all_but_offsets ++ (grid.erase (grid.offset_sites across) ∷ []) ++ (grid.erase (grid.offset_sites down) ∷ [])
 
   -- one erasure after the other
-  pub in_turn : (a b c d e : Keeping T) → grid.Changes (grid.erase (grid.level_sites 0) ∷ []) (keeps a) (keeps b) → grid.Changes (grid.erase (grid.level_sites 1) ∷ []) (keeps b) (keeps c) → grid.Changes lines_erased (keeps c) (keeps d) → grid.Changes (grid.erase (grid.level_sites 4) ∷ []) (keeps d) (keeps e) → grid.Changes all_but_offsets (keeps a) (keeps e)
+  pub in_turn : (a b c d e : State T) → grid.Changes (grid.erase (grid.level_sites 0) ∷ []) (state_at a) (state_at b) → grid.Changes (grid.erase (grid.level_sites 1) ∷ []) (state_at b) (state_at c) → grid.Changes lines_erased (state_at c) (state_at d) → grid.Changes (grid.erase (grid.level_sites 4) ∷ []) (state_at d) (state_at e) → grid.Changes all_but_offsets (state_at a) (state_at e)
   in_turn a b c d e first second third fourth =
-      Changes-append (grid.erase (grid.level_sites 0) ∷ []) (grid.erase (grid.level_sites 1) ∷ lines_erased ++ grid.erase (grid.level_sites 4) ∷ []) (keeps a) (keeps b) (keeps e) first
-      (Changes-append (grid.erase (grid.level_sites 1) ∷ []) (lines_erased ++ grid.erase (grid.level_sites 4) ∷ []) (keeps b) (keeps c) (keeps e) second
-      (Changes-append lines_erased (grid.erase (grid.level_sites 4) ∷ []) (keeps c) (keeps d) (keeps e) third fourth))
+      Changes-append (grid.erase (grid.level_sites 0) ∷ []) (grid.erase (grid.level_sites 1) ∷ lines_erased ++ grid.erase (grid.level_sites 4) ∷ []) (state_at a) (state_at b) (state_at e) first
+      (Changes-append (grid.erase (grid.level_sites 1) ∷ []) (lines_erased ++ grid.erase (grid.level_sites 4) ∷ []) (state_at b) (state_at c) (state_at e) second
+      (Changes-append lines_erased (grid.erase (grid.level_sites 4) ∷ []) (state_at c) (state_at d) (state_at e) third fourth))
 
   -- and of the offsets at last
-  all_in_turn : (a b c d : Keeping T) → grid.Changes all_but_offsets (keeps a) (keeps b) → grid.Changes (offsets_erased across) (keeps b) (keeps c) → grid.Changes (offsets_erased down) (keeps c) (keeps d) → grid.Changes all_erasures (keeps a) (keeps d)
+  all_in_turn : (a b c d : State T) → grid.Changes all_but_offsets (state_at a) (state_at b) → grid.Changes (offsets_erased across) (state_at b) (state_at c) → grid.Changes (offsets_erased down) (state_at c) (state_at d) → grid.Changes all_erasures (state_at a) (state_at d)
   unfolding all_erasures
   all_in_turn a b c d first is_across is_down =
-      Changes-append all_but_offsets ((grid.erase (grid.offset_sites across) ∷ []) ++ (grid.erase (grid.offset_sites down) ∷ [])) (keeps a) (keeps b) (keeps d) first
-      (Changes-append (grid.erase (grid.offset_sites across) ∷ []) (grid.erase (grid.offset_sites down) ∷ []) (keeps b) (keeps c) (keeps d) is_across is_down)
+      Changes-append all_but_offsets ((grid.erase (grid.offset_sites across) ∷ []) ++ (grid.erase (grid.offset_sites down) ∷ [])) (state_at a) (state_at b) (state_at d) first
+      (Changes-append (grid.erase (grid.offset_sites across) ∷ []) (grid.erase (grid.offset_sites down) ∷ []) (state_at b) (state_at c) (state_at d) is_across is_down)
 
   -- they leave nothing, and cover every site
-  cleared_in_turn : (regions : List grid.Region) (q : Site) → grid.kept {T = T} (map grid.erase regions) q ≡ None
-  cleared_in_turn [] q = kept-nil q
-  cleared_in_turn (region ∷ rest) q = kept_cleared region (map grid.erase rest) q ∙ cleared_in_turn rest q
+  cleared_in_turn : (regions : List grid.Region) (q : Site) → grid.replay {T = T} (map grid.erase regions) q ≡ None
+  cleared_in_turn [] q = replay-nil q
+  cleared_in_turn (region ∷ rest) q = replay_cleared region (map grid.erase rest) q ∙ cleared_in_turn rest q
 
-  nothing_left : (old new : Keeping T) → grid.Changes all_erasures (keeps old) (keeps new) → (q : Site) → keeps new q ≡ None
+  nothing_left : (old new : State T) → grid.Changes all_erasures (state_at old) (state_at new) → (q : Site) → state_at new q ≡ None
   unfolding grid.Changes all_erasures all_regions
   nothing_left old new changes the_default = changes the_default ∙ cleared_in_turn all_regions the_default
   nothing_left old new changes (of_class c) = changes (of_class c) ∙ cleared_in_turn all_regions (of_class c)
@@ -114,33 +114,33 @@ module _ {T : Type 0} where
   nothing_left old new changes (from_start down r c n) = changes (from_start down r c n) ∙ cleared_in_turn all_regions (from_start down r c n)
 
   -- so they erase every site
-  pub everything_erased : (a b c d : Keeping T) → grid.Changes all_but_offsets (keeps a) (keeps b) → grid.Changes (offsets_erased across) (keeps b) (keeps c) → grid.Changes (offsets_erased down) (keeps c) (keeps d) → grid.Changes (grid.erase grid.every_site ∷ []) (keeps a) (keeps d)
+  pub everything_erased : (a b c d : State T) → grid.Changes all_but_offsets (state_at a) (state_at b) → grid.Changes (offsets_erased across) (state_at b) (state_at c) → grid.Changes (offsets_erased down) (state_at c) (state_at d) → grid.Changes (grid.erase grid.every_site ∷ []) (state_at a) (state_at d)
   unfolding grid.Changes
   everything_erased a b c d first is_across is_down =
-      Changes_from_nothing [] (keeps d) (keeps d) (λ q _. nothing_left a d (all_in_turn a b c d first is_across is_down) q) (Changes-nil (keeps d))
+      Changes_from_nothing [] (state_at d) (state_at d) (λ q _. nothing_left a d (all_in_turn a b c d first is_across is_down) q) (Changes-nil (state_at d))
 
--- the default colour set, and the class and the cells erased
-pub default_color_in_turn : (color : Texts) (a b c d : Keeping Texts) → grid.Changes (default_set color) (keeps a) (keeps b) → grid.Changes (grid.erase (grid.level_sites 1) ∷ []) (keeps b) (keeps c) → grid.Changes (grid.erase (grid.level_sites 4) ∷ []) (keeps c) (keeps d) → grid.Changes (default_color_set color) (keeps a) (keeps d)
+-- the default color set, and the class and the cells erased
+pub default_color_in_turn : (color : Texts) (a b c d : State Texts) → grid.Changes (default_set color) (state_at a) (state_at b) → grid.Changes (grid.erase (grid.level_sites 1) ∷ []) (state_at b) (state_at c) → grid.Changes (grid.erase (grid.level_sites 4) ∷ []) (state_at c) (state_at d) → grid.Changes (default_color_set color) (state_at a) (state_at d)
 default_color_in_turn color a b c d first second third =
-    Changes-append (default_set color) ((grid.erase (grid.level_sites 1) ∷ []) ++ (grid.erase (grid.level_sites 4) ∷ [])) (keeps a) (keeps b) (keeps d) first
-    (Changes-append (grid.erase (grid.level_sites 1) ∷ []) (grid.erase (grid.level_sites 4) ∷ []) (keeps b) (keeps c) (keeps d) second third)
+    Changes-append (default_set color) ((grid.erase (grid.level_sites 1) ∷ []) ++ (grid.erase (grid.level_sites 4) ∷ [])) (state_at a) (state_at b) (state_at d) first
+    (Changes-append (grid.erase (grid.level_sites 1) ∷ []) (grid.erase (grid.level_sites 4) ∷ []) (state_at b) (state_at c) (state_at d) second third)
 
 -- every border removed
-pub Changes-borders_removed : (before after : Keeping ℕ) (colours : Keeping Texts) (old : Configuration) → record { characters = before; colours = colours } ≡ old → grid.Changes all_but_offsets (keeps before) (keeps after) → Changes borders_removed old (record { characters = after; colours = colours })
+pub Changes-borders_removed : (before after : State ℕ) (colors : State Texts) (old : Configuration) → record { characters = before; colors = colors } ≡ old → grid.Changes all_but_offsets (state_at before) (state_at after) → Changes borders_removed old (record { characters = after; colors = colors })
 unfolding borders_removed
-Changes-borders_removed before after colours old is changes = Changes_by_characters all_but_offsets before after colours old is changes
+Changes-borders_removed before after colors old is changes = Changes_by_characters all_but_offsets before after colors old is changes
 
 -- a configuration shows the writes of all that it keeps
 pub Shows-all_writes : (cfg : Configuration) → Shows (all_writes cfg) cfg
 unfolding all_writes
 Shows-all_writes cfg = record {
-  characters_shown = subst (λ es. grid.Shows es (keeps cfg.characters)) (sym (characters_of-both (writes_of cfg.characters) (writes_of cfg.colours))) (Shows-writes_of cfg.characters);
-  colours_shown = subst (λ es. grid.Shows es (keeps cfg.colours)) (sym (colours_of-both (writes_of cfg.characters) (writes_of cfg.colours))) (Shows-writes_of cfg.colours);
+  characters_shown = subst (λ es. grid.Shows es (state_at cfg.characters)) (sym (characters_of-both (writes_of cfg.characters) (writes_of cfg.colors))) (Shows-writes_of cfg.characters);
+  colors_shown = subst (λ es. grid.Shows es (state_at cfg.colors)) (sym (colors_of-both (writes_of cfg.characters) (writes_of cfg.colors))) (Shows-writes_of cfg.colors);
 }
 
 -- a list that was shown before a change, followed by its events, is shown after it
 pub Shows_after_change : (before es : List ConfigEvent) (old new : Configuration) → Changes es old new → Shows before old → Shows (before ++ es) new
 Shows_after_change before es old new changes shows = record {
-  characters_shown = subst (λ all. grid.Shows all (keeps new.characters)) (sym (filter_map-append character_event before es)) (Shows_after (characters_of before) (characters_of es) (keeps old.characters) (keeps new.characters) changes.characters_changed shows.characters_shown);
-  colours_shown = subst (λ all. grid.Shows all (keeps new.colours)) (sym (filter_map-append colour_event before es)) (Shows_after (colours_of before) (colours_of es) (keeps old.colours) (keeps new.colours) changes.colours_changed shows.colours_shown);
+  characters_shown = subst (λ all. grid.Shows all (state_at new.characters)) (sym (filter_map-append character_event before es)) (Shows_after (characters_of before) (characters_of es) (state_at old.characters) (state_at new.characters) changes.characters_changed shows.characters_shown);
+  colors_shown = subst (λ all. grid.Shows all (state_at new.colors)) (sym (filter_map-append color_event before es)) (Shows_after (colors_of before) (colors_of es) (state_at old.colors) (state_at new.colors) changes.colors_changed shows.colors_shown);
 }

@@ -6,7 +6,7 @@ use Rattle.tabled_border.specs.declared.border.Border.{Border}
 use Rattle.tabled_grid.specs.declared.borders.Borders.{Borders}
 use Rattle.tabled_grid.specs.Calls.{entity_border_set, entity_border_erased, frame_erased}
 use Rattle.tabled_grid.specs.Event as grid
-use Rattle.tabled_grid.specs.Keeping.{Keeping, keeps, class_record_set}
+use Rattle.tabled_grid.specs.State.{State, state_at, class_record_set}
 use Rattle.tabled_grid.proofs.Replay.{Changes-append, Changes-nil}
 use Rattle.tabled_border.specs.Texts.{Texts}
 use Rattle.tabled_config.specs.Configuration.{Configuration, ConfigEvent, Changes, by_characters}
@@ -67,27 +67,27 @@ pub changes_lent : (es fs : List ConfigEvent) (old lent new : Configuration) →
 changes_lent es fs old lent new same events changes = subst (λ all. Changes all old new) events (subst (λ cfg. Changes fs cfg new) same changes)
 
 -- a border around the cells of an entity
-pub Changes-entity_bordered : (border : Border ℕ) (shape : ℕ × ℕ) (entity : Entity) (before after : Keeping ℕ) (colours : Keeping Texts) (old : Configuration) → record { characters = before; colours = colours } ≡ old → grid.Changes (entity_border_set entity shape border) (keeps before) (keeps after) → Changes (entity_bordered border shape entity) old (record { characters = after; colours = colours })
+pub Changes-entity_bordered : (border : Border ℕ) (shape : ℕ × ℕ) (entity : Entity) (before after : State ℕ) (colors : State Texts) (old : Configuration) → record { characters = before; colors = colors } ≡ old → grid.Changes (entity_border_set entity shape border) (state_at before) (state_at after) → Changes (entity_bordered border shape entity) old (record { characters = after; colors = colors })
 unfolding entity_bordered
-Changes-entity_bordered border shape entity before after colours old is changes = Changes_by_characters (entity_border_set entity shape border) before after colours old is changes
+Changes-entity_bordered border shape entity before after colors old is changes = Changes_by_characters (entity_border_set entity shape border) before after colors old is changes
 
 -- the borders of the cells of an entity removed
-pub Changes-entity_unbordered : (shape : ℕ × ℕ) (entity : Entity) (before after : Keeping ℕ) (colours : Keeping Texts) (old : Configuration) → record { characters = before; colours = colours } ≡ old → grid.Changes (entity_border_erased entity shape) (keeps before) (keeps after) → Changes (entity_unbordered shape entity) old (record { characters = after; colours = colours })
+pub Changes-entity_unbordered : (shape : ℕ × ℕ) (entity : Entity) (before after : State ℕ) (colors : State Texts) (old : Configuration) → record { characters = before; colors = colors } ≡ old → grid.Changes (entity_border_erased entity shape) (state_at before) (state_at after) → Changes (entity_unbordered shape entity) old (record { characters = after; colors = colors })
 unfolding entity_unbordered
-Changes-entity_unbordered shape entity before after colours old is changes = Changes_by_characters (entity_border_erased entity shape) before after colours old is changes
+Changes-entity_unbordered shape entity before after colors old is changes = Changes_by_characters (entity_border_erased entity shape) before after colors old is changes
 
 -- a table without rows or columns has no frame
 pub no_frame : (rows cols : ℕ) (class : Borders ℕ) (cfg : Configuration) → ((rows == 0) || (cols == 0)) ≡ true → Changes (table_unbordered (rows, cols) class) cfg cfg
 unfolding table_unbordered
 no_frame rows cols class cfg none =
     subst (λ b. Changes (cond b [] (by_characters (class_record_set (inner_of class) ++ frame_erased (rows, cols)))) cfg cfg) (sym none)
-    (record { characters_changed = Changes-nil (keeps cfg.characters); colours_changed = Changes-nil (keeps cfg.colours) })
+    (record { characters_changed = Changes-nil (state_at cfg.characters); colors_changed = Changes-nil (state_at cfg.colors) })
 
 -- the frame of a table removed
-pub Changes-table_unbordered : (rows cols : ℕ) (class result : Borders ℕ) (before between after : Keeping ℕ) (colours : Keeping Texts) (old : Configuration) → ((rows == 0) || (cols == 0)) ≡ false → record { characters = before; colours = colours } ≡ old → result ≡ inner_of class → grid.Changes (class_record_set result) (keeps before) (keeps between) → grid.Changes (frame_erased (rows, cols)) (keeps between) (keeps after) → Changes (table_unbordered (rows, cols) class) old (record { characters = after; colours = colours })
+pub Changes-table_unbordered : (rows cols : ℕ) (class result : Borders ℕ) (before between after : State ℕ) (colors : State Texts) (old : Configuration) → ((rows == 0) || (cols == 0)) ≡ false → record { characters = before; colors = colors } ≡ old → result ≡ inner_of class → grid.Changes (class_record_set result) (state_at before) (state_at between) → grid.Changes (frame_erased (rows, cols)) (state_at between) (state_at after) → Changes (table_unbordered (rows, cols) class) old (record { characters = after; colors = colors })
 unfolding table_unbordered
-Changes-table_unbordered rows cols class result before between after colours old some is inner sets erases =
-    subst (λ b. Changes (cond b [] (by_characters (class_record_set (inner_of class) ++ frame_erased (rows, cols)))) old (record { characters = after; colours = colours })) (sym some)
-    (Changes_by_characters (class_record_set (inner_of class) ++ frame_erased (rows, cols)) before after colours old is
-    (Changes-append (class_record_set (inner_of class)) (frame_erased (rows, cols)) (keeps before) (keeps between) (keeps after)
-    (subst (λ borders. grid.Changes (class_record_set borders) (keeps before) (keeps between)) inner sets) erases))
+Changes-table_unbordered rows cols class result before between after colors old some is inner sets erases =
+    subst (λ b. Changes (cond b [] (by_characters (class_record_set (inner_of class) ++ frame_erased (rows, cols)))) old (record { characters = after; colors = colors })) (sym some)
+    (Changes_by_characters (class_record_set (inner_of class) ++ frame_erased (rows, cols)) before after colors old is
+    (Changes-append (class_record_set (inner_of class)) (frame_erased (rows, cols)) (state_at before) (state_at between) (state_at after)
+    (subst (λ borders. grid.Changes (class_record_set borders) (state_at before) (state_at between)) inner sets) erases))

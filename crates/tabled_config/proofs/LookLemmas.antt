@@ -6,45 +6,45 @@ use Rattle.std.proofs.lemmas.List.FromFn.{length-map-range_with_len, get_or-map-
 use Rattle.tabled_grid.specs.declared.place.Place.{Place}
 use Rattle.tabled_grid.specs.declared.place.LineOf.{LineOf}
 use Rattle.tabled_grid.specs.Site.{across, Site, from_start, from_end}
-use Rattle.tabled_grid.specs.Event.{Written, sign, kept}
+use Rattle.tabled_grid.specs.Event.{Written, sign, replay}
 use Rattle.tabled_grid.specs.Value.{has_spot, plain_sites, sign_or, first_sign, value, plain_value}
 use Rattle.tabled_grid.specs.Drawn.{drawn, Drawn}
-use Rattle.tabled_grid.specs.Keeping.{Keeping, keeps, edge_place, HasNoOffsets}
+use Rattle.tabled_grid.specs.State.{State, state_at, edge_place, HasNoOffsets}
 use Rattle.tabled_grid.specs.Keys.{edge_place_cmp}
-use Rattle.tabled_grid.proofs.DrawnLemmas.{drawn-answer, Drawn-drawn, kept-shown, value-shown}
+use Rattle.tabled_grid.proofs.DrawnLemmas.{drawn-answer, Drawn-drawn, replay-shown, value-shown}
 use Rattle.tabled_config.specs.Configuration.{Configuration, ConfigEvent, characters_of, Shows, all_writes}
-use Rattle.tabled_config.specs.Along.{below}
+use Rattle.tabled_object.specs.Entities.{below}
 use Rattle.tabled_config.specs.Picture.{look, edge_size}
 use Rattle.tabled_config.proofs.ConfigurationLemmas.{Shows-all_writes}
 
 -- what the configuration answers of a line is how the table looks
-pub own_across : (cfg : Configuration) (shape : ℕ × ℕ) (widths heights : ℕ → ℕ) (line : ℕ) (answer : Bool) → IsTrue answer ↔ Drawn (keeps cfg.characters) shape.0 (LineOf.Horizontal line) → answer ≡ (look (all_writes cfg) shape widths heights).across line
+pub own_across : (cfg : Configuration) (shape : ℕ × ℕ) (widths heights : ℕ → ℕ) (line : ℕ) (answer : Bool) → IsTrue answer ↔ Drawn (state_at cfg.characters) shape.0 (LineOf.Horizontal line) → answer ≡ (look (all_writes cfg) shape widths heights).across line
 own_across cfg shape widths heights line answer says =
-    drawn-answer (characters_of (all_writes cfg)) (keeps cfg.characters) shape.0 (LineOf.Horizontal line) answer (Shows-all_writes cfg).characters_shown says
+    drawn-answer (characters_of (all_writes cfg)) (state_at cfg.characters) shape.0 (LineOf.Horizontal line) answer (Shows-all_writes cfg).characters_shown says
 
-pub own_drawn : (cfg : Configuration) (count : ℕ) (line : LineOf) (answer : Bool) → IsTrue answer ↔ Drawn (keeps cfg.characters) count line → answer ≡ drawn (characters_of (all_writes cfg)) count line
+pub own_drawn : (cfg : Configuration) (count : ℕ) (line : LineOf) (answer : Bool) → IsTrue answer ↔ Drawn (state_at cfg.characters) count line → answer ≡ drawn (characters_of (all_writes cfg)) count line
 own_drawn cfg count line answer says =
-    drawn-answer (characters_of (all_writes cfg)) (keeps cfg.characters) count line answer (Shows-all_writes cfg).characters_shown says
+    drawn-answer (characters_of (all_writes cfg)) (state_at cfg.characters) count line answer (Shows-all_writes cfg).characters_shown says
 
 -- what it answers of a place too
-pub own_shown : (cfg : Configuration) (shape : ℕ × ℕ) (widths heights : ℕ → ℕ) (place : Place) (size : ℕ) (found : Option ℕ) → size ≡ edge_size widths heights place → found ≡ value (keeps cfg.characters) shape size place → found ≡ (look (all_writes cfg) shape widths heights).shown place
+pub own_shown : (cfg : Configuration) (shape : ℕ × ℕ) (widths heights : ℕ → ℕ) (place : Place) (size : ℕ) (found : Option ℕ) → size ≡ edge_size widths heights place → found ≡ value (state_at cfg.characters) shape size place → found ≡ (look (all_writes cfg) shape widths heights).shown place
 own_shown cfg shape widths heights place size found sized is =
-    is ∙ ap (λ s. value (keeps cfg.characters) shape s place) sized
-    ∙ value-shown (characters_of (all_writes cfg)) (keeps cfg.characters) shape (edge_size widths heights place) place (Shows-all_writes cfg).characters_shown
+    is ∙ ap (λ s. value (state_at cfg.characters) shape s place) sized
+    ∙ value-shown (characters_of (all_writes cfg)) (state_at cfg.characters) shape (edge_size widths heights place) place (Shows-all_writes cfg).characters_shown
 
 and_true : (b : Bool) → b && true ≡ b
 and_true true = refl
 and_true false = refl
 
 -- without offsets each place of a horizontal edge has what the edge has below them
-plain_edge : {T : Type 0} (keeping : Keeping T) (shape : ℕ × ℕ) (size r c n : ℕ) → HasNoOffsets across keeping → n < size
-    → value (keeps keeping) shape size (Place.Horizontal r c n) ≡ plain_value (keeps keeping) shape (Place.Horizontal r c 0)
+plain_edge : {T : Type 0} (state : State T) (shape : ℕ × ℕ) (size r c n : ℕ) → HasNoOffsets across state → n < size
+    → value (state_at state) shape size (Place.Horizontal r c n) ≡ plain_value (state_at state) shape (Place.Horizontal r c 0)
 unfolding value plain_value
-plain_edge {T} keeping shape size r c n none within =
+plain_edge {T} state shape size r c n none within =
     let spot : Bool = has_spot shape (Place.Horizontal r c 0) in
-    let from_start : Option (Written T) = keeps keeping (from_start across r c n) in
-    let from_end : Option (Written T) = keeps keeping (from_end across r c (size - 1 - n)) in
-    let below_offsets : Option T = first_sign (keeps keeping) (plain_sites shape (Place.Horizontal r c 0)) in
+    let from_start : Option (Written T) = state_at state (from_start across r c n) in
+    let from_end : Option (Written T) = state_at state (from_end across r c (size - 1 - n)) in
+    let below_offsets : Option T = first_sign (state_at state) (plain_sites shape (Place.Horizontal r c 0)) in
     ap (λ b. if b then sign_or from_start (sign_or from_end below_offsets) else None) (ap (λ b. spot && b) (lt-ltb n size within) ∙ and_true spot)
     ∙ ap (λ found. if spot then sign_or (option_map sign found) (sign_or from_end below_offsets) else None)
     (ap (λ m. get m (edge_place r c n)) none.0 ∙ get-empty edge_place_cmp (edge_place r c n))
@@ -52,7 +52,7 @@ plain_edge {T} keeping shape size r c n none within =
     (ap (λ m. get m (edge_place r c (size - 1 - n))) none.1 ∙ get-empty edge_place_cmp (edge_place r c (size - 1 - n)))
 
 pub own_plain : (cfg : Configuration) (shape : ℕ × ℕ) (widths heights : ℕ → ℕ) (r c n : ℕ) (found : Option ℕ) → HasNoOffsets across cfg.characters
-    → found ≡ plain_value (keeps cfg.characters) shape (Place.Horizontal r c 0) → n < widths c → found ≡ (look (all_writes cfg) shape widths heights).shown (Place.Horizontal r c n)
+    → found ≡ plain_value (state_at cfg.characters) shape (Place.Horizontal r c 0) → n < widths c → found ≡ (look (all_writes cfg) shape widths heights).shown (Place.Horizontal r c n)
 own_plain cfg shape widths heights r c n found none is within =
     own_shown cfg shape widths heights (Place.Horizontal r c n) (widths c) found refl (is ∙ sym (plain_edge cfg.characters shape (widths c) r c n none within))
 
@@ -64,7 +64,7 @@ pub listed_at : {X : Type 0} (f : ℕ → X) (xs : List X) (n k : ℕ) (d : X) �
 listed_at f xs n k d e h = ap (λ l. get_or l k d) e ∙ get_or-map-range_with_len f 0 (n + 1) k k d (omega arith) (omega arith)
 
 -- one more line is listed
-pub listed_more : (cfg : Configuration) (cols n m : ℕ) (answer : Bool) (before after : List Bool) → m ≡ n → before ≡ map (λ c. drawn (characters_of (all_writes cfg)) cols (LineOf.Vertical c)) (below m) → IsTrue answer ↔ Drawn (keeps cfg.characters) cols (LineOf.Vertical n) → after ≡ before ++ answer ∷ [] → after ≡ map (λ c. drawn (characters_of (all_writes cfg)) cols (LineOf.Vertical c)) (below (n + 1))
+pub listed_more : (cfg : Configuration) (cols n m : ℕ) (answer : Bool) (before after : List Bool) → m ≡ n → before ≡ map (λ c. drawn (characters_of (all_writes cfg)) cols (LineOf.Vertical c)) (below m) → IsTrue answer ↔ Drawn (state_at cfg.characters) cols (LineOf.Vertical n) → after ≡ before ++ answer ∷ [] → after ≡ map (λ c. drawn (characters_of (all_writes cfg)) cols (LineOf.Vertical c)) (below (n + 1))
 listed_more cfg cols n m answer before after same listed says pushed =
     let line : ℕ → Bool = λ c. drawn (characters_of (all_writes cfg)) cols (LineOf.Vertical c) in
     pushed ∙ ap (λ xs. xs ++ answer ∷ []) (listed ∙ ap (λ k. map line (below k)) same)
@@ -74,8 +74,8 @@ listed_more cfg cols n m answer before after same listed says pushed =
 -- two lists of events that a configuration shows give one look
 pub same_look : (cfg : Configuration) (es fs : List ConfigEvent) (shape : ℕ × ℕ) (widths heights : ℕ → ℕ) → Shows es cfg → Shows fs cfg → look es shape widths heights ≡ look fs shape widths heights
 same_look cfg es fs shape widths heights by with =
-    let keep : Site → Option (Written ℕ) = keeps cfg.characters in
-    let same_kept : kept (characters_of es) ≡ kept (characters_of fs) = sym (kept-shown (characters_of es) keep by.characters_shown) ∙ kept-shown (characters_of fs) keep with.characters_shown in
+    let keep : Site → Option (Written ℕ) = state_at cfg.characters in
+    let same_kept : replay (characters_of es) ≡ replay (characters_of fs) = sym (replay-shown (characters_of es) keep by.characters_shown) ∙ replay-shown (characters_of fs) keep with.characters_shown in
     let same_drawn : (count : ℕ) (line : LineOf) → drawn (characters_of es) count line ≡ drawn (characters_of fs) count line =
     λ count line.
     let there = Drawn-drawn (characters_of es) keep count line by.characters_shown in

@@ -2,19 +2,19 @@
 use Rattle.std.proofs.Common.{◌≡◌, ◌↔◌, Bool, true, ◌&&◌, nat_eq, IsTrue, sym, subst, ◌∙◌}
 use Rattle.std.proofs.lemmas.Bool.{eqb-true}
 use Rattle.std.specs.Cmp.Lexicographic.{pointwise, same_text}
-use Rattle.tabled_grid.specs.Same.{same_keeping}
-use Rattle.tabled_grid.proofs.SameLemmas.{IsExact, both, exact_keeping}
+use Rattle.tabled_grid.specs.Same.{same_state}
+use Rattle.tabled_grid.proofs.SameLemmas.{IsExact, both, exact_state}
 use Rattle.tabled_config.specs.Configuration.{Configuration}
 use Rattle.tabled_config.specs.Colored.{Colored}
 use Rattle.tabled_config.specs.SameConfiguration.{same_texts, same_configuration, configuration_equiv, same_colored, colored_equiv}
 
--- where the characters are the same, the test of the colours answers for the configurations
-pub colours_answer : (a b c d : Configuration) (characters colours : Bool) → a ≡ c → b ≡ d → characters ≡ same_keeping nat_eq a.characters b.characters → characters ≡ true → colours ≡ same_keeping same_texts a.colours b.colours → colours ≡ same_configuration c d
+-- where the characters are the same, the test of the colors answers for the configurations
+pub colors_answer : (a b c d : Configuration) (characters colors : Bool) → a ≡ c → b ≡ d → characters ≡ same_state nat_eq a.characters b.characters → characters ≡ true → colors ≡ same_state same_texts a.colors b.colors → colors ≡ same_configuration c d
 unfolding same_configuration
-colours_answer a b c d characters colours to_c to_d first holds second =
+colors_answer a b c d characters colors to_c to_d first holds second =
     (λ i. (sym holds ∙ first) i && second i) ∙ (λ i. same_configuration (to_c i) (to_d i))
 
--- colours with the same texts are one
+-- colors with the same texts are one
 exact_texts : IsExact same_texts
 exact_texts a b h =
     let texts = both (pointwise nat_eq a.prefix b.prefix) (pointwise nat_eq a.suffix b.suffix) h in
@@ -23,8 +23,8 @@ exact_texts a b h =
 exact_configurations : IsExact same_configuration
 unfolding same_configuration
 exact_configurations a b h =
-    let stores = both (same_keeping nat_eq a.characters b.characters) (same_keeping same_texts a.colours b.colours) h in
-    λ i. record { characters = exact_keeping eqb-true a.characters b.characters stores.0 i; colours = exact_keeping exact_texts a.colours b.colours stores.1 i }
+    let stores = both (same_state nat_eq a.characters b.characters) (same_state same_texts a.colors b.colors) h in
+    λ i. record { characters = exact_state eqb-true a.characters b.characters stores.0 i; colors = exact_state exact_texts a.colors b.colors stores.1 i }
 
 -- configurations pass the test just where they keep the same
 pub same_configuration-exact : (a b : Configuration) → IsTrue (same_configuration a b) ↔ (a ≡ b)

@@ -11,7 +11,8 @@ use Rattle.std.proofs.lemmas.Bool.{le-ltb}
 use Rattle.tabled_grid.specs.declared.place.Place.{Place}
 use Rattle.tabled_grid.specs.declared.place.LineOf.{LineOf}
 use Rattle.tabled_config.specs.Texts.{texts}
-use Rattle.tabled_config.specs.Along.{below, is_empty, along, along_line}
+use Rattle.tabled_object.specs.Entities.{below}
+use Rattle.tabled_config.specs.Along.{is_empty, along, along_line}
 use Rattle.tabled_config.specs.Picture.{character, text_shown}
 
 -- the numbers below n + 1 are those below n, and n

@@ -1,12 +1,9 @@
 -- The places along a line, in order.
 use Rattle.std.specs.Prelude.{ℕ, Bool, ◌==◌, ◌||◌, nat_lt, if◌then◌else◌, List, [], ◌∷◌, ◌++◌, map}
-use Rattle.std.specs.List.{flat_map, range_with_len}
+use Rattle.std.specs.List.{flat_map}
 use Rattle.tabled_grid.specs.declared.place.Place.{Place}
 use Rattle.tabled_grid.specs.declared.place.LineOf.{LineOf}
-
--- the numbers below n, rising
-abbrev pub below : ℕ → List ℕ
-below n = range_with_len 0 n
+use Rattle.tabled_object.specs.Entities.{below}
 
 -- whether a table of that many rows and columns has no place
 abbrev pub is_empty : ℕ × ℕ → Bool

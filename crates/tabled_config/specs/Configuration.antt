@@ -10,63 +10,63 @@ use Rattle.tabled_grid.specs.declared.writes.Write.{Write}
 use Rattle.tabled_grid.specs.Event as grid
 use Rattle.tabled_grid.specs.Writes.{writes_made}
 use Rattle.tabled_grid.specs.Calls.{default_set, line_set_across, line_set_down}
-use Rattle.tabled_grid.specs.Keeping.{Keeping, keeps, class_record_set, writes_of}
+use Rattle.tabled_grid.specs.State.{State, state_at, class_record_set, writes_of}
 use Rattle.tabled_border.specs.Texts.{Texts}
 
--- what a configuration keeps: the border characters, as their codes, and the border colours, as their texts
+-- what a configuration keeps: the border characters, as their codes, and the border colors, as their texts
 pub record Configuration : Type 0 where
-  pub characters : Keeping ℕ
-  pub colours : Keeping Texts
+  pub characters : State ℕ
+  pub colors : State Texts
 
 -- by it a proof tells two configurations apart
 pub configuration_code : Coded Configuration
 configuration_code = Prim.hlevel (codes, finmap.code)
 
--- an event of a configuration: one of its border characters, or one of its border colours
+-- an event of a configuration: one of its border characters, or one of its border colors
 pub data ConfigEvent : Type 0 where
   of_characters : grid.Event ℕ → ConfigEvent
-  of_colours : grid.Event Texts → ConfigEvent
+  of_colors : grid.Event Texts → ConfigEvent
 
--- the event as one of characters, and as one of colours
+-- the event as one of characters, and as one of colors
 abbrev pub character_event : ConfigEvent → Option (grid.Event ℕ)
 character_event (of_characters e) = Some e
 character_event _ = None
 
-abbrev pub colour_event : ConfigEvent → Option (grid.Event Texts)
-colour_event (of_colours e) = Some e
-colour_event _ = None
+abbrev pub color_event : ConfigEvent → Option (grid.Event Texts)
+color_event (of_colors e) = Some e
+color_event _ = None
 
--- those of a list that concern characters, and those that concern colours
+-- those of a list that concern characters, and those that concern colors
 abbrev pub characters_of : List ConfigEvent → List (grid.Event ℕ)
 characters_of es = filter_map character_event es
 
-abbrev pub colours_of : List ConfigEvent → List (grid.Event Texts)
-colours_of es = filter_map colour_event es
+abbrev pub colors_of : List ConfigEvent → List (grid.Event Texts)
+colors_of es = filter_map color_event es
 
 -- the configuration keeps what the events leave
 pub record Shows (es : List ConfigEvent) (cfg : Configuration) : Type 0 where
-  pub characters_shown : grid.Shows (characters_of es) (keeps cfg.characters)
-  pub colours_shown : grid.Shows (colours_of es) (keeps cfg.colours)
+  pub characters_shown : grid.Shows (characters_of es) (state_at cfg.characters)
+  pub colors_shown : grid.Shows (colors_of es) (state_at cfg.colors)
 
 -- the new configuration keeps what the events leave where they cover a site, and else what the old one kept
 pub record Changes (es : List ConfigEvent) (old new : Configuration) : Type 0 where
-  pub characters_changed : grid.Changes (characters_of es) (keeps old.characters) (keeps new.characters)
-  pub colours_changed : grid.Changes (colours_of es) (keeps old.colours) (keeps new.colours)
+  pub characters_changed : grid.Changes (characters_of es) (state_at old.characters) (state_at new.characters)
+  pub colors_changed : grid.Changes (colors_of es) (state_at old.colors) (state_at new.colors)
 
 -- a list of events that the configuration shows: the writes of all that it keeps
 unfoldable pub all_writes : Configuration → List ConfigEvent
-all_writes cfg = map of_characters (writes_of cfg.characters) ++ map of_colours (writes_of cfg.colours)
+all_writes cfg = map of_characters (writes_of cfg.characters) ++ map of_colors (writes_of cfg.colors)
 
--- events of characters alone, and of colours alone
+-- events of characters alone, and of colors alone
 abbrev pub by_characters : List (grid.Event ℕ) → List ConfigEvent
 by_characters es = map of_characters es
 
-abbrev pub by_colours : List (grid.Event Texts) → List ConfigEvent
-by_colours es = map of_colours es
+abbrev pub by_colors : List (grid.Event Texts) → List ConfigEvent
+by_colors es = map of_colors es
 
--- lists of writes, of characters and of colours
+-- lists of writes, of characters and of colors
 unfoldable pub writes_applied : List (Write ℕ) → List (Write Texts) → List ConfigEvent
-writes_applied characters colours = by_characters (writes_made characters) ++ by_colours (writes_made colours)
+writes_applied characters colors = by_characters (writes_made characters) ++ by_colors (writes_made colors)
 
 -- the erasures of every level but the offsets
 abbrev pub all_but_offsets : {T : Type 0} → List (grid.Event T)
@@ -87,13 +87,13 @@ horizontal_lines_put lines = flat_map (λ line. line_set_across line.0 line.1) l
 unfoldable pub vertical_lines_put : List (ℕ × VerticalLine ℕ) → List (grid.Event ℕ)
 vertical_lines_put lines = flat_map (λ line. line_set_down line.0 line.1) lines
 
--- all borders replaced: all sites of all levels are cleared, of characters and of colours; then the custom lines are put,
+-- all borders replaced: all sites of all levels are cleared, of characters and of colors; then the custom lines are put,
 -- and the class record is set
 unfoldable pub borders_replaced : Borders ℕ → List (ℕ × HorizontalLine ℕ) → List (ℕ × VerticalLine ℕ) → List ConfigEvent
 borders_replaced borders horizontals verticals =
     by_characters (grid.erase grid.every_site ∷ horizontal_lines_put horizontals ++ vertical_lines_put verticals ++ class_record_set borders)
-    ++ by_colours (grid.erase grid.every_site ∷ [])
+    ++ by_colors (grid.erase grid.every_site ∷ [])
 
--- the default colour set, and the class colours and the cells' colours erased
+-- the default color set, and the class colors and the cells' colors erased
 abbrev pub default_color_set : Texts → List (grid.Event Texts)
 default_color_set color = default_set color ++ (grid.erase (grid.level_sites 1) ∷ []) ++ (grid.erase (grid.level_sites 4) ∷ [])

@@ -2,7 +2,7 @@ pub use Rattle.tabled_grid.specs.Site
 pub use Rattle.tabled_grid.specs.Event
 pub use Rattle.tabled_grid.specs.Value
 pub use Rattle.tabled_grid.specs.Drawn
-pub use Rattle.tabled_grid.specs.Keeping
+pub use Rattle.tabled_grid.specs.State
 pub use Rattle.tabled_grid.specs.Probing
 pub mod Configuration
 pub mod Colored

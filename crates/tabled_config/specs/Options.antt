@@ -6,7 +6,7 @@ use Rattle.tabled_object.specs.declared.entity.Entity.{Entity}
 use Rattle.tabled_grid.specs.CustomLines.{no_borders}
 use Rattle.tabled_grid.specs.Calls.{entity_border_set, entity_border_erased, frame_erased}
 use Rattle.tabled_grid.specs.Site.{across, down, inner}
-use Rattle.tabled_grid.specs.Keeping.{line_classes, has_class, class_record_set}
+use Rattle.tabled_grid.specs.State.{line_classes, has_class, class_record_set}
 use Rattle.tabled_config.specs.Configuration.{ConfigEvent, by_characters, borders_set}
 
 -- steps in a row, each a change by the events that it makes of what stands before it; what was made are the events of them

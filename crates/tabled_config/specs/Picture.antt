@@ -3,12 +3,13 @@ use Rattle.std.specs.Prelude.{ℕ, Bool, Option, if◌then◌else◌, List, [], 
 use Rattle.std.specs.List.{flat_map, join_with_byte}
 use Rattle.tabled_grid.specs.declared.place.Place.{Place}
 use Rattle.tabled_grid.specs.declared.place.LineOf.{LineOf}
-use Rattle.tabled_grid.specs.Event.{kept}
+use Rattle.tabled_grid.specs.Event.{replay}
 use Rattle.tabled_grid.specs.Value.{value}
 use Rattle.tabled_grid.specs.Drawn.{drawn}
 use Rattle.tabled_config.specs.Configuration.{ConfigEvent, characters_of}
 use Rattle.tabled_config.specs.Texts.{Table, pieces}
-use Rattle.tabled_config.specs.Along.{below, is_empty, along}
+use Rattle.tabled_object.specs.Entities.{below}
+use Rattle.tabled_config.specs.Along.{is_empty, along}
 
 -- how a table looks: its shape and its sizes, which of its lines are drawn, and what each place shows
 pub record Look : Type 0 where
@@ -33,7 +34,7 @@ look es (rows, cols) widths heights = record {
   heights = heights;
   across = λ r. drawn (characters_of es) rows (LineOf.Horizontal r);
   down = λ c. drawn (characters_of es) cols (LineOf.Vertical c);
-  shown = λ place. value (kept (characters_of es)) (rows, cols) (edge_size widths heights place) place;
+  shown = λ place. value (replay (characters_of es)) (rows, cols) (edge_size widths heights place) place;
 }
 
 -- the character that is printed for what a place shows: a space for nothing

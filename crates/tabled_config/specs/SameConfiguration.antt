@@ -4,18 +4,18 @@ use Rattle.std.specs.Cmp.{IsPartialEquivalence, IsEquivalence, on_equiv, and_equ
 use Rattle.std.specs.Cmp.Lexicographic.{pointwise, on_texts_equal}
 use Rattle.std.proofs.lemmas.Cmp.{nat_eq_equiv}
 use Rattle.tabled_border.specs.Texts.{Texts}
-use Rattle.tabled_grid.specs.Same.{same_keeping}
-use Rattle.tabled_grid.specs.SameLaws.{keeping_equiv}
+use Rattle.tabled_grid.specs.Same.{same_state}
+use Rattle.tabled_grid.specs.SameLaws.{state_equiv}
 use Rattle.tabled_config.specs.Configuration.{Configuration}
 use Rattle.tabled_config.specs.Colored.{Colored}
 
--- two colours: the same text before, and the same text after
+-- two colors: the same text before, and the same text after
 abbrev pub same_texts : Texts → Texts → Bool
 same_texts a b = pointwise ◌==◌ a.prefix b.prefix && pointwise ◌==◌ a.suffix b.suffix
 
--- two configurations: the same characters, and the same colours
+-- two configurations: the same characters, and the same colors
 unfoldable pub same_configuration : Configuration → Configuration → Bool
-same_configuration a b = same_keeping ◌==◌ a.characters b.characters && same_keeping same_texts a.colours b.colours
+same_configuration a b = same_state ◌==◌ a.characters b.characters && same_state same_texts a.colors b.colors
 
 -- the same with what options change beside
 abbrev pub same_colored : Colored → Colored → Bool
@@ -27,7 +27,7 @@ texts_equiv = and_equiv (on_texts_equal (λ texts. texts.prefix)) (on_texts_equa
 
 pub configuration_equiv : IsEquivalence same_configuration
 unfolding same_configuration
-configuration_equiv = and_equiv (on_equiv (λ cfg. cfg.characters) (keeping_equiv nat_eq_equiv)) (on_equiv (λ cfg. cfg.colours) (keeping_equiv texts_equiv))
+configuration_equiv = and_equiv (on_equiv (λ cfg. cfg.characters) (state_equiv nat_eq_equiv)) (on_equiv (λ cfg. cfg.colors) (state_equiv texts_equiv))
 
 pub configuration_per : IsPartialEquivalence same_configuration
 configuration_per = partial_equiv_from_equiv configuration_equiv

@@ -82,7 +82,7 @@ impl<R, D> TableOption<R, ColoredConfig, D> for Borders<char> {
 
     ghost hinted = { λ borders. Some cells.Global };
 
-    /// Erases every border character and colour of every level, offsets too, and sets the class record: as a
+    /// Erases every border character and color of every level, offsets too, and sets the class record: as a
     /// style without custom lines. It takes no memory and answers Ok.
     fn change(
         self,

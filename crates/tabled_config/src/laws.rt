@@ -6,11 +6,11 @@ ghost use Rattle.std.specs.List.{flat_map};
 ghost use Rattle.tabled_object.specs.declared.entity.Entity.{Entity};
 ghost use Rattle.tabled_grid.specs.declared.place.LineOf.{LineOf};
 ghost use Rattle.tabled_grid.specs.declared.place.Place.{Place};
-ghost use Rattle.tabled_grid.specs.Event.{kept};
-ghost use Rattle.tabled_grid.specs.Keeping.{keeps};
+ghost use Rattle.tabled_grid.specs.Event.{replay};
+ghost use Rattle.tabled_grid.specs.State.{state_at};
 ghost use Rattle.tabled_grid.specs.Value.{value};
 ghost use Rattle.tabled_grid.specs.Drawn.{Drawn, drawn};
-ghost use Rattle.tabled_config.specs.Configuration.{ConfigEvent, characters_of, colours_of, all_writes};
+ghost use Rattle.tabled_config.specs.Configuration.{ConfigEvent, characters_of, colors_of, all_writes};
 ghost use Rattle.tabled_config.specs.Configuration as borders;
 ghost use Rattle.tabled_config.specs.Colored.{Colored, Shows, Changes};
 ghost use Rattle.tabled_config.specs.Options.{MakesInTurn};
@@ -47,17 +47,17 @@ pub fn steps_in_turn<C: Configured>()
 {}
 
 /// After any list of steps, on a configuration that showed some list of events, it shows that list followed by the events
-/// that the steps made; so each place has the character and the colour that these leave, each line is drawn where these
+/// that the steps made; so each place has the character and the color that these leave, each line is drawn where these
 /// draw it, and their text is the one that is printed.
 pub fn any_list()
     ensures shows { (steps : List (Colored → List ConfigEvent)) (before made : List ConfigEvent) (old new : Colored)
         → MakesInTurn Changes steps made old new → Shows before old → Shows (before ++ made) new }
     ensures characters { (es : List ConfigEvent) (cfg : Colored) (shape : ℕ × ℕ) (size : ℕ) (place : Place)
-        → Shows es cfg → value (keeps cfg.spanned.characters) shape size place ≡ value (kept (characters_of es)) shape size place }
-    ensures colours { (es : List ConfigEvent) (cfg : Colored) (shape : ℕ × ℕ) (size : ℕ) (place : Place)
-        → Shows es cfg → value (keeps cfg.spanned.colours) shape size place ≡ value (kept (colours_of es)) shape size place }
+        → Shows es cfg → value (state_at cfg.spanned.characters) shape size place ≡ value (replay (characters_of es)) shape size place }
+    ensures colors { (es : List ConfigEvent) (cfg : Colored) (shape : ℕ × ℕ) (size : ℕ) (place : Place)
+        → Shows es cfg → value (state_at cfg.spanned.colors) shape size place ≡ value (replay (colors_of es)) shape size place }
     ensures lines { (es : List ConfigEvent) (cfg : Colored) (count : ℕ) (line : LineOf)
-        → Shows es cfg → Drawn (keeps cfg.spanned.characters) count line ↔ IsTrue (drawn (characters_of es) count line) }
+        → Shows es cfg → Drawn (state_at cfg.spanned.characters) count line ↔ IsTrue (drawn (characters_of es) count line) }
     ensures text { (es fs : List ConfigEvent) (cfg : Colored) (shape : ℕ × ℕ) (widths heights : ℕ → ℕ) (cells : Table)
         → Shows es cfg → Shows fs cfg → printed es shape widths heights cells ≡ printed fs shape widths heights cells }
     ensures unread { (events : Entity → List ConfigEvent) (entities : List Entity) (made : List ConfigEvent) (old new : Colored)
@@ -70,7 +70,7 @@ pub fn shows_its_writes()
     ensures colored { (cfg : Colored) → Shows (all_writes cfg.spanned) cfg }
 {}
 
-/// Two configurations are equal by `==` just where they keep the same characters and colours.
+/// Two configurations are equal by `==` just where they keep the same characters and colors.
 pub fn equal_where_same_is_kept()
     ensures spanned { (a b : borders.Configuration) → IsTrue (⟦<SpannedConfig as PartialEq>⟧.eq a b) ↔ (a ≡ b) }
     ensures colored { (a b : Colored) → IsTrue (⟦<ColoredConfig as PartialEq>⟧.eq a b) ↔ (a ≡ b) }

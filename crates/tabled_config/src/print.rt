@@ -7,7 +7,8 @@ ghost use Rattle.tabled_grid.specs.Drawn.{drawn};
 ghost use Rattle.tabled_config.specs.Configuration.{ConfigEvent, Shows, all_writes, characters_of};
 ghost use Rattle.tabled_config.specs.Texts.{Appends, texts};
 ghost use Rattle.tabled_config.specs.Pieces.{lent, first_piece, after_first_piece};
-ghost use Rattle.tabled_config.specs.Along.{below, is_empty};
+ghost use Rattle.tabled_object.specs.Entities.{below};
+ghost use Rattle.tabled_config.specs.Along.{is_empty};
 ghost use Rattle.tabled_config.specs.Picture.{character, look, text_lines, printed};
 ghost use Rattle.tabled_config.specs.Refusal.{first_refusal};
 
@@ -31,7 +32,8 @@ struct Frame<'a, D> {
 impl<D: Dimension> Frame<'_, D> {
     ghost use Rattle.tabled_grid.specs.declared.place.Place.{Place as Spot};
     ghost use Rattle.tabled_grid.specs.declared.place.LineOf.{LineOf as Line};
-    ghost use Rattle.tabled_config.specs.Along.{below, crossing_at};
+    ghost use Rattle.tabled_object.specs.Entities.{below};
+    ghost use Rattle.tabled_config.specs.Along.{crossing_at};
     ghost use Rattle.tabled_config.specs.Picture.{edge_size, text_shown, shown_along, side_shown, line_of_pieces, row_lines, line_if_drawn, text_lines};
     ghost use Rattle.tabled_config.specs.Framed.{framed};
 

@@ -2,7 +2,7 @@
 
 ghost use Rattle.std.specs.Prelude.{◌≡◌, ◌↔◌, [], ◌∷◌, IsTrue};
 ghost use Rattle.tabled_grid.specs.Event as grid;
-ghost use Rattle.tabled_grid.specs.Keeping.{keeps};
+ghost use Rattle.tabled_grid.specs.State.{state_at};
 ghost use Rattle.tabled_config.specs.Configuration.{all_but_offsets};
 
 mod applying;
@@ -24,7 +24,7 @@ use tabled_grid::{ANSIBuf, Borders, Layers, LineOf, Place, Probes};
 #[derive(Debug)]
 pub struct SpannedConfig {
     characters: Layers<char>,
-    colours: Layers<ANSIBuf>,
+    colors: Layers<ANSIBuf>,
 }
 
 /// Written out, so that letting a configuration go is one call wherever it ends.
@@ -32,7 +32,7 @@ impl Drop for SpannedConfig {
     fn drop(self) {
         let SpannedConfig {
             characters: _,
-            colours: _,
+            colors: _,
         } = self;
     }
 }
@@ -44,7 +44,7 @@ impl Model for SpannedConfig {
 
     ghost coded = { configuration_code };
 
-    ghost view = { λ cfg. record { characters = cfg.characters; colours = cfg.colours } };
+    ghost view = { λ cfg. record { characters = cfg.characters; colors = cfg.colors } };
 }
 
 impl SpannedConfig {
@@ -61,7 +61,7 @@ impl SpannedConfig {
     {
         SpannedConfig {
             characters: Layers::new(alloc),
-            colours: Layers::new(alloc),
+            colors: Layers::new(alloc),
         }
     }
 
@@ -107,7 +107,7 @@ impl SpannedConfig {
 
     /// Whether horizontal line `line` is drawn in a table of `rows` rows.
     pub fn has_horizontal(&self, line: usize, rows: usize) -> bool
-        ensures { IsTrue result ↔ Drawn (keeps self.now.characters) rows (Line.Horizontal line) }
+        ensures { IsTrue result ↔ Drawn (state_at self.now.characters) rows (Line.Horizontal line) }
     {
         let mut probes = Probes::new();
         self.characters
@@ -116,7 +116,7 @@ impl SpannedConfig {
 
     /// Whether vertical line `line` is drawn in a table of `cols` columns.
     pub fn has_vertical(&self, line: usize, cols: usize) -> bool
-        ensures { IsTrue result ↔ Drawn (keeps self.now.characters) cols (Line.Vertical line) }
+        ensures { IsTrue result ↔ Drawn (state_at self.now.characters) cols (Line.Vertical line) }
     {
         let mut probes = Probes::new();
         self.characters
@@ -125,7 +125,7 @@ impl SpannedConfig {
 
     /// Whether a line is drawn, of the lines 0 to `count` of its direction. At most six readings are made.
     pub fn draws(&self, line: LineOf, count: usize, probes: &mut Probes) -> bool
-        ensures drawn { IsTrue result ↔ Drawn (keeps self.now.characters) count line }
+        ensures drawn { IsTrue result ↔ Drawn (state_at self.now.characters) count line }
         ensures probes { IsRaised 6 probes.old probes.new }
     {
         self.characters.draws(line, count, probes)
@@ -141,7 +141,7 @@ impl SpannedConfig {
         size: usize,
         probes: &mut Probes,
     ) -> Option<char>
-        ensures value { result ≡ value (keeps self.now.characters) shape size place }
+        ensures value { result ≡ value (state_at self.now.characters) shape size place }
         ensures probes { IsRaised 6 probes.old probes.new }
     {
         self.characters.at(place, shape, size, probes).copied()
@@ -150,7 +150,7 @@ impl SpannedConfig {
 
 /// Erases every level of a store but the offsets.
 fn erase_below_offsets<T: Drop>(layers: &mut Layers<T>)
-    ensures { grid.Changes all_but_offsets (keeps layers.old) (keeps layers.new) }
+    ensures { grid.Changes all_but_offsets (state_at layers.old) (state_at layers.new) }
 {
     layers.erase_default();
     layers.erase_class();
@@ -160,7 +160,7 @@ fn erase_below_offsets<T: Drop>(layers: &mut Layers<T>)
 
 /// Erases every level of a store.
 fn erase_all<T: Drop>(layers: &mut Layers<T>)
-    ensures { grid.Changes (grid.erase grid.every_site ∷ []) (keeps layers.old) (keeps layers.new) }
+    ensures { grid.Changes (grid.erase grid.every_site ∷ []) (state_at layers.old) (state_at layers.new) }
 {
     erase_below_offsets(layers);
     layers.erase_horizontal_offsets();

@@ -7,9 +7,9 @@ use Rattle.std.specs.declared.cmp.Ordering.{Ordering}
 use Rattle.std.specs.declared.cmp.Ordering.TheVariants.{Less, Equal, Greater}
 use Rattle.std.specs.FinMap as map
 use Rattle.tabled_grid.specs.Site.{Site}
-use Rattle.tabled_grid.specs.Event.{Written, Event, covered, kept}
-use Rattle.tabled_grid.specs.Keeping.{entry_events}
-use Rattle.tabled_grid.proofs.Replay.{kept-nil, kept-append, covered-append, kept_uncovered}
+use Rattle.tabled_grid.specs.Event.{Written, Event, covered, replay}
+use Rattle.tabled_grid.specs.State.{entry_events}
+use Rattle.tabled_grid.proofs.Replay.{replay-nil, replay-append, covered-append, replay_uncovered}
 use Rattle.tabled_grid.proofs.Counting.{tied}
 
 pub is_eq-then : (a b : Ordering) → is_eq (ordering_then a b) ≡ (is_eq a && is_eq b)
@@ -28,16 +28,16 @@ is_eq-nat_cmp n m = chosen (ltb n m) (n == m) (λ less. elim (eqb_tells n m) [ i
 
 module _ {T : Type 0} (q : Site) where
   -- events that do not cover the site, in front of others
-  pub kept_skip : (es fs : List (Event T)) → covered es q ≡ false → kept (es ++ fs) q ≡ kept fs q
-  kept_skip es fs h = kept-append q es fs ∙ unless_first (covered fs q) refl
+  pub replay_skip : (es fs : List (Event T)) → covered es q ≡ false → replay (es ++ fs) q ≡ replay fs q
+  replay_skip es fs h = replay-append q es fs ∙ unless_first (covered fs q) refl
     where
-      unless_first : (b : Bool) → covered fs q ≡ b → cond b (kept fs q) (kept es q) ≡ kept fs q
+      unless_first : (b : Bool) → covered fs q ≡ b → cond b (replay fs q) (replay es q) ≡ replay fs q
       unless_first true e = refl
-      unless_first false e = kept_uncovered q es h ∙ sym (kept_uncovered q fs e)
+      unless_first false e = replay_uncovered q es h ∙ sym (replay_uncovered q fs e)
 
   -- and behind them
-  pub kept_rest : (es fs : List (Event T)) → covered fs q ≡ false → kept (es ++ fs) q ≡ kept es q
-  kept_rest es fs h = kept-append q es fs ∙ ap (λ b. cond b (kept fs q) (kept es q)) h
+  pub replay_rest : (es fs : List (Event T)) → covered fs q ≡ false → replay (es ++ fs) q ≡ replay es q
+  replay_rest es fs h = replay-append q es fs ∙ ap (λ b. cond b (replay fs q) (replay es q)) h
 
   pub uncovered_both : (es fs : List (Event T)) → covered es q ≡ false → covered fs q ≡ false → covered (es ++ fs) q ≡ false
   uncovered_both es fs h g = covered-append q es fs ∙ ap (λ b. b || covered fs q) h ∙ g
@@ -48,14 +48,14 @@ module _ {T : Type 0} (q : Site) where
   uncovered_entries events h (e ∷ es) = uncovered_both (entry_events events es) (events e.0 e.1) (uncovered_entries events h es) (h e.0 e.1)
 
   -- the events of the entry under the site's key cover it, and no others
-  pub kept_entries : {K X : Type 0} {R : K → K → Ordering} → map.IsAntisymmetric R → (events : K → X → List (Event T)) (k : K) (left : X → Option (Written T)) → ((j : K) (x : X) → covered (events j x) q ≡ eq_by_cmp R k j) → ((x : X) → kept (events k x) q ≡ left x) → (es : List (K × X)) → kept (entry_events events es) q ≡ option_and_then left (map.find R k es)
-  kept_entries exact events k left covering leaves [] = kept-nil q
-  kept_entries {R = R} exact events k left covering leaves (e ∷ es) =
-      kept-append q (entry_events events es) (events e.0 e.1)
-      ∙ ap (λ b. cond b (kept (events e.0 e.1) q) (kept (entry_events events es) q)) (covering e.0 e.1)
-      ∙ ap (λ old. cond (eq_by_cmp R k e.0) (kept (events e.0 e.1) q) old) (kept_entries exact events k left covering leaves es)
+  pub replay_entries : {K X : Type 0} {R : K → K → Ordering} → map.IsAntisymmetric R → (events : K → X → List (Event T)) (k : K) (left : X → Option (Written T)) → ((j : K) (x : X) → covered (events j x) q ≡ eq_by_cmp R k j) → ((x : X) → replay (events k x) q ≡ left x) → (es : List (K × X)) → replay (entry_events events es) q ≡ option_and_then left (map.find R k es)
+  replay_entries exact events k left covering leaves [] = replay-nil q
+  replay_entries {R = R} exact events k left covering leaves (e ∷ es) =
+      replay-append q (entry_events events es) (events e.0 e.1)
+      ∙ ap (λ b. cond b (replay (events e.0 e.1) q) (replay (entry_events events es) q)) (covering e.0 e.1)
+      ∙ ap (λ old. cond (eq_by_cmp R k e.0) (replay (events e.0 e.1) q) old) (replay_entries exact events k left covering leaves es)
       ∙ at_key (eq_by_cmp R k e.0) refl
     where
-      at_key : (same : Bool) → eq_by_cmp R k e.0 ≡ same → cond same (kept (events e.0 e.1) q) (option_and_then left (map.find R k es)) ≡ option_and_then left (cond same (Some e.1) (map.find R k es))
-      at_key true is = ap (λ j. kept (events j e.1) q) (sym (tied exact k e.0 is)) ∙ leaves e.1
+      at_key : (same : Bool) → eq_by_cmp R k e.0 ≡ same → cond same (replay (events e.0 e.1) q) (option_and_then left (map.find R k es)) ≡ option_and_then left (cond same (Some e.1) (map.find R k es))
+      at_key true is = ap (λ j. replay (events j e.1) q) (sym (tied exact k e.0 is)) ∙ leaves e.1
       at_key false is = refl

@@ -4,7 +4,7 @@ use Rattle.std.proofs.Common.{◌≡◌, subst, Bool, true, false, not, ◌||◌
 use Rattle.std.specs.List.{list_any}
 use Rattle.tabled_grid.specs.declared.borders.Borders.{Borders}
 use Rattle.tabled_grid.specs.Site.{across, down, first, inner, closing, Class, edges, crossings, class_value, same_class}
-use Rattle.tabled_grid.specs.Keeping.{line_classes, has_class, HasNothing}
+use Rattle.tabled_grid.specs.State.{line_classes, has_class, HasNothing}
 use Rattle.tabled_grid.proofs.SameSite.{same_class-eq}
 
 or_false : (a b : Bool) → (a || b) ≡ false → (a ≡ false) × (b ≡ false)

@@ -8,13 +8,13 @@ use Rattle.tabled_border.specs.declared.border.Border.{Border}
 use Rattle.tabled_grid.specs.declared.place.Place.{Place}
 use Rattle.tabled_object.specs.declared.position.Position.{Position}
 use Rattle.tabled_grid.specs.Site.{Site, at_spot, same_site}
-use Rattle.tabled_grid.specs.Event.{Written, Region, these_sites, within, erase, kept, Changes}
-use Rattle.tabled_grid.specs.Keeping.{Keeping, keeps}
+use Rattle.tabled_grid.specs.Event.{Written, Region, these_sites, within, erase, replay, Changes}
+use Rattle.tabled_grid.specs.State.{State, state_at}
 use Rattle.tabled_grid.specs.Value.{plain_value}
 use Rattle.tabled_border.specs.Border.{no_border}
 use Rattle.tabled_grid.specs.Calls.{spot_of, cell_erased, places_erased, border_erased}
 use Rattle.tabled_grid.specs.CellBorder.{border_places, border_fields, border_shown}
-use Rattle.tabled_grid.proofs.Replay.{kept-nil, kept_cleared}
+use Rattle.tabled_grid.proofs.Replay.{replay-nil, replay_cleared}
 use Rattle.tabled_grid.proofs.Changing.{one_erasure}
 
 or-none : (b : Bool) → (b || false) ≡ b
@@ -56,18 +56,18 @@ sites_of-append (Some p ∷ ps) qs = ap (λ all. at_spot (spot_of p) ∷ all) (s
 pub by_erasure : {T : Type 0} (region : Region) (old new : Site → Option (Written T)) → Changes (erase region ∷ []) old new → (q : Site) → new q ≡ cond (within region q) None (old q)
 unfolding Changes
 by_erasure region old new h q =
-    h q ∙ ap (λ b. cond b (kept (erase region ∷ []) q) (old q)) (or-none (within region q))
-    ∙ ap (λ k. cond (within region q) k (old q)) (kept_cleared region [] q ∙ kept-nil q)
+    h q ∙ ap (λ b. cond b (replay (erase region ∷ []) q) (old q)) (or-none (within region q))
+    ∙ ap (λ k. cond (within region q) k (old q)) (replay_cleared region [] q ∙ replay-nil q)
 
 -- two clearings of places are the clearing of all of them
-pub erased_then : {T : Type 0} (ps qs : List (Option Place)) (old mid new : Keeping T) → Changes (places_erased ps) (keeps old) (keeps mid) → Changes (places_erased qs) (keeps mid) (keeps new) → Changes (places_erased (ps ++ qs)) (keeps old) (keeps new)
+pub erased_then : {T : Type 0} (ps qs : List (Option Place)) (old mid new : State T) → Changes (places_erased ps) (state_at old) (state_at mid) → Changes (places_erased qs) (state_at mid) (state_at new) → Changes (places_erased (ps ++ qs)) (state_at old) (state_at new)
 unfolding places_erased
 erased_then ps qs old mid new first then =
-    one_erasure (these_sites (sites_of (ps ++ qs))) (keeps old) (keeps new) (λ q.
-    by_erasure (these_sites (sites_of qs)) (keeps mid) (keeps new) then q
-    ∙ ap (cond (list_any (same_site q) (sites_of qs)) None) (by_erasure (these_sites (sites_of ps)) (keeps old) (keeps mid) first q)
-    ∙ either (list_any (same_site q) (sites_of ps)) (list_any (same_site q) (sites_of qs)) (keeps old q)
-    ∙ ap (λ b. cond b None (keeps old q)) (sym (ap (list_any (same_site q)) (sites_of-append ps qs) ∙ list_any-append (same_site q) (sites_of ps) (sites_of qs))))
+    one_erasure (these_sites (sites_of (ps ++ qs))) (state_at old) (state_at new) (λ q.
+    by_erasure (these_sites (sites_of qs)) (state_at mid) (state_at new) then q
+    ∙ ap (cond (list_any (same_site q) (sites_of qs)) None) (by_erasure (these_sites (sites_of ps)) (state_at old) (state_at mid) first q)
+    ∙ either (list_any (same_site q) (sites_of ps)) (list_any (same_site q) (sites_of qs)) (state_at old q)
+    ∙ ap (λ b. cond b None (state_at old q)) (sym (ap (list_any (same_site q)) (sites_of-append ps qs) ∙ list_any-append (same_site q) (sites_of ps) (sites_of qs))))
   where
     either : {A : Type 0} (a b : Bool) (x : Option A) → cond b None (cond a None x) ≡ cond (a || b) None x
     either true true x = refl
@@ -75,15 +75,15 @@ erased_then ps qs old mid new first then =
     either false b x = refl
 
 -- a place that is not there
-pub nothing_erased : {T : Type 0} (place : Option Place) (keeping : Keeping T) → place ≡ None → Changes (places_erased (place ∷ [])) (keeps keeping) (keeps keeping)
+pub nothing_erased : {T : Type 0} (place : Option Place) (state : State T) → place ≡ None → Changes (places_erased (place ∷ [])) (state_at state) (state_at state)
 unfolding places_erased
-nothing_erased place keeping e =
-    one_erasure (these_sites (sites_of (place ∷ []))) (keeps keeping) (keeps keeping) (λ q. ap (λ p. cond (list_any (same_site q) (sites_of (p ∷ []))) None (keeps keeping q)) (sym e))
+nothing_erased place state e =
+    one_erasure (these_sites (sites_of (place ∷ []))) (state_at state) (state_at state) (λ q. ap (λ p. cond (list_any (same_site q) (sites_of (p ∷ []))) None (state_at state q)) (sym e))
 
-pub cell_erased_there : {T : Type 0} (place : Option Place) (there : Place) (old new : Keeping T) → place ≡ Some there → Changes (cell_erased there) (keeps old) (keeps new) → Changes (places_erased (place ∷ [])) (keeps old) (keeps new)
+pub cell_erased_there : {T : Type 0} (place : Option Place) (there : Place) (old new : State T) → place ≡ Some there → Changes (cell_erased there) (state_at old) (state_at new) → Changes (places_erased (place ∷ [])) (state_at old) (state_at new)
 unfolding places_erased
-cell_erased_there place there old new e h = subst (λ p. Changes (erase (these_sites (sites_of (p ∷ []))) ∷ []) (keeps old) (keeps new)) (sym e) h
+cell_erased_there place there old new e h = subst (λ p. Changes (erase (these_sites (sites_of (p ∷ []))) ∷ []) (state_at old) (state_at new)) (sym e) h
 
 -- where all places of a cell's border were cleared
-pub erased_at : {T : Type 0} (pos : Position) (places : Border Place) (old new : Keeping T) → places ≡ border_places pos → Changes (places_erased (border_fields places)) (keeps old) (keeps new) → Changes (border_erased pos) (keeps old) (keeps new)
-erased_at pos places old new e h = subst (λ p. Changes (places_erased (border_fields p)) (keeps old) (keeps new)) e h
+pub erased_at : {T : Type 0} (pos : Position) (places : Border Place) (old new : State T) → places ≡ border_places pos → Changes (places_erased (border_fields places)) (state_at old) (state_at new) → Changes (border_erased pos) (state_at old) (state_at new)
+erased_at pos places old new e h = subst (λ p. Changes (places_erased (border_fields p)) (state_at old) (state_at new)) e h

@@ -12,13 +12,13 @@ use Rattle.tabled_object.specs.declared.position.Position.{Position}
 use Rattle.tabled_grid.specs.declared.keys.EdgePlace.{EdgePlace}
 use Rattle.tabled_grid.specs.Keys.{position_cmp, edge_place_cmp, positions_total, edge_places_total}
 use Rattle.tabled_grid.specs.Site.{across, down, Class, Part, edge, crossing, Site, the_default, of_class, of_line, at_spot, from_end, from_start, level, same_site}
-use Rattle.tabled_grid.specs.Event.{Written, sign, Region, level_sites, offset_sites, line_sites, these_sites, within, write, erase, covered, kept, Shows, Changes}
+use Rattle.tabled_grid.specs.Event.{Written, sign, Region, level_sites, offset_sites, line_sites, these_sites, within, write, erase, covered, replay, Shows, Changes}
 use Rattle.tabled_grid.specs.Lines.{horizontal_line_set, vertical_line_set}
-use Rattle.tabled_grid.specs.Keeping.{Keeping, keeps, HasNothing, classes, class_writes, class_record_set, position, edge_place, horizontal_part, vertical_part}
-use Rattle.tabled_grid.proofs.Replay.{kept-nil, kept_one, kept_cleared}
-use Rattle.tabled_grid.proofs.ClassWrites.{kept_classes, uncovered_other}
+use Rattle.tabled_grid.specs.State.{State, state_at, HasNothing, classes, class_writes, class_record_set, position, edge_place, horizontal_part, vertical_part}
+use Rattle.tabled_grid.proofs.Replay.{replay-nil, replay_one, replay_cleared}
+use Rattle.tabled_grid.proofs.ClassWrites.{replay_classes, uncovered_other}
 use Rattle.tabled_grid.proofs.Blocks.{is_eq-nat_cmp}
-use Rattle.tabled_grid.proofs.LineWrites.{kept-horizontal_line_set, kept-vertical_line_set, covered-horizontal_line_set, covered-vertical_line_set, number_sym}
+use Rattle.tabled_grid.proofs.LineWrites.{replay-horizontal_line_set, replay-vertical_line_set, covered-horizontal_line_set, covered-vertical_line_set, number_sym}
 use Rattle.std.proofs.lemmas.Bool.{eqb-true}
 use Rattle.tabled_grid.proofs.Writing.{same_position, same_edge_place}
 
@@ -34,15 +34,15 @@ twice false x y z = refl
 one_write : {T : Type 0} (site : Site) (w : Written T) (old new : Site → Option (Written T)) → ((q : Site) → new q ≡ cond (same_site q site) (Some w) (old q)) → Changes (write site w ∷ []) old new
 unfolding Changes
 one_write site w old new h q =
-    h q ∙ twice (same_site q site) (Some w) None (old q) ∙ ap (λ k. cond (same_site q site) k (old q)) (sym (kept_one q (write site w)))
-    ∙ ap (λ b. cond b (kept (write site w ∷ []) q) (old q)) (sym (or-none (same_site q site)))
+    h q ∙ twice (same_site q site) (Some w) None (old q) ∙ ap (λ k. cond (same_site q site) k (old q)) (sym (replay_one q (write site w)))
+    ∙ ap (λ b. cond b (replay (write site w ∷ []) q) (old q)) (sym (or-none (same_site q site)))
 
 -- one erasure
 pub one_erasure : {T : Type 0} (region : Region) (old new : Site → Option (Written T)) → ((q : Site) → new q ≡ cond (within region q) None (old q)) → Changes (erase region ∷ []) old new
 unfolding Changes
 one_erasure region old new h q =
-    h q ∙ ap (λ k. cond (within region q) k (old q)) (sym (kept_cleared region [] q ∙ kept-nil q))
-    ∙ ap (λ b. cond b (kept (erase region ∷ []) q) (old q)) (sym (or-none (within region q)))
+    h q ∙ ap (λ k. cond (within region q) k (old q)) (sym (replay_cleared region [] q ∙ replay-nil q))
+    ∙ ap (λ b. cond b (replay (erase region ∷ []) q) (old q)) (sym (or-none (within region q)))
 
 either_way : {A : Type 0} (b c : Bool) (x y : A) → cond b x (cond c x y) ≡ cond (b || c) x y
 either_way true c x y = refl
@@ -54,7 +54,7 @@ unfolding Changes
 two_erasures one other old new h q =
     h q ∙ either_way (within one q) (within other q) None (old q)
     ∙ ap (λ b. cond (within one q || b) None (old q)) (sym (or-none (within other q)))
-    ∙ ap (λ k. cond (within one q || (within other q || false)) k (old q)) (sym (kept_cleared one (erase other ∷ []) q ∙ kept_cleared other [] q ∙ kept-nil q))
+    ∙ ap (λ k. cond (within one q || (within other q || false)) k (old q)) (sym (replay_cleared one (erase other ∷ []) q ∙ replay_cleared other [] q ∙ replay-nil q))
 
 signs_put : {T : Type 0} (b : Bool) (x : T) (o : Option T) → option_map sign (cond b (Some x) o) ≡ cond b (Some (sign x)) (option_map sign o)
 signs_put true x o = refl
@@ -131,7 +131,7 @@ line_put false false k w old e h = refl
 line_put true false k w old e h = absurd cc
 line_put false true k w old e h = absurd cc
 
-default_set_sites : {T : Type 0} (k : Keeping T) (v : T) (q : Site) → keeps (record k { default_value = Some v }) q ≡ cond (same_site q (the_default)) (Some (sign v)) (keeps k q)
+default_set_sites : {T : Type 0} (k : State T) (v : T) (q : Site) → state_at (record k { default_value = Some v }) q ≡ cond (same_site q (the_default)) (Some (sign v)) (state_at k q)
 default_set_sites k v (the_default) = refl
 default_set_sites k v (of_class c) = refl
 default_set_sites k v (of_line (LineOf.Vertical n) p) = refl
@@ -145,10 +145,10 @@ default_set_sites k v (from_start across r c n) = refl
 default_set_sites k v (from_start down r c n) = refl
 
 -- the default written
-pub default_set : {T : Type 0} (k : Keeping T) (v : T) → Changes (write the_default (sign v) ∷ []) (keeps k) (keeps (record k { default_value = Some v }))
-default_set k v = one_write (the_default) (sign v) (keeps k) (keeps (record k { default_value = Some v })) (default_set_sites k v)
+pub default_set : {T : Type 0} (k : State T) (v : T) → Changes (write the_default (sign v) ∷ []) (state_at k) (state_at (record k { default_value = Some v }))
+default_set k v = one_write (the_default) (sign v) (state_at k) (state_at (record k { default_value = Some v })) (default_set_sites k v)
 
-default_erased_sites : {T : Type 0} (k : Keeping T) (q : Site) → keeps (record k { default_value = None }) q ≡ cond (within (level_sites 0) q) None (keeps k q)
+default_erased_sites : {T : Type 0} (k : State T) (q : Site) → state_at (record k { default_value = None }) q ≡ cond (within (level_sites 0) q) None (state_at k q)
 default_erased_sites k (the_default) = refl
 default_erased_sites k (of_class c) = refl
 default_erased_sites k (of_line (LineOf.Vertical n) p) = refl
@@ -162,10 +162,10 @@ default_erased_sites k (from_start across r c n) = refl
 default_erased_sites k (from_start down r c n) = refl
 
 -- the default erased
-pub default_erased : {T : Type 0} (k : Keeping T) → Changes (erase (level_sites 0) ∷ []) (keeps k) (keeps (record k { default_value = None }))
-default_erased k = one_erasure (level_sites 0) (keeps k) (keeps (record k { default_value = None })) (default_erased_sites k)
+pub default_erased : {T : Type 0} (k : State T) → Changes (erase (level_sites 0) ∷ []) (state_at k) (state_at (record k { default_value = None }))
+default_erased k = one_erasure (level_sites 0) (state_at k) (state_at (record k { default_value = None })) (default_erased_sites k)
 
-lines_erased_sites : {T : Type 0} (k : Keeping T) (q : Site) → keeps (record k { vertical_lines = map.empty; horizontal_lines = map.empty }) q ≡ cond (within (level_sites 2) q) None (cond (within (level_sites 3) q) None (keeps k q))
+lines_erased_sites : {T : Type 0} (k : State T) (q : Site) → state_at (record k { vertical_lines = map.empty; horizontal_lines = map.empty }) q ≡ cond (within (level_sites 2) q) None (cond (within (level_sites 3) q) None (state_at k q))
 lines_erased_sites k (the_default) = refl
 lines_erased_sites k (of_class c) = refl
 lines_erased_sites k (of_line (LineOf.Vertical n) p) = ap (option_and_then (vertical_part p)) (map.get-empty nat_cmp n)
@@ -179,10 +179,10 @@ lines_erased_sites k (from_start across r c n) = refl
 lines_erased_sites k (from_start down r c n) = refl
 
 -- all custom lines erased
-pub lines_erased : {T : Type 0} (k : Keeping T) → Changes (erase (level_sites 2) ∷ erase (level_sites 3) ∷ []) (keeps k) (keeps (record k { vertical_lines = map.empty; horizontal_lines = map.empty }))
-lines_erased k = two_erasures (level_sites 2) (level_sites 3) (keeps k) (keeps (record k { vertical_lines = map.empty; horizontal_lines = map.empty })) (lines_erased_sites k)
+pub lines_erased : {T : Type 0} (k : State T) → Changes (erase (level_sites 2) ∷ erase (level_sites 3) ∷ []) (state_at k) (state_at (record k { vertical_lines = map.empty; horizontal_lines = map.empty }))
+lines_erased k = two_erasures (level_sites 2) (level_sites 3) (state_at k) (state_at (record k { vertical_lines = map.empty; horizontal_lines = map.empty })) (lines_erased_sites k)
 
-vertical_line_taken_sites : {T : Type 0} (k : Keeping T) (m : ℕ) (q : Site) → keeps (record k { vertical_lines = map.remove k.vertical_lines m }) q ≡ cond (within (line_sites (LineOf.Vertical m)) q) None (keeps k q)
+vertical_line_taken_sites : {T : Type 0} (k : State T) (m : ℕ) (q : Site) → state_at (record k { vertical_lines = map.remove k.vertical_lines m }) q ≡ cond (within (line_sites (LineOf.Vertical m)) q) None (state_at k q)
 vertical_line_taken_sites k m (the_default) = refl
 vertical_line_taken_sites k m (of_class c) = refl
 vertical_line_taken_sites k m (of_line (LineOf.Vertical n) p) = vertical_taken k.vertical_lines m n p
@@ -196,10 +196,10 @@ vertical_line_taken_sites k m (from_start across r c n) = refl
 vertical_line_taken_sites k m (from_start down r c n) = refl
 
 -- a custom vertical line removed
-pub vertical_line_taken : {T : Type 0} (k : Keeping T) (m : ℕ) → Changes (erase (line_sites (LineOf.Vertical m)) ∷ []) (keeps k) (keeps (record k { vertical_lines = map.remove k.vertical_lines m }))
-vertical_line_taken k m = one_erasure (line_sites (LineOf.Vertical m)) (keeps k) (keeps (record k { vertical_lines = map.remove k.vertical_lines m })) (vertical_line_taken_sites k m)
+pub vertical_line_taken : {T : Type 0} (k : State T) (m : ℕ) → Changes (erase (line_sites (LineOf.Vertical m)) ∷ []) (state_at k) (state_at (record k { vertical_lines = map.remove k.vertical_lines m }))
+vertical_line_taken k m = one_erasure (line_sites (LineOf.Vertical m)) (state_at k) (state_at (record k { vertical_lines = map.remove k.vertical_lines m })) (vertical_line_taken_sites k m)
 
-horizontal_line_taken_sites : {T : Type 0} (k : Keeping T) (m : ℕ) (q : Site) → keeps (record k { horizontal_lines = map.remove k.horizontal_lines m }) q ≡ cond (within (line_sites (LineOf.Horizontal m)) q) None (keeps k q)
+horizontal_line_taken_sites : {T : Type 0} (k : State T) (m : ℕ) (q : Site) → state_at (record k { horizontal_lines = map.remove k.horizontal_lines m }) q ≡ cond (within (line_sites (LineOf.Horizontal m)) q) None (state_at k q)
 horizontal_line_taken_sites k m (the_default) = refl
 horizontal_line_taken_sites k m (of_class c) = refl
 horizontal_line_taken_sites k m (of_line (LineOf.Vertical n) p) = refl
@@ -213,10 +213,10 @@ horizontal_line_taken_sites k m (from_start across r c n) = refl
 horizontal_line_taken_sites k m (from_start down r c n) = refl
 
 -- a custom horizontal line removed
-pub horizontal_line_taken : {T : Type 0} (k : Keeping T) (m : ℕ) → Changes (erase (line_sites (LineOf.Horizontal m)) ∷ []) (keeps k) (keeps (record k { horizontal_lines = map.remove k.horizontal_lines m }))
-horizontal_line_taken k m = one_erasure (line_sites (LineOf.Horizontal m)) (keeps k) (keeps (record k { horizontal_lines = map.remove k.horizontal_lines m })) (horizontal_line_taken_sites k m)
+pub horizontal_line_taken : {T : Type 0} (k : State T) (m : ℕ) → Changes (erase (line_sites (LineOf.Horizontal m)) ∷ []) (state_at k) (state_at (record k { horizontal_lines = map.remove k.horizontal_lines m }))
+horizontal_line_taken k m = one_erasure (line_sites (LineOf.Horizontal m)) (state_at k) (state_at (record k { horizontal_lines = map.remove k.horizontal_lines m })) (horizontal_line_taken_sites k m)
 
-edge_across_set_sites : {T : Type 0} (k : Keeping T) (spot : Position) (v : T) (q : Site) → keeps (record k { edges_across = map.insert k.edges_across spot v }) q ≡ cond (same_site q (at_spot (edge across spot.row spot.col))) (Some (sign v)) (keeps k q)
+edge_across_set_sites : {T : Type 0} (k : State T) (spot : Position) (v : T) (q : Site) → state_at (record k { edges_across = map.insert k.edges_across spot v }) q ≡ cond (same_site q (at_spot (edge across spot.row spot.col))) (Some (sign v)) (state_at k q)
 edge_across_set_sites k spot v (the_default) = refl
 edge_across_set_sites k spot v (of_class c) = refl
 edge_across_set_sites k spot v (of_line (LineOf.Vertical n) p) = refl
@@ -230,10 +230,10 @@ edge_across_set_sites k spot v (from_start across r c n) = refl
 edge_across_set_sites k spot v (from_start down r c n) = refl
 
 -- a cell's character written at an edge of a horizontal line
-pub edge_across_set : {T : Type 0} (k : Keeping T) (spot : Position) (v : T) → Changes (write (at_spot (edge across spot.row spot.col)) (sign v) ∷ []) (keeps k) (keeps (record k { edges_across = map.insert k.edges_across spot v }))
-edge_across_set k spot v = one_write (at_spot (edge across spot.row spot.col)) (sign v) (keeps k) (keeps (record k { edges_across = map.insert k.edges_across spot v })) (edge_across_set_sites k spot v)
+pub edge_across_set : {T : Type 0} (k : State T) (spot : Position) (v : T) → Changes (write (at_spot (edge across spot.row spot.col)) (sign v) ∷ []) (state_at k) (state_at (record k { edges_across = map.insert k.edges_across spot v }))
+edge_across_set k spot v = one_write (at_spot (edge across spot.row spot.col)) (sign v) (state_at k) (state_at (record k { edges_across = map.insert k.edges_across spot v })) (edge_across_set_sites k spot v)
 
-edge_across_erased_sites : {T : Type 0} (k : Keeping T) (spot : Position) (q : Site) → keeps (record k { edges_across = map.remove k.edges_across spot }) q ≡ cond (within (these_sites (at_spot (edge across spot.row spot.col) ∷ [])) q) None (keeps k q)
+edge_across_erased_sites : {T : Type 0} (k : State T) (spot : Position) (q : Site) → state_at (record k { edges_across = map.remove k.edges_across spot }) q ≡ cond (within (these_sites (at_spot (edge across spot.row spot.col) ∷ [])) q) None (state_at k q)
 edge_across_erased_sites k spot (the_default) = refl
 edge_across_erased_sites k spot (of_class c) = refl
 edge_across_erased_sites k spot (of_line (LineOf.Vertical n) p) = refl
@@ -247,10 +247,10 @@ edge_across_erased_sites k spot (from_start across r c n) = refl
 edge_across_erased_sites k spot (from_start down r c n) = refl
 
 -- a cell's character erased at an edge of a horizontal line
-pub edge_across_erased : {T : Type 0} (k : Keeping T) (spot : Position) → Changes (erase (these_sites (at_spot (edge across spot.row spot.col) ∷ [])) ∷ []) (keeps k) (keeps (record k { edges_across = map.remove k.edges_across spot }))
-edge_across_erased k spot = one_erasure (these_sites (at_spot (edge across spot.row spot.col) ∷ [])) (keeps k) (keeps (record k { edges_across = map.remove k.edges_across spot })) (edge_across_erased_sites k spot)
+pub edge_across_erased : {T : Type 0} (k : State T) (spot : Position) → Changes (erase (these_sites (at_spot (edge across spot.row spot.col) ∷ [])) ∷ []) (state_at k) (state_at (record k { edges_across = map.remove k.edges_across spot }))
+edge_across_erased k spot = one_erasure (these_sites (at_spot (edge across spot.row spot.col) ∷ [])) (state_at k) (state_at (record k { edges_across = map.remove k.edges_across spot })) (edge_across_erased_sites k spot)
 
-edge_down_set_sites : {T : Type 0} (k : Keeping T) (spot : Position) (v : T) (q : Site) → keeps (record k { edges_down = map.insert k.edges_down spot v }) q ≡ cond (same_site q (at_spot (edge down spot.row spot.col))) (Some (sign v)) (keeps k q)
+edge_down_set_sites : {T : Type 0} (k : State T) (spot : Position) (v : T) (q : Site) → state_at (record k { edges_down = map.insert k.edges_down spot v }) q ≡ cond (same_site q (at_spot (edge down spot.row spot.col))) (Some (sign v)) (state_at k q)
 edge_down_set_sites k spot v (the_default) = refl
 edge_down_set_sites k spot v (of_class c) = refl
 edge_down_set_sites k spot v (of_line (LineOf.Vertical n) p) = refl
@@ -264,10 +264,10 @@ edge_down_set_sites k spot v (from_start across r c n) = refl
 edge_down_set_sites k spot v (from_start down r c n) = refl
 
 -- a cell's character written at an edge of a vertical line
-pub edge_down_set : {T : Type 0} (k : Keeping T) (spot : Position) (v : T) → Changes (write (at_spot (edge down spot.row spot.col)) (sign v) ∷ []) (keeps k) (keeps (record k { edges_down = map.insert k.edges_down spot v }))
-edge_down_set k spot v = one_write (at_spot (edge down spot.row spot.col)) (sign v) (keeps k) (keeps (record k { edges_down = map.insert k.edges_down spot v })) (edge_down_set_sites k spot v)
+pub edge_down_set : {T : Type 0} (k : State T) (spot : Position) (v : T) → Changes (write (at_spot (edge down spot.row spot.col)) (sign v) ∷ []) (state_at k) (state_at (record k { edges_down = map.insert k.edges_down spot v }))
+edge_down_set k spot v = one_write (at_spot (edge down spot.row spot.col)) (sign v) (state_at k) (state_at (record k { edges_down = map.insert k.edges_down spot v })) (edge_down_set_sites k spot v)
 
-edge_down_erased_sites : {T : Type 0} (k : Keeping T) (spot : Position) (q : Site) → keeps (record k { edges_down = map.remove k.edges_down spot }) q ≡ cond (within (these_sites (at_spot (edge down spot.row spot.col) ∷ [])) q) None (keeps k q)
+edge_down_erased_sites : {T : Type 0} (k : State T) (spot : Position) (q : Site) → state_at (record k { edges_down = map.remove k.edges_down spot }) q ≡ cond (within (these_sites (at_spot (edge down spot.row spot.col) ∷ [])) q) None (state_at k q)
 edge_down_erased_sites k spot (the_default) = refl
 edge_down_erased_sites k spot (of_class c) = refl
 edge_down_erased_sites k spot (of_line (LineOf.Vertical n) p) = refl
@@ -281,10 +281,10 @@ edge_down_erased_sites k spot (from_start across r c n) = refl
 edge_down_erased_sites k spot (from_start down r c n) = refl
 
 -- a cell's character erased at an edge of a vertical line
-pub edge_down_erased : {T : Type 0} (k : Keeping T) (spot : Position) → Changes (erase (these_sites (at_spot (edge down spot.row spot.col) ∷ [])) ∷ []) (keeps k) (keeps (record k { edges_down = map.remove k.edges_down spot }))
-edge_down_erased k spot = one_erasure (these_sites (at_spot (edge down spot.row spot.col) ∷ [])) (keeps k) (keeps (record k { edges_down = map.remove k.edges_down spot })) (edge_down_erased_sites k spot)
+pub edge_down_erased : {T : Type 0} (k : State T) (spot : Position) → Changes (erase (these_sites (at_spot (edge down spot.row spot.col) ∷ [])) ∷ []) (state_at k) (state_at (record k { edges_down = map.remove k.edges_down spot }))
+edge_down_erased k spot = one_erasure (these_sites (at_spot (edge down spot.row spot.col) ∷ [])) (state_at k) (state_at (record k { edges_down = map.remove k.edges_down spot })) (edge_down_erased_sites k spot)
 
-crossing_set_sites : {T : Type 0} (k : Keeping T) (spot : Position) (v : T) (q : Site) → keeps (record k { crosses = map.insert k.crosses spot v }) q ≡ cond (same_site q (at_spot (crossing spot.row spot.col))) (Some (sign v)) (keeps k q)
+crossing_set_sites : {T : Type 0} (k : State T) (spot : Position) (v : T) (q : Site) → state_at (record k { crosses = map.insert k.crosses spot v }) q ≡ cond (same_site q (at_spot (crossing spot.row spot.col))) (Some (sign v)) (state_at k q)
 crossing_set_sites k spot v (the_default) = refl
 crossing_set_sites k spot v (of_class c) = refl
 crossing_set_sites k spot v (of_line (LineOf.Vertical n) p) = refl
@@ -298,10 +298,10 @@ crossing_set_sites k spot v (from_start across r c n) = refl
 crossing_set_sites k spot v (from_start down r c n) = refl
 
 -- a cell's character written at a crossing
-pub crossing_set : {T : Type 0} (k : Keeping T) (spot : Position) (v : T) → Changes (write (at_spot (crossing spot.row spot.col)) (sign v) ∷ []) (keeps k) (keeps (record k { crosses = map.insert k.crosses spot v }))
-crossing_set k spot v = one_write (at_spot (crossing spot.row spot.col)) (sign v) (keeps k) (keeps (record k { crosses = map.insert k.crosses spot v })) (crossing_set_sites k spot v)
+pub crossing_set : {T : Type 0} (k : State T) (spot : Position) (v : T) → Changes (write (at_spot (crossing spot.row spot.col)) (sign v) ∷ []) (state_at k) (state_at (record k { crosses = map.insert k.crosses spot v }))
+crossing_set k spot v = one_write (at_spot (crossing spot.row spot.col)) (sign v) (state_at k) (state_at (record k { crosses = map.insert k.crosses spot v })) (crossing_set_sites k spot v)
 
-crossing_erased_sites : {T : Type 0} (k : Keeping T) (spot : Position) (q : Site) → keeps (record k { crosses = map.remove k.crosses spot }) q ≡ cond (within (these_sites (at_spot (crossing spot.row spot.col) ∷ [])) q) None (keeps k q)
+crossing_erased_sites : {T : Type 0} (k : State T) (spot : Position) (q : Site) → state_at (record k { crosses = map.remove k.crosses spot }) q ≡ cond (within (these_sites (at_spot (crossing spot.row spot.col) ∷ [])) q) None (state_at k q)
 crossing_erased_sites k spot (the_default) = refl
 crossing_erased_sites k spot (of_class c) = refl
 crossing_erased_sites k spot (of_line (LineOf.Vertical n) p) = refl
@@ -315,10 +315,10 @@ crossing_erased_sites k spot (from_start across r c n) = refl
 crossing_erased_sites k spot (from_start down r c n) = refl
 
 -- a cell's character erased at a crossing
-pub crossing_erased : {T : Type 0} (k : Keeping T) (spot : Position) → Changes (erase (these_sites (at_spot (crossing spot.row spot.col) ∷ [])) ∷ []) (keeps k) (keeps (record k { crosses = map.remove k.crosses spot }))
-crossing_erased k spot = one_erasure (these_sites (at_spot (crossing spot.row spot.col) ∷ [])) (keeps k) (keeps (record k { crosses = map.remove k.crosses spot })) (crossing_erased_sites k spot)
+pub crossing_erased : {T : Type 0} (k : State T) (spot : Position) → Changes (erase (these_sites (at_spot (crossing spot.row spot.col) ∷ [])) ∷ []) (state_at k) (state_at (record k { crosses = map.remove k.crosses spot }))
+crossing_erased k spot = one_erasure (these_sites (at_spot (crossing spot.row spot.col) ∷ [])) (state_at k) (state_at (record k { crosses = map.remove k.crosses spot })) (crossing_erased_sites k spot)
 
-cells_erased_sites : {T : Type 0} (k : Keeping T) (q : Site) → keeps (record k { edges_across = map.empty; edges_down = map.empty; crosses = map.empty }) q ≡ cond (within (level_sites 4) q) None (keeps k q)
+cells_erased_sites : {T : Type 0} (k : State T) (q : Site) → state_at (record k { edges_across = map.empty; edges_down = map.empty; crosses = map.empty }) q ≡ cond (within (level_sites 4) q) None (state_at k q)
 cells_erased_sites k (the_default) = refl
 cells_erased_sites k (of_class c) = refl
 cells_erased_sites k (of_line (LineOf.Vertical n) p) = refl
@@ -332,10 +332,10 @@ cells_erased_sites k (from_start across r c n) = refl
 cells_erased_sites k (from_start down r c n) = refl
 
 -- all cells' characters erased
-pub cells_erased : {T : Type 0} (k : Keeping T) → Changes (erase (level_sites 4) ∷ []) (keeps k) (keeps (record k { edges_across = map.empty; edges_down = map.empty; crosses = map.empty }))
-cells_erased k = one_erasure (level_sites 4) (keeps k) (keeps (record k { edges_across = map.empty; edges_down = map.empty; crosses = map.empty })) (cells_erased_sites k)
+pub cells_erased : {T : Type 0} (k : State T) → Changes (erase (level_sites 4) ∷ []) (state_at k) (state_at (record k { edges_across = map.empty; edges_down = map.empty; crosses = map.empty }))
+cells_erased k = one_erasure (level_sites 4) (state_at k) (state_at (record k { edges_across = map.empty; edges_down = map.empty; crosses = map.empty })) (cells_erased_sites k)
 
-end_across_set_sites : {T : Type 0} (k : Keeping T) (spot : EdgePlace) (v : T) (q : Site) → keeps (record k { ends_across = map.insert k.ends_across spot v }) q ≡ cond (same_site q (from_end across spot.row spot.col spot.number)) (Some (sign v)) (keeps k q)
+end_across_set_sites : {T : Type 0} (k : State T) (spot : EdgePlace) (v : T) (q : Site) → state_at (record k { ends_across = map.insert k.ends_across spot v }) q ≡ cond (same_site q (from_end across spot.row spot.col spot.number)) (Some (sign v)) (state_at k q)
 end_across_set_sites k spot v (the_default) = refl
 end_across_set_sites k spot v (of_class c) = refl
 end_across_set_sites k spot v (of_line (LineOf.Vertical n) p) = refl
@@ -349,10 +349,10 @@ end_across_set_sites k spot v (from_start across r c n) = refl
 end_across_set_sites k spot v (from_start down r c n) = refl
 
 -- an offset written, counted from the end of an edge of a horizontal line
-pub end_across_set : {T : Type 0} (k : Keeping T) (spot : EdgePlace) (v : T) → Changes (write (from_end across spot.row spot.col spot.number) (sign v) ∷ []) (keeps k) (keeps (record k { ends_across = map.insert k.ends_across spot v }))
-end_across_set k spot v = one_write (from_end across spot.row spot.col spot.number) (sign v) (keeps k) (keeps (record k { ends_across = map.insert k.ends_across spot v })) (end_across_set_sites k spot v)
+pub end_across_set : {T : Type 0} (k : State T) (spot : EdgePlace) (v : T) → Changes (write (from_end across spot.row spot.col spot.number) (sign v) ∷ []) (state_at k) (state_at (record k { ends_across = map.insert k.ends_across spot v }))
+end_across_set k spot v = one_write (from_end across spot.row spot.col spot.number) (sign v) (state_at k) (state_at (record k { ends_across = map.insert k.ends_across spot v })) (end_across_set_sites k spot v)
 
-end_down_set_sites : {T : Type 0} (k : Keeping T) (spot : EdgePlace) (v : T) (q : Site) → keeps (record k { ends_down = map.insert k.ends_down spot v }) q ≡ cond (same_site q (from_end down spot.row spot.col spot.number)) (Some (sign v)) (keeps k q)
+end_down_set_sites : {T : Type 0} (k : State T) (spot : EdgePlace) (v : T) (q : Site) → state_at (record k { ends_down = map.insert k.ends_down spot v }) q ≡ cond (same_site q (from_end down spot.row spot.col spot.number)) (Some (sign v)) (state_at k q)
 end_down_set_sites k spot v (the_default) = refl
 end_down_set_sites k spot v (of_class c) = refl
 end_down_set_sites k spot v (of_line (LineOf.Vertical n) p) = refl
@@ -366,10 +366,10 @@ end_down_set_sites k spot v (from_start across r c n) = refl
 end_down_set_sites k spot v (from_start down r c n) = refl
 
 -- an offset written, counted from the end of an edge of a vertical line
-pub end_down_set : {T : Type 0} (k : Keeping T) (spot : EdgePlace) (v : T) → Changes (write (from_end down spot.row spot.col spot.number) (sign v) ∷ []) (keeps k) (keeps (record k { ends_down = map.insert k.ends_down spot v }))
-end_down_set k spot v = one_write (from_end down spot.row spot.col spot.number) (sign v) (keeps k) (keeps (record k { ends_down = map.insert k.ends_down spot v })) (end_down_set_sites k spot v)
+pub end_down_set : {T : Type 0} (k : State T) (spot : EdgePlace) (v : T) → Changes (write (from_end down spot.row spot.col spot.number) (sign v) ∷ []) (state_at k) (state_at (record k { ends_down = map.insert k.ends_down spot v }))
+end_down_set k spot v = one_write (from_end down spot.row spot.col spot.number) (sign v) (state_at k) (state_at (record k { ends_down = map.insert k.ends_down spot v })) (end_down_set_sites k spot v)
 
-start_across_set_sites : {T : Type 0} (k : Keeping T) (spot : EdgePlace) (v : T) (q : Site) → keeps (record k { starts_across = map.insert k.starts_across spot v }) q ≡ cond (same_site q (from_start across spot.row spot.col spot.number)) (Some (sign v)) (keeps k q)
+start_across_set_sites : {T : Type 0} (k : State T) (spot : EdgePlace) (v : T) (q : Site) → state_at (record k { starts_across = map.insert k.starts_across spot v }) q ≡ cond (same_site q (from_start across spot.row spot.col spot.number)) (Some (sign v)) (state_at k q)
 start_across_set_sites k spot v (the_default) = refl
 start_across_set_sites k spot v (of_class c) = refl
 start_across_set_sites k spot v (of_line (LineOf.Vertical n) p) = refl
@@ -383,10 +383,10 @@ start_across_set_sites k spot v (from_start across r c n) = offset_put k.starts_
 start_across_set_sites k spot v (from_start down r c n) = refl
 
 -- an offset written, counted from the start of an edge of a horizontal line
-pub start_across_set : {T : Type 0} (k : Keeping T) (spot : EdgePlace) (v : T) → Changes (write (from_start across spot.row spot.col spot.number) (sign v) ∷ []) (keeps k) (keeps (record k { starts_across = map.insert k.starts_across spot v }))
-start_across_set k spot v = one_write (from_start across spot.row spot.col spot.number) (sign v) (keeps k) (keeps (record k { starts_across = map.insert k.starts_across spot v })) (start_across_set_sites k spot v)
+pub start_across_set : {T : Type 0} (k : State T) (spot : EdgePlace) (v : T) → Changes (write (from_start across spot.row spot.col spot.number) (sign v) ∷ []) (state_at k) (state_at (record k { starts_across = map.insert k.starts_across spot v }))
+start_across_set k spot v = one_write (from_start across spot.row spot.col spot.number) (sign v) (state_at k) (state_at (record k { starts_across = map.insert k.starts_across spot v })) (start_across_set_sites k spot v)
 
-start_down_set_sites : {T : Type 0} (k : Keeping T) (spot : EdgePlace) (v : T) (q : Site) → keeps (record k { starts_down = map.insert k.starts_down spot v }) q ≡ cond (same_site q (from_start down spot.row spot.col spot.number)) (Some (sign v)) (keeps k q)
+start_down_set_sites : {T : Type 0} (k : State T) (spot : EdgePlace) (v : T) (q : Site) → state_at (record k { starts_down = map.insert k.starts_down spot v }) q ≡ cond (same_site q (from_start down spot.row spot.col spot.number)) (Some (sign v)) (state_at k q)
 start_down_set_sites k spot v (the_default) = refl
 start_down_set_sites k spot v (of_class c) = refl
 start_down_set_sites k spot v (of_line (LineOf.Vertical n) p) = refl
@@ -400,10 +400,10 @@ start_down_set_sites k spot v (from_start across r c n) = refl
 start_down_set_sites k spot v (from_start down r c n) = offset_put k.starts_down spot v r c n
 
 -- an offset written, counted from the start of an edge of a vertical line
-pub start_down_set : {T : Type 0} (k : Keeping T) (spot : EdgePlace) (v : T) → Changes (write (from_start down spot.row spot.col spot.number) (sign v) ∷ []) (keeps k) (keeps (record k { starts_down = map.insert k.starts_down spot v }))
-start_down_set k spot v = one_write (from_start down spot.row spot.col spot.number) (sign v) (keeps k) (keeps (record k { starts_down = map.insert k.starts_down spot v })) (start_down_set_sites k spot v)
+pub start_down_set : {T : Type 0} (k : State T) (spot : EdgePlace) (v : T) → Changes (write (from_start down spot.row spot.col spot.number) (sign v) ∷ []) (state_at k) (state_at (record k { starts_down = map.insert k.starts_down spot v }))
+start_down_set k spot v = one_write (from_start down spot.row spot.col spot.number) (sign v) (state_at k) (state_at (record k { starts_down = map.insert k.starts_down spot v })) (start_down_set_sites k spot v)
 
-end_across_erased_sites : {T : Type 0} (k : Keeping T) (spot : EdgePlace) (q : Site) → keeps (record k { ends_across = map.remove k.ends_across spot }) q ≡ cond (within (these_sites (from_end across spot.row spot.col spot.number ∷ [])) q) None (keeps k q)
+end_across_erased_sites : {T : Type 0} (k : State T) (spot : EdgePlace) (q : Site) → state_at (record k { ends_across = map.remove k.ends_across spot }) q ≡ cond (within (these_sites (from_end across spot.row spot.col spot.number ∷ [])) q) None (state_at k q)
 end_across_erased_sites k spot (the_default) = refl
 end_across_erased_sites k spot (of_class c) = refl
 end_across_erased_sites k spot (of_line (LineOf.Vertical n) p) = refl
@@ -417,10 +417,10 @@ end_across_erased_sites k spot (from_start across r c n) = refl
 end_across_erased_sites k spot (from_start down r c n) = refl
 
 -- an offset erased, counted from the end of an edge of a horizontal line
-pub end_across_erased : {T : Type 0} (k : Keeping T) (spot : EdgePlace) → Changes (erase (these_sites (from_end across spot.row spot.col spot.number ∷ [])) ∷ []) (keeps k) (keeps (record k { ends_across = map.remove k.ends_across spot }))
-end_across_erased k spot = one_erasure (these_sites (from_end across spot.row spot.col spot.number ∷ [])) (keeps k) (keeps (record k { ends_across = map.remove k.ends_across spot })) (end_across_erased_sites k spot)
+pub end_across_erased : {T : Type 0} (k : State T) (spot : EdgePlace) → Changes (erase (these_sites (from_end across spot.row spot.col spot.number ∷ [])) ∷ []) (state_at k) (state_at (record k { ends_across = map.remove k.ends_across spot }))
+end_across_erased k spot = one_erasure (these_sites (from_end across spot.row spot.col spot.number ∷ [])) (state_at k) (state_at (record k { ends_across = map.remove k.ends_across spot })) (end_across_erased_sites k spot)
 
-end_down_erased_sites : {T : Type 0} (k : Keeping T) (spot : EdgePlace) (q : Site) → keeps (record k { ends_down = map.remove k.ends_down spot }) q ≡ cond (within (these_sites (from_end down spot.row spot.col spot.number ∷ [])) q) None (keeps k q)
+end_down_erased_sites : {T : Type 0} (k : State T) (spot : EdgePlace) (q : Site) → state_at (record k { ends_down = map.remove k.ends_down spot }) q ≡ cond (within (these_sites (from_end down spot.row spot.col spot.number ∷ [])) q) None (state_at k q)
 end_down_erased_sites k spot (the_default) = refl
 end_down_erased_sites k spot (of_class c) = refl
 end_down_erased_sites k spot (of_line (LineOf.Vertical n) p) = refl
@@ -434,10 +434,10 @@ end_down_erased_sites k spot (from_start across r c n) = refl
 end_down_erased_sites k spot (from_start down r c n) = refl
 
 -- an offset erased, counted from the end of an edge of a vertical line
-pub end_down_erased : {T : Type 0} (k : Keeping T) (spot : EdgePlace) → Changes (erase (these_sites (from_end down spot.row spot.col spot.number ∷ [])) ∷ []) (keeps k) (keeps (record k { ends_down = map.remove k.ends_down spot }))
-end_down_erased k spot = one_erasure (these_sites (from_end down spot.row spot.col spot.number ∷ [])) (keeps k) (keeps (record k { ends_down = map.remove k.ends_down spot })) (end_down_erased_sites k spot)
+pub end_down_erased : {T : Type 0} (k : State T) (spot : EdgePlace) → Changes (erase (these_sites (from_end down spot.row spot.col spot.number ∷ [])) ∷ []) (state_at k) (state_at (record k { ends_down = map.remove k.ends_down spot }))
+end_down_erased k spot = one_erasure (these_sites (from_end down spot.row spot.col spot.number ∷ [])) (state_at k) (state_at (record k { ends_down = map.remove k.ends_down spot })) (end_down_erased_sites k spot)
 
-start_across_erased_sites : {T : Type 0} (k : Keeping T) (spot : EdgePlace) (q : Site) → keeps (record k { starts_across = map.remove k.starts_across spot }) q ≡ cond (within (these_sites (from_start across spot.row spot.col spot.number ∷ [])) q) None (keeps k q)
+start_across_erased_sites : {T : Type 0} (k : State T) (spot : EdgePlace) (q : Site) → state_at (record k { starts_across = map.remove k.starts_across spot }) q ≡ cond (within (these_sites (from_start across spot.row spot.col spot.number ∷ [])) q) None (state_at k q)
 start_across_erased_sites k spot (the_default) = refl
 start_across_erased_sites k spot (of_class c) = refl
 start_across_erased_sites k spot (of_line (LineOf.Vertical n) p) = refl
@@ -451,10 +451,10 @@ start_across_erased_sites k spot (from_start across r c n) = offset_taken k.star
 start_across_erased_sites k spot (from_start down r c n) = refl
 
 -- an offset erased, counted from the start of an edge of a horizontal line
-pub start_across_erased : {T : Type 0} (k : Keeping T) (spot : EdgePlace) → Changes (erase (these_sites (from_start across spot.row spot.col spot.number ∷ [])) ∷ []) (keeps k) (keeps (record k { starts_across = map.remove k.starts_across spot }))
-start_across_erased k spot = one_erasure (these_sites (from_start across spot.row spot.col spot.number ∷ [])) (keeps k) (keeps (record k { starts_across = map.remove k.starts_across spot })) (start_across_erased_sites k spot)
+pub start_across_erased : {T : Type 0} (k : State T) (spot : EdgePlace) → Changes (erase (these_sites (from_start across spot.row spot.col spot.number ∷ [])) ∷ []) (state_at k) (state_at (record k { starts_across = map.remove k.starts_across spot }))
+start_across_erased k spot = one_erasure (these_sites (from_start across spot.row spot.col spot.number ∷ [])) (state_at k) (state_at (record k { starts_across = map.remove k.starts_across spot })) (start_across_erased_sites k spot)
 
-start_down_erased_sites : {T : Type 0} (k : Keeping T) (spot : EdgePlace) (q : Site) → keeps (record k { starts_down = map.remove k.starts_down spot }) q ≡ cond (within (these_sites (from_start down spot.row spot.col spot.number ∷ [])) q) None (keeps k q)
+start_down_erased_sites : {T : Type 0} (k : State T) (spot : EdgePlace) (q : Site) → state_at (record k { starts_down = map.remove k.starts_down spot }) q ≡ cond (within (these_sites (from_start down spot.row spot.col spot.number ∷ [])) q) None (state_at k q)
 start_down_erased_sites k spot (the_default) = refl
 start_down_erased_sites k spot (of_class c) = refl
 start_down_erased_sites k spot (of_line (LineOf.Vertical n) p) = refl
@@ -468,10 +468,10 @@ start_down_erased_sites k spot (from_start across r c n) = refl
 start_down_erased_sites k spot (from_start down r c n) = offset_taken k.starts_down spot r c n
 
 -- an offset erased, counted from the start of an edge of a vertical line
-pub start_down_erased : {T : Type 0} (k : Keeping T) (spot : EdgePlace) → Changes (erase (these_sites (from_start down spot.row spot.col spot.number ∷ [])) ∷ []) (keeps k) (keeps (record k { starts_down = map.remove k.starts_down spot }))
-start_down_erased k spot = one_erasure (these_sites (from_start down spot.row spot.col spot.number ∷ [])) (keeps k) (keeps (record k { starts_down = map.remove k.starts_down spot })) (start_down_erased_sites k spot)
+pub start_down_erased : {T : Type 0} (k : State T) (spot : EdgePlace) → Changes (erase (these_sites (from_start down spot.row spot.col spot.number ∷ [])) ∷ []) (state_at k) (state_at (record k { starts_down = map.remove k.starts_down spot }))
+start_down_erased k spot = one_erasure (these_sites (from_start down spot.row spot.col spot.number ∷ [])) (state_at k) (state_at (record k { starts_down = map.remove k.starts_down spot })) (start_down_erased_sites k spot)
 
-offsets_across_erased_sites : {T : Type 0} (k : Keeping T) (q : Site) → keeps (record k { ends_across = map.empty; starts_across = map.empty }) q ≡ cond (within (offset_sites across) q) None (keeps k q)
+offsets_across_erased_sites : {T : Type 0} (k : State T) (q : Site) → state_at (record k { ends_across = map.empty; starts_across = map.empty }) q ≡ cond (within (offset_sites across) q) None (state_at k q)
 offsets_across_erased_sites k (the_default) = refl
 offsets_across_erased_sites k (of_class c) = refl
 offsets_across_erased_sites k (of_line (LineOf.Vertical n) p) = refl
@@ -485,10 +485,10 @@ offsets_across_erased_sites k (from_start across r c n) = no_offset_left (edge_p
 offsets_across_erased_sites k (from_start down r c n) = refl
 
 -- all offsets of one direction erased
-pub offsets_across_erased : {T : Type 0} (k : Keeping T) → Changes (erase (offset_sites across) ∷ []) (keeps k) (keeps (record k { ends_across = map.empty; starts_across = map.empty }))
-offsets_across_erased k = one_erasure (offset_sites across) (keeps k) (keeps (record k { ends_across = map.empty; starts_across = map.empty })) (offsets_across_erased_sites k)
+pub offsets_across_erased : {T : Type 0} (k : State T) → Changes (erase (offset_sites across) ∷ []) (state_at k) (state_at (record k { ends_across = map.empty; starts_across = map.empty }))
+offsets_across_erased k = one_erasure (offset_sites across) (state_at k) (state_at (record k { ends_across = map.empty; starts_across = map.empty })) (offsets_across_erased_sites k)
 
-offsets_down_erased_sites : {T : Type 0} (k : Keeping T) (q : Site) → keeps (record k { ends_down = map.empty; starts_down = map.empty }) q ≡ cond (within (offset_sites down) q) None (keeps k q)
+offsets_down_erased_sites : {T : Type 0} (k : State T) (q : Site) → state_at (record k { ends_down = map.empty; starts_down = map.empty }) q ≡ cond (within (offset_sites down) q) None (state_at k q)
 offsets_down_erased_sites k (the_default) = refl
 offsets_down_erased_sites k (of_class c) = refl
 offsets_down_erased_sites k (of_line (LineOf.Vertical n) p) = refl
@@ -502,68 +502,68 @@ offsets_down_erased_sites k (from_start across r c n) = refl
 offsets_down_erased_sites k (from_start down r c n) = no_offset_left (edge_place r c n)
 
 -- all offsets of one direction erased
-pub offsets_down_erased : {T : Type 0} (k : Keeping T) → Changes (erase (offset_sites down) ∷ []) (keeps k) (keeps (record k { ends_down = map.empty; starts_down = map.empty }))
-offsets_down_erased k = one_erasure (offset_sites down) (keeps k) (keeps (record k { ends_down = map.empty; starts_down = map.empty })) (offsets_down_erased_sites k)
+pub offsets_down_erased : {T : Type 0} (k : State T) → Changes (erase (offset_sites down) ∷ []) (state_at k) (state_at (record k { ends_down = map.empty; starts_down = map.empty }))
+offsets_down_erased k = one_erasure (offset_sites down) (state_at k) (state_at (record k { ends_down = map.empty; starts_down = map.empty })) (offsets_down_erased_sites k)
 
 -- a custom vertical line put at its index
-pub vertical_line_put : {T : Type 0} (k : Keeping T) (m : ℕ) (line : VerticalLine T) → Changes (vertical_line_set m line) (keeps k) (keeps (record k { vertical_lines = map.insert k.vertical_lines m line }))
+pub vertical_line_put : {T : Type 0} (k : State T) (m : ℕ) (line : VerticalLine T) → Changes (vertical_line_set m line) (state_at k) (state_at (record k { vertical_lines = map.insert k.vertical_lines m line }))
 unfolding Changes
-vertical_line_put k m line (the_default) = sym (ap (λ b. cond b (kept (vertical_line_set m line) (the_default)) (keeps k (the_default))) (covered-vertical_line_set m line (the_default)))
-vertical_line_put k m line (of_class c) = sym (ap (λ b. cond b (kept (vertical_line_set m line) (of_class c)) (keeps k (of_class c))) (covered-vertical_line_set m line (of_class c)))
+vertical_line_put k m line (the_default) = sym (ap (λ b. cond b (replay (vertical_line_set m line) (the_default)) (state_at k (the_default))) (covered-vertical_line_set m line (the_default)))
+vertical_line_put k m line (of_class c) = sym (ap (λ b. cond b (replay (vertical_line_set m line) (of_class c)) (state_at k (of_class c))) (covered-vertical_line_set m line (of_class c)))
 vertical_line_put k m line (of_line (LineOf.Vertical n) p) =
     vertical_put k.vertical_lines m line n p
-    ∙ line_put (n == m) (covered (vertical_line_set m line) (of_line (LineOf.Vertical n) p)) (kept (vertical_line_set m line) (of_line (LineOf.Vertical n) p)) (vertical_part p line) (keeps k (of_line (LineOf.Vertical n) p))
+    ∙ line_put (n == m) (covered (vertical_line_set m line) (of_line (LineOf.Vertical n) p)) (replay (vertical_line_set m line) (of_line (LineOf.Vertical n) p)) (vertical_part p line) (state_at k (of_line (LineOf.Vertical n) p))
     (number_sym n m ∙ sym (covered-vertical_line_set m line (of_line (LineOf.Vertical n) p)))
-    (λ e. ap (λ i. kept (vertical_line_set i line) (of_line (LineOf.Vertical n) p)) (sym (eqb-true n m e)) ∙ kept-vertical_line_set n line p)
-vertical_line_put k m line (of_line (LineOf.Horizontal n) p) = sym (ap (λ b. cond b (kept (vertical_line_set m line) (of_line (LineOf.Horizontal n) p)) (keeps k (of_line (LineOf.Horizontal n) p))) (covered-vertical_line_set m line (of_line (LineOf.Horizontal n) p)))
-vertical_line_put k m line (at_spot (edge across r c)) = sym (ap (λ b. cond b (kept (vertical_line_set m line) (at_spot (edge across r c))) (keeps k (at_spot (edge across r c)))) (covered-vertical_line_set m line (at_spot (edge across r c))))
-vertical_line_put k m line (at_spot (edge down r c)) = sym (ap (λ b. cond b (kept (vertical_line_set m line) (at_spot (edge down r c))) (keeps k (at_spot (edge down r c)))) (covered-vertical_line_set m line (at_spot (edge down r c))))
-vertical_line_put k m line (at_spot (crossing r c)) = sym (ap (λ b. cond b (kept (vertical_line_set m line) (at_spot (crossing r c))) (keeps k (at_spot (crossing r c)))) (covered-vertical_line_set m line (at_spot (crossing r c))))
-vertical_line_put k m line (from_end across r c n) = sym (ap (λ b. cond b (kept (vertical_line_set m line) (from_end across r c n)) (keeps k (from_end across r c n))) (covered-vertical_line_set m line (from_end across r c n)))
-vertical_line_put k m line (from_end down r c n) = sym (ap (λ b. cond b (kept (vertical_line_set m line) (from_end down r c n)) (keeps k (from_end down r c n))) (covered-vertical_line_set m line (from_end down r c n)))
-vertical_line_put k m line (from_start across r c n) = sym (ap (λ b. cond b (kept (vertical_line_set m line) (from_start across r c n)) (keeps k (from_start across r c n))) (covered-vertical_line_set m line (from_start across r c n)))
-vertical_line_put k m line (from_start down r c n) = sym (ap (λ b. cond b (kept (vertical_line_set m line) (from_start down r c n)) (keeps k (from_start down r c n))) (covered-vertical_line_set m line (from_start down r c n)))
+    (λ e. ap (λ i. replay (vertical_line_set i line) (of_line (LineOf.Vertical n) p)) (sym (eqb-true n m e)) ∙ replay-vertical_line_set n line p)
+vertical_line_put k m line (of_line (LineOf.Horizontal n) p) = sym (ap (λ b. cond b (replay (vertical_line_set m line) (of_line (LineOf.Horizontal n) p)) (state_at k (of_line (LineOf.Horizontal n) p))) (covered-vertical_line_set m line (of_line (LineOf.Horizontal n) p)))
+vertical_line_put k m line (at_spot (edge across r c)) = sym (ap (λ b. cond b (replay (vertical_line_set m line) (at_spot (edge across r c))) (state_at k (at_spot (edge across r c)))) (covered-vertical_line_set m line (at_spot (edge across r c))))
+vertical_line_put k m line (at_spot (edge down r c)) = sym (ap (λ b. cond b (replay (vertical_line_set m line) (at_spot (edge down r c))) (state_at k (at_spot (edge down r c)))) (covered-vertical_line_set m line (at_spot (edge down r c))))
+vertical_line_put k m line (at_spot (crossing r c)) = sym (ap (λ b. cond b (replay (vertical_line_set m line) (at_spot (crossing r c))) (state_at k (at_spot (crossing r c)))) (covered-vertical_line_set m line (at_spot (crossing r c))))
+vertical_line_put k m line (from_end across r c n) = sym (ap (λ b. cond b (replay (vertical_line_set m line) (from_end across r c n)) (state_at k (from_end across r c n))) (covered-vertical_line_set m line (from_end across r c n)))
+vertical_line_put k m line (from_end down r c n) = sym (ap (λ b. cond b (replay (vertical_line_set m line) (from_end down r c n)) (state_at k (from_end down r c n))) (covered-vertical_line_set m line (from_end down r c n)))
+vertical_line_put k m line (from_start across r c n) = sym (ap (λ b. cond b (replay (vertical_line_set m line) (from_start across r c n)) (state_at k (from_start across r c n))) (covered-vertical_line_set m line (from_start across r c n)))
+vertical_line_put k m line (from_start down r c n) = sym (ap (λ b. cond b (replay (vertical_line_set m line) (from_start down r c n)) (state_at k (from_start down r c n))) (covered-vertical_line_set m line (from_start down r c n)))
 
 -- a custom horizontal line put at its index
-pub horizontal_line_put : {T : Type 0} (k : Keeping T) (m : ℕ) (line : HorizontalLine T) → Changes (horizontal_line_set m line) (keeps k) (keeps (record k { horizontal_lines = map.insert k.horizontal_lines m line }))
+pub horizontal_line_put : {T : Type 0} (k : State T) (m : ℕ) (line : HorizontalLine T) → Changes (horizontal_line_set m line) (state_at k) (state_at (record k { horizontal_lines = map.insert k.horizontal_lines m line }))
 unfolding Changes
-horizontal_line_put k m line (the_default) = sym (ap (λ b. cond b (kept (horizontal_line_set m line) (the_default)) (keeps k (the_default))) (covered-horizontal_line_set m line (the_default)))
-horizontal_line_put k m line (of_class c) = sym (ap (λ b. cond b (kept (horizontal_line_set m line) (of_class c)) (keeps k (of_class c))) (covered-horizontal_line_set m line (of_class c)))
-horizontal_line_put k m line (of_line (LineOf.Vertical n) p) = sym (ap (λ b. cond b (kept (horizontal_line_set m line) (of_line (LineOf.Vertical n) p)) (keeps k (of_line (LineOf.Vertical n) p))) (covered-horizontal_line_set m line (of_line (LineOf.Vertical n) p)))
+horizontal_line_put k m line (the_default) = sym (ap (λ b. cond b (replay (horizontal_line_set m line) (the_default)) (state_at k (the_default))) (covered-horizontal_line_set m line (the_default)))
+horizontal_line_put k m line (of_class c) = sym (ap (λ b. cond b (replay (horizontal_line_set m line) (of_class c)) (state_at k (of_class c))) (covered-horizontal_line_set m line (of_class c)))
+horizontal_line_put k m line (of_line (LineOf.Vertical n) p) = sym (ap (λ b. cond b (replay (horizontal_line_set m line) (of_line (LineOf.Vertical n) p)) (state_at k (of_line (LineOf.Vertical n) p))) (covered-horizontal_line_set m line (of_line (LineOf.Vertical n) p)))
 horizontal_line_put k m line (of_line (LineOf.Horizontal n) p) =
     horizontal_put k.horizontal_lines m line n p
-    ∙ line_put (n == m) (covered (horizontal_line_set m line) (of_line (LineOf.Horizontal n) p)) (kept (horizontal_line_set m line) (of_line (LineOf.Horizontal n) p)) (horizontal_part p line) (keeps k (of_line (LineOf.Horizontal n) p))
+    ∙ line_put (n == m) (covered (horizontal_line_set m line) (of_line (LineOf.Horizontal n) p)) (replay (horizontal_line_set m line) (of_line (LineOf.Horizontal n) p)) (horizontal_part p line) (state_at k (of_line (LineOf.Horizontal n) p))
     (number_sym n m ∙ sym (covered-horizontal_line_set m line (of_line (LineOf.Horizontal n) p)))
-    (λ e. ap (λ i. kept (horizontal_line_set i line) (of_line (LineOf.Horizontal n) p)) (sym (eqb-true n m e)) ∙ kept-horizontal_line_set n line p)
-horizontal_line_put k m line (at_spot (edge across r c)) = sym (ap (λ b. cond b (kept (horizontal_line_set m line) (at_spot (edge across r c))) (keeps k (at_spot (edge across r c)))) (covered-horizontal_line_set m line (at_spot (edge across r c))))
-horizontal_line_put k m line (at_spot (edge down r c)) = sym (ap (λ b. cond b (kept (horizontal_line_set m line) (at_spot (edge down r c))) (keeps k (at_spot (edge down r c)))) (covered-horizontal_line_set m line (at_spot (edge down r c))))
-horizontal_line_put k m line (at_spot (crossing r c)) = sym (ap (λ b. cond b (kept (horizontal_line_set m line) (at_spot (crossing r c))) (keeps k (at_spot (crossing r c)))) (covered-horizontal_line_set m line (at_spot (crossing r c))))
-horizontal_line_put k m line (from_end across r c n) = sym (ap (λ b. cond b (kept (horizontal_line_set m line) (from_end across r c n)) (keeps k (from_end across r c n))) (covered-horizontal_line_set m line (from_end across r c n)))
-horizontal_line_put k m line (from_end down r c n) = sym (ap (λ b. cond b (kept (horizontal_line_set m line) (from_end down r c n)) (keeps k (from_end down r c n))) (covered-horizontal_line_set m line (from_end down r c n)))
-horizontal_line_put k m line (from_start across r c n) = sym (ap (λ b. cond b (kept (horizontal_line_set m line) (from_start across r c n)) (keeps k (from_start across r c n))) (covered-horizontal_line_set m line (from_start across r c n)))
-horizontal_line_put k m line (from_start down r c n) = sym (ap (λ b. cond b (kept (horizontal_line_set m line) (from_start down r c n)) (keeps k (from_start down r c n))) (covered-horizontal_line_set m line (from_start down r c n)))
+    (λ e. ap (λ i. replay (horizontal_line_set i line) (of_line (LineOf.Horizontal n) p)) (sym (eqb-true n m e)) ∙ replay-horizontal_line_set n line p)
+horizontal_line_put k m line (at_spot (edge across r c)) = sym (ap (λ b. cond b (replay (horizontal_line_set m line) (at_spot (edge across r c))) (state_at k (at_spot (edge across r c)))) (covered-horizontal_line_set m line (at_spot (edge across r c))))
+horizontal_line_put k m line (at_spot (edge down r c)) = sym (ap (λ b. cond b (replay (horizontal_line_set m line) (at_spot (edge down r c))) (state_at k (at_spot (edge down r c)))) (covered-horizontal_line_set m line (at_spot (edge down r c))))
+horizontal_line_put k m line (at_spot (crossing r c)) = sym (ap (λ b. cond b (replay (horizontal_line_set m line) (at_spot (crossing r c))) (state_at k (at_spot (crossing r c)))) (covered-horizontal_line_set m line (at_spot (crossing r c))))
+horizontal_line_put k m line (from_end across r c n) = sym (ap (λ b. cond b (replay (horizontal_line_set m line) (from_end across r c n)) (state_at k (from_end across r c n))) (covered-horizontal_line_set m line (from_end across r c n)))
+horizontal_line_put k m line (from_end down r c n) = sym (ap (λ b. cond b (replay (horizontal_line_set m line) (from_end down r c n)) (state_at k (from_end down r c n))) (covered-horizontal_line_set m line (from_end down r c n)))
+horizontal_line_put k m line (from_start across r c n) = sym (ap (λ b. cond b (replay (horizontal_line_set m line) (from_start across r c n)) (state_at k (from_start across r c n))) (covered-horizontal_line_set m line (from_start across r c n)))
+horizontal_line_put k m line (from_start down r c n) = sym (ap (λ b. cond b (replay (horizontal_line_set m line) (from_start down r c n)) (state_at k (from_start down r c n))) (covered-horizontal_line_set m line (from_start down r c n)))
 
-beside : {T : Type 0} (borders : Borders T) (q : Site) (k : Option (Written T)) → ((d : Class) → same_site q (of_class d) ≡ false) → (level q == 1) ≡ false → k ≡ cond (covered (class_record_set borders) q) (kept (class_record_set borders) q) k
+beside : {T : Type 0} (borders : Borders T) (q : Site) (k : Option (Written T)) → ((d : Class) → same_site q (of_class d) ≡ false) → (level q == 1) ≡ false → k ≡ cond (covered (class_record_set borders) q) (replay (class_record_set borders) q) k
 unfolding class_record_set
 beside borders q k other no_level =
-    sym (ap (λ b. cond b (kept (erase (level_sites 1) ∷ class_writes borders classes) q) k) (ap (λ b. b || covered (class_writes borders classes) q) no_level ∙ uncovered_other borders q other classes))
+    sym (ap (λ b. cond b (replay (erase (level_sites 1) ∷ class_writes borders classes) q) k) (ap (λ b. b || covered (class_writes borders classes) q) no_level ∙ uncovered_other borders q other classes))
 
 -- the class record set whole
-pub class_put : {T : Type 0} (k : Keeping T) (borders : Borders T) → Changes (class_record_set borders) (keeps k) (keeps (record k { class_record = borders }))
+pub class_put : {T : Type 0} (k : State T) (borders : Borders T) → Changes (class_record_set borders) (state_at k) (state_at (record k { class_record = borders }))
 unfolding Changes class_record_set
-class_put k borders (the_default) = beside borders (the_default) (keeps k (the_default)) (λ d. refl) refl
-class_put k borders (of_class c) = sym (kept_cleared (level_sites 1) (class_writes borders classes) (of_class c) ∙ kept_classes borders c)
-class_put k borders (of_line (LineOf.Vertical n) p) = beside borders (of_line (LineOf.Vertical n) p) (keeps k (of_line (LineOf.Vertical n) p)) (λ d. refl) refl
-class_put k borders (of_line (LineOf.Horizontal n) p) = beside borders (of_line (LineOf.Horizontal n) p) (keeps k (of_line (LineOf.Horizontal n) p)) (λ d. refl) refl
-class_put k borders (at_spot (edge across r c)) = beside borders (at_spot (edge across r c)) (keeps k (at_spot (edge across r c))) (λ d. refl) refl
-class_put k borders (at_spot (edge down r c)) = beside borders (at_spot (edge down r c)) (keeps k (at_spot (edge down r c))) (λ d. refl) refl
-class_put k borders (at_spot (crossing r c)) = beside borders (at_spot (crossing r c)) (keeps k (at_spot (crossing r c))) (λ d. refl) refl
-class_put k borders (from_end across r c n) = beside borders (from_end across r c n) (keeps k (from_end across r c n)) (λ d. refl) refl
-class_put k borders (from_end down r c n) = beside borders (from_end down r c n) (keeps k (from_end down r c n)) (λ d. refl) refl
-class_put k borders (from_start across r c n) = beside borders (from_start across r c n) (keeps k (from_start across r c n)) (λ d. refl) refl
-class_put k borders (from_start down r c n) = beside borders (from_start down r c n) (keeps k (from_start down r c n)) (λ d. refl) refl
+class_put k borders (the_default) = beside borders (the_default) (state_at k (the_default)) (λ d. refl) refl
+class_put k borders (of_class c) = sym (replay_cleared (level_sites 1) (class_writes borders classes) (of_class c) ∙ replay_classes borders c)
+class_put k borders (of_line (LineOf.Vertical n) p) = beside borders (of_line (LineOf.Vertical n) p) (state_at k (of_line (LineOf.Vertical n) p)) (λ d. refl) refl
+class_put k borders (of_line (LineOf.Horizontal n) p) = beside borders (of_line (LineOf.Horizontal n) p) (state_at k (of_line (LineOf.Horizontal n) p)) (λ d. refl) refl
+class_put k borders (at_spot (edge across r c)) = beside borders (at_spot (edge across r c)) (state_at k (at_spot (edge across r c))) (λ d. refl) refl
+class_put k borders (at_spot (edge down r c)) = beside borders (at_spot (edge down r c)) (state_at k (at_spot (edge down r c))) (λ d. refl) refl
+class_put k borders (at_spot (crossing r c)) = beside borders (at_spot (crossing r c)) (state_at k (at_spot (crossing r c))) (λ d. refl) refl
+class_put k borders (from_end across r c n) = beside borders (from_end across r c n) (state_at k (from_end across r c n)) (λ d. refl) refl
+class_put k borders (from_end down r c n) = beside borders (from_end down r c n) (state_at k (from_end down r c n)) (λ d. refl) refl
+class_put k borders (from_start across r c n) = beside borders (from_start across r c n) (state_at k (from_start across r c n)) (λ d. refl) refl
+class_put k borders (from_start down r c n) = beside borders (from_start down r c n) (state_at k (from_start down r c n)) (λ d. refl) refl
 
-class_erased_sites : {T : Type 0} (k : Keeping T) (borders : Borders T) → HasNothing borders → (q : Site) → keeps (record k { class_record = borders }) q ≡ cond (within (level_sites 1) q) None (keeps k q)
+class_erased_sites : {T : Type 0} (k : State T) (borders : Borders T) → HasNothing borders → (q : Site) → state_at (record k { class_record = borders }) q ≡ cond (within (level_sites 1) q) None (state_at k q)
 class_erased_sites k borders h (the_default) = refl
 class_erased_sites k borders h (of_class c) = ap (option_map sign) (h c)
 class_erased_sites k borders h (of_line (LineOf.Vertical n) p) = refl
@@ -577,22 +577,22 @@ class_erased_sites k borders h (from_start across r c n) = refl
 class_erased_sites k borders h (from_start down r c n) = refl
 
 -- the class record cleared
-pub class_erased : {T : Type 0} (k : Keeping T) (borders : Borders T) → HasNothing borders → Changes (erase (level_sites 1) ∷ []) (keeps k) (keeps (record k { class_record = borders }))
-class_erased k borders h = one_erasure (level_sites 1) (keeps k) (keeps (record k { class_record = borders })) (class_erased_sites k borders h)
+pub class_erased : {T : Type 0} (k : State T) (borders : Borders T) → HasNothing borders → Changes (erase (level_sites 1) ∷ []) (state_at k) (state_at (record k { class_record = borders }))
+class_erased k borders h = one_erasure (level_sites 1) (state_at k) (state_at (record k { class_record = borders })) (class_erased_sites k borders h)
 
 -- a store with nothing in it shows no event
-pub nothing_shown : {T : Type 0} (k : Keeping T) → k.default_value ≡ None → HasNothing k.class_record → k.vertical_lines ≡ map.empty → k.horizontal_lines ≡ map.empty
+pub nothing_shown : {T : Type 0} (k : State T) → k.default_value ≡ None → HasNothing k.class_record → k.vertical_lines ≡ map.empty → k.horizontal_lines ≡ map.empty
     → k.edges_across ≡ map.empty → k.edges_down ≡ map.empty → k.crosses ≡ map.empty
-    → k.ends_across ≡ map.empty → k.ends_down ≡ map.empty → k.starts_across ≡ map.empty → k.starts_down ≡ map.empty → Shows [] (keeps k)
+    → k.ends_across ≡ map.empty → k.ends_down ≡ map.empty → k.starts_across ≡ map.empty → k.starts_down ≡ map.empty → Shows [] (state_at k)
 unfolding Shows
-nothing_shown k e h v w a d x i j m n the_default = ap (option_map sign) e ∙ sym (kept-nil the_default)
-nothing_shown k e h v w a d x i j m n (of_class c) = ap (option_map sign) (h c) ∙ sym (kept-nil (of_class c))
-nothing_shown k e h v w a d x i j m n (of_line (LineOf.Vertical l) p) = ap (λ o. option_and_then (vertical_part p) (map.get o l)) v ∙ ap (option_and_then (vertical_part p)) (map.get-empty nat_cmp l) ∙ sym (kept-nil (of_line (LineOf.Vertical l) p))
-nothing_shown k e h v w a d x i j m n (of_line (LineOf.Horizontal l) p) = ap (λ o. option_and_then (horizontal_part p) (map.get o l)) w ∙ ap (option_and_then (horizontal_part p)) (map.get-empty nat_cmp l) ∙ sym (kept-nil (of_line (LineOf.Horizontal l) p))
-nothing_shown k e h v w a d x i j m n (at_spot (edge across r c)) = ap (λ o. option_map sign (map.get o (position r c))) a ∙ no_spot_left (position r c) ∙ sym (kept-nil (at_spot (edge across r c)))
-nothing_shown k e h v w a d x i j m n (at_spot (edge down r c)) = ap (λ o. option_map sign (map.get o (position r c))) d ∙ no_spot_left (position r c) ∙ sym (kept-nil (at_spot (edge down r c)))
-nothing_shown k e h v w a d x i j m n (at_spot (crossing r c)) = ap (λ o. option_map sign (map.get o (position r c))) x ∙ no_spot_left (position r c) ∙ sym (kept-nil (at_spot (crossing r c)))
-nothing_shown k e h v w a d x i j m n (from_end across r c b) = ap (λ o. option_map sign (map.get o (edge_place r c b))) i ∙ no_offset_left (edge_place r c b) ∙ sym (kept-nil (from_end across r c b))
-nothing_shown k e h v w a d x i j m n (from_end down r c b) = ap (λ o. option_map sign (map.get o (edge_place r c b))) j ∙ no_offset_left (edge_place r c b) ∙ sym (kept-nil (from_end down r c b))
-nothing_shown k e h v w a d x i j m n (from_start across r c b) = ap (λ o. option_map sign (map.get o (edge_place r c b))) m ∙ no_offset_left (edge_place r c b) ∙ sym (kept-nil (from_start across r c b))
-nothing_shown k e h v w a d x i j m n (from_start down r c b) = ap (λ o. option_map sign (map.get o (edge_place r c b))) n ∙ no_offset_left (edge_place r c b) ∙ sym (kept-nil (from_start down r c b))
+nothing_shown k e h v w a d x i j m n the_default = ap (option_map sign) e ∙ sym (replay-nil the_default)
+nothing_shown k e h v w a d x i j m n (of_class c) = ap (option_map sign) (h c) ∙ sym (replay-nil (of_class c))
+nothing_shown k e h v w a d x i j m n (of_line (LineOf.Vertical l) p) = ap (λ o. option_and_then (vertical_part p) (map.get o l)) v ∙ ap (option_and_then (vertical_part p)) (map.get-empty nat_cmp l) ∙ sym (replay-nil (of_line (LineOf.Vertical l) p))
+nothing_shown k e h v w a d x i j m n (of_line (LineOf.Horizontal l) p) = ap (λ o. option_and_then (horizontal_part p) (map.get o l)) w ∙ ap (option_and_then (horizontal_part p)) (map.get-empty nat_cmp l) ∙ sym (replay-nil (of_line (LineOf.Horizontal l) p))
+nothing_shown k e h v w a d x i j m n (at_spot (edge across r c)) = ap (λ o. option_map sign (map.get o (position r c))) a ∙ no_spot_left (position r c) ∙ sym (replay-nil (at_spot (edge across r c)))
+nothing_shown k e h v w a d x i j m n (at_spot (edge down r c)) = ap (λ o. option_map sign (map.get o (position r c))) d ∙ no_spot_left (position r c) ∙ sym (replay-nil (at_spot (edge down r c)))
+nothing_shown k e h v w a d x i j m n (at_spot (crossing r c)) = ap (λ o. option_map sign (map.get o (position r c))) x ∙ no_spot_left (position r c) ∙ sym (replay-nil (at_spot (crossing r c)))
+nothing_shown k e h v w a d x i j m n (from_end across r c b) = ap (λ o. option_map sign (map.get o (edge_place r c b))) i ∙ no_offset_left (edge_place r c b) ∙ sym (replay-nil (from_end across r c b))
+nothing_shown k e h v w a d x i j m n (from_end down r c b) = ap (λ o. option_map sign (map.get o (edge_place r c b))) j ∙ no_offset_left (edge_place r c b) ∙ sym (replay-nil (from_end down r c b))
+nothing_shown k e h v w a d x i j m n (from_start across r c b) = ap (λ o. option_map sign (map.get o (edge_place r c b))) m ∙ no_offset_left (edge_place r c b) ∙ sym (replay-nil (from_start across r c b))
+nothing_shown k e h v w a d x i j m n (from_start down r c b) = ap (λ o. option_map sign (map.get o (edge_place r c b))) n ∙ no_offset_left (edge_place r c b) ∙ sym (replay-nil (from_start down r c b))

@@ -4,10 +4,10 @@ use Rattle.std.specs.Option.{option_map}
 use Rattle.std.specs.List.{list_any, cons_option}
 use Rattle.tabled_grid.specs.declared.borders.Borders.{Borders}
 use Rattle.tabled_grid.specs.Site.{across, down, first, inner, closing, Class, edges, crossings, Site, of_class, class_value, same_class, same_site}
-use Rattle.tabled_grid.specs.Event.{Written, sign, Event, write, covered, kept}
-use Rattle.tabled_grid.specs.Keeping.{classes, class_writes, HasNothing}
+use Rattle.tabled_grid.specs.Event.{Written, sign, Event, write, covered, replay}
+use Rattle.tabled_grid.specs.State.{classes, class_writes, HasNothing}
 use Rattle.tabled_grid.proofs.SameSite.{same_class-eq}
-use Rattle.tabled_grid.proofs.Replay.{kept-nil, kept-cons}
+use Rattle.tabled_grid.proofs.Replay.{replay-nil, replay-cons}
 
 -- the write of a given field of a class, in front of other events
 abbrev field_write : {T : Type 0} → Class → Option T → List (Event T) → List (Event T)
@@ -35,11 +35,11 @@ module _ {T : Type 0} (borders : Borders T) (c : Class) where
       present true is = sym (ap is_some (same_field d (Some x) e is))
       present false is = refl
 
-  kept_step : (d : Class) (o : Option T) (es : List (Event T)) → class_value d borders ≡ o → kept es (of_class c) ≡ cond (covered es (of_class c)) there None → kept (field_write d o es) (of_class c) ≡ cond (covered (field_write d o es) (of_class c)) there None
+  replay_step : (d : Class) (o : Option T) (es : List (Event T)) → class_value d borders ≡ o → replay es (of_class c) ≡ cond (covered es (of_class c)) there None → replay (field_write d o es) (of_class c) ≡ cond (covered (field_write d o es) (of_class c)) there None
   unfolding there
-  kept_step d None es e ih = ih
-  kept_step d (Some x) es e ih =
-      kept-cons (of_class c) (write (of_class d) (sign x)) es
+  replay_step d None es e ih = ih
+  replay_step d (Some x) es e ih =
+      replay-cons (of_class c) (write (of_class d) (sign x)) es
       ∙ ap (λ k. cond (covered es (of_class c)) k (cond (same_class c d) (Some (sign x)) None)) ih
       ∙ joined (covered es (of_class c)) (same_class c d) refl
     where
@@ -56,10 +56,10 @@ module _ {T : Type 0} (borders : Borders T) (c : Class) where
   covered_class (d ∷ ds) = covered_step d (class_value d borders) (class_writes borders ds) (list_any (same_class c) ds) refl (covered_class ds)
 
   -- and leave there what the record has
-  kept_class : (cs : List Class) → kept (class_writes borders cs) (of_class c) ≡ cond (covered (class_writes borders cs) (of_class c)) there None
+  replay_class : (cs : List Class) → replay (class_writes borders cs) (of_class c) ≡ cond (covered (class_writes borders cs) (of_class c)) there None
   unfolding class_writes
-  kept_class [] = kept-nil (of_class c)
-  kept_class (d ∷ ds) = kept_step d (class_value d borders) (class_writes borders ds) refl (kept_class ds)
+  replay_class [] = replay-nil (of_class c)
+  replay_class (d ∷ ds) = replay_step d (class_value d borders) (class_writes borders ds) refl (replay_class ds)
 
 -- each class is among the fifteen
 among_classes : (c : Class) → list_any (same_class c) classes ≡ true
@@ -85,10 +85,10 @@ given_or_none None = refl
 given_or_none (Some x) = refl
 
 -- the writes of all classes leave the record's fields
-pub kept_classes : {T : Type 0} (borders : Borders T) (c : Class) → kept (class_writes borders classes) (of_class c) ≡ option_map sign (class_value c borders)
+pub replay_classes : {T : Type 0} (borders : Borders T) (c : Class) → replay (class_writes borders classes) (of_class c) ≡ option_map sign (class_value c borders)
 unfolding there
-kept_classes borders c =
-    kept_class borders c classes
+replay_classes borders c =
+    replay_class borders c classes
     ∙ ap (λ b. cond b (option_map sign (class_value c borders)) None) (covered_class borders c classes ∙ ap (λ b. b && is_some (class_value c borders)) (among_classes c))
     ∙ given_or_none (class_value c borders)
 

@@ -9,29 +9,29 @@ use Rattle.tabled_object.specs.declared.position.Position.{Position}
 use Rattle.tabled_object.specs.Entities.{is_inside}
 use Rattle.tabled_grid.specs.Site.{Spot, Site, at_spot, same_site}
 use Rattle.tabled_grid.specs.Event.{these_sites, erase, Changes}
-use Rattle.tabled_grid.specs.Keeping.{Keeping, keeps}
+use Rattle.tabled_grid.specs.State.{State, state_at}
 use Rattle.tabled_grid.specs.Calls.{border_erased, borders_erased, spots_erased, line_across, line_down, frame_erased}
 use Rattle.tabled_grid.proofs.Replay.{Changes-append, Changes-nil}
 use Rattle.tabled_grid.proofs.Changing.{one_erasure}
 use Rattle.tabled_grid.proofs.CellBorders.{by_erasure}
 
 -- a cell inside, and then the others
-pub one_inside : {T : Type 0} (rows cols : ℕ) (pos : Position) (rest : List Position) (old mid end : Keeping T) → is_inside rows cols pos ≡ true → Changes (border_erased pos) (keeps old) (keeps mid) → Changes (borders_erased (rows, cols) rest) (keeps mid) (keeps end) → Changes (borders_erased (rows, cols) (pos ∷ rest)) (keeps old) (keeps end)
+pub one_inside : {T : Type 0} (rows cols : ℕ) (pos : Position) (rest : List Position) (old mid end : State T) → is_inside rows cols pos ≡ true → Changes (border_erased pos) (state_at old) (state_at mid) → Changes (borders_erased (rows, cols) rest) (state_at mid) (state_at end) → Changes (borders_erased (rows, cols) (pos ∷ rest)) (state_at old) (state_at end)
 unfolding borders_erased
 one_inside rows cols pos rest old mid end inside one others =
-    subst (λ b. Changes (flat_map border_erased (cond b (pos ∷ filter (is_inside rows cols) rest) (filter (is_inside rows cols) rest))) (keeps old) (keeps end)) (sym inside)
-    (Changes-append (border_erased pos) (flat_map border_erased (filter (is_inside rows cols) rest)) (keeps old) (keeps mid) (keeps end) one others)
+    subst (λ b. Changes (flat_map border_erased (cond b (pos ∷ filter (is_inside rows cols) rest) (filter (is_inside rows cols) rest))) (state_at old) (state_at end)) (sym inside)
+    (Changes-append (border_erased pos) (flat_map border_erased (filter (is_inside rows cols) rest)) (state_at old) (state_at mid) (state_at end) one others)
 
 -- a cell outside is passed over
-pub one_outside : {T : Type 0} (rows cols : ℕ) (pos : Position) (rest : List Position) (old end : Keeping T) → is_inside rows cols pos ≡ false → Changes (borders_erased (rows, cols) rest) (keeps old) (keeps end) → Changes (borders_erased (rows, cols) (pos ∷ rest)) (keeps old) (keeps end)
+pub one_outside : {T : Type 0} (rows cols : ℕ) (pos : Position) (rest : List Position) (old end : State T) → is_inside rows cols pos ≡ false → Changes (borders_erased (rows, cols) rest) (state_at old) (state_at end) → Changes (borders_erased (rows, cols) (pos ∷ rest)) (state_at old) (state_at end)
 unfolding borders_erased
 one_outside rows cols pos rest old end outside others =
-    subst (λ b. Changes (flat_map border_erased (cond b (pos ∷ filter (is_inside rows cols) rest) (filter (is_inside rows cols) rest))) (keeps old) (keeps end)) (sym outside) others
+    subst (λ b. Changes (flat_map border_erased (cond b (pos ∷ filter (is_inside rows cols) rest) (filter (is_inside rows cols) rest))) (state_at old) (state_at end)) (sym outside) others
 
 -- no cell is left
-pub none_left : {T : Type 0} (shape : ℕ × ℕ) (cells : List Position) (store : Keeping T) → cells ≡ [] → Changes (borders_erased shape cells) (keeps store) (keeps store)
+pub none_left : {T : Type 0} (shape : ℕ × ℕ) (cells : List Position) (store : State T) → cells ≡ [] → Changes (borders_erased shape cells) (state_at store) (state_at store)
 unfolding borders_erased
-none_left shape cells store e = subst (λ rest. Changes (borders_erased shape rest) (keeps store) (keeps store)) (sym e) (Changes-nil (keeps store))
+none_left shape cells store e = subst (λ rest. Changes (borders_erased shape rest) (state_at store) (state_at store)) (sym e) (Changes-nil (state_at store))
 
 -- whether a site is at one of these spots
 abbrev pub among : List Spot → Site → Bool
@@ -41,27 +41,27 @@ among-append : (ps qs : List Spot) (q : Site) → among (ps ++ qs) q ≡ (among 
 among-append ps qs q = ap (list_any (same_site q)) (map-append at_spot ps qs) ∙ list_any-append (same_site q) (map at_spot ps) (map at_spot qs)
 
 -- lists of the same spots are erased alike
-same_erasure : {T : Type 0} (ps qs : List Spot) (old new : Keeping T) → ((q : Site) → among ps q ≡ among qs q) → Changes (spots_erased ps) (keeps old) (keeps new) → Changes (spots_erased qs) (keeps old) (keeps new)
+same_erasure : {T : Type 0} (ps qs : List Spot) (old new : State T) → ((q : Site) → among ps q ≡ among qs q) → Changes (spots_erased ps) (state_at old) (state_at new) → Changes (spots_erased qs) (state_at old) (state_at new)
 unfolding spots_erased
 same_erasure ps qs old new same erased =
-    one_erasure (these_sites (map at_spot qs)) (keeps old) (keeps new) (λ q. by_erasure (these_sites (map at_spot ps)) (keeps old) (keeps new) erased q ∙ ap (λ b. cond b None (keeps old q)) (same q))
+    one_erasure (these_sites (map at_spot qs)) (state_at old) (state_at new) (λ q. by_erasure (these_sites (map at_spot ps)) (state_at old) (state_at new) erased q ∙ ap (λ b. cond b None (state_at old q)) (same q))
 
 -- two erasures in a row are one
-pub spots_then : {T : Type 0} (ps qs : List Spot) (old mid new : Keeping T) → Changes (spots_erased ps) (keeps old) (keeps mid) → Changes (spots_erased qs) (keeps mid) (keeps new) → Changes (spots_erased (ps ++ qs)) (keeps old) (keeps new)
+pub spots_then : {T : Type 0} (ps qs : List Spot) (old mid new : State T) → Changes (spots_erased ps) (state_at old) (state_at mid) → Changes (spots_erased qs) (state_at mid) (state_at new) → Changes (spots_erased (ps ++ qs)) (state_at old) (state_at new)
 unfolding spots_erased
 spots_then ps qs old mid new first then =
-    one_erasure (these_sites (map at_spot (ps ++ qs))) (keeps old) (keeps new) (λ q.
-    by_erasure (these_sites (map at_spot qs)) (keeps mid) (keeps new) then q
-    ∙ ap (cond (among qs q) None) (by_erasure (these_sites (map at_spot ps)) (keeps old) (keeps mid) first q)
-    ∙ either (among ps q) (among qs q) (keeps old q)
-    ∙ ap (λ b. cond b None (keeps old q)) (sym (among-append ps qs q)))
+    one_erasure (these_sites (map at_spot (ps ++ qs))) (state_at old) (state_at new) (λ q.
+    by_erasure (these_sites (map at_spot qs)) (state_at mid) (state_at new) then q
+    ∙ ap (cond (among qs q) None) (by_erasure (these_sites (map at_spot ps)) (state_at old) (state_at mid) first q)
+    ∙ either (among ps q) (among qs q) (state_at old q)
+    ∙ ap (λ b. cond b None (state_at old q)) (sym (among-append ps qs q)))
   where
     either : {A : Type 0} (a b : Bool) (x : Option A) → cond b None (cond a None x) ≡ cond (a || b) None x
     either true true x = refl
     either true false x = refl
     either false b x = refl
 
-pub one_spot : {T : Type 0} (spot : Spot) (old new : Keeping T) → Changes (erase (these_sites (at_spot spot ∷ [])) ∷ []) (keeps old) (keeps new) → Changes (spots_erased (spot ∷ [])) (keeps old) (keeps new)
+pub one_spot : {T : Type 0} (spot : Spot) (old new : State T) → Changes (erase (these_sites (at_spot spot ∷ [])) ∷ []) (state_at old) (state_at new) → Changes (spots_erased (spot ∷ [])) (state_at old) (state_at new)
 unfolding spots_erased
 one_spot spot old new h = h
 
@@ -70,9 +70,9 @@ module _ (f g : ℕ → Spot) where
   abbrev pub so_far : ℕ → List Spot
   so_far n = map f (range_with_len 0 n) ++ map g (range_with_len 0 n)
 
-  pub none_so_far : {T : Type 0} (store : Keeping T) → Changes (spots_erased (so_far 0)) (keeps store) (keeps store)
+  pub none_so_far : {T : Type 0} (store : State T) → Changes (spots_erased (so_far 0)) (state_at store) (state_at store)
   unfolding spots_erased
-  none_so_far store = one_erasure (these_sites []) (keeps store) (keeps store) (λ q. refl)
+  none_so_far store = one_erasure (these_sites []) (state_at store) (state_at store) (λ q. refl)
 
   reordered : (a b c d : Bool) → (((a || b) || c) || d) ≡ ((a || c) || (b || d))
   reordered true b c d = refl
@@ -81,7 +81,7 @@ module _ (f g : ℕ → Spot) where
   reordered false false c d = refl
 
   -- the next edge and the next crossing
-  pub one_further : {T : Type 0} (n : ℕ) (old a b new : Keeping T) → Changes (spots_erased (so_far n)) (keeps old) (keeps a) → Changes (spots_erased (f n ∷ [])) (keeps a) (keeps b) → Changes (spots_erased (g n ∷ [])) (keeps b) (keeps new) → Changes (spots_erased (so_far (n + 1))) (keeps old) (keeps new)
+  pub one_further : {T : Type 0} (n : ℕ) (old a b new : State T) → Changes (spots_erased (so_far n)) (state_at old) (state_at a) → Changes (spots_erased (f n ∷ [])) (state_at a) (state_at b) → Changes (spots_erased (g n ∷ [])) (state_at b) (state_at new) → Changes (spots_erased (so_far (n + 1))) (state_at old) (state_at new)
   one_further n old a b new before edge crossing =
       same_erasure ((so_far n ++ f n ∷ []) ++ g n ∷ []) (so_far (n + 1)) old new (λ q.
       among-append (so_far n ++ f n ∷ []) (g n ∷ []) q
@@ -93,9 +93,9 @@ module _ (f g : ℕ → Spot) where
       (spots_then (so_far n ++ f n ∷ []) (g n ∷ []) old b new (spots_then (so_far n) (f n ∷ []) old a b before edge) crossing)
 
   -- the last crossing
-  pub line_closed : {T : Type 0} (n : ℕ) (old mid new : Keeping T) → Changes (spots_erased (so_far n)) (keeps old) (keeps mid) → Changes (spots_erased (g n ∷ [])) (keeps mid) (keeps new) → Changes (spots_erased (map f (range_with_len 0 n) ++ map g (range_with_len 0 (n + 1)))) (keeps old) (keeps new)
+  pub line_closed : {T : Type 0} (n : ℕ) (old mid new : State T) → Changes (spots_erased (so_far n)) (state_at old) (state_at mid) → Changes (spots_erased (g n ∷ [])) (state_at mid) (state_at new) → Changes (spots_erased (map f (range_with_len 0 n) ++ map g (range_with_len 0 (n + 1)))) (state_at old) (state_at new)
   line_closed n old mid new before crossing =
-      subst (λ spots. Changes (spots_erased spots) (keeps old) (keeps new))
+      subst (λ spots. Changes (spots_erased spots) (state_at old) (state_at new))
       (append_assoc (map f (range_with_len 0 n)) (map g (range_with_len 0 n)) (g n ∷ []) ∙ ap (λ l. map f (range_with_len 0 n) ++ l) (sym (map-range_with_len_more g 0 n n (omega arith))))
       (spots_then (so_far n) (g n ∷ []) old mid new before crossing)
 
@@ -103,14 +103,14 @@ no_zero : (rows cols : ℕ) → 0 < rows → 0 < cols → ((rows == 0) || (cols 
 no_zero rows cols h k = grind (arith, nat_tests)
 
 -- a table with rows and columns has a frame, whose four lines are erased in a row
-pub frame_there : {T : Type 0} (rows cols : ℕ) (old a b c new : Keeping T) → 0 < rows → 0 < cols → Changes (spots_erased (line_across 0 cols)) (keeps old) (keeps a) → Changes (spots_erased (line_across rows cols)) (keeps a) (keeps b) → Changes (spots_erased (line_down 0 rows)) (keeps b) (keeps c) → Changes (spots_erased (line_down cols rows)) (keeps c) (keeps new) → Changes (frame_erased (rows, cols)) (keeps old) (keeps new)
+pub frame_there : {T : Type 0} (rows cols : ℕ) (old a b c new : State T) → 0 < rows → 0 < cols → Changes (spots_erased (line_across 0 cols)) (state_at old) (state_at a) → Changes (spots_erased (line_across rows cols)) (state_at a) (state_at b) → Changes (spots_erased (line_down 0 rows)) (state_at b) (state_at c) → Changes (spots_erased (line_down cols rows)) (state_at c) (state_at new) → Changes (frame_erased (rows, cols)) (state_at old) (state_at new)
 frame_there rows cols old a b c new h k top bottom left right =
-    subst (λ z. Changes (cond z [] (spots_erased (line_across 0 cols ++ line_across rows cols ++ line_down 0 rows ++ line_down cols rows))) (keeps old) (keeps new)) (sym (no_zero rows cols h k))
+    subst (λ z. Changes (cond z [] (spots_erased (line_across 0 cols ++ line_across rows cols ++ line_down 0 rows ++ line_down cols rows))) (state_at old) (state_at new)) (sym (no_zero rows cols h k))
     (spots_then _ (line_down cols rows) old c new (spots_then _ (line_down 0 rows) old b c (spots_then (line_across 0 cols) (line_across rows cols) old a b top bottom) left) right)
 
 -- a table without has none
-pub no_frame : {T : Type 0} (rows cols : ℕ) (store : Keeping T) → ((rows == 0) || (cols == 0)) ≡ true → Changes (frame_erased (rows, cols)) (keeps store) (keeps store)
-no_frame rows cols store e = subst (λ z. Changes (cond z [] (spots_erased (line_across 0 cols ++ line_across rows cols ++ line_down 0 rows ++ line_down cols rows))) (keeps store) (keeps store)) (sym e) (Changes-nil (keeps store))
+pub no_frame : {T : Type 0} (rows cols : ℕ) (store : State T) → ((rows == 0) || (cols == 0)) ≡ true → Changes (frame_erased (rows, cols)) (state_at store) (state_at store)
+no_frame rows cols store e = subst (λ z. Changes (cond z [] (spots_erased (line_across 0 cols ++ line_across rows cols ++ line_down 0 rows ++ line_down cols rows))) (state_at store) (state_at store)) (sym e) (Changes-nil (state_at store))
 
 pub no_rows : (rows cols : ℕ) → rows ≡ 0 → ((rows == 0) || (cols == 0)) ≡ true
 no_rows rows cols e = grind (arith, nat_tests)

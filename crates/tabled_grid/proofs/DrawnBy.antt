@@ -13,7 +13,7 @@ use Rattle.tabled_grid.specs.Event.{sign}
 use Rattle.tabled_grid.specs.Table.{count, passes}
 use Rattle.tabled_grid.specs.Counted.{number_at, CellsCounted, VerticalCounted, HorizontalCounted}
 use Rattle.tabled_grid.specs.Drawn.{number, draws, Drawn}
-use Rattle.tabled_grid.specs.Keeping.{Keeping, keeps, position, horizontal_part, vertical_part, rank_draws, class_draws}
+use Rattle.tabled_grid.specs.State.{State, state_at, position, horizontal_part, vertical_part, rank_draws, class_draws}
 use Rattle.tabled_grid.specs.Reading.{row_drawn, col_drawn}
 use Rattle.tabled_grid.proofs.Counting.{count_positive, count_from}
 use Rattle.tabled_grid.proofs.CountedLemmas.{across_counts, down_counts, crossing_counts_row, crossing_counts_col, some_on_row, some_on_col}
@@ -33,7 +33,7 @@ marked : {A W : Type 0} (w : W) (o : Option A) → is_some o ≡ true → is_som
 marked w None h = absurd cc
 marked w (Some x) h = refl
 
-module _ {T : Type 0} (k : Keeping T) (rows cols : map.FinMap nat_cmp ℕ) (t b l r w : ℕ) (cells : CellsCounted rows cols k.edges_across k.edges_down k.crosses) (upright : VerticalCounted t b k.vertical_lines) (level_ones : HorizontalCounted l r w k.horizontal_lines) (count' n : ℕ) where
+module _ {T : Type 0} (k : State T) (rows cols : map.FinMap nat_cmp ℕ) (t b l r w : ℕ) (cells : CellsCounted rows cols k.edges_across k.edges_down k.crosses) (upright : VerticalCounted t b k.vertical_lines) (level_ones : HorizontalCounted l r w k.horizontal_lines) (count' n : ℕ) where
   -- the three grounds on which a line is drawn
   row_test : Bool
   row_test = is_some k.default_value || class_draws k.class_record count' (LineOf.Horizontal n) || row_drawn k.horizontal_lines t b rows count' n
@@ -56,7 +56,7 @@ module _ {T : Type 0} (k : Keeping T) (rows cols : map.FinMap nat_cmp ℕ) (t b 
   by_number_col h = or_right (is_some (map.get k.vertical_lines n) || ((n == 0) && ltb 0 l) || ((n == count') && ltb 0 r) || ((ltb 0 n && ltb n count') && ltb 0 w)) _ (lt-ltb 0 (number_at cols n) h)
 
   -- each site that draws the line and keeps something is one of the grounds
-  row_by_site : (q : Site) → draws count' (LineOf.Horizontal n) q ≡ true → is_some (keeps k q) ≡ true → row_test ≡ true
+  row_by_site : (q : Site) → draws count' (LineOf.Horizontal n) q ≡ true → is_some (state_at k q) ≡ true → row_test ≡ true
   unfolding row_test line_of
   row_by_site the_default e f = or_left _ _ (or_left _ _ (sym (is_some-sign k.default_value) ∙ f))
   row_by_site (of_class c) e f = or_left _ _ (or_right (is_some k.default_value) _ (class_draws_it k.class_record across count' n c e (sym (is_some-sign (class_value c k.class_record)) ∙ f)))
@@ -82,7 +82,7 @@ module _ {T : Type 0} (k : Keeping T) (rows cols : map.FinMap nat_cmp ℕ) (t b 
   row_by_site (from_end d i c m) e f = absurd cc
   row_by_site (from_start d i c m) e f = absurd cc
 
-  col_by_site : (q : Site) → draws count' (LineOf.Vertical n) q ≡ true → is_some (keeps k q) ≡ true → col_test ≡ true
+  col_by_site : (q : Site) → draws count' (LineOf.Vertical n) q ≡ true → is_some (state_at k q) ≡ true → col_test ≡ true
   unfolding col_test line_of
   col_by_site the_default e f = or_left _ _ (or_left _ _ (sym (is_some-sign k.default_value) ∙ f))
   col_by_site (of_class c) e f = or_left _ _ (or_right (is_some k.default_value) _ (class_draws_it k.class_record down count' n c e (sym (is_some-sign (class_value c k.class_record)) ∙ f)))
@@ -111,7 +111,7 @@ module _ {T : Type 0} (k : Keeping T) (rows cols : map.FinMap nat_cmp ℕ) (t b 
   col_by_site (from_start d i c m) e f = absurd cc
 
   Draws : LineOf → Type 0
-  Draws line = (q : Site) × (draws count' line q ≡ true) × (is_some (keeps k q) ≡ true)
+  Draws line = (q : Site) × (draws count' line q ≡ true) × (is_some (state_at k q) ≡ true)
 
   -- and each ground is a site that draws the line and keeps something
   default_ground : (line : LineOf) → is_some k.default_value ≡ true → Draws line
@@ -126,13 +126,13 @@ module _ {T : Type 0} (k : Keeping T) (rows cols : map.FinMap nat_cmp ℕ) (t b 
       let class = drawing k.class_record count' (line_of d n) _ (all_draw k.class_record d rank.0 count' n rank.1) rank.2 in
       (of_class class.0, class.1, is_some-sign (class_value class.0 k.class_record) ∙ class.2)
 
-  top_ground : (field : VerticalLine T → Option T) (rank : Rank) → ((m : ℕ) → is_some (keeps k (of_line (LineOf.Vertical m) (meeting rank))) ≡ passes (λ x. is_some (field x)) (map.get k.vertical_lines m)) → ((m : ℕ) → draws count' (LineOf.Horizontal n) (of_line (LineOf.Vertical m) (meeting rank)) ≡ true) → 0 < count (λ _ x. is_some (field x)) k.vertical_lines → Draws (LineOf.Horizontal n)
+  top_ground : (field : VerticalLine T → Option T) (rank : Rank) → ((m : ℕ) → is_some (state_at k (of_line (LineOf.Vertical m) (meeting rank))) ≡ passes (λ x. is_some (field x)) (map.get k.vertical_lines m)) → ((m : ℕ) → draws count' (LineOf.Horizontal n) (of_line (LineOf.Vertical m) (meeting rank)) ≡ true) → 0 < count (λ _ x. is_some (field x)) k.vertical_lines → Draws (LineOf.Horizontal n)
   unfolding Draws
   top_ground field rank same drawn some =
       let found = count_from nat_cmp_total map.nat_cmp-IsAntisymmetric (λ _ x. is_some (field x)) k.vertical_lines some in
       (of_line (LineOf.Vertical found.0) (meeting rank), drawn found.0, same found.0 ∙ found.1)
 
-  left_ground : (field : HorizontalLine T → Option T) (rank : Rank) → ((m : ℕ) → is_some (keeps k (of_line (LineOf.Horizontal m) (meeting rank))) ≡ passes (λ x. is_some (field x)) (map.get k.horizontal_lines m)) → ((m : ℕ) → draws count' (LineOf.Vertical n) (of_line (LineOf.Horizontal m) (meeting rank)) ≡ true) → 0 < count (λ _ x. is_some (field x)) k.horizontal_lines → Draws (LineOf.Vertical n)
+  left_ground : (field : HorizontalLine T → Option T) (rank : Rank) → ((m : ℕ) → is_some (state_at k (of_line (LineOf.Horizontal m) (meeting rank))) ≡ passes (λ x. is_some (field x)) (map.get k.horizontal_lines m)) → ((m : ℕ) → draws count' (LineOf.Vertical n) (of_line (LineOf.Horizontal m) (meeting rank)) ≡ true) → 0 < count (λ _ x. is_some (field x)) k.horizontal_lines → Draws (LineOf.Vertical n)
   unfolding Draws
   left_ground field rank same drawn some =
       let found = count_from nat_cmp_total map.nat_cmp-IsAntisymmetric (λ _ x. is_some (field x)) k.horizontal_lines some in
@@ -187,7 +187,7 @@ module _ {T : Type 0} (k : Keeping T) (rows cols : map.FinMap nat_cmp ℕ) (t b 
   ]
 
   -- the answers of the grounds say whether the line is drawn
-  pub row_answer : (answer : Bool) → n ≤ count' → answer ≡ (is_some k.default_value || class_draws k.class_record count' (LineOf.Horizontal n) || row_drawn k.horizontal_lines t b rows count' n) → IsTrue answer ↔ Drawn (keeps k) count' (LineOf.Horizontal n)
+  pub row_answer : (answer : Bool) → n ≤ count' → answer ≡ (is_some k.default_value || class_draws k.class_record count' (LineOf.Horizontal n) || row_drawn k.horizontal_lines t b rows count' n) → IsTrue answer ↔ Drawn (state_at k) count' (LineOf.Horizontal n)
   unfolding row_test Draws line_of
   row_answer answer within e = (
     λ yes.
@@ -202,7 +202,7 @@ module _ {T : Type 0} (k : Keeping T) (rows cols : map.FinMap nat_cmp ℕ) (t b 
     λ drawn. e ∙ row_by_site drawn.by drawn.draws_it drawn.is_kept,
   )
 
-  pub col_answer : (answer : Bool) → n ≤ count' → answer ≡ (is_some k.default_value || class_draws k.class_record count' (LineOf.Vertical n) || col_drawn k.vertical_lines l r w cols count' n) → IsTrue answer ↔ Drawn (keeps k) count' (LineOf.Vertical n)
+  pub col_answer : (answer : Bool) → n ≤ count' → answer ≡ (is_some k.default_value || class_draws k.class_record count' (LineOf.Vertical n) || col_drawn k.vertical_lines l r w cols count' n) → IsTrue answer ↔ Drawn (state_at k) count' (LineOf.Vertical n)
   unfolding col_test Draws line_of
   col_answer answer within e = (
     λ yes.
@@ -218,21 +218,21 @@ module _ {T : Type 0} (k : Keeping T) (rows cols : map.FinMap nat_cmp ℕ) (t b 
   )
 
 -- a line past the closing one is not drawn
-pub past_answer : {T : Type 0} (k : Keeping T) (count' : ℕ) (line : LineOf) → count' < number line → IsTrue false ↔ Drawn (keeps k) count' line
+pub past_answer : {T : Type 0} (k : State T) (count' : ℕ) (line : LineOf) → count' < number line → IsTrue false ↔ Drawn (state_at k) count' line
 past_answer k count' line past = (λ yes. absurd cc, λ drawn. absurd (omega (arith, past, drawn.no_further)))
 
 -- the answers of the two weakest levels alone
-pub default_answer : {T : Type 0} (k : Keeping T) (count' : ℕ) (line : LineOf) → number line ≤ count' → is_some k.default_value ≡ true → IsTrue true ↔ Drawn (keeps k) count' line
+pub default_answer : {T : Type 0} (k : State T) (count' : ℕ) (line : LineOf) → number line ≤ count' → is_some k.default_value ≡ true → IsTrue true ↔ Drawn (state_at k) count' line
 default_answer k count' (LineOf.Horizontal n) within h = (λ _. record { no_further = within; by = the_default; draws_it = refl; is_kept = is_some-sign k.default_value ∙ h }, λ _. refl)
 default_answer k count' (LineOf.Vertical n) within h = (λ _. record { no_further = within; by = the_default; draws_it = refl; is_kept = is_some-sign k.default_value ∙ h }, λ _. refl)
 
-class_site : {T : Type 0} (k : Keeping T) (count' : ℕ) (d : Direction) (n : ℕ) → n ≤ count' → rank_draws k.class_record count' d n ≡ true → (q : Site) × (draws count' (line_of d n) q ≡ true) × (is_some (keeps k q) ≡ true)
+class_site : {T : Type 0} (k : State T) (count' : ℕ) (d : Direction) (n : ℕ) → n ≤ count' → rank_draws k.class_record count' d n ≡ true → (q : Site) × (draws count' (line_of d n) q ≡ true) × (is_some (state_at k q) ≡ true)
 class_site k count' d n within h =
     let rank = some_rank k.class_record d count' n h in
     let class = drawing k.class_record count' (line_of d n) _ (all_draw k.class_record d rank.0 count' n rank.1) rank.2 in
     (of_class class.0, class.1, is_some-sign (class_value class.0 k.class_record) ∙ class.2)
 
-pub class_answer : {T : Type 0} (k : Keeping T) (count' : ℕ) (line : LineOf) → number line ≤ count' → class_draws k.class_record count' line ≡ true → IsTrue true ↔ Drawn (keeps k) count' line
+pub class_answer : {T : Type 0} (k : State T) (count' : ℕ) (line : LineOf) → number line ≤ count' → class_draws k.class_record count' line ≡ true → IsTrue true ↔ Drawn (state_at k) count' line
 unfolding line_of
 class_answer k count' (LineOf.Horizontal n) within h = let site = class_site k count' across n within h in (λ _. record { no_further = within; by = site.0; draws_it = site.1; is_kept = site.2 }, λ _. refl)
 class_answer k count' (LineOf.Vertical n) within h = let site = class_site k count' down n within h in (λ _. record { no_further = within; by = site.0; draws_it = site.1; is_kept = site.2 }, λ _. refl)
@@ -241,14 +241,14 @@ third : (a b c x : Bool) → a ≡ false → b ≡ false → x ≡ c → x ≡ (
 third a b c x e f h = h ∙ sym (λ i. e i || f i || c)
 
 -- the answer of the levels above, where these two draw nothing
-pub row_left : {T : Type 0} (k : Keeping T) (rows cols : map.FinMap nat_cmp ℕ) (t b l r w : ℕ) → CellsCounted rows cols k.edges_across k.edges_down k.crosses → VerticalCounted t b k.vertical_lines → HorizontalCounted l r w k.horizontal_lines → (count' n : ℕ) (line : LineOf) (answer : Bool) → line ≡ LineOf.Horizontal n → number line ≤ count' → is_some k.default_value ≡ false → class_draws k.class_record count' line ≡ false → answer ≡ row_drawn k.horizontal_lines t b rows count' n → IsTrue answer ↔ Drawn (keeps k) count' line
+pub row_left : {T : Type 0} (k : State T) (rows cols : map.FinMap nat_cmp ℕ) (t b l r w : ℕ) → CellsCounted rows cols k.edges_across k.edges_down k.crosses → VerticalCounted t b k.vertical_lines → HorizontalCounted l r w k.horizontal_lines → (count' n : ℕ) (line : LineOf) (answer : Bool) → line ≡ LineOf.Horizontal n → number line ≤ count' → is_some k.default_value ≡ false → class_draws k.class_record count' line ≡ false → answer ≡ row_drawn k.horizontal_lines t b rows count' n → IsTrue answer ↔ Drawn (state_at k) count' line
 row_left k rows cols t b l r w cells upright level_ones count' n line answer is within none no_class e =
-    subst (λ x. IsTrue answer ↔ Drawn (keeps k) count' x) (sym is)
+    subst (λ x. IsTrue answer ↔ Drawn (state_at k) count' x) (sym is)
     (row_answer k rows cols t b l r w cells upright level_ones count' n answer (subst (λ x. number x ≤ count') is within)
     (third (is_some k.default_value) (class_draws k.class_record count' (LineOf.Horizontal n)) (row_drawn k.horizontal_lines t b rows count' n) answer none (sym (ap (class_draws k.class_record count') is) ∙ no_class) e))
 
-pub col_left : {T : Type 0} (k : Keeping T) (rows cols : map.FinMap nat_cmp ℕ) (t b l r w : ℕ) → CellsCounted rows cols k.edges_across k.edges_down k.crosses → VerticalCounted t b k.vertical_lines → HorizontalCounted l r w k.horizontal_lines → (count' n : ℕ) (line : LineOf) (answer : Bool) → line ≡ LineOf.Vertical n → number line ≤ count' → is_some k.default_value ≡ false → class_draws k.class_record count' line ≡ false → answer ≡ col_drawn k.vertical_lines l r w cols count' n → IsTrue answer ↔ Drawn (keeps k) count' line
+pub col_left : {T : Type 0} (k : State T) (rows cols : map.FinMap nat_cmp ℕ) (t b l r w : ℕ) → CellsCounted rows cols k.edges_across k.edges_down k.crosses → VerticalCounted t b k.vertical_lines → HorizontalCounted l r w k.horizontal_lines → (count' n : ℕ) (line : LineOf) (answer : Bool) → line ≡ LineOf.Vertical n → number line ≤ count' → is_some k.default_value ≡ false → class_draws k.class_record count' line ≡ false → answer ≡ col_drawn k.vertical_lines l r w cols count' n → IsTrue answer ↔ Drawn (state_at k) count' line
 col_left k rows cols t b l r w cells upright level_ones count' n line answer is within none no_class e =
-    subst (λ x. IsTrue answer ↔ Drawn (keeps k) count' x) (sym is)
+    subst (λ x. IsTrue answer ↔ Drawn (state_at k) count' x) (sym is)
     (col_answer k rows cols t b l r w cells upright level_ones count' n answer (subst (λ x. number x ≤ count') is within)
     (third (is_some k.default_value) (class_draws k.class_record count' (LineOf.Vertical n)) (col_drawn k.vertical_lines l r w cols count' n) answer none (sym (ap (class_draws k.class_record count') is) ∙ no_class) e))

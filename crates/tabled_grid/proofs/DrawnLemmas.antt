@@ -4,12 +4,12 @@ use Rattle.std.specs.List.{list_any}
 use Rattle.std.proofs.lemmas.Bool.{leb-true, le-leb}
 use Rattle.tabled_grid.specs.declared.place.LineOf.{LineOf}
 use Rattle.tabled_grid.specs.Site.{Site, same_site}
-use Rattle.tabled_grid.specs.Event.{Written, Event, write, erase, within, covered, kept, Shows}
+use Rattle.tabled_grid.specs.Event.{Written, Event, write, erase, within, covered, replay, Shows}
 use Rattle.tabled_grid.specs.declared.place.Place.{Place}
 use Rattle.tabled_grid.specs.Value.{value}
 use Rattle.tabled_grid.specs.Drawn.{number, draws, Drawn, written, drawn}
 use Rattle.tabled_grid.proofs.SameSite.{same_site-eq}
-use Rattle.tabled_grid.proofs.Replay.{kept-nil, kept-cons}
+use Rattle.tabled_grid.proofs.Replay.{replay-nil, replay-cons}
 
 -- an element that passes is found
 any_found : {A : Type 0} (p : A → Bool) (xs : List A) → list_any p xs ≡ true → (x : A) × (p x ≡ true)
@@ -28,15 +28,15 @@ later_keeps false true k l (inr h) g = absurd cc
 later_keeps false false k l h g = absurd cc
 
 -- what is kept was written
-kept_written : {T : Type 0} (es : List (Event T)) (q : Site) → is_some (kept es q) ≡ true → list_any (same_site q) (written es) ≡ true
-kept_written [] q h = absurd (let e = sym (ap is_some (kept-nil q)) ∙ h in cc)
-kept_written (write p w ∷ es) q h =
+replay_written : {T : Type 0} (es : List (Event T)) (q : Site) → is_some (replay es q) ≡ true → list_any (same_site q) (written es) ≡ true
+replay_written [] q h = absurd (let e = sym (ap is_some (replay-nil q)) ∙ h in cc)
+replay_written (write p w ∷ es) q h =
     elim (same_site q p) as (λ b. same_site q p ≡ b → (b || list_any (same_site q) (written es)) ≡ true) [
       | true ↦ λ _. refl
-      | false ↦ λ e. kept_written es q (later_keeps (covered es q) (same_site q p) (kept es q) (Some w) (inl e) (sym (ap is_some (kept-cons q (write p w) es)) ∙ h))
+      | false ↦ λ e. replay_written es q (later_keeps (covered es q) (same_site q p) (replay es q) (Some w) (inl e) (sym (ap is_some (replay-cons q (write p w) es)) ∙ h))
     ] refl
-kept_written (erase region ∷ es) q h =
-    kept_written es q (later_keeps (covered es q) (within region q) (kept es q) None (inr refl) (sym (ap is_some (kept-cons q (erase region) es)) ∙ h))
+replay_written (erase region ∷ es) q h =
+    replay_written es q (later_keeps (covered es q) (within region q) (replay es q) None (inr refl) (sym (ap is_some (replay-cons q (erase region) es)) ∙ h))
 
 -- a site that is among those listed passes what one of them passes
 any_of_site : (p : Site → Bool) (qs : List Site) (q : Site) → list_any (same_site q) qs ≡ true → p q ≡ true → list_any p qs ≡ true
@@ -60,22 +60,22 @@ both_parts true b h = (refl, h)
 both_parts false b h = absurd cc
 
 -- a line is drawn by the test exactly where something that is kept draws it
-pub drawn-Drawn : {T : Type 0} (es : List (Event T)) (count : ℕ) (line : LineOf) → IsTrue (drawn es count line) ↔ Drawn (kept es) count line
+pub drawn-Drawn : {T : Type 0} (es : List (Event T)) (count : ℕ) (line : LineOf) → IsTrue (drawn es count line) ↔ Drawn (replay es) count line
 unfolding drawn
 drawn-Drawn es count line = (
   λ h.
       let parts = both_parts (leb (number line) count) _ h in
-      let found = any_found (λ q. draws count line q && is_some (kept es q)) (written es) parts.1 in
-      let halves = both_parts (draws count line found.0) (is_some (kept es found.0)) found.1 in
+      let found = any_found (λ q. draws count line q && is_some (replay es q)) (written es) parts.1 in
+      let halves = both_parts (draws count line found.0) (is_some (replay es found.0)) found.1 in
       record { no_further = leb-true (number line) count parts.0; by = found.0; draws_it = halves.0; is_kept = halves.1 },
   λ d.
       both_true (leb (number line) count) _ (le-leb (number line) count d.no_further)
-      (any_of_site (λ q. draws count line q && is_some (kept es q)) (written es) d.by (kept_written es d.by d.is_kept)
-      (both_true (draws count line d.by) (is_some (kept es d.by)) d.draws_it d.is_kept)),
+      (any_of_site (λ q. draws count line q && is_some (replay es q)) (written es) d.by (replay_written es d.by d.is_kept)
+      (both_true (draws count line d.by) (is_some (replay es d.by)) d.draws_it d.is_kept)),
 )
 
 -- a keeping that shows the events draws the same lines
-pub Drawn-shown : {T : Type 0} (es : List (Event T)) (keep : Site → Option (Written T)) (count : ℕ) (line : LineOf) → Shows es keep → Drawn keep count line ↔ Drawn (kept es) count line
+pub Drawn-shown : {T : Type 0} (es : List (Event T)) (keep : Site → Option (Written T)) (count : ℕ) (line : LineOf) → Shows es keep → Drawn keep count line ↔ Drawn (replay es) count line
 unfolding Shows
 Drawn-shown es keep count line shows = (
   λ d. record { no_further = d.no_further; by = d.by; draws_it = d.draws_it; is_kept = sym (ap is_some (shows d.by)) ∙ d.is_kept },
@@ -96,13 +96,13 @@ drawn-answer es keep count line answer shows says =
     (λ yes. says.1 ((Drawn-shown es keep count line shows).1 ((drawn-Drawn es count line).0 yes)))
 
 -- a keeping that shows the events is what they leave, as a function
-pub kept-shown : {T : Type 0} (es : List (Event T)) (keep : Site → Option (Written T)) → Shows es keep → keep ≡ kept es
+pub replay-shown : {T : Type 0} (es : List (Event T)) (keep : Site → Option (Written T)) → Shows es keep → keep ≡ replay es
 unfolding Shows
-kept-shown es keep shows = λ i q. shows q i
+replay-shown es keep shows = λ i q. shows q i
 
 -- what places show is read off what is kept alone
-pub value-shown : {T : Type 0} (es : List (Event T)) (keep : Site → Option (Written T)) (shape : ℕ × ℕ) (size : ℕ) (place : Place) → Shows es keep → value keep shape size place ≡ value (kept es) shape size place
-value-shown es keep shape size place shows = ap (λ k. value k shape size place) (kept-shown es keep shows)
+pub value-shown : {T : Type 0} (es : List (Event T)) (keep : Site → Option (Written T)) (shape : ℕ × ℕ) (size : ℕ) (place : Place) → Shows es keep → value keep shape size place ≡ value (replay es) shape size place
+value-shown es keep shape size place shows = ap (λ k. value k shape size place) (replay-shown es keep shows)
 
 -- a line is drawn by a keeping exactly where the test of events that it shows says so
 pub Drawn-drawn : {T : Type 0} (es : List (Event T)) (keep : Site → Option (Written T)) (count : ℕ) (line : LineOf) → Shows es keep → Drawn keep count line ↔ IsTrue (drawn es count line)

@@ -6,11 +6,11 @@ use Rattle.tabled_grid.specs.declared.place.LineOf.{LineOf}
 use Rattle.tabled_grid.specs.declared.lines.HorizontalLine.{HorizontalLine}
 use Rattle.tabled_grid.specs.declared.lines.VerticalLine.{VerticalLine}
 use Rattle.tabled_grid.specs.Site.{Rank, first, inner, closing, Part, mark, main_edges, meeting, Site, the_default, of_class, of_line, at_spot, from_end, from_start, same_rank, same_part, same_line, same_site}
-use Rattle.tabled_grid.specs.Event.{sign, standing, Event, write, erase, line_sites, within, covered, kept}
+use Rattle.tabled_grid.specs.Event.{sign, standing, Event, write, erase, line_sites, within, covered, replay}
 use Rattle.tabled_grid.specs.Lines.{part_write, horizontal_line_set, vertical_line_set}
-use Rattle.tabled_grid.specs.Keeping.{horizontal_part, vertical_part}
-use Rattle.tabled_grid.proofs.Replay.{kept_one, kept-append, kept_cleared, kept_uncovered}
-use Rattle.tabled_grid.proofs.Blocks.{kept_rest, uncovered_both}
+use Rattle.tabled_grid.specs.State.{horizontal_part, vertical_part}
+use Rattle.tabled_grid.proofs.Replay.{replay_one, replay-append, replay_cleared, replay_uncovered}
+use Rattle.tabled_grid.proofs.Blocks.{replay_rest, uncovered_both}
 
 pub same_number : (n : ℕ) → (n == n) ≡ true
 same_number n = eq-eqb n n refl
@@ -56,53 +56,53 @@ module _ {T : Type 0} (l : LineOf) where
   part_elsewhere q p (Some x) h = ap (λ b. b || false) h
 
   -- behind events that leave nothing there, a part leaves its field
-  own_part : (before : List (Event T)) (p : Part) (o : Option T) → kept before (of_line l p) ≡ None → kept (before ++ part_write l p o) (of_line l p) ≡ option_map sign o
-  own_part before p None h = kept-append (of_line l p) before [] ∙ h
+  own_part : (before : List (Event T)) (p : Part) (o : Option T) → replay before (of_line l p) ≡ None → replay (before ++ part_write l p o) (of_line l p) ≡ option_map sign o
+  own_part before p None h = replay-append (of_line l p) before [] ∙ h
   own_part before p (Some x) h =
-      kept-append (of_line l p) before (write (of_line l p) (sign x) ∷ [])
-      ∙ ap (λ b. cond (b || false) (kept (write (of_line l p) (sign x) ∷ []) (of_line l p)) (kept before (of_line l p))) (own_site l p)
-      ∙ kept_one (of_line l p) (write (of_line l p) (sign x)) ∙ ap (λ b. cond b (Some (sign x)) None) (own_site l p)
+      replay-append (of_line l p) before (write (of_line l p) (sign x) ∷ [])
+      ∙ ap (λ b. cond (b || false) (replay (write (of_line l p) (sign x) ∷ []) (of_line l p)) (replay before (of_line l p))) (own_site l p)
+      ∙ replay_one (of_line l p) (write (of_line l p) (sign x)) ∙ ap (λ b. cond b (Some (sign x)) None) (own_site l p)
 
   -- the clearing and the mark, in front of some other events
-  cleared : (es : List (Event T)) (p : Part) → same_part p mark ≡ false → covered es (of_line l p) ≡ false → kept (erase (line_sites l) ∷ write (of_line l mark) standing ∷ es) (of_line l p) ≡ None
+  cleared : (es : List (Event T)) (p : Part) → same_part p mark ≡ false → covered es (of_line l p) ≡ false → replay (erase (line_sites l) ∷ write (of_line l mark) standing ∷ es) (of_line l p) ≡ None
   cleared es p h g =
-      kept_cleared (line_sites l) (write (of_line l mark) standing ∷ es) (of_line l p)
-      ∙ kept_uncovered (of_line l p) (write (of_line l mark) standing ∷ es) (ap (λ b. b || covered es (of_line l p)) (other_part l p mark h) ∙ g)
+      replay_cleared (line_sites l) (write (of_line l mark) standing ∷ es) (of_line l p)
+      ∙ replay_uncovered (of_line l p) (write (of_line l mark) standing ∷ es) (ap (λ b. b || covered es (of_line l p)) (other_part l p mark h) ∙ g)
 
   module _ (main between start end : Option T) where
-    at_mark : kept (line_set l main between start end) (of_line l mark) ≡ Some standing
+    at_mark : replay (line_set l main between start end) (of_line l mark) ≡ Some standing
     at_mark =
-        kept_rest (of_line l mark) _ (part_write l (meeting closing) end) (part_elsewhere (of_line l mark) (meeting closing) end (other_part l mark (meeting closing) refl))
-        ∙ kept_rest (of_line l mark) _ (part_write l (meeting first) start) (part_elsewhere (of_line l mark) (meeting first) start (other_part l mark (meeting first) refl))
-        ∙ kept_rest (of_line l mark) _ (part_write l (meeting inner) between) (part_elsewhere (of_line l mark) (meeting inner) between (other_part l mark (meeting inner) refl))
-        ∙ kept_rest (of_line l mark) (erase (line_sites l) ∷ write (of_line l mark) standing ∷ []) (part_write l main_edges main) (part_elsewhere (of_line l mark) main_edges main (other_part l mark main_edges refl))
-        ∙ kept_cleared (line_sites l) (write (of_line l mark) standing ∷ []) (of_line l mark)
-        ∙ kept_one (of_line l mark) (write (of_line l mark) standing) ∙ ap (λ b. cond b (Some standing) None) (own_site l mark)
+        replay_rest (of_line l mark) _ (part_write l (meeting closing) end) (part_elsewhere (of_line l mark) (meeting closing) end (other_part l mark (meeting closing) refl))
+        ∙ replay_rest (of_line l mark) _ (part_write l (meeting first) start) (part_elsewhere (of_line l mark) (meeting first) start (other_part l mark (meeting first) refl))
+        ∙ replay_rest (of_line l mark) _ (part_write l (meeting inner) between) (part_elsewhere (of_line l mark) (meeting inner) between (other_part l mark (meeting inner) refl))
+        ∙ replay_rest (of_line l mark) (erase (line_sites l) ∷ write (of_line l mark) standing ∷ []) (part_write l main_edges main) (part_elsewhere (of_line l mark) main_edges main (other_part l mark main_edges refl))
+        ∙ replay_cleared (line_sites l) (write (of_line l mark) standing ∷ []) (of_line l mark)
+        ∙ replay_one (of_line l mark) (write (of_line l mark) standing) ∙ ap (λ b. cond b (Some standing) None) (own_site l mark)
 
-    at_main : kept (line_set l main between start end) (of_line l main_edges) ≡ option_map sign main
+    at_main : replay (line_set l main between start end) (of_line l main_edges) ≡ option_map sign main
     at_main =
-        kept_rest (of_line l main_edges) _ (part_write l (meeting closing) end) (part_elsewhere (of_line l main_edges) (meeting closing) end (other_part l main_edges (meeting closing) refl))
-        ∙ kept_rest (of_line l main_edges) _ (part_write l (meeting first) start) (part_elsewhere (of_line l main_edges) (meeting first) start (other_part l main_edges (meeting first) refl))
-        ∙ kept_rest (of_line l main_edges) _ (part_write l (meeting inner) between) (part_elsewhere (of_line l main_edges) (meeting inner) between (other_part l main_edges (meeting inner) refl))
+        replay_rest (of_line l main_edges) _ (part_write l (meeting closing) end) (part_elsewhere (of_line l main_edges) (meeting closing) end (other_part l main_edges (meeting closing) refl))
+        ∙ replay_rest (of_line l main_edges) _ (part_write l (meeting first) start) (part_elsewhere (of_line l main_edges) (meeting first) start (other_part l main_edges (meeting first) refl))
+        ∙ replay_rest (of_line l main_edges) _ (part_write l (meeting inner) between) (part_elsewhere (of_line l main_edges) (meeting inner) between (other_part l main_edges (meeting inner) refl))
         ∙ own_part (erase (line_sites l) ∷ write (of_line l mark) standing ∷ []) main_edges main (cleared [] main_edges refl refl)
 
-    at_between : kept (line_set l main between start end) (of_line l (meeting inner)) ≡ option_map sign between
+    at_between : replay (line_set l main between start end) (of_line l (meeting inner)) ≡ option_map sign between
     at_between =
-        kept_rest (of_line l (meeting inner)) _ (part_write l (meeting closing) end) (part_elsewhere (of_line l (meeting inner)) (meeting closing) end (other_part l (meeting inner) (meeting closing) refl))
-        ∙ kept_rest (of_line l (meeting inner)) _ (part_write l (meeting first) start) (part_elsewhere (of_line l (meeting inner)) (meeting first) start (other_part l (meeting inner) (meeting first) refl))
+        replay_rest (of_line l (meeting inner)) _ (part_write l (meeting closing) end) (part_elsewhere (of_line l (meeting inner)) (meeting closing) end (other_part l (meeting inner) (meeting closing) refl))
+        ∙ replay_rest (of_line l (meeting inner)) _ (part_write l (meeting first) start) (part_elsewhere (of_line l (meeting inner)) (meeting first) start (other_part l (meeting inner) (meeting first) refl))
         ∙ own_part (erase (line_sites l) ∷ write (of_line l mark) standing ∷ part_write l main_edges main) (meeting inner) between
         (cleared (part_write l main_edges main) (meeting inner) refl (part_elsewhere (of_line l (meeting inner)) main_edges main (other_part l (meeting inner) main_edges refl)))
 
-    at_start : kept (line_set l main between start end) (of_line l (meeting first)) ≡ option_map sign start
+    at_start : replay (line_set l main between start end) (of_line l (meeting first)) ≡ option_map sign start
     at_start =
-        kept_rest (of_line l (meeting first)) _ (part_write l (meeting closing) end) (part_elsewhere (of_line l (meeting first)) (meeting closing) end (other_part l (meeting first) (meeting closing) refl))
+        replay_rest (of_line l (meeting first)) _ (part_write l (meeting closing) end) (part_elsewhere (of_line l (meeting first)) (meeting closing) end (other_part l (meeting first) (meeting closing) refl))
         ∙ own_part (erase (line_sites l) ∷ write (of_line l mark) standing ∷ part_write l main_edges main ++ part_write l (meeting inner) between) (meeting first) start
         (cleared (part_write l main_edges main ++ part_write l (meeting inner) between) (meeting first) refl
         (uncovered_both (of_line l (meeting first)) (part_write l main_edges main) (part_write l (meeting inner) between)
         (part_elsewhere (of_line l (meeting first)) main_edges main (other_part l (meeting first) main_edges refl))
         (part_elsewhere (of_line l (meeting first)) (meeting inner) between (other_part l (meeting first) (meeting inner) refl))))
 
-    at_end : kept (line_set l main between start end) (of_line l (meeting closing)) ≡ option_map sign end
+    at_end : replay (line_set l main between start end) (of_line l (meeting closing)) ≡ option_map sign end
     at_end =
         own_part (erase (line_sites l) ∷ write (of_line l mark) standing ∷ part_write l main_edges main ++ part_write l (meeting inner) between ++ part_write l (meeting first) start) (meeting closing) end
         (cleared (part_write l main_edges main ++ part_write l (meeting inner) between ++ part_write l (meeting first) start) (meeting closing) refl
@@ -157,21 +157,21 @@ outside_line l (from_end d r c n) p h = refl
 outside_line l (from_start d r c n) p h = refl
 
 -- a custom line put at its index leaves its fields and its mark, and nothing else there
-pub kept-horizontal_line_set : {T : Type 0} (n : ℕ) (line : HorizontalLine T) (p : Part) → kept (horizontal_line_set n line) (of_line (LineOf.Horizontal n) p) ≡ horizontal_part p line
+pub replay-horizontal_line_set : {T : Type 0} (n : ℕ) (line : HorizontalLine T) (p : Part) → replay (horizontal_line_set n line) (of_line (LineOf.Horizontal n) p) ≡ horizontal_part p line
 unfolding horizontal_line_set
-kept-horizontal_line_set n line mark = at_mark (LineOf.Horizontal n) line.main line.intersection line.left line.right
-kept-horizontal_line_set n line main_edges = at_main (LineOf.Horizontal n) line.main line.intersection line.left line.right
-kept-horizontal_line_set n line (meeting inner) = at_between (LineOf.Horizontal n) line.main line.intersection line.left line.right
-kept-horizontal_line_set n line (meeting first) = at_start (LineOf.Horizontal n) line.main line.intersection line.left line.right
-kept-horizontal_line_set n line (meeting closing) = at_end (LineOf.Horizontal n) line.main line.intersection line.left line.right
+replay-horizontal_line_set n line mark = at_mark (LineOf.Horizontal n) line.main line.intersection line.left line.right
+replay-horizontal_line_set n line main_edges = at_main (LineOf.Horizontal n) line.main line.intersection line.left line.right
+replay-horizontal_line_set n line (meeting inner) = at_between (LineOf.Horizontal n) line.main line.intersection line.left line.right
+replay-horizontal_line_set n line (meeting first) = at_start (LineOf.Horizontal n) line.main line.intersection line.left line.right
+replay-horizontal_line_set n line (meeting closing) = at_end (LineOf.Horizontal n) line.main line.intersection line.left line.right
 
-pub kept-vertical_line_set : {T : Type 0} (n : ℕ) (line : VerticalLine T) (p : Part) → kept (vertical_line_set n line) (of_line (LineOf.Vertical n) p) ≡ vertical_part p line
+pub replay-vertical_line_set : {T : Type 0} (n : ℕ) (line : VerticalLine T) (p : Part) → replay (vertical_line_set n line) (of_line (LineOf.Vertical n) p) ≡ vertical_part p line
 unfolding vertical_line_set
-kept-vertical_line_set n line mark = at_mark (LineOf.Vertical n) line.main line.intersection line.top line.bottom
-kept-vertical_line_set n line main_edges = at_main (LineOf.Vertical n) line.main line.intersection line.top line.bottom
-kept-vertical_line_set n line (meeting inner) = at_between (LineOf.Vertical n) line.main line.intersection line.top line.bottom
-kept-vertical_line_set n line (meeting first) = at_start (LineOf.Vertical n) line.main line.intersection line.top line.bottom
-kept-vertical_line_set n line (meeting closing) = at_end (LineOf.Vertical n) line.main line.intersection line.top line.bottom
+replay-vertical_line_set n line mark = at_mark (LineOf.Vertical n) line.main line.intersection line.top line.bottom
+replay-vertical_line_set n line main_edges = at_main (LineOf.Vertical n) line.main line.intersection line.top line.bottom
+replay-vertical_line_set n line (meeting inner) = at_between (LineOf.Vertical n) line.main line.intersection line.top line.bottom
+replay-vertical_line_set n line (meeting first) = at_start (LineOf.Vertical n) line.main line.intersection line.top line.bottom
+replay-vertical_line_set n line (meeting closing) = at_end (LineOf.Vertical n) line.main line.intersection line.top line.bottom
 
 -- it covers the line's sites
 pub covered-horizontal_line_set : {T : Type 0} (n : ℕ) (line : HorizontalLine T) (q : Site) → covered (horizontal_line_set n line) q ≡ within (line_sites (LineOf.Horizontal n)) q

@@ -12,7 +12,7 @@ use Rattle.std.specs.FinMap.{get}
 use Rattle.tabled_grid.specs.declared.lines.HorizontalLine.{HorizontalLine}
 use Rattle.tabled_grid.specs.declared.lines.VerticalLine.{VerticalLine}
 use Rattle.tabled_grid.specs.Reading.{pick, plain_across, plain_down, plain_crossing, edge_across, edge_down}
-use Rattle.tabled_grid.specs.Keeping.{Keeping, keeps, position, edge_place, horizontal_part, vertical_part, line_classes, has_class, rank_draws}
+use Rattle.tabled_grid.specs.State.{State, state_at, position, edge_place, horizontal_part, vertical_part, line_classes, has_class, rank_draws}
 
 -- every class of the list draws the line
 abbrev pub AllDraw : ℕ → LineOf → List Class → Type 0
@@ -20,9 +20,9 @@ AllDraw count line [] = Unit {0}
 AllDraw count line (c ∷ cs) = (draws count line (of_class c) ≡ true) × AllDraw count line cs
 
 -- a place outside has nothing
-pub value_outside : {T : Type 0} (keeping : Keeping T) (shape : ℕ × ℕ) (size : ℕ) (place : Place) → inside shape size place ≡ false → value (keeps keeping) shape size place ≡ None
+pub value_outside : {T : Type 0} (state : State T) (shape : ℕ × ℕ) (size : ℕ) (place : Place) → inside shape size place ≡ false → value (state_at state) shape size place ≡ None
 unfolding value
-value_outside keeping shape size place h = ap (λ b. cond b (first_sign (keeps keeping) (sites shape size place)) None) h
+value_outside state shape size place h = ap (λ b. cond b (first_sign (state_at state) (sites shape size place)) None) h
 
 sign_or-sign : {T : Type 0} (o r : Option T) → sign_or (option_map sign o) r ≡ pick o r
 sign_or-sign None r = refl
@@ -48,24 +48,24 @@ pick-none : {T : Type 0} (o : Option T) → pick o None ≡ o
 pick-none None = refl
 pick-none (Some x) = refl
 
-module _ {T : Type 0} (k : Keeping T) where
+module _ {T : Type 0} (k : State T) where
   last_levels : (class_has : Option T) → sign_or (option_map sign class_has) (sign_or (option_map sign k.default_value) None) ≡ pick class_has k.default_value
   last_levels class_has = sign_or-sign class_has (sign_or (option_map sign k.default_value) None) ∙ ap (pick class_has) (sign_or-sign k.default_value None ∙ pick-none k.default_value)
 
   -- what the sites below the offsets have, for each kind of place
-  pub plain-across : (rows cols r c n : ℕ) → first_sign (keeps k) (plain_sites (rows, cols) (Place.Horizontal r c n)) ≡ plain_across k rows r c
+  pub plain-across : (rows cols r c n : ℕ) → first_sign (state_at k) (plain_sites (rows, cols) (Place.Horizontal r c n)) ≡ plain_across k rows r c
   plain-across rows cols r c n =
       sign_or-sign (get k.edges_across (position r c)) _
       ∙ ap (pick (get k.edges_across (position r c))) (sign_or-horizontal_main (get k.horizontal_lines r) _
       ∙ ap (pick (option_and_then (λ line. line.main) (get k.horizontal_lines r))) (last_levels (class_value (class_at (rows, cols) (Place.Horizontal r c n)) k.class_record)))
 
-  pub plain-down : (rows cols r c n : ℕ) → first_sign (keeps k) (plain_sites (rows, cols) (Place.Vertical r c n)) ≡ plain_down k cols r c
+  pub plain-down : (rows cols r c n : ℕ) → first_sign (state_at k) (plain_sites (rows, cols) (Place.Vertical r c n)) ≡ plain_down k cols r c
   plain-down rows cols r c n =
       sign_or-sign (get k.edges_down (position r c)) _
       ∙ ap (pick (get k.edges_down (position r c))) (sign_or-vertical_main (get k.vertical_lines c) _
       ∙ ap (pick (option_and_then (λ line. line.main) (get k.vertical_lines c))) (last_levels (class_value (class_at (rows, cols) (Place.Vertical r c n)) k.class_record)))
 
-  pub plain-crossing : (rows cols r c : ℕ) → first_sign (keeps k) (plain_sites (rows, cols) (Place.Cross r c)) ≡ plain_crossing k rows cols r c
+  pub plain-crossing : (rows cols r c : ℕ) → first_sign (state_at k) (plain_sites (rows, cols) (Place.Cross r c)) ≡ plain_crossing k rows cols r c
   plain-crossing rows cols r c =
       sign_or-sign (get k.crosses (position r c)) _
       ∙ ap (pick (get k.crosses (position r c))) (sign_or-horizontal_meeting (rank cols c) (get k.horizontal_lines r) _
@@ -73,26 +73,26 @@ module _ {T : Type 0} (k : Keeping T) where
       ∙ ap (pick (option_and_then (vertical_meeting (rank rows r)) (get k.vertical_lines c))) (last_levels (class_value (class_at (rows, cols) (Place.Cross r c)) k.class_record))))
 
   -- the value of each kind of place inside
-  pub value-across : (rows cols size r c n : ℕ) → inside (rows, cols) size (Place.Horizontal r c n) ≡ true → value (keeps k) (rows, cols) size (Place.Horizontal r c n) ≡ edge_across k rows r c n (size - 1 - n)
+  pub value-across : (rows cols size r c n : ℕ) → inside (rows, cols) size (Place.Horizontal r c n) ≡ true → value (state_at k) (rows, cols) size (Place.Horizontal r c n) ≡ edge_across k rows r c n (size - 1 - n)
   unfolding value
   value-across rows cols size r c n h =
-      ap (λ b. cond b (first_sign (keeps k) (sites (rows, cols) size (Place.Horizontal r c n))) None) h
+      ap (λ b. cond b (first_sign (state_at k) (sites (rows, cols) size (Place.Horizontal r c n))) None) h
       ∙ sign_or-sign (get k.starts_across (edge_place r c n)) _
       ∙ ap (pick (get k.starts_across (edge_place r c n))) (sign_or-sign (get k.ends_across (edge_place r c (size - 1 - n))) _
       ∙ ap (pick (get k.ends_across (edge_place r c (size - 1 - n)))) (plain-across rows cols r c n))
 
-  pub value-down : (rows cols size r c n : ℕ) → inside (rows, cols) size (Place.Vertical r c n) ≡ true → value (keeps k) (rows, cols) size (Place.Vertical r c n) ≡ edge_down k cols r c n (size - 1 - n)
+  pub value-down : (rows cols size r c n : ℕ) → inside (rows, cols) size (Place.Vertical r c n) ≡ true → value (state_at k) (rows, cols) size (Place.Vertical r c n) ≡ edge_down k cols r c n (size - 1 - n)
   unfolding value
   value-down rows cols size r c n h =
-      ap (λ b. cond b (first_sign (keeps k) (sites (rows, cols) size (Place.Vertical r c n))) None) h
+      ap (λ b. cond b (first_sign (state_at k) (sites (rows, cols) size (Place.Vertical r c n))) None) h
       ∙ sign_or-sign (get k.starts_down (edge_place r c n)) _
       ∙ ap (pick (get k.starts_down (edge_place r c n))) (sign_or-sign (get k.ends_down (edge_place r c (size - 1 - n))) _
       ∙ ap (pick (get k.ends_down (edge_place r c (size - 1 - n)))) (plain-down rows cols r c n))
 
-  pub value-crossing : (rows cols size r c : ℕ) → inside (rows, cols) size (Place.Cross r c) ≡ true → value (keeps k) (rows, cols) size (Place.Cross r c) ≡ plain_crossing k rows cols r c
+  pub value-crossing : (rows cols size r c : ℕ) → inside (rows, cols) size (Place.Cross r c) ≡ true → value (state_at k) (rows, cols) size (Place.Cross r c) ≡ plain_crossing k rows cols r c
   unfolding value
   value-crossing rows cols size r c h =
-      ap (λ b. cond b (first_sign (keeps k) (sites (rows, cols) size (Place.Cross r c))) None) h ∙ plain-crossing rows cols r c
+      ap (λ b. cond b (first_sign (state_at k) (sites (rows, cols) size (Place.Cross r c))) None) h ∙ plain-crossing rows cols r c
 
 pub and_parts : (a b : Bool) → (a && b) ≡ true → (a ≡ true) × (b ≡ true)
 and_parts true b h = (refl, h)
@@ -184,37 +184,37 @@ module _ {T : Type 0} (borders : Borders T) where
   class_draws_it down count n (crossings row col) e f = by_rank down col count n e (given_down row col f)
 
 -- an edge or a crossing outside has no plain value
-pub plain_outside : {T : Type 0} (keeping : Keeping T) (shape : ℕ × ℕ) (place : Place) → has_spot shape place ≡ false → plain_value (keeps keeping) shape place ≡ None
+pub plain_outside : {T : Type 0} (state : State T) (shape : ℕ × ℕ) (place : Place) → has_spot shape place ≡ false → plain_value (state_at state) shape place ≡ None
 unfolding plain_value
-plain_outside keeping shape place h = ap (λ b. cond b (first_sign (keeps keeping) (plain_sites shape place)) None) h
+plain_outside state shape place h = ap (λ b. cond b (first_sign (state_at state) (plain_sites shape place)) None) h
 
 -- one inside has what its sites have
-plain_inside : {T : Type 0} (keeping : Keeping T) (shape : ℕ × ℕ) (place : Place) → has_spot shape place ≡ true → plain_value (keeps keeping) shape place ≡ first_sign (keeps keeping) (plain_sites shape place)
+plain_inside : {T : Type 0} (state : State T) (shape : ℕ × ℕ) (place : Place) → has_spot shape place ≡ true → plain_value (state_at state) shape place ≡ first_sign (state_at state) (plain_sites shape place)
 unfolding plain_value
-plain_inside keeping shape place h = ap (λ b. cond b (first_sign (keeps keeping) (plain_sites shape place)) None) h
+plain_inside state shape place h = ap (λ b. cond b (first_sign (state_at state) (plain_sites shape place)) None) h
 
 -- the plain value of each kind, from what was read
-pub plain_at_across : {T : Type 0} (k : Keeping T) (shape : ℕ × ℕ) (place : Place) (r c n : ℕ) (o : Option T) → place ≡ Place.Horizontal r c n → has_spot shape place ≡ true → o ≡ plain_across k shape.0 r c → o ≡ plain_value (keeps k) shape place
+pub plain_at_across : {T : Type 0} (k : State T) (shape : ℕ × ℕ) (place : Place) (r c n : ℕ) (o : Option T) → place ≡ Place.Horizontal r c n → has_spot shape place ≡ true → o ≡ plain_across k shape.0 r c → o ≡ plain_value (state_at k) shape place
 plain_at_across k shape place r c n o e h is =
-    is ∙ sym (plain_inside k shape place h ∙ ap (λ p. first_sign (keeps k) (plain_sites shape p)) e ∙ plain-across k shape.0 shape.1 r c n)
+    is ∙ sym (plain_inside k shape place h ∙ ap (λ p. first_sign (state_at k) (plain_sites shape p)) e ∙ plain-across k shape.0 shape.1 r c n)
 
-pub plain_at_down : {T : Type 0} (k : Keeping T) (shape : ℕ × ℕ) (place : Place) (r c n : ℕ) (o : Option T) → place ≡ Place.Vertical r c n → has_spot shape place ≡ true → o ≡ plain_down k shape.1 r c → o ≡ plain_value (keeps k) shape place
+pub plain_at_down : {T : Type 0} (k : State T) (shape : ℕ × ℕ) (place : Place) (r c n : ℕ) (o : Option T) → place ≡ Place.Vertical r c n → has_spot shape place ≡ true → o ≡ plain_down k shape.1 r c → o ≡ plain_value (state_at k) shape place
 plain_at_down k shape place r c n o e h is =
-    is ∙ sym (plain_inside k shape place h ∙ ap (λ p. first_sign (keeps k) (plain_sites shape p)) e ∙ plain-down k shape.0 shape.1 r c n)
+    is ∙ sym (plain_inside k shape place h ∙ ap (λ p. first_sign (state_at k) (plain_sites shape p)) e ∙ plain-down k shape.0 shape.1 r c n)
 
-pub plain_at_crossing : {T : Type 0} (k : Keeping T) (shape : ℕ × ℕ) (place : Place) (r c : ℕ) (o : Option T) → place ≡ Place.Cross r c → has_spot shape place ≡ true → o ≡ plain_crossing k shape.0 shape.1 r c → o ≡ plain_value (keeps k) shape place
+pub plain_at_crossing : {T : Type 0} (k : State T) (shape : ℕ × ℕ) (place : Place) (r c : ℕ) (o : Option T) → place ≡ Place.Cross r c → has_spot shape place ≡ true → o ≡ plain_crossing k shape.0 shape.1 r c → o ≡ plain_value (state_at k) shape place
 plain_at_crossing k shape place r c o e h is =
-    is ∙ sym (plain_inside k shape place h ∙ ap (λ p. first_sign (keeps k) (plain_sites shape p)) e ∙ plain-crossing k shape.0 shape.1 r c)
+    is ∙ sym (plain_inside k shape place h ∙ ap (λ p. first_sign (state_at k) (plain_sites shape p)) e ∙ plain-crossing k shape.0 shape.1 r c)
 
 -- the value of a place of each kind, from what was read
-pub at_across : {T : Type 0} (k : Keeping T) (shape : ℕ × ℕ) (size : ℕ) (place : Place) (r c n : ℕ) (o : Option T) → place ≡ Place.Horizontal r c n → inside shape size place ≡ true → o ≡ edge_across k shape.0 r c n (size - 1 - n) → o ≡ value (keeps k) shape size place
+pub at_across : {T : Type 0} (k : State T) (shape : ℕ × ℕ) (size : ℕ) (place : Place) (r c n : ℕ) (o : Option T) → place ≡ Place.Horizontal r c n → inside shape size place ≡ true → o ≡ edge_across k shape.0 r c n (size - 1 - n) → o ≡ value (state_at k) shape size place
 at_across k shape size place r c n o e h is =
-    is ∙ sym (value-across k shape.0 shape.1 size r c n (sym (ap (inside shape size) e) ∙ h)) ∙ sym (ap (value (keeps k) shape size) e)
+    is ∙ sym (value-across k shape.0 shape.1 size r c n (sym (ap (inside shape size) e) ∙ h)) ∙ sym (ap (value (state_at k) shape size) e)
 
-pub at_down : {T : Type 0} (k : Keeping T) (shape : ℕ × ℕ) (size : ℕ) (place : Place) (r c n : ℕ) (o : Option T) → place ≡ Place.Vertical r c n → inside shape size place ≡ true → o ≡ edge_down k shape.1 r c n (size - 1 - n) → o ≡ value (keeps k) shape size place
+pub at_down : {T : Type 0} (k : State T) (shape : ℕ × ℕ) (size : ℕ) (place : Place) (r c n : ℕ) (o : Option T) → place ≡ Place.Vertical r c n → inside shape size place ≡ true → o ≡ edge_down k shape.1 r c n (size - 1 - n) → o ≡ value (state_at k) shape size place
 at_down k shape size place r c n o e h is =
-    is ∙ sym (value-down k shape.0 shape.1 size r c n (sym (ap (inside shape size) e) ∙ h)) ∙ sym (ap (value (keeps k) shape size) e)
+    is ∙ sym (value-down k shape.0 shape.1 size r c n (sym (ap (inside shape size) e) ∙ h)) ∙ sym (ap (value (state_at k) shape size) e)
 
-pub at_crossing : {T : Type 0} (k : Keeping T) (shape : ℕ × ℕ) (size : ℕ) (place : Place) (r c : ℕ) (o : Option T) → place ≡ Place.Cross r c → inside shape size place ≡ true → o ≡ plain_crossing k shape.0 shape.1 r c → o ≡ value (keeps k) shape size place
+pub at_crossing : {T : Type 0} (k : State T) (shape : ℕ × ℕ) (size : ℕ) (place : Place) (r c : ℕ) (o : Option T) → place ≡ Place.Cross r c → inside shape size place ≡ true → o ≡ plain_crossing k shape.0 shape.1 r c → o ≡ value (state_at k) shape size place
 at_crossing k shape size place r c o e h is =
-    is ∙ sym (value-crossing k shape.0 shape.1 size r c (sym (ap (inside shape size) e) ∙ h)) ∙ sym (ap (value (keeps k) shape size) e)
+    is ∙ sym (value-crossing k shape.0 shape.1 size r c (sym (ap (inside shape size) e) ∙ h)) ∙ sym (ap (value (state_at k) shape size) e)

@@ -13,15 +13,15 @@ use Rattle.tabled_grid.specs.declared.place.Place.{Place}
 use Rattle.tabled_object.specs.declared.position.Position.{Position}
 use Rattle.tabled_grid.specs.Keys.{position_cmp, edge_place_cmp, positions_total, exact_positions, edge_places_total, exact_edge_places}
 use Rattle.tabled_grid.specs.Site.{across, down, first, inner, closing, Class, edges, crossings, class_value, Part, mark, main_edges, meeting, Spot, edge, crossing, Site, the_default, of_class, of_line, at_spot, from_end, from_start, same_site}
-use Rattle.tabled_grid.specs.Event.{Written, sign, standing, Event, write, erase, kept, these_sites, Changes}
-use Rattle.tabled_grid.specs.Keeping.{Keeping, keeps, position, edge_place, horizontal_part, vertical_part}
+use Rattle.tabled_grid.specs.Event.{Written, sign, standing, Event, write, erase, replay, these_sites, Changes}
+use Rattle.tabled_grid.specs.State.{State, state_at, position, edge_place, horizontal_part, vertical_part}
 use Rattle.tabled_grid.specs.CellBorder.{border_places, border_fields}
 use Rattle.tabled_grid.specs.Calls.{spot_of, cell_set, given_write, places_set, border_set}
 use Rattle.tabled_grid.specs.declared.offset.Offset.{Offset}
 use Rattle.tabled_grid.specs.declared.writes.Target.{Target}
 use Rattle.tabled_grid.specs.Writes.{site_of, PutsBackAt}
 use Rattle.tabled_grid.specs.PutBack.{PutsNoteBack, PutsBoth, PutsBackTwo, PutsBackFour}
-use Rattle.tabled_grid.proofs.Replay.{kept_one, Changes-append, Changes-nil}
+use Rattle.tabled_grid.proofs.Replay.{replay_one, Changes-append, Changes-nil}
 use Rattle.tabled_grid.proofs.LineWrites.{same_number}
 use Rattle.tabled_grid.proofs.SameSite.{same_site-eq}
 use Rattle.tabled_grid.proofs.CellBorders.{by_erasure}
@@ -88,8 +88,8 @@ same_classes a b h = λ i. record {
 }
 
 -- stores that keep the same at every site are one
-pub same_keeping : {T : Type 0} (a b : Keeping T) → ((q : Site) → keeps a q ≡ keeps b q) → a ≡ b
-same_keeping a b h = λ i. record {
+pub same_state : {T : Type 0} (a b : State T) → ((q : Site) → state_at a q ≡ state_at b q) → a ≡ b
+same_state a b h = λ i. record {
   default_value = of_signs a.default_value b.default_value (h the_default) i;
   class_record = same_classes a.class_record b.class_record (λ class. of_signs (class_value class a.class_record) (class_value class b.class_record) (h (of_class class))) i;
   vertical_lines = map.same_map nat_cmp_total map.nat_cmp-IsAntisymmetric a.vertical_lines b.vertical_lines (λ n. same_vertical (map.get a.vertical_lines n) (map.get b.vertical_lines n) (λ part. h (of_line (LineOf.Vertical n) part))) i;
@@ -115,8 +115,8 @@ once false x y z = refl
 pub by_write : {T : Type 0} (site : Site) (w : Written T) (old new : Site → Option (Written T)) → Changes (write site w ∷ []) old new → (q : Site) → new q ≡ cond (same_site q site) (Some w) (old q)
 unfolding Changes
 by_write site w old new h q =
-    h q ∙ ap (λ b. cond b (kept (write site w ∷ []) q) (old q)) (or-none (same_site q site))
-    ∙ ap (λ k. cond (same_site q site) k (old q)) (kept_one q (write site w)) ∙ once (same_site q site) (Some w) None (old q)
+    h q ∙ ap (λ b. cond b (replay (write site w ∷ []) q) (old q)) (or-none (same_site q site))
+    ∙ ap (λ k. cond (same_site q site) k (old q)) (replay_one q (write site w)) ∙ once (same_site q site) (Some w) None (old q)
 
 two_same : (r c : ℕ) → ((r == r) && (c == c)) ≡ true
 two_same r c = ap (λ b. b && (c == c)) (same_number r) ∙ same_number c
@@ -140,54 +140,54 @@ some_there : {A : Type 0} (o : Option A) (x : A) → o ≡ Some x → IsSome o
 some_there o x e = ap is_some e
 
 -- a value written over what stood at a target
-pub written_over : {T : Type 0} (target : Target) (value : T) (before : Option T) (old new : Keeping T) → option_map sign before ≡ keeps old (site_of target) → Changes (write (site_of target) (sign value) ∷ []) (keeps old) (keeps new) → PutsBackAt (site_of target) before old new
+pub written_over : {T : Type 0} (target : Target) (value : T) (before : Option T) (old new : State T) → option_map sign before ≡ state_at old (site_of target) → Changes (write (site_of target) (sign value) ∷ []) (state_at old) (state_at new) → PutsBackAt (site_of target) before old new
 unfolding PutsBackAt
 written_over target value before old new was changes = (
-  some_there _ (sign value) (at_site (site_of target) ∙ ap (λ b. cond b (Some (sign value)) (keeps old (site_of target))) (target_itself target)),
+  some_there _ (sign value) (at_site (site_of target) ∙ ap (λ b. cond b (Some (sign value)) (state_at old (site_of target))) (target_itself target)),
   λ q. elsewhere q (same_site q (site_of target)) refl,
 )
   where
-    at_site : (q : Site) → keeps new q ≡ cond (same_site q (site_of target)) (Some (sign value)) (keeps old q)
-    at_site q = by_write (site_of target) (sign value) (keeps old) (keeps new) changes q
+    at_site : (q : Site) → state_at new q ≡ cond (same_site q (site_of target)) (Some (sign value)) (state_at old q)
+    at_site q = by_write (site_of target) (sign value) (state_at old) (state_at new) changes q
 
-    elsewhere : (q : Site) (b : Bool) → same_site q (site_of target) ≡ b → keeps old q ≡ cond b (option_map sign before) (keeps new q)
-    elsewhere q true e = ap (keeps old) (same_site-eq q (site_of target) e) ∙ sym was
-    elsewhere q false e = sym (at_site q ∙ ap (λ b. cond b (Some (sign value)) (keeps old q)) e)
+    elsewhere : (q : Site) (b : Bool) → same_site q (site_of target) ≡ b → state_at old q ≡ cond b (option_map sign before) (state_at new q)
+    elsewhere q true e = ap (state_at old) (same_site-eq q (site_of target) e) ∙ sym was
+    elsewhere q false e = sym (at_site q ∙ ap (λ b. cond b (Some (sign value)) (state_at old q)) e)
 
 -- what stood there written again, which memory can't be refused for
-pub value_back : {A E T : Type 0} (result : Result A E) (site : Site) (before : Option T) (value : T) (old now new : Keeping T) → before ≡ Some value → OnOk result (Changes (write site (sign value) ∷ []) (keeps now) (keeps new)) → OnErr result (keeps now site ≡ None) → PutsBackAt site before old now → new ≡ old
+pub value_back : {A E T : Type 0} (result : Result A E) (site : Site) (before : Option T) (value : T) (old now new : State T) → before ≡ Some value → OnOk result (Changes (write site (sign value) ∷ []) (state_at now) (state_at new)) → OnErr result (state_at now site ≡ None) → PutsBackAt site before old now → new ≡ old
 unfolding PutsBackAt
 value_back (Ok x) site before value old now new is ok absent puts =
-    same_keeping new old (λ q. by_write site (sign value) (keeps now) (keeps new) ok q
-    ∙ ap (λ o. cond (same_site q site) (option_map sign o) (keeps now q)) (sym is) ∙ sym (puts.1 q))
+    same_state new old (λ q. by_write site (sign value) (state_at now) (state_at new) ok q
+    ∙ ap (λ o. cond (same_site q site) (option_map sign o) (state_at now q)) (sym is) ∙ sym (puts.1 q))
 value_back (Err e) site before value old now new is ok absent puts = absurd (let e = ap is_some absent in let is_there = puts.0 in cc)
 
 -- nothing stood there, and what stands is taken
-pub nothing_back : {T : Type 0} (site : Site) (before : Option T) (old now new : Keeping T) → before ≡ None → Changes (erase (these_sites (site ∷ [])) ∷ []) (keeps now) (keeps new) → PutsBackAt site before old now → new ≡ old
+pub nothing_back : {T : Type 0} (site : Site) (before : Option T) (old now new : State T) → before ≡ None → Changes (erase (these_sites (site ∷ [])) ∷ []) (state_at now) (state_at new) → PutsBackAt site before old now → new ≡ old
 unfolding PutsBackAt
 nothing_back site before old now new is changes puts =
-    same_keeping new old (λ q. by_erasure (these_sites (site ∷ [])) (keeps now) (keeps new) changes q
-    ∙ ap (λ b. cond b None (keeps now q)) (or-none (same_site q site))
-    ∙ ap (λ o. cond (same_site q site) (option_map sign o) (keeps now q)) (sym is) ∙ sym (puts.1 q))
+    same_state new old (λ q. by_erasure (these_sites (site ∷ [])) (state_at now) (state_at new) changes q
+    ∙ ap (λ b. cond b None (state_at now q)) (or-none (same_site q site))
+    ∙ ap (λ o. cond (same_site q site) (option_map sign o) (state_at now q)) (sym is) ∙ sym (puts.1 q))
 
 -- the later of two changes is put back first
-both_back : {A B T : Type 0} (one : A → Keeping T → Keeping T → Type 0) (other : B → Keeping T → Keeping T → Type 0) (notes : A × B) (now mid new : Keeping T) → ((old : Keeping T) → other notes.1 old now → mid ≡ old) → ((old : Keeping T) → one notes.0 old mid → new ≡ old) → (old : Keeping T) → PutsBoth one other notes old now → new ≡ old
+both_back : {A B T : Type 0} (one : A → State T → State T → Type 0) (other : B → State T → State T → Type 0) (notes : A × B) (now mid new : State T) → ((old : State T) → other notes.1 old now → mid ≡ old) → ((old : State T) → one notes.0 old mid → new ≡ old) → (old : State T) → PutsBoth one other notes old now → new ≡ old
 both_back one other notes now mid new later sooner old puts =
     sooner old (subst (λ k. one notes.0 old k) (sym (later puts.0 puts.2)) puts.1)
 
-pub two_back : {T : Type 0} (notes : Option (Place × Option T) × Option (Place × Option T)) (now mid new : Keeping T) → ((old : Keeping T) → PutsNoteBack notes.1 old now → mid ≡ old) → ((old : Keeping T) → PutsNoteBack notes.0 old mid → new ≡ old) → (old : Keeping T) → PutsBackTwo notes old now → new ≡ old
+pub two_back : {T : Type 0} (notes : Option (Place × Option T) × Option (Place × Option T)) (now mid new : State T) → ((old : State T) → PutsNoteBack notes.1 old now → mid ≡ old) → ((old : State T) → PutsNoteBack notes.0 old mid → new ≡ old) → (old : State T) → PutsBackTwo notes old now → new ≡ old
 unfolding PutsBackTwo
 two_back notes now mid new later sooner old puts = both_back PutsNoteBack PutsNoteBack notes now mid new later sooner old puts
 
-pub four_back : {T : Type 0} (notes : (Option (Place × Option T) × Option (Place × Option T)) × (Option (Place × Option T) × Option (Place × Option T))) (now mid new : Keeping T) → ((old : Keeping T) → PutsBackTwo notes.1 old now → mid ≡ old) → ((old : Keeping T) → PutsBackTwo notes.0 old mid → new ≡ old) → (old : Keeping T) → PutsBackFour notes old now → new ≡ old
+pub four_back : {T : Type 0} (notes : (Option (Place × Option T) × Option (Place × Option T)) × (Option (Place × Option T) × Option (Place × Option T))) (now mid new : State T) → ((old : State T) → PutsBackTwo notes.1 old now → mid ≡ old) → ((old : State T) → PutsBackTwo notes.0 old mid → new ≡ old) → (old : State T) → PutsBackFour notes old now → new ≡ old
 unfolding PutsBackFour
 four_back notes now mid new later sooner old puts = both_back PutsBackTwo PutsBackTwo notes now mid new later sooner old puts
 
-pub two_noted : {T : Type 0} (a b : Option (Place × Option T)) (old between new : Keeping T) → PutsNoteBack a old between → PutsNoteBack b between new → PutsBackTwo (a, b) old new
+pub two_noted : {T : Type 0} (a b : Option (Place × Option T)) (old between new : State T) → PutsNoteBack a old between → PutsNoteBack b between new → PutsBackTwo (a, b) old new
 unfolding PutsBackTwo
 two_noted a b old between new f g = (between, f, g)
 
-pub four_noted : {T : Type 0} (a b : Option (Place × Option T) × Option (Place × Option T)) (old between new : Keeping T) → PutsBackTwo a old between → PutsBackTwo b between new → PutsBackFour (a, b) old new
+pub four_noted : {T : Type 0} (a b : Option (Place × Option T) × Option (Place × Option T)) (old between new : State T) → PutsBackTwo a old between → PutsBackTwo b between new → PutsBackFour (a, b) old new
 unfolding PutsBackFour
 four_noted a b old between new f g = (between, f, g)
 
@@ -201,25 +201,25 @@ unfolding places_set
 places_set-append [] vs = refl
 places_set-append (w ∷ ws) vs = ap (cons_option (given_write w)) (places_set-append ws vs) ∙ in_front (given_write w) (places_set ws) (places_set vs)
 
-pub set_then : {T : Type 0} (ws vs : List (Option Place × Option T)) (old mid new : Keeping T) → Changes (places_set ws) (keeps old) (keeps mid) → Changes (places_set vs) (keeps mid) (keeps new) → Changes (places_set (ws ++ vs)) (keeps old) (keeps new)
+pub set_then : {T : Type 0} (ws vs : List (Option Place × Option T)) (old mid new : State T) → Changes (places_set ws) (state_at old) (state_at mid) → Changes (places_set vs) (state_at mid) (state_at new) → Changes (places_set (ws ++ vs)) (state_at old) (state_at new)
 set_then ws vs old mid new f g =
-    subst (λ es. Changes es (keeps old) (keeps new)) (sym (places_set-append ws vs)) (Changes-append (places_set ws) (places_set vs) (keeps old) (keeps mid) (keeps new) f g)
+    subst (λ es. Changes es (state_at old) (state_at new)) (sym (places_set-append ws vs)) (Changes-append (places_set ws) (places_set vs) (state_at old) (state_at mid) (state_at new) f g)
 
 -- one place
-pub no_place : {T : Type 0} (place : Option Place) (value : Option T) (keeping : Keeping T) → place ≡ None → Changes (places_set ((place, value) ∷ [])) (keeps keeping) (keeps keeping)
+pub no_place : {T : Type 0} (place : Option Place) (value : Option T) (state : State T) → place ≡ None → Changes (places_set ((place, value) ∷ [])) (state_at state) (state_at state)
 unfolding places_set
-no_place place value keeping e = subst (λ p. Changes (places_set ((p, value) ∷ [])) (keeps keeping) (keeps keeping)) (sym e) (Changes-nil (keeps keeping))
+no_place place value state e = subst (λ p. Changes (places_set ((p, value) ∷ [])) (state_at state) (state_at state)) (sym e) (Changes-nil (state_at state))
 
-pub no_value : {T : Type 0} (place : Option Place) (there : Place) (value : Option T) (keeping : Keeping T) → place ≡ Some there → value ≡ None → Changes (places_set ((place, value) ∷ [])) (keeps keeping) (keeps keeping)
+pub no_value : {T : Type 0} (place : Option Place) (there : Place) (value : Option T) (state : State T) → place ≡ Some there → value ≡ None → Changes (places_set ((place, value) ∷ [])) (state_at state) (state_at state)
 unfolding places_set
-no_value place there value keeping e f =
-    subst (λ p. Changes (places_set ((p, value) ∷ [])) (keeps keeping) (keeps keeping)) (sym e) (subst (λ v. Changes (places_set ((Some there, v) ∷ [])) (keeps keeping) (keeps keeping)) (sym f) (Changes-nil (keeps keeping)))
+no_value place there value state e f =
+    subst (λ p. Changes (places_set ((p, value) ∷ [])) (state_at state) (state_at state)) (sym e) (subst (λ v. Changes (places_set ((Some there, v) ∷ [])) (state_at state) (state_at state)) (sym f) (Changes-nil (state_at state)))
 
-pub value_set : {T : Type 0} (place : Option Place) (there : Place) (value : Option T) (given : T) (old new : Keeping T) → place ≡ Some there → value ≡ Some given → Changes (cell_set there given) (keeps old) (keeps new) → Changes (places_set ((place, value) ∷ [])) (keeps old) (keeps new)
+pub value_set : {T : Type 0} (place : Option Place) (there : Place) (value : Option T) (given : T) (old new : State T) → place ≡ Some there → value ≡ Some given → Changes (cell_set there given) (state_at old) (state_at new) → Changes (places_set ((place, value) ∷ [])) (state_at old) (state_at new)
 unfolding places_set
 value_set place there value given old new e f h =
-    subst (λ p. Changes (places_set ((p, value) ∷ [])) (keeps old) (keeps new)) (sym e) (subst (λ v. Changes (places_set ((Some there, v) ∷ [])) (keeps old) (keeps new)) (sym f) h)
+    subst (λ p. Changes (places_set ((p, value) ∷ [])) (state_at old) (state_at new)) (sym e) (subst (λ v. Changes (places_set ((Some there, v) ∷ [])) (state_at old) (state_at new)) (sym f) h)
 
 -- all places of a cell's border
-pub border_written : {T : Type 0} (pos : Position) (places : Border Place) (border : Border T) (old new : Keeping T) → places ≡ border_places pos → Changes (places_set (zip (border_fields places) (border_fields border))) (keeps old) (keeps new) → Changes (border_set pos border) (keeps old) (keeps new)
-border_written pos places border old new e h = subst (λ p. Changes (places_set (zip (border_fields p) (border_fields border))) (keeps old) (keeps new)) e h
+pub border_written : {T : Type 0} (pos : Position) (places : Border Place) (border : Border T) (old new : State T) → places ≡ border_places pos → Changes (places_set (zip (border_fields places) (border_fields border))) (state_at old) (state_at new) → Changes (border_set pos border) (state_at old) (state_at new)
+border_written pos places border old new e h = subst (λ p. Changes (places_set (zip (border_fields p) (border_fields border))) (state_at old) (state_at new)) e h

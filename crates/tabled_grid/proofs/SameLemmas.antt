@@ -7,7 +7,7 @@ use Rattle.std.specs.Cmp.Lexicographic.{pointwise}
 use Rattle.std.specs.declared.cmp.Ordering.{Ordering}
 use Rattle.std.specs.FinMap as map
 use Rattle.tabled_grid.specs.Keys.{exact_positions, exact_edge_places}
-use Rattle.tabled_grid.specs.Same.{same_map, same_horizontal, same_vertical, same_borders, same_below, same_lines, same_cells, same_offsets, same_keeping}
+use Rattle.tabled_grid.specs.Same.{same_map, same_horizontal, same_vertical, same_borders, same_below, same_lines, same_cells, same_offsets, same_state}
 
 -- only equal values pass
 abbrev pub IsExact : {A : Type 0} → (A → A → Bool) → Type 0
@@ -88,9 +88,9 @@ module _ {T : Type 0} {E : T → T → Bool} (exact : IsExact E) where
       }
 
   -- stores that keep the same by that equality keep the same
-  pub exact_keeping : IsExact (same_keeping E)
-  unfolding same_below same_lines same_cells same_offsets same_keeping
-  exact_keeping a b h =
+  pub exact_state : IsExact (same_state E)
+  unfolding same_below same_lines same_cells same_offsets same_state
+  exact_state a b h =
       let numbers = map.nat_cmp-IsAntisymmetric in
       let upper = both _ _ h in
       let middle = both _ _ upper.0 in

@@ -16,9 +16,9 @@ use Rattle.tabled_grid.specs.declared.place.LineOf.{LineOf}
 use Rattle.tabled_grid.specs.Keys.{positions_total, edge_places_total}
 use Rattle.tabled_grid.specs.Site.{across, down, first, inner, closing, Class, edges, crossings, class_value, Part, mark, main_edges, meeting, edge, crossing, Site, the_default, of_class, of_line, at_spot, from_end, from_start}
 use Rattle.tabled_grid.specs.Event.{Written, sign}
-use Rattle.tabled_grid.specs.Keeping.{Keeping, keeps, position, edge_place, horizontal_part, vertical_part}
+use Rattle.tabled_grid.specs.State.{State, state_at, position, edge_place, horizontal_part, vertical_part}
 use Rattle.tabled_grid.proofs.SameLemmas.{both}
-use Rattle.tabled_grid.specs.Same.{same_map, same_horizontal, same_vertical, same_borders, same_below, same_lines, same_cells, same_offsets, same_keeping, same_written}
+use Rattle.tabled_grid.specs.Same.{same_map, same_horizontal, same_vertical, same_borders, same_below, same_lines, same_cells, same_offsets, same_state, same_written}
 
 all_of : {a b : Bool} → a ≡ true → b ≡ true → (a && b) ≡ true
 all_of p q = λ i. p i && q i
@@ -228,8 +228,8 @@ module _ {V : Type 0} (E : V → V → Bool) where
       of_fields (crossings closing closing) t b' l r tl tr bl br ti bi li ri h v i = br
 
 -- two stores that are the same by that equality keep the same at every site
-pub same_at_sites : {V : Type 0} (E : V → V → Bool) (a b : Keeping V) → same_keeping E a b ≡ true → (site : Site) → option_eq (same_written E) (keeps a site) (keeps b site) ≡ true
-unfolding same_below same_lines same_cells same_offsets same_keeping
+pub same_at_sites : {V : Type 0} (E : V → V → Bool) (a b : State V) → same_state E a b ≡ true → (site : Site) → option_eq (same_written E) (state_at a site) (state_at b site) ≡ true
+unfolding same_below same_lines same_cells same_offsets same_state
 same_at_sites E a b h =
     let upper = both _ _ h in
     let middle = both _ _ upper.0 in
@@ -243,7 +243,7 @@ same_at_sites E a b h =
     let more = both _ _ ends.0 in
     at_site below.0 below.1 lines.0 lines.1 edges'.0 edges'.1 cells.1 more.0 more.1 ends.1 starts.1
   where
-    at_site : option_eq E a.default_value b.default_value ≡ true → same_borders E a.class_record b.class_record ≡ true → same_map (same_vertical E) a.vertical_lines b.vertical_lines ≡ true → same_map (same_horizontal E) a.horizontal_lines b.horizontal_lines ≡ true → same_map E a.edges_across b.edges_across ≡ true → same_map E a.edges_down b.edges_down ≡ true → same_map E a.crosses b.crosses ≡ true → same_map E a.ends_across b.ends_across ≡ true → same_map E a.ends_down b.ends_down ≡ true → same_map E a.starts_across b.starts_across ≡ true → same_map E a.starts_down b.starts_down ≡ true → (site : Site) → option_eq (same_written E) (keeps a site) (keeps b site) ≡ true
+    at_site : option_eq E a.default_value b.default_value ≡ true → same_borders E a.class_record b.class_record ≡ true → same_map (same_vertical E) a.vertical_lines b.vertical_lines ≡ true → same_map (same_horizontal E) a.horizontal_lines b.horizontal_lines ≡ true → same_map E a.edges_across b.edges_across ≡ true → same_map E a.edges_down b.edges_down ≡ true → same_map E a.crosses b.crosses ≡ true → same_map E a.ends_across b.ends_across ≡ true → same_map E a.ends_down b.ends_down ≡ true → same_map E a.starts_across b.starts_across ≡ true → same_map E a.starts_down b.starts_down ≡ true → (site : Site) → option_eq (same_written E) (state_at a site) (state_at b site) ≡ true
     at_site d r vl hl ea ed cr na nd sa sd the_default = as_signs E a.default_value b.default_value d
     at_site d r vl hl ea ed cr na nd sa sd (of_class class) = as_signs E _ _ (borders_parts E a.class_record b.class_record r class)
     at_site d r vl hl ea ed cr na nd sa sd (of_line (LineOf.Horizontal n) part) = horizontal_parts E _ _ (get_alike nat_cmp_total (same_horizontal E) a.horizontal_lines b.horizontal_lines hl n) part
@@ -257,8 +257,8 @@ same_at_sites E a b h =
     at_site d r vl hl ea ed cr na nd sa sd (from_start down i j n) = as_signs E _ _ (get_alike edge_places_total E a.starts_down b.starts_down sd (edge_place i j n))
 
 -- and those that keep the same at every site are the same by it
-pub same_by_sites : {V : Type 0} (E : V → V → Bool) (a b : Keeping V) → ((site : Site) → option_eq (same_written E) (keeps a site) (keeps b site) ≡ true) → same_keeping E a b ≡ true
-unfolding same_below same_lines same_cells same_offsets same_keeping
+pub same_by_sites : {V : Type 0} (E : V → V → Bool) (a b : State V) → ((site : Site) → option_eq (same_written E) (state_at a site) (state_at b site) ≡ true) → same_state E a b ≡ true
+unfolding same_below same_lines same_cells same_offsets same_state
 same_by_sites E a b h =
     all_of (all_of (all_of
     (all_of (of_signs E a.default_value b.default_value (h the_default)) (whole_borders E a.class_record b.class_record (λ class. of_signs E _ _ (h (of_class class)))))

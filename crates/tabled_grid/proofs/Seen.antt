@@ -9,10 +9,10 @@ use Rattle.tabled_grid.specs.declared.layers.Layers.TheInside.{Inside}
 use Rattle.tabled_grid.specs.Table.{table}
 use Rattle.tabled_grid.specs.Keys.{position_cmp, edge_place_cmp}
 use Rattle.tabled_grid.specs.Event.{Event, Changes}
-use Rattle.tabled_grid.specs.Keeping.{Keeping, keeps}
+use Rattle.tabled_grid.specs.State.{State, state_at}
 
 -- what the fields keep
-abbrev pub seen : {T : Type 0} → Inside T → Keeping T
+abbrev pub seen : {T : Type 0} → Inside T → State T
 seen i = record {
   default_value = i.default_value;
   class_record = i.class_record;
@@ -28,54 +28,54 @@ seen i = record {
 }
 
 -- a change of what the fields keep, up to equations at both ends
-pub changed : {T : Type 0} (es : List (Event T)) (before old new after : Keeping T) → before ≡ old → new ≡ after → Changes es (keeps before) (keeps after) → Changes es (keeps old) (keeps new)
+pub changed : {T : Type 0} (es : List (Event T)) (before old new after : State T) → before ≡ old → new ≡ after → Changes es (state_at before) (state_at after) → Changes es (state_at old) (state_at new)
 changed es before old new after is becomes changes =
-    subst (λ k. Changes es (keeps k) (keeps new)) is (subst (λ k. Changes es (keeps before) (keeps k)) (sym becomes) changes)
+    subst (λ k. Changes es (state_at k) (state_at new)) is (subst (λ k. Changes es (state_at before) (state_at k)) (sym becomes) changes)
 
 -- one field given anew
-pub with_default : {T : Type 0} (k : Keeping T) (a b : Option T) → a ≡ b → record k { default_value = a } ≡ record k { default_value = b }
+pub with_default : {T : Type 0} (k : State T) (a b : Option T) → a ≡ b → record k { default_value = a } ≡ record k { default_value = b }
 with_default k a b e = ap (λ x. record k { default_value = x }) e
 
-pub with_class : {T : Type 0} (k : Keeping T) (a b : Borders T) → a ≡ b → record k { class_record = a } ≡ record k { class_record = b }
+pub with_class : {T : Type 0} (k : State T) (a b : Borders T) → a ≡ b → record k { class_record = a } ≡ record k { class_record = b }
 with_class k a b e = ap (λ x. record k { class_record = x }) e
 
-pub with_vertical : {T : Type 0} (k : Keeping T) (a b : map.FinMap nat_cmp (VerticalLine T)) → a ≡ b → record k { vertical_lines = a } ≡ record k { vertical_lines = b }
+pub with_vertical : {T : Type 0} (k : State T) (a b : map.FinMap nat_cmp (VerticalLine T)) → a ≡ b → record k { vertical_lines = a } ≡ record k { vertical_lines = b }
 with_vertical k a b e = ap (λ x. record k { vertical_lines = x }) e
 
-pub with_horizontal : {T : Type 0} (k : Keeping T) (a b : map.FinMap nat_cmp (HorizontalLine T)) → a ≡ b → record k { horizontal_lines = a } ≡ record k { horizontal_lines = b }
+pub with_horizontal : {T : Type 0} (k : State T) (a b : map.FinMap nat_cmp (HorizontalLine T)) → a ≡ b → record k { horizontal_lines = a } ≡ record k { horizontal_lines = b }
 with_horizontal k a b e = ap (λ x. record k { horizontal_lines = x }) e
 
-pub with_lines : {T : Type 0} (k : Keeping T) (a b : map.FinMap nat_cmp (VerticalLine T)) (c d : map.FinMap nat_cmp (HorizontalLine T)) → a ≡ b → c ≡ d → record k { vertical_lines = a; horizontal_lines = c } ≡ record k { vertical_lines = b; horizontal_lines = d }
+pub with_lines : {T : Type 0} (k : State T) (a b : map.FinMap nat_cmp (VerticalLine T)) (c d : map.FinMap nat_cmp (HorizontalLine T)) → a ≡ b → c ≡ d → record k { vertical_lines = a; horizontal_lines = c } ≡ record k { vertical_lines = b; horizontal_lines = d }
 with_lines k a b c d e f = λ i. record k { vertical_lines = e i; horizontal_lines = f i }
 
-pub with_edges_across : {T : Type 0} (k : Keeping T) (a b : map.FinMap position_cmp T) → a ≡ b → record k { edges_across = a } ≡ record k { edges_across = b }
+pub with_edges_across : {T : Type 0} (k : State T) (a b : map.FinMap position_cmp T) → a ≡ b → record k { edges_across = a } ≡ record k { edges_across = b }
 with_edges_across k a b e = ap (λ x. record k { edges_across = x }) e
 
-pub with_edges_down : {T : Type 0} (k : Keeping T) (a b : map.FinMap position_cmp T) → a ≡ b → record k { edges_down = a } ≡ record k { edges_down = b }
+pub with_edges_down : {T : Type 0} (k : State T) (a b : map.FinMap position_cmp T) → a ≡ b → record k { edges_down = a } ≡ record k { edges_down = b }
 with_edges_down k a b e = ap (λ x. record k { edges_down = x }) e
 
-pub with_crosses : {T : Type 0} (k : Keeping T) (a b : map.FinMap position_cmp T) → a ≡ b → record k { crosses = a } ≡ record k { crosses = b }
+pub with_crosses : {T : Type 0} (k : State T) (a b : map.FinMap position_cmp T) → a ≡ b → record k { crosses = a } ≡ record k { crosses = b }
 with_crosses k a b e = ap (λ x. record k { crosses = x }) e
 
-pub with_ends_across : {T : Type 0} (k : Keeping T) (a b : map.FinMap edge_place_cmp T) → a ≡ b → record k { ends_across = a } ≡ record k { ends_across = b }
+pub with_ends_across : {T : Type 0} (k : State T) (a b : map.FinMap edge_place_cmp T) → a ≡ b → record k { ends_across = a } ≡ record k { ends_across = b }
 with_ends_across k a b e = ap (λ x. record k { ends_across = x }) e
 
-pub with_ends_down : {T : Type 0} (k : Keeping T) (a b : map.FinMap edge_place_cmp T) → a ≡ b → record k { ends_down = a } ≡ record k { ends_down = b }
+pub with_ends_down : {T : Type 0} (k : State T) (a b : map.FinMap edge_place_cmp T) → a ≡ b → record k { ends_down = a } ≡ record k { ends_down = b }
 with_ends_down k a b e = ap (λ x. record k { ends_down = x }) e
 
-pub with_starts_across : {T : Type 0} (k : Keeping T) (a b : map.FinMap edge_place_cmp T) → a ≡ b → record k { starts_across = a } ≡ record k { starts_across = b }
+pub with_starts_across : {T : Type 0} (k : State T) (a b : map.FinMap edge_place_cmp T) → a ≡ b → record k { starts_across = a } ≡ record k { starts_across = b }
 with_starts_across k a b e = ap (λ x. record k { starts_across = x }) e
 
-pub with_starts_down : {T : Type 0} (k : Keeping T) (a b : map.FinMap edge_place_cmp T) → a ≡ b → record k { starts_down = a } ≡ record k { starts_down = b }
+pub with_starts_down : {T : Type 0} (k : State T) (a b : map.FinMap edge_place_cmp T) → a ≡ b → record k { starts_down = a } ≡ record k { starts_down = b }
 with_starts_down k a b e = ap (λ x. record k { starts_down = x }) e
 
-pub with_cells : {T : Type 0} (k : Keeping T) (a b c d e f : map.FinMap position_cmp T) → a ≡ b → c ≡ d → e ≡ f → record k { edges_across = a; edges_down = c; crosses = e } ≡ record k { edges_across = b; edges_down = d; crosses = f }
+pub with_cells : {T : Type 0} (k : State T) (a b c d e f : map.FinMap position_cmp T) → a ≡ b → c ≡ d → e ≡ f → record k { edges_across = a; edges_down = c; crosses = e } ≡ record k { edges_across = b; edges_down = d; crosses = f }
 with_cells k a b c d e f p q r = λ i. record k { edges_across = p i; edges_down = q i; crosses = r i }
 
-pub with_offsets_across : {T : Type 0} (k : Keeping T) (a b c d : map.FinMap edge_place_cmp T) → a ≡ b → c ≡ d → record k { ends_across = a; starts_across = c } ≡ record k { ends_across = b; starts_across = d }
+pub with_offsets_across : {T : Type 0} (k : State T) (a b c d : map.FinMap edge_place_cmp T) → a ≡ b → c ≡ d → record k { ends_across = a; starts_across = c } ≡ record k { ends_across = b; starts_across = d }
 with_offsets_across k a b c d p q = λ i. record k { ends_across = p i; starts_across = q i }
 
-pub with_offsets_down : {T : Type 0} (k : Keeping T) (a b c d : map.FinMap edge_place_cmp T) → a ≡ b → c ≡ d → record k { ends_down = a; starts_down = c } ≡ record k { ends_down = b; starts_down = d }
+pub with_offsets_down : {T : Type 0} (k : State T) (a b c d : map.FinMap edge_place_cmp T) → a ≡ b → c ≡ d → record k { ends_down = a; starts_down = c } ≡ record k { ends_down = b; starts_down = d }
 with_offsets_down k a b c d p q = λ i. record k { ends_down = p i; starts_down = q i }
 
 -- what follows where the call succeeded
@@ -92,5 +92,5 @@ if_err (Ok x) h = tt
 if_err (Err e) h = h
 
 -- the events by another name
-pub as_events : {T : Type 0} (es fs : List (Event T)) (old new : Keeping T) → fs ≡ es → Changes es (keeps old) (keeps new) → Changes fs (keeps old) (keeps new)
-as_events es fs old new e h = subst (λ x. Changes x (keeps old) (keeps new)) (sym e) h
+pub as_events : {T : Type 0} (es fs : List (Event T)) (old new : State T) → fs ≡ es → Changes es (state_at old) (state_at new) → Changes fs (state_at old) (state_at new)
+as_events es fs old new e h = subst (λ x. Changes x (state_at old) (state_at new)) (sym e) h

@@ -62,7 +62,7 @@ border_set pos border = places_set (zip (border_fields (border_places pos)) (bor
 
 -- whether nothing is kept at one of the sites at which the events write
 abbrev pub writes_anew : {T : Type 0} → (Site → Option (Written T)) → List (Event T) → Bool
-writes_anew keep events = list_any (λ site. is_none (keep site)) (written events)
+writes_anew state events = list_any (λ site. is_none (state site)) (written events)
 
 -- the same for each of these cells that lies in a table of so many rows and columns, in their order
 unfoldable pub borders_of : {T : Type 0} → ℕ × ℕ → Border T → List Position → List (Event T)

@@ -47,14 +47,14 @@ border_fields border =
 
 -- what shows at the sides and the corners of a cell, offsets aside; a cell outside has nothing
 unfoldable pub border_shown : {T : Type 0} → (Site → Option (Written T)) → ℕ × ℕ → Position → Border T
-border_shown keep (rows, cols) pos =
+border_shown state (rows, cols) pos =
     if nat_lt pos.row rows && nat_lt pos.col cols then record {
-      top = option_and_then (plain_value keep (rows, cols)) (border_places pos).top;
-      bottom = option_and_then (plain_value keep (rows, cols)) (border_places pos).bottom;
-      left = option_and_then (plain_value keep (rows, cols)) (border_places pos).left;
-      right = option_and_then (plain_value keep (rows, cols)) (border_places pos).right;
-      left_top_corner = option_and_then (plain_value keep (rows, cols)) (border_places pos).left_top_corner;
-      left_bottom_corner = option_and_then (plain_value keep (rows, cols)) (border_places pos).left_bottom_corner;
-      right_top_corner = option_and_then (plain_value keep (rows, cols)) (border_places pos).right_top_corner;
-      right_bottom_corner = option_and_then (plain_value keep (rows, cols)) (border_places pos).right_bottom_corner;
+      top = option_and_then (plain_value state (rows, cols)) (border_places pos).top;
+      bottom = option_and_then (plain_value state (rows, cols)) (border_places pos).bottom;
+      left = option_and_then (plain_value state (rows, cols)) (border_places pos).left;
+      right = option_and_then (plain_value state (rows, cols)) (border_places pos).right;
+      left_top_corner = option_and_then (plain_value state (rows, cols)) (border_places pos).left_top_corner;
+      left_bottom_corner = option_and_then (plain_value state (rows, cols)) (border_places pos).left_bottom_corner;
+      right_top_corner = option_and_then (plain_value state (rows, cols)) (border_places pos).right_top_corner;
+      right_bottom_corner = option_and_then (plain_value state (rows, cols)) (border_places pos).right_bottom_corner;
     } else no_border

@@ -3,7 +3,7 @@ use Rattle.std.specs.Prelude.{ℕ, Bool, true, false, ◌&&◌, ◌==◌, nat_le
 use Rattle.std.specs.List.{list_any}
 use Rattle.tabled_grid.specs.declared.place.LineOf.{LineOf}
 use Rattle.tabled_grid.specs.Site.{across, down, first, closing, stands, edges, crossings, mark, meeting, edge, crossing, Site, the_default, of_class, of_line, at_spot}
-use Rattle.tabled_grid.specs.Event.{Written, Event, write, erase, kept}
+use Rattle.tabled_grid.specs.Event.{Written, Event, write, erase, replay}
 
 abbrev pub number : LineOf → ℕ
 number (LineOf.Horizontal n) = n
@@ -31,11 +31,11 @@ draws count (LineOf.Vertical n) (at_spot (crossing r c)) = c == n
 draws count line _ = false
 
 -- a line is drawn where it is none past the closing one and something is kept at a site that draws it
-pub record Drawn {T : Type 0} (keep : Site → Option (Written T)) (count : ℕ) (line : LineOf) : Type 0 where
+pub record Drawn {T : Type 0} (state : Site → Option (Written T)) (count : ℕ) (line : LineOf) : Type 0 where
   pub no_further : number line ≤ count
   pub by : Site
   pub draws_it : IsTrue (draws count line by)
-  pub is_kept : IsSome (keep by)
+  pub is_kept : IsSome (state by)
 
 -- the sites at which the events write
 abbrev pub written : {T : Type 0} → List (Event T) → List Site
@@ -45,4 +45,4 @@ written (erase region ∷ es) = written es
 
 -- the same as a test, for what a list of events leaves
 unfoldable pub drawn : {T : Type 0} → List (Event T) → ℕ → LineOf → Bool
-drawn es count line = nat_le (number line) count && list_any (λ q. draws count line q && is_some (kept es q)) (written es)
+drawn es count line = nat_le (number line) count && list_any (λ q. draws count line q && is_some (replay es q)) (written es)

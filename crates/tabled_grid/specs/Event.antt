@@ -4,7 +4,7 @@ use Rattle.std.specs.List.{list_any, last_or}
 use Rattle.tabled_grid.specs.declared.place.LineOf.{LineOf}
 use Rattle.tabled_grid.specs.Site.{Direction, Site, level, same_direction, same_line, same_site, of_line, from_end, from_start}
 
--- what is written at a site: a character or a colour, or the bare mark that a custom line stands
+-- what is written at a site: a character or a color, or the bare mark that a custom line stands
 pub data Written (T : Type 0) : Type 0 where
   sign : T → Written T
   standing : Written T
@@ -48,13 +48,13 @@ left_by (write p w) = Some w
 left_by (erase region) = None
 
 -- what a list of events leaves at a site: of those that cover it the last one counts
-unfoldable pub kept : {T : Type 0} → List (Event T) → Site → Option (Written T)
-kept es q = option_and_then left_by (last_or None (filter (covers q) es))
+unfoldable pub replay : {T : Type 0} → List (Event T) → Site → Option (Written T)
+replay es q = option_and_then left_by (last_or None (filter (covers q) es))
 
--- what is kept is what the events leave, at every site
+-- the state is what the events leave, at every site
 unfoldable pub Shows : {T : Type 0} → List (Event T) → (Site → Option (Written T)) → Type 0
-Shows es keep = (q : Site) → keep q ≡ kept es q
+Shows es state = (q : Site) → state q ≡ replay es q
 
--- at each site the new keeping has what the events leave where one covers it, and else what the old one had
+-- at each site the new state has what the events leave where one covers it, and else what the old one had
 unfoldable pub Changes : {T : Type 0} → List (Event T) → (Site → Option (Written T)) → (Site → Option (Written T)) → Type 0
-Changes es old new = (q : Site) → new q ≡ (if covered es q then kept es q else old q)
+Changes es old new = (q : Site) → new q ≡ (if covered es q then replay es q else old q)

@@ -2,7 +2,7 @@ pub mod Site
 pub mod Event
 pub mod Value
 pub mod Drawn
-pub mod Keeping
+pub mod State
 pub mod Lines
 pub mod Probing
 pub mod Table

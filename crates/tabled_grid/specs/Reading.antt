@@ -6,7 +6,7 @@ use Rattle.tabled_grid.specs.declared.lines.HorizontalLine.{HorizontalLine}
 use Rattle.tabled_grid.specs.declared.lines.VerticalLine.{VerticalLine}
 use Rattle.tabled_grid.specs.Counted.{number_at}
 use Rattle.tabled_grid.specs.Site.{across, down, rank, edges, crossings, class_value, horizontal_meeting, vertical_meeting}
-use Rattle.tabled_grid.specs.Keeping.{Keeping, position, edge_place}
+use Rattle.tabled_grid.specs.State.{State, position, edge_place}
 
 -- the first, if there is one, and else the other
 abbrev pub pick : {T : Type 0} → Option T → Option T → Option T
@@ -14,35 +14,35 @@ pick None other = other
 pick (Some x) other = Some x
 
 -- what the levels below the cells have for an edge across, an edge down and a crossing
-abbrev pub under_across : {T : Type 0} → Keeping T → ℕ → ℕ → Option T
+abbrev pub under_across : {T : Type 0} → State T → ℕ → ℕ → Option T
 under_across k rows r =
     pick (option_and_then (λ line. line.main) (get k.horizontal_lines r)) (pick (class_value (edges across (rank rows r)) k.class_record) k.default_value)
 
-abbrev pub under_down : {T : Type 0} → Keeping T → ℕ → ℕ → Option T
+abbrev pub under_down : {T : Type 0} → State T → ℕ → ℕ → Option T
 under_down k cols c =
     pick (option_and_then (λ line. line.main) (get k.vertical_lines c)) (pick (class_value (edges down (rank cols c)) k.class_record) k.default_value)
 
-abbrev pub under_crossing : {T : Type 0} → Keeping T → ℕ → ℕ → ℕ → ℕ → Option T
+abbrev pub under_crossing : {T : Type 0} → State T → ℕ → ℕ → ℕ → ℕ → Option T
 under_crossing k rows cols r c =
     pick (option_and_then (horizontal_meeting (rank cols c)) (get k.horizontal_lines r))
     (pick (option_and_then (vertical_meeting (rank rows r)) (get k.vertical_lines c))
     (pick (class_value (crossings (rank rows r) (rank cols c)) k.class_record) k.default_value))
 
 -- what all levels but the offsets have
-abbrev pub plain_across : {T : Type 0} → Keeping T → ℕ → ℕ → ℕ → Option T
+abbrev pub plain_across : {T : Type 0} → State T → ℕ → ℕ → ℕ → Option T
 plain_across k rows r c = pick (get k.edges_across (position r c)) (under_across k rows r)
 
-abbrev pub plain_down : {T : Type 0} → Keeping T → ℕ → ℕ → ℕ → Option T
+abbrev pub plain_down : {T : Type 0} → State T → ℕ → ℕ → ℕ → Option T
 plain_down k cols r c = pick (get k.edges_down (position r c)) (under_down k cols c)
 
-abbrev pub plain_crossing : {T : Type 0} → Keeping T → ℕ → ℕ → ℕ → ℕ → Option T
+abbrev pub plain_crossing : {T : Type 0} → State T → ℕ → ℕ → ℕ → ℕ → Option T
 plain_crossing k rows cols r c = pick (get k.crosses (position r c)) (under_crossing k rows cols r c)
 
 -- what all levels have for a numbered place of an edge
-abbrev pub edge_across : {T : Type 0} → Keeping T → ℕ → ℕ → ℕ → ℕ → ℕ → Option T
+abbrev pub edge_across : {T : Type 0} → State T → ℕ → ℕ → ℕ → ℕ → ℕ → Option T
 edge_across k rows r c n back = pick (get k.starts_across (edge_place r c n)) (pick (get k.ends_across (edge_place r c back)) (plain_across k rows r c))
 
-abbrev pub edge_down : {T : Type 0} → Keeping T → ℕ → ℕ → ℕ → ℕ → ℕ → Option T
+abbrev pub edge_down : {T : Type 0} → State T → ℕ → ℕ → ℕ → ℕ → ℕ → Option T
 edge_down k cols r c n back = pick (get k.starts_down (edge_place r c n)) (pick (get k.ends_down (edge_place r c back)) (plain_down k cols r c))
 
 -- whether a horizontal line is drawn by a custom line, or by what is kept on it; and a vertical one

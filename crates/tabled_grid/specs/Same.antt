@@ -9,7 +9,7 @@ use Rattle.tabled_grid.specs.declared.borders.Borders.{Borders}
 use Rattle.tabled_grid.specs.declared.lines.HorizontalLine.{HorizontalLine}
 use Rattle.tabled_grid.specs.declared.lines.VerticalLine.{VerticalLine}
 use Rattle.tabled_grid.specs.Event.{Written, sign, standing}
-use Rattle.tabled_grid.specs.Keeping.{Keeping}
+use Rattle.tabled_grid.specs.State.{State}
 
 -- two maps: the same keys, and under each the same value
 abbrev pub same_map : {K X : Type 0} {R : K → K → Ordering} → (X → X → Bool) → FinMap R X → FinMap R X → Bool
@@ -34,24 +34,24 @@ same_borders same a b =
     && (option_eq same a.horizontal b.horizontal && (option_eq same a.vertical b.vertical && option_eq same a.intersection b.intersection)))))))))))))
 
 -- two stores, level by level
-unfoldable pub same_below : {T : Type 0} → (T → T → Bool) → Keeping T → Keeping T → Bool
+unfoldable pub same_below : {T : Type 0} → (T → T → Bool) → State T → State T → Bool
 same_below same a b = option_eq same a.default_value b.default_value && same_borders same a.class_record b.class_record
 
-unfoldable pub same_lines : {T : Type 0} → (T → T → Bool) → Keeping T → Keeping T → Bool
+unfoldable pub same_lines : {T : Type 0} → (T → T → Bool) → State T → State T → Bool
 same_lines same a b =
     same_map (same_vertical same) a.vertical_lines b.vertical_lines && same_map (same_horizontal same) a.horizontal_lines b.horizontal_lines
 
-unfoldable pub same_cells : {T : Type 0} → (T → T → Bool) → Keeping T → Keeping T → Bool
+unfoldable pub same_cells : {T : Type 0} → (T → T → Bool) → State T → State T → Bool
 same_cells same a b =
     same_map same a.edges_across b.edges_across && same_map same a.edges_down b.edges_down && same_map same a.crosses b.crosses
 
-unfoldable pub same_offsets : {T : Type 0} → (T → T → Bool) → Keeping T → Keeping T → Bool
+unfoldable pub same_offsets : {T : Type 0} → (T → T → Bool) → State T → State T → Bool
 same_offsets same a b =
     same_map same a.ends_across b.ends_across && same_map same a.ends_down b.ends_down
     && same_map same a.starts_across b.starts_across && same_map same a.starts_down b.starts_down
 
-unfoldable pub same_keeping : {T : Type 0} → (T → T → Bool) → Keeping T → Keeping T → Bool
-same_keeping same a b = same_below same a b && same_lines same a b && same_cells same a b && same_offsets same a b
+unfoldable pub same_state : {T : Type 0} → (T → T → Bool) → State T → State T → Bool
+same_state same a b = same_below same a b && same_lines same a b && same_cells same a b && same_offsets same a b
 
 -- two things that sites keep
 abbrev pub same_written : {T : Type 0} → (T → T → Bool) → Written T → Written T → Bool

@@ -10,7 +10,7 @@ use Rattle.tabled_grid.specs.declared.borders.Borders.{Borders}
 use Rattle.tabled_grid.specs.declared.lines.HorizontalLine.{HorizontalLine}
 use Rattle.tabled_grid.specs.declared.lines.VerticalLine.{VerticalLine}
 use Rattle.tabled_grid.specs.Keys.{position_cmp, positions_total, edge_place_cmp, edge_places_total}
-use Rattle.tabled_grid.specs.Same.{same_map, same_horizontal, same_vertical, same_borders, same_below, same_lines, same_cells, same_offsets, same_keeping}
+use Rattle.tabled_grid.specs.Same.{same_map, same_horizontal, same_vertical, same_borders, same_below, same_lines, same_cells, same_offsets, same_state}
 
 module _ {T : Type 0} {E : T → T → Bool} (p : IsPartialEquivalence E) where
   option_symm : (a b : Option T) → option_eq E a b ≡ option_eq E b a
@@ -53,9 +53,9 @@ module _ {T : Type 0} {E : T → T → Bool} (p : IsPartialEquivalence E) where
       (and_per (on_per (λ b. b.horizontal) o) (and_per (on_per (λ b. b.vertical) o) (on_per (λ b. b.intersection) o))))))))))))))
 
   -- two stores
-  pub keeping_per : IsPartialEquivalence (same_keeping E)
-  unfolding same_below same_lines same_cells same_offsets same_keeping
-  keeping_per =
+  pub state_per : IsPartialEquivalence (same_state E)
+  unfolding same_below same_lines same_cells same_offsets same_state
+  state_per =
       let spots : IsPartialEquivalence (same_map {R = position_cmp} E) = map_per p positions_total in
       let offsets : IsPartialEquivalence (same_map {R = edge_place_cmp} E) = map_per p edge_places_total in
       and_per (and_per (and_per
@@ -86,10 +86,10 @@ map_itself {K = K} {X = X} {R = R} o E itself m = all_themselves (entries m)
     all_themselves [] = refl
     all_themselves (x ∷ xs) = λ i. ((eq_by_cmp_equiv o).refl x.0 i && itself x.1 i) && all_themselves xs i
 
-pub keeping_equiv : {T : Type 0} {E : T → T → Bool} → IsEquivalence E → IsEquivalence (same_keeping E)
-unfolding same_below same_lines same_cells same_offsets same_keeping
-keeping_equiv {E = E} e =
-    equiv (keeping_per (partial_equiv_from_equiv e)) (λ k i.
+pub state_equiv : {T : Type 0} {E : T → T → Bool} → IsEquivalence E → IsEquivalence (same_state E)
+unfolding same_below same_lines same_cells same_offsets same_state
+state_equiv {E = E} e =
+    equiv (state_per (partial_equiv_from_equiv e)) (λ k i.
     ((options_equiv e).refl k.default_value i && borders_itself e k.class_record i)
     && (map_itself nat_cmp_total (same_vertical E) (vertical_itself e) k.vertical_lines i && map_itself nat_cmp_total (same_horizontal E) (horizontal_itself e) k.horizontal_lines i)
     && (map_itself positions_total E e.refl k.edges_across i && map_itself positions_total E e.refl k.edges_down i && map_itself positions_total E e.refl k.crosses i)

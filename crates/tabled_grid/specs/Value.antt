@@ -50,13 +50,13 @@ sign_or None other = other
 
 -- the first sign that is kept at one of the sites
 abbrev pub first_sign : {T : Type 0} → (Site → Option (Written T)) → List Site → Option T
-first_sign keep [] = None
-first_sign keep (q ∷ qs) = sign_or (keep q) (first_sign keep qs)
+first_sign state [] = None
+first_sign state (q ∷ qs) = sign_or (state q) (first_sign state qs)
 
 -- the value of a place: what is kept at the highest level that has something there
 unfoldable pub value : {T : Type 0} → (Site → Option (Written T)) → ℕ × ℕ → ℕ → Place → Option T
-value keep shape size place = if inside shape size place then first_sign keep (sites shape size place) else None
+value state shape size place = if inside shape size place then first_sign state (sites shape size place) else None
 
 -- the value of an edge or a crossing without the offsets, however long its edge is
 unfoldable pub plain_value : {T : Type 0} → (Site → Option (Written T)) → ℕ × ℕ → Place → Option T
-plain_value keep shape place = if has_spot shape place then first_sign keep (plain_sites shape place) else None
+plain_value state shape place = if has_spot shape place then first_sign state (plain_sites shape place) else None

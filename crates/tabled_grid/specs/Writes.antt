@@ -5,7 +5,7 @@ use Rattle.tabled_grid.specs.declared.writes.Target.{Target}
 use Rattle.tabled_grid.specs.declared.writes.Write.{Write}
 use Rattle.tabled_grid.specs.Site.{across, down, Site, at_spot, same_site}
 use Rattle.tabled_grid.specs.Event.{sign, Written, Event, write}
-use Rattle.tabled_grid.specs.Keeping.{Keeping, keeps}
+use Rattle.tabled_grid.specs.State.{State, state_at}
 use Rattle.tabled_grid.specs.Calls.{spot_of, edge_site}
 
 -- the site that a target names
@@ -27,20 +27,20 @@ writes_made writes = filter_map (λ entry. given_event entry.target entry.value)
 -- what follows is cited by private calls alone
 
 -- something stands at the site now, and with what stood there before in its place the new store is the old one
-unfoldable pub PutsBackAt : {T : Type 0} → Site → Option T → Keeping T → Keeping T → Type 0
+unfoldable pub PutsBackAt : {T : Type 0} → Site → Option T → State T → State T → Type 0
 PutsBackAt site before old new =
-    IsSome (keeps new site) × ((q : Site) → keeps old q ≡ (if same_site q site then option_map sign before else keeps new q))
+    IsSome (state_at new site) × ((q : Site) → state_at old q ≡ (if same_site q site then option_map sign before else state_at new q))
 
 -- a write that was made, with what stood there before in place of its value; one without a target wrote nothing
-abbrev pub PutsBack : {T : Type 0} → Option Target → Option T → Keeping T → Keeping T → Type 0
+abbrev pub PutsBack : {T : Type 0} → Option Target → Option T → State T → State T → Type 0
 PutsBack None before old new = new ≡ old
 PutsBack (Some target) before old new = PutsBackAt (site_of target) before old new
 
 -- a list of them, in the order in which they were made
-unfoldable pub PutsBackAll : {T : Type 0} → List (Write T) → Keeping T → Keeping T → Type 0
+unfoldable pub PutsBackAll : {T : Type 0} → List (Write T) → State T → State T → Type 0
 PutsBackAll [] old new = new ≡ old
 PutsBackAll {T = T} (entry ∷ entries) old new =
-    (between : Keeping T) × PutsBack entry.target entry.value old between × PutsBackAll entries between new
+    (between : State T) × PutsBack entry.target entry.value old between × PutsBackAll entries between new
 
 -- what stood before still stands, or something in its place
 unfoldable pub Stays : {T : Type 0} → (Site → Option (Written T)) → (Site → Option (Written T)) → Type 0

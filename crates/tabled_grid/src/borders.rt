@@ -4,7 +4,7 @@ ghost use Rattle.std.specs.Prelude.{◌≡◌, ◌↔◌, None, IsTrue, ⊤, opt
 
 use std::alloc::AllocError;
 
-/// A value for each of the fifteen kinds of border place, as characters or colours of a whole table.
+/// A value for each of the fifteen kinds of border place, as characters or colors of a whole table.
 #[derive(Copy, Debug, Drop, PartialEq, Eq, PartialOrd, Ord, Hash)]
 pub struct Borders<T> {
     /// The edges of horizontal line 0.
@@ -52,7 +52,7 @@ impl<T: Copy> Clone for Borders<T> {
 
 impl<T> Borders<T> {
     ghost use Rattle.tabled_grid.specs.Site.{across, down, first, inner, closing, edges, crossings, rank, class_value};
-    ghost use Rattle.tabled_grid.specs.Keeping.{line_classes, has_class, HasNothing};
+    ghost use Rattle.tabled_grid.specs.State.{line_classes, has_class, HasNothing};
     ghost use Rattle.tabled_grid.specs.CustomLines.{no_borders};
 
     /// A record with nothing set.
@@ -210,7 +210,7 @@ impl<T> Borders<T> {
 }
 
 impl<T> Default for Borders<T> {
-    ghost use Rattle.tabled_grid.specs.Keeping.{HasNothing};
+    ghost use Rattle.tabled_grid.specs.State.{HasNothing};
 
     ghost is_default = { HasNothing };
 

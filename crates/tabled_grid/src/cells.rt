@@ -7,15 +7,15 @@ ghost use Rattle.tabled_grid.specs.Table.{table, one_if};
 ghost use Rattle.tabled_grid.specs.Keys.{position_cmp};
 ghost use Rattle.tabled_grid.specs.Counted.{number_at};
 
-use crate::kept_map::KeptMap;
-use crate::tally::{lower, raise};
+use crate::counted_map::CountedMap;
+use crate::counter::{add, remove};
 use crate::{OutOfMemory, Position};
 
 /// Puts a value at an edge of that line, and answers the one that stood there. Where memory is refused
 /// nothing changes, and nothing stood there.
 pub(crate) fn put_edge<T: Drop>(
-    values: &mut KeptMap<Position, T>,
-    numbers: &mut KeptMap<usize, u128>,
+    values: &mut CountedMap<Position, T>,
+    numbers: &mut CountedMap<usize, u128>,
     position: Position,
     line: usize,
     value: T,
@@ -34,7 +34,7 @@ pub(crate) fn put_edge<T: Drop>(
     if before.is_some() {
         return Ok(before);
     }
-    if raise(numbers, line).is_err() {
+    if add(numbers, line).is_err() {
         let _ = values.remove(position);
         return Err(OutOfMemory);
     }
@@ -43,8 +43,8 @@ pub(crate) fn put_edge<T: Drop>(
 
 /// Takes the value of an edge of that line, if there is one.
 pub(crate) fn take_edge<T: Drop>(
-    values: &mut KeptMap<Position, T>,
-    numbers: &mut KeptMap<usize, u128>,
+    values: &mut CountedMap<Position, T>,
+    numbers: &mut CountedMap<usize, u128>,
     position: Position,
     line: usize,
 )
@@ -55,16 +55,16 @@ pub(crate) fn take_edge<T: Drop>(
     ensures few { map.len (table position_cmp values.new) < 2 ^ 63 }
 {
     if values.remove(position).is_some() {
-        lower(numbers, line);
+        remove(numbers, line);
     }
 }
 
 /// Puts a value at a crossing, and answers the one that stood there. Where memory is refused nothing changes,
 /// and nothing stood there.
 pub(crate) fn put_crossing<T: Drop>(
-    values: &mut KeptMap<Position, T>,
-    rows: &mut KeptMap<usize, u128>,
-    cols: &mut KeptMap<usize, u128>,
+    values: &mut CountedMap<Position, T>,
+    rows: &mut CountedMap<usize, u128>,
+    cols: &mut CountedMap<usize, u128>,
     position: Position,
     value: T,
 ) -> Result<Option<T>, OutOfMemory>
@@ -86,13 +86,13 @@ pub(crate) fn put_crossing<T: Drop>(
     if replaced.is_some() {
         return Ok(replaced);
     }
-    if raise(rows, position.row).is_err() {
+    if add(rows, position.row).is_err() {
         let _ = values.remove(position);
         return Err(OutOfMemory);
     }
-    if raise(cols, position.col).is_err() {
-        lower(rows, position.row);
+    if add(cols, position.col).is_err() {
         let _ = values.remove(position);
+        remove(rows, position.row);
         return Err(OutOfMemory);
     }
     Ok(replaced)
@@ -100,9 +100,9 @@ pub(crate) fn put_crossing<T: Drop>(
 
 /// Takes the value of a crossing, if there is one.
 pub(crate) fn take_crossing<T: Drop>(
-    values: &mut KeptMap<Position, T>,
-    rows: &mut KeptMap<usize, u128>,
-    cols: &mut KeptMap<usize, u128>,
+    values: &mut CountedMap<Position, T>,
+    rows: &mut CountedMap<usize, u128>,
+    cols: &mut CountedMap<usize, u128>,
     position: Position,
 )
     requires some_row { IsSome (map.get (table position_cmp values.old) position) → 0 < number_at (table nat_cmp rows.old) position.row }
@@ -115,7 +115,7 @@ pub(crate) fn take_crossing<T: Drop>(
     ensures few { map.len (table position_cmp values.new) < 2 ^ 63 }
 {
     if values.remove(position).is_some() {
-        lower(rows, position.row);
-        lower(cols, position.col);
+        remove(rows, position.row);
+        remove(cols, position.col);
     }
 }

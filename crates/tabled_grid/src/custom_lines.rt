@@ -6,14 +6,14 @@ ghost use Rattle.std.specs.FinMap as map;
 ghost use Rattle.tabled_grid.specs.Table.{table};
 ghost use Rattle.tabled_grid.specs.Counted.{VerticalCounted, HorizontalCounted};
 
-use crate::kept_map::KeptMap;
+use crate::counted_map::CountedMap;
 use crate::lines::{has_between, has_bottom, has_left, has_right, has_top};
 use crate::number::Number;
 use crate::{HorizontalLine, OutOfMemory, VerticalLine};
 
 /// Puts a horizontal line at an index. Where memory is refused nothing changes, and none stood there.
 pub(crate) fn put_horizontal<T: Drop>(
-    lines: &mut KeptMap<usize, HorizontalLine<T>>,
+    lines: &mut CountedMap<usize, HorizontalLine<T>>,
     lefts: &mut Number,
     rights: &mut Number,
     betweens: &mut Number,
@@ -38,7 +38,7 @@ pub(crate) fn put_horizontal<T: Drop>(
 
 /// Takes the horizontal line at an index, if one stands there.
 pub(crate) fn take_horizontal<T: Drop>(
-    lines: &mut KeptMap<usize, HorizontalLine<T>>,
+    lines: &mut CountedMap<usize, HorizontalLine<T>>,
     lefts: &mut Number,
     rights: &mut Number,
     betweens: &mut Number,
@@ -56,7 +56,7 @@ pub(crate) fn take_horizontal<T: Drop>(
 
 /// Puts a vertical line at an index. Where memory is refused nothing changes, and none stood there.
 pub(crate) fn put_vertical<T: Drop>(
-    lines: &mut KeptMap<usize, VerticalLine<T>>,
+    lines: &mut CountedMap<usize, VerticalLine<T>>,
     tops: &mut Number,
     bottoms: &mut Number,
     index: usize,
@@ -78,7 +78,7 @@ pub(crate) fn put_vertical<T: Drop>(
 
 /// Takes the vertical line at an index, if one stands there.
 pub(crate) fn take_vertical<T: Drop>(
-    lines: &mut KeptMap<usize, VerticalLine<T>>,
+    lines: &mut CountedMap<usize, VerticalLine<T>>,
     tops: &mut Number,
     bottoms: &mut Number,
     index: usize,

@@ -3,7 +3,7 @@
 ghost use Rattle.std.specs.Prelude.{◌≡◌};
 
 use crate::Position;
-use crate::kept_map::Key;
+use crate::counted_map::Key;
 
 impl Key for Position {
     ghost use Rattle.tabled_grid.specs.Keys.{exact_positions};

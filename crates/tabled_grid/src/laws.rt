@@ -4,10 +4,10 @@ ghost use Rattle.std.specs.Prelude.{◌≡◌, ◌↔◌, ℕ, List, ◌++◌, I
 ghost use Rattle.tabled_grid.specs.declared.place.LineOf.{LineOf as Line};
 ghost use Rattle.tabled_grid.specs.declared.place.Place.{Place as At};
 ghost use Rattle.tabled_grid.specs.Site.{Site};
-ghost use Rattle.tabled_grid.specs.Event.{Written, Event, kept, Shows, Changes};
+ghost use Rattle.tabled_grid.specs.Event.{Written, Event, replay, Shows, Changes};
 ghost use Rattle.tabled_grid.specs.Value.{value};
 ghost use Rattle.tabled_grid.specs.Drawn.{Drawn, drawn};
-ghost use Rattle.tabled_grid.specs.Keeping.{Keeping, keeps, writes_of};
+ghost use Rattle.tabled_grid.specs.State.{State, state_at, writes_of};
 ghost use Rattle.tabled_grid.specs.Same.{same_written};
 ghost use Rattle.std.specs.Option.{option_eq};
 
@@ -28,22 +28,22 @@ pub fn changes_in_a_row<T>()
 /// What the values of places and the drawn lines read off a store is what they read off any list of
 /// events that it shows.
 pub fn read_alike<T>()
-    ensures values { (es : List (Event T)) (keep : Site → Option (Written T)) (shape : ℕ × ℕ) (size : ℕ) (place : At)
-        → Shows es keep → value keep shape size place ≡ value (kept es) shape size place }
-    ensures lines { (es : List (Event T)) (keep : Site → Option (Written T)) (count : ℕ) (line : Line)
-        → Shows es keep → Drawn keep count line ↔ IsTrue (drawn es count line) }
+    ensures values { (es : List (Event T)) (state : Site → Option (Written T)) (shape : ℕ × ℕ) (size : ℕ) (place : At)
+        → Shows es state → value state shape size place ≡ value (replay es) shape size place }
+    ensures lines { (es : List (Event T)) (state : Site → Option (Written T)) (count : ℕ) (line : Line)
+        → Shows es state → Drawn state count line ↔ IsTrue (drawn es count line) }
 {}
 
 /// Whatever a store keeps, there is a list of events that it shows: the writes of all of it.
 pub fn shows_its_writes<T>()
-    ensures { (keeping : Keeping T) → Shows (writes_of keeping) (keeps keeping) }
+    ensures { (state : State T) → Shows (writes_of state) (state_at state) }
 {}
 
 /// Two stores are equal by `==` just where at every site both keep nothing, or what they keep is equal; and
 /// where `==` of the values is true of equal values alone, just where they keep the same.
 pub fn equal_where_same_is_kept<T: PartialEq>()
-    ensures sites { (a b : Keeping T) → IsTrue (⟦<Layers<T> as PartialEq>⟧.eq a b)
-        ↔ ((site : Site) → IsTrue (option_eq (same_written T.eq) (keeps a site) (keeps b site))) }
+    ensures sites { (a b : State T) → IsTrue (⟦<Layers<T> as PartialEq>⟧.eq a b)
+        ↔ ((site : Site) → IsTrue (option_eq (same_written T.eq) (state_at a site) (state_at b site))) }
     ensures exact { ((x y : T) → IsTrue (T.eq x y) ↔ (x ≡ y))
-        → (a b : Keeping T) → IsTrue (⟦<Layers<T> as PartialEq>⟧.eq a b) ↔ (a ≡ b) }
+        → (a b : State T) → IsTrue (⟦<Layers<T> as PartialEq>⟧.eq a b) ↔ (a ≡ b) }
 {}

@@ -1,4 +1,4 @@
-//! The store of border characters or colours, level by level.
+//! The store of border characters or colors, level by level.
 
 ghost use Rattle.std.specs.Prelude.{◌≡◌, ◌↔◌, [], ◌∷◌, IsTrue, IsOk, IsSomeAnd, OnOk, OnErr, IfOk, option_copied, option_map, Option, None};
 
@@ -11,8 +11,8 @@ mod reads;
 mod writes;
 
 use crate::cells::{put_crossing, put_edge, take_crossing, take_edge};
+use crate::counted_map::CountedMap;
 use crate::custom_lines::{put_horizontal, put_vertical, take_horizontal, take_vertical};
-use crate::kept_map::KeptMap;
 use crate::keys::EdgePlace;
 use crate::number::Number;
 use crate::{
@@ -23,7 +23,7 @@ use std::alloc::Global;
 use std::marker::Model;
 use std::mem;
 
-/// What a table keeps for its border places, of one kind of value: characters, or colours.
+/// What a table keeps for its border places, of one kind of value: characters, or colors.
 ///
 /// Each call is a list of events, or reads what the events so far have left; `docs/DEFINITIONS.md` says
 /// how. A call that needs memory and is refused leaves the store as it was.
@@ -32,17 +32,17 @@ pub struct Layers<T> {
     alloc: Global,
     default_value: Option<T>,
     class_record: Borders<T>,
-    vertical_lines: KeptMap<usize, VerticalLine<T>>,
-    horizontal_lines: KeptMap<usize, HorizontalLine<T>>,
-    edges_across: KeptMap<Position, T>,
-    edges_down: KeptMap<Position, T>,
-    crosses: KeptMap<Position, T>,
-    ends_across: KeptMap<EdgePlace, T>,
-    ends_down: KeptMap<EdgePlace, T>,
-    starts_across: KeptMap<EdgePlace, T>,
-    starts_down: KeptMap<EdgePlace, T>,
-    on_rows: KeptMap<usize, u128>,
-    on_cols: KeptMap<usize, u128>,
+    vertical_lines: CountedMap<usize, VerticalLine<T>>,
+    horizontal_lines: CountedMap<usize, HorizontalLine<T>>,
+    edges_across: CountedMap<Position, T>,
+    edges_down: CountedMap<Position, T>,
+    crosses: CountedMap<Position, T>,
+    ends_across: CountedMap<EdgePlace, T>,
+    ends_down: CountedMap<EdgePlace, T>,
+    starts_across: CountedMap<EdgePlace, T>,
+    starts_down: CountedMap<EdgePlace, T>,
+    on_rows: CountedMap<usize, u128>,
+    on_cols: CountedMap<usize, u128>,
     tops: Number,
     bottoms: Number,
     lefts: Number,
@@ -78,7 +78,7 @@ impl<T: Drop> Drop for Layers<T> {
 }
 
 impl<T> Model for Layers<T> {
-    ghost use Rattle.tabled_grid.specs.Keeping.{Keeping};
+    ghost use Rattle.tabled_grid.specs.State.{State};
     ghost use Rattle.tabled_grid.specs.Table.{table};
     ghost use Rattle.tabled_grid.specs.Keys.{position_cmp, edge_place_cmp};
     ghost use Rattle.tabled_grid.specs.Counted.{CellsCounted, VerticalCounted, HorizontalCounted};
@@ -86,7 +86,7 @@ impl<T> Model for Layers<T> {
     ghost use Rattle.std.specs.Coded.{codes};
     ghost use Rattle.std.specs.FinMap as map;
 
-    ghost Value = { Keeping T };
+    ghost Value = { State T };
 
     ghost coded = { Prim.hlevel (codes, T.code, map.code) };
 
@@ -113,30 +113,30 @@ impl<T> Model for Layers<T> {
 
 impl<T> Layers<T> {
     ghost use Rattle.tabled_grid.specs.Event.{sign, erase, level_sites, Shows, Changes};
-    ghost use Rattle.tabled_grid.specs.Keeping.{keeps, class_record_set};
+    ghost use Rattle.tabled_grid.specs.State.{state_at, class_record_set};
     ghost use Rattle.tabled_grid.specs.Site.{across, down, mark, of_line, at_spot};
     ghost use Rattle.tabled_grid.specs.Calls.{default_set, line_set_across, line_set_down, line_removed, spot_of, cell_set, cell_erased, edge_site, offset_site, offset_set, edge_offset, offsets_erased, lines_erased};
     ghost use Rattle.tabled_grid.specs.declared.place.LineOf.{LineOf as Line};
 
     /// A store in which nothing was written. It keeps the allocator for the calls that need memory.
     pub fn new(alloc: Global) -> Self
-        ensures { Shows [] (keeps result) }
+        ensures { Shows [] (state_at result) }
     {
         Layers {
             alloc,
             default_value: None,
             class_record: Borders::empty(),
-            vertical_lines: KeptMap::new(alloc),
-            horizontal_lines: KeptMap::new(alloc),
-            edges_across: KeptMap::new(alloc),
-            edges_down: KeptMap::new(alloc),
-            crosses: KeptMap::new(alloc),
-            ends_across: KeptMap::new(alloc),
-            ends_down: KeptMap::new(alloc),
-            starts_across: KeptMap::new(alloc),
-            starts_down: KeptMap::new(alloc),
-            on_rows: KeptMap::new(alloc),
-            on_cols: KeptMap::new(alloc),
+            vertical_lines: CountedMap::new(alloc),
+            horizontal_lines: CountedMap::new(alloc),
+            edges_across: CountedMap::new(alloc),
+            edges_down: CountedMap::new(alloc),
+            crosses: CountedMap::new(alloc),
+            ends_across: CountedMap::new(alloc),
+            ends_down: CountedMap::new(alloc),
+            starts_across: CountedMap::new(alloc),
+            starts_down: CountedMap::new(alloc),
+            on_rows: CountedMap::new(alloc),
+            on_cols: CountedMap::new(alloc),
             tops: Number::new(),
             bottoms: Number::new(),
             lefts: Number::new(),
@@ -154,7 +154,7 @@ impl<T> Layers<T> {
     pub fn set_default(&mut self, value: T)
     where
         T: Drop,
-        ensures { Changes (default_set value) (keeps self.old) (keeps self.new) }
+        ensures { Changes (default_set value) (state_at self.old) (state_at self.new) }
     {
         drop(mem::replace(&mut self.default_value, Some(value)));
     }
@@ -163,7 +163,7 @@ impl<T> Layers<T> {
     pub fn erase_default(&mut self)
     where
         T: Drop,
-        ensures { Changes (erase (level_sites 0) ∷ []) (keeps self.old) (keeps self.new) }
+        ensures { Changes (erase (level_sites 0) ∷ []) (state_at self.old) (state_at self.new) }
     {
         drop(mem::replace(&mut self.default_value, None));
     }
@@ -172,7 +172,7 @@ impl<T> Layers<T> {
     pub fn set_class(&mut self, borders: Borders<T>)
     where
         T: Drop,
-        ensures { Changes (class_record_set borders) (keeps self.old) (keeps self.new) }
+        ensures { Changes (class_record_set borders) (state_at self.old) (state_at self.new) }
     {
         drop(mem::replace(&mut self.class_record, borders));
     }
@@ -181,7 +181,7 @@ impl<T> Layers<T> {
     pub fn erase_class(&mut self)
     where
         T: Drop,
-        ensures { Changes (erase (level_sites 1) ∷ []) (keeps self.old) (keeps self.new) }
+        ensures { Changes (erase (level_sites 1) ∷ []) (state_at self.old) (state_at self.new) }
     {
         drop(mem::replace(&mut self.class_record, Borders::empty()));
     }
@@ -195,9 +195,9 @@ impl<T> Layers<T> {
     ) -> Result<(), OutOfMemory>
     where
         T: Drop,
-        ensures ok { OnOk result (Changes (line_set_across line fields) (keeps self.old) (keeps self.new)) }
+        ensures ok { OnOk result (Changes (line_set_across line fields) (state_at self.old) (state_at self.new)) }
         ensures err { OnErr result (self.new ≡ self.old) }
-        ensures absent { OnErr result (keeps self.old (of_line (Line.Horizontal line) mark) ≡ None) }
+        ensures absent { OnErr result (state_at self.old (of_line (Line.Horizontal line) mark) ≡ None) }
     {
         put_horizontal(
             &mut self.horizontal_lines,
@@ -213,7 +213,7 @@ impl<T> Layers<T> {
     pub fn remove_hline(&mut self, line: usize)
     where
         T: Drop,
-        ensures { Changes (line_removed (Line.Horizontal line)) (keeps self.old) (keeps self.new) }
+        ensures { Changes (line_removed (Line.Horizontal line)) (state_at self.old) (state_at self.new) }
     {
         take_horizontal(
             &mut self.horizontal_lines,
@@ -229,9 +229,9 @@ impl<T> Layers<T> {
     pub fn insert_vline(&mut self, line: usize, fields: VerticalLine<T>) -> Result<(), OutOfMemory>
     where
         T: Drop,
-        ensures ok { OnOk result (Changes (line_set_down line fields) (keeps self.old) (keeps self.new)) }
+        ensures ok { OnOk result (Changes (line_set_down line fields) (state_at self.old) (state_at self.new)) }
         ensures err { OnErr result (self.new ≡ self.old) }
-        ensures absent { OnErr result (keeps self.old (of_line (Line.Vertical line) mark) ≡ None) }
+        ensures absent { OnErr result (state_at self.old (of_line (Line.Vertical line) mark) ≡ None) }
     {
         put_vertical(
             &mut self.vertical_lines,
@@ -246,7 +246,7 @@ impl<T> Layers<T> {
     pub fn remove_vline(&mut self, line: usize)
     where
         T: Drop,
-        ensures { Changes (line_removed (Line.Vertical line)) (keeps self.old) (keeps self.new) }
+        ensures { Changes (line_removed (Line.Vertical line)) (state_at self.old) (state_at self.new) }
     {
         take_vertical(
             &mut self.vertical_lines,
@@ -260,7 +260,7 @@ impl<T> Layers<T> {
     pub fn erase_lines(&mut self)
     where
         T: Drop,
-        ensures { Changes lines_erased (keeps self.old) (keeps self.new) }
+        ensures { Changes lines_erased (state_at self.old) (state_at self.new) }
     {
         self.vertical_lines.clear();
         self.horizontal_lines.clear();
@@ -276,9 +276,9 @@ impl<T> Layers<T> {
     pub fn set_cell(&mut self, place: Place, value: T) -> Result<(), OutOfMemory>
     where
         T: Drop,
-        ensures ok { OnOk result (Changes (cell_set place value) (keeps self.old) (keeps self.new)) }
+        ensures ok { OnOk result (Changes (cell_set place value) (state_at self.old) (state_at self.new)) }
         ensures err { OnErr result (self.new ≡ self.old) }
-        ensures absent { OnErr result (keeps self.old (at_spot (spot_of place)) ≡ None) }
+        ensures absent { OnErr result (state_at self.old (at_spot (spot_of place)) ≡ None) }
     {
         self.replace_cell(place, value)?;
         Ok(())
@@ -288,10 +288,10 @@ impl<T> Layers<T> {
     fn replace_cell(&mut self, place: Place, value: T) -> Result<Option<T>, OutOfMemory>
     where
         T: Drop,
-        ensures before { IfOk result (λ before. option_map sign before ≡ keeps self.old (at_spot (spot_of place))) }
-        ensures ok { OnOk result (Changes (cell_set place value) (keeps self.old) (keeps self.new)) }
+        ensures before { IfOk result (λ before. option_map sign before ≡ state_at self.old (at_spot (spot_of place))) }
+        ensures ok { OnOk result (Changes (cell_set place value) (state_at self.old) (state_at self.new)) }
         ensures err { OnErr result (self.new ≡ self.old) }
-        ensures absent { OnErr result (keeps self.old (at_spot (spot_of place)) ≡ None) }
+        ensures absent { OnErr result (state_at self.old (at_spot (spot_of place)) ≡ None) }
     {
         match place {
             Place::Horizontal { row, col, .. } => put_edge(
@@ -322,7 +322,7 @@ impl<T> Layers<T> {
     pub fn erase_cell(&mut self, place: Place)
     where
         T: Drop,
-        ensures { Changes (cell_erased place) (keeps self.old) (keeps self.new) }
+        ensures { Changes (cell_erased place) (state_at self.old) (state_at self.new) }
     {
         match place {
             Place::Horizontal { row, col, .. } => take_edge(
@@ -350,7 +350,7 @@ impl<T> Layers<T> {
     pub fn erase_cells(&mut self)
     where
         T: Drop,
-        ensures { Changes (erase (level_sites 4) ∷ []) (keeps self.old) (keeps self.new) }
+        ensures { Changes (erase (level_sites 4) ∷ []) (state_at self.old) (state_at self.new) }
     {
         self.edges_across.clear();
         self.edges_down.clear();
@@ -365,9 +365,9 @@ impl<T> Layers<T> {
     pub fn set_offset(&mut self, place: Place, offset: Offset, value: T) -> Result<(), OutOfMemory>
     where
         T: Drop,
-        ensures ok { OnOk result (Changes (offset_set place offset value) (keeps self.old) (keeps self.new)) }
+        ensures ok { OnOk result (Changes (offset_set place offset value) (state_at self.old) (state_at self.new)) }
         ensures err { OnErr result (self.new ≡ self.old) }
-        ensures absent { OnErr result (IsSomeAnd (offset_site place offset) (λ site. keeps self.old site ≡ None)) }
+        ensures absent { OnErr result (IsSomeAnd (offset_site place offset) (λ site. state_at self.old site ≡ None)) }
     {
         match place {
             Place::Horizontal { row, col, .. } => {
@@ -385,7 +385,7 @@ impl<T> Layers<T> {
     pub fn erase_horizontal_offsets(&mut self)
     where
         T: Drop,
-        ensures { Changes (offsets_erased across) (keeps self.old) (keeps self.new) }
+        ensures { Changes (offsets_erased across) (state_at self.old) (state_at self.new) }
     {
         self.ends_across.clear();
         self.starts_across.clear();
@@ -395,7 +395,7 @@ impl<T> Layers<T> {
     pub fn erase_vertical_offsets(&mut self)
     where
         T: Drop,
-        ensures { Changes (offsets_erased down) (keeps self.old) (keeps self.new) }
+        ensures { Changes (offsets_erased down) (state_at self.old) (state_at self.new) }
     {
         self.ends_down.clear();
         self.starts_down.clear();

@@ -9,9 +9,10 @@
 
 mod borders;
 mod cells;
+mod counted_map;
+mod counter;
 mod custom_lines;
 mod keep;
-mod kept_map;
 mod keys;
 mod laws;
 mod layers;
@@ -20,7 +21,6 @@ mod number;
 mod offset;
 mod place;
 mod probes;
-mod tally;
 mod writes;
 
 pub use borders::Borders;

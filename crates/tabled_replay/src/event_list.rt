@@ -5,7 +5,7 @@
 
 ghost use Rattle.std.specs.Prelude.{◌≡◌, ◌≤◌, map, option_map};
 ghost use Rattle.tabled_grid.specs.Site.{rank as rank_at, stands as stands_at, level as level_at, same_site};
-ghost use Rattle.tabled_grid.specs.Event.{within as is_within, covers as is_covering, kept as kept_at};
+ghost use Rattle.tabled_grid.specs.Event.{within as is_within, covers as is_covering, replay as replayed};
 ghost use Rattle.tabled_grid.specs.Value.{value as value_at, first_sign as first_sign_at};
 ghost use Rattle.tabled_grid.specs.Drawn.{draws as is_drawing, drawn as is_drawn};
 ghost use Rattle.tabled_replay.specs.EventList.{rank_of, site_of, region_of, written_of, event_of};
@@ -90,8 +90,8 @@ pub enum Event {
 }
 
 /// What a list of events leaves at a site.
-pub fn kept(events: &[Event], site: Site) -> Option<Written>
-    ensures { option_map written_of result ≡ kept_at (map event_of events.now) (site_of site) }
+pub fn replay(events: &[Event], site: Site) -> Option<Written>
+    ensures { option_map written_of result ≡ replayed (map event_of events.now) (site_of site) }
 {
     let mut found = None;
     for event in events {
@@ -108,7 +108,7 @@ pub fn kept(events: &[Event], site: Site) -> Option<Written>
 /// The value of a place, in a table of `shape.0` rows and `shape.1` columns, where its edge is `size`
 /// characters long.
 pub fn value(events: &[Event], shape: (usize, usize), size: usize, place: Place) -> Option<char>
-    ensures { result ≡ value_at (kept_at (map event_of events.now)) shape size place }
+    ensures { result ≡ value_at (replayed (map event_of events.now)) shape size place }
 {
     if !place.is_inside(shape, size) {
         return None;
@@ -163,7 +163,7 @@ pub fn drawn(events: &[Event], count: usize, line: LineOf) -> bool
     }
     for event in events {
         if let Event::Write(site, _) = *event {
-            if draws(count, line, site) && kept(events, site).is_some() {
+            if draws(count, line, site) && replay(events, site).is_some() {
                 return true;
             }
         }
@@ -173,10 +173,10 @@ pub fn drawn(events: &[Event], count: usize, line: LineOf) -> bool
 
 /// The first character that is kept at one of the sites.
 fn first_sign(events: &[Event], sites: &[Site]) -> Option<char>
-    ensures { result ≡ first_sign_at (kept_at (map event_of events.now)) (map site_of sites.now) }
+    ensures { result ≡ first_sign_at (replayed (map event_of events.now)) (map site_of sites.now) }
 {
     for site in sites {
-        if let Some(Written::Sign(character)) = kept(events, *site) {
+        if let Some(Written::Sign(character)) = replay(events, *site) {
             return Some(character);
         }
     }

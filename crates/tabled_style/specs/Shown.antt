@@ -5,7 +5,7 @@ use Rattle.tabled_grid.specs.declared.borders.Borders.{Borders}
 use Rattle.tabled_grid.specs.declared.lines.HorizontalLine.{HorizontalLine}
 use Rattle.tabled_grid.specs.declared.lines.VerticalLine.{VerticalLine}
 use Rattle.tabled_grid.specs.Site.{across, down, first, inner, closing}
-use Rattle.tabled_grid.specs.Keeping.{line_classes, has_class}
+use Rattle.tabled_grid.specs.State.{line_classes, has_class}
 
 -- the class record, and the custom lines in their order, each with the index of the line that it stands for
 pub record Shown : Type 0 where

@@ -12,10 +12,10 @@ ghost use Rattle.tabled_style.specs.Inheriting.{GivesAcross, GivesDown};
 ghost use Rattle.std.specs.Prelude.{◌↔◌, None, IsTrue};
 ghost use Rattle.tabled_grid.specs.declared.place.LineOf.{LineOf as Line};
 ghost use Rattle.tabled_grid.specs.declared.place.Place.{Place as At};
-ghost use Rattle.tabled_grid.specs.Event.{kept};
+ghost use Rattle.tabled_grid.specs.Event.{replay};
 ghost use Rattle.tabled_grid.specs.Value.{value};
 ghost use Rattle.tabled_grid.specs.Drawn.{Drawn, drawn};
-ghost use Rattle.tabled_grid.specs.Keeping.{keeps};
+ghost use Rattle.tabled_grid.specs.State.{state_at};
 ghost use Rattle.tabled_config.specs.Colored.{Colored, Changes};
 ghost use Rattle.tabled_config.specs.Configuration.{borders_replaced};
 ghost use Rattle.tabled_style.specs.Deciding.{written_by};
@@ -44,16 +44,16 @@ pub fn inherited_again()
 {}
 
 /// After a style the character of every border place, and which lines are drawn, are those of what the style writes,
-/// by the shape of the table and the length of the edge, and no place has a colour, whatever was there before. A class
+/// by the shape of the table and the length of the edge, and no place has a color, whatever was there before. A class
 /// record that is applied as an option makes the same events as a style without custom lines, so it holds there too.
 pub fn style_alone_decides()
     ensures characters { (style : Shown) (old new : Colored) (shape : ℕ × ℕ) (size : ℕ) (place : At)
         → Changes (borders_replaced style.borders style.horizontals style.verticals) old new
-        → value (keeps new.spanned.characters) shape size place ≡ value (kept (written_by style)) shape size place }
-    ensures colours { (style : Shown) (old new : Colored) (shape : ℕ × ℕ) (size : ℕ) (place : At)
+        → value (state_at new.spanned.characters) shape size place ≡ value (replay (written_by style)) shape size place }
+    ensures colors { (style : Shown) (old new : Colored) (shape : ℕ × ℕ) (size : ℕ) (place : At)
         → Changes (borders_replaced style.borders style.horizontals style.verticals) old new
-        → value (keeps new.spanned.colours) shape size place ≡ None }
+        → value (state_at new.spanned.colors) shape size place ≡ None }
     ensures lines { (style : Shown) (old new : Colored) (count : ℕ) (line : Line)
         → Changes (borders_replaced style.borders style.horizontals style.verticals) old new
-        → Drawn (keeps new.spanned.characters) count line ↔ IsTrue (drawn (written_by style) count line) }
+        → Drawn (state_at new.spanned.characters) count line ↔ IsTrue (drawn (written_by style) count line) }
 {}

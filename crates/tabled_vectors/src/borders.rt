@@ -116,8 +116,8 @@ fn a_cell_border_stays_over_another_class_record(rt: HostRuntime) -> Result<(), 
     Ok(())
 }
 
-/// Whether a table of one cell shows this colour above the cell, at its place and in the cell's border.
-fn shows_top_colour(cfg: &SpannedConfig, prefix: &str) -> bool {
+/// Whether a table of one cell shows this color above the cell, at its place and in the cell's border.
+fn shows_top_color(cfg: &SpannedConfig, prefix: &str) -> bool {
     let place = Place::Horizontal {
         row: 0,
         col: 0,
@@ -135,11 +135,11 @@ fn shows_top_colour(cfg: &SpannedConfig, prefix: &str) -> bool {
 }
 
 #[test]
-fn a_border_colour_shows_until_it_is_removed(rt: HostRuntime) -> Result<(), Fail> {
+fn a_border_color_shows_until_it_is_removed(rt: HostRuntime) -> Result<(), Fail> {
     let red = ANSIBuf::new(rt.alloc(), "\u{1b}[31m", "\u{1b}[39m")?;
     let mut cfg = ascii(rt.alloc());
     let made = cfg.set_border_color(CELL, top(red));
-    let shown = shows_top_colour(&cfg, "\u{1b}[31m");
+    let shown = shows_top_color(&cfg, "\u{1b}[31m");
     let is_bare = cfg.get_border_color(CELL, (1, 1)).bottom.is_none();
     cfg.remove_border_color(CELL);
     let is_gone = cfg.get_border_color(CELL, (1, 1)).top.is_none();

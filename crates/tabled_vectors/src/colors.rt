@@ -1,4 +1,4 @@
-//! Which colour a border place has.
+//! Which color a border place has.
 
 use std::alloc::Global;
 use std::test::Fail;
@@ -22,7 +22,7 @@ fn blue(alloc: Global) -> Result<ANSIBuf, OutOfMemory> {
     ANSIBuf::new(alloc, "\u{1b}[34m", "\u{1b}[39m")
 }
 
-/// Whether a place of a table of one cell of width 3 has a colour that begins with this text.
+/// Whether a place of a table of one cell of width 3 has a color that begins with this text.
 fn has_prefix(cfg: &SpannedConfig, place: Place, prefix: &str) -> bool {
     match cfg.color_at(place, (1, 1), 3, &mut Probes::new()) {
         Some(color) => color.get_prefix() == prefix,
@@ -31,7 +31,7 @@ fn has_prefix(cfg: &SpannedConfig, place: Place, prefix: &str) -> bool {
 }
 
 #[test]
-fn the_class_colour_of_the_top_is_that_of_its_edges(rt: HostRuntime) -> Result<(), Fail> {
+fn the_class_color_of_the_top_is_that_of_its_edges(rt: HostRuntime) -> Result<(), Fail> {
     let top = red(rt.alloc())?;
     let mut cfg = SpannedConfig::new(rt.alloc());
     cfg.set_borders_color(Borders {
@@ -49,7 +49,7 @@ fn the_class_colour_of_the_top_is_that_of_its_edges(rt: HostRuntime) -> Result<(
 }
 
 #[test]
-fn the_default_colour_erases_class_colours(rt: HostRuntime) -> Result<(), Fail> {
+fn the_default_color_erases_class_colors(rt: HostRuntime) -> Result<(), Fail> {
     let top = red(rt.alloc())?;
     let default = blue(rt.alloc())?;
     let mut cfg = SpannedConfig::new(rt.alloc());
@@ -77,7 +77,7 @@ const LEFT: Place = Place::Vertical {
     at: 0,
 };
 
-/// Colours numbered places of the upper and of the left edge, and then everything by the default.
+/// Colors numbered places of the upper and of the left edge, and then everything by the default.
 fn red_on_blue(alloc: Global, cfg: &mut SpannedConfig) -> Result<(), OutOfMemory> {
     cfg.set_horizontal_char_color(Position::new(0, 0), Offset::Start(1), red(alloc)?)?;
     cfg.set_vertical_char_color(Position::new(0, 0), Offset::End(0), red(alloc)?)?;
@@ -86,7 +86,7 @@ fn red_on_blue(alloc: Global, cfg: &mut SpannedConfig) -> Result<(), OutOfMemory
 }
 
 #[test]
-fn coloured_places_stay_over_the_default(rt: HostRuntime) -> Result<(), Fail> {
+fn colored_places_stay_over_the_default(rt: HostRuntime) -> Result<(), Fail> {
     let mut cfg = SpannedConfig::new(rt.alloc());
     let made = red_on_blue(rt.alloc(), &mut cfg);
     let first = has_prefix(&cfg, above(0), "\u{1b}[34m");
@@ -114,15 +114,15 @@ fn red_then_styled(alloc: Global, cfg: &mut ColoredConfig) -> Result<(), OutOfMe
 }
 
 #[test]
-fn a_style_leaves_no_colour(rt: HostRuntime) -> Result<(), Fail> {
+fn a_style_leaves_no_color(rt: HostRuntime) -> Result<(), Fail> {
     let mut cfg = ColoredConfig::new(SpannedConfig::new(rt.alloc()));
     let made = red_then_styled(rt.alloc(), &mut cfg);
-    let coloured = cfg
+    let colored = cfg
         .config()
         .color_at(above(1), (1, 1), 3, &mut Probes::new())
         .is_some();
     drop(cfg);
     made?;
-    assert!(rt; !coloured);
+    assert!(rt; !colored);
     Ok(())
 }

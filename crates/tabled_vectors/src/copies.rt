@@ -80,15 +80,15 @@ fn write_lines(cfg: &mut SpannedConfig) -> Result<(), OutOfMemory> {
     cfg.set_vertical_char(Position::new(0, 0), Offset::End(0), 'e')
 }
 
-/// Writes on each level of characters, and a colour.
-fn write_on_each_level(cfg: &mut SpannedConfig, colour: ANSIBuf) -> Result<(), OutOfMemory> {
+/// Writes on each level of characters, and a color.
+fn write_on_each_level(cfg: &mut SpannedConfig, color: ANSIBuf) -> Result<(), OutOfMemory> {
     let top = Border {
         top: Some('x'),
         ..Border::empty()
     };
     cfg.set_borders(bars());
     cfg.set_border_default('d');
-    cfg.set_horizontal_char_color(Position::new(0, 0), Offset::Start(0), colour)?;
+    cfg.set_horizontal_char_color(Position::new(0, 0), Offset::Start(0), color)?;
     cfg.set_border(Position::new(0, 0), top)?;
     write_lines(cfg)
 }
@@ -103,9 +103,9 @@ fn is_copied(alloc: Global, cfg: &ColoredConfig) -> bool {
 
 #[test]
 fn a_copy_succeeds_and_equals_its_source(rt: HostRuntime) -> Result<(), Fail> {
-    let colour = ANSIBuf::new(rt.alloc(), "<", ">")?;
+    let color = ANSIBuf::new(rt.alloc(), "<", ">")?;
     let mut cfg = config(rt.alloc());
-    let made = write_on_each_level(cfg.config_mut(), colour);
+    let made = write_on_each_level(cfg.config_mut(), color);
     let copied = is_copied(rt.alloc(), &cfg);
     drop(cfg);
     made?;
@@ -138,19 +138,19 @@ fn one_class_field_makes_a_difference(rt: HostRuntime) {
 }
 
 /// Whether a configuration equals one in which `bars` alone was set, and differs from it once that has a
-/// colour.
-fn differs_by_a_colour(alloc: Global, cfg: &SpannedConfig, colour: ANSIBuf) -> bool {
+/// color.
+fn differs_by_a_color(alloc: Global, cfg: &SpannedConfig, color: ANSIBuf) -> bool {
     let mut other = with_class(alloc, bars());
     let is_same = *cfg == other;
-    other.set_border_color_default(colour);
+    other.set_border_color_default(color);
     is_same && *cfg != other
 }
 
 #[test]
-fn a_colour_makes_a_difference(rt: HostRuntime) -> Result<(), Fail> {
-    let colour = ANSIBuf::new(rt.alloc(), "<", ">")?;
+fn a_color_makes_a_difference(rt: HostRuntime) -> Result<(), Fail> {
+    let color = ANSIBuf::new(rt.alloc(), "<", ">")?;
     let cfg = with_class(rt.alloc(), bars());
-    let differs = differs_by_a_colour(rt.alloc(), &cfg, colour);
+    let differs = differs_by_a_color(rt.alloc(), &cfg, color);
     drop(cfg);
     assert!(rt; differs);
     Ok(())

@@ -5,8 +5,8 @@ ghost use Rattle.std.specs.List.{filter};
 ghost use Rattle.tabled_object.specs.Entities.{cells_of, is_inside};
 ghost use Rattle.tabled_grid.specs.Calls.{border_set, border_erased, writes_anew};
 ghost use Rattle.tabled_grid.specs.CellBorder.{border_shown};
-ghost use Rattle.tabled_grid.specs.Keeping.{keeps};
-ghost use Rattle.tabled_config.specs.Configuration.{Changes, by_characters, by_colours};
+ghost use Rattle.tabled_grid.specs.State.{state_at};
+ghost use Rattle.tabled_config.specs.Configuration.{Changes, by_characters, by_colors};
 ghost use Rattle.tabled_config.specs.Options.{entity_bordered};
 
 use super::SpannedConfig;
@@ -19,7 +19,7 @@ impl SpannedConfig {
     pub fn set_border(&mut self, pos: Position, border: Border<char>) -> Result<(), OutOfMemory>
         ensures ok { OnOk result (Changes (by_characters (border_set pos border)) self.old self.new) }
         ensures err { OnErr result (self.new ≡ self.old) }
-        ensures absent { OnErr result (IsTrue (writes_anew (keeps self.old.characters) (border_set pos border))) }
+        ensures absent { OnErr result (IsTrue (writes_anew (state_at self.old.characters) (border_set pos border))) }
     {
         self.characters.set_border(pos, border)
     }
@@ -43,7 +43,7 @@ impl SpannedConfig {
     /// The characters that show at the sides and corners of a cell in a table of `shape.0` rows and
     /// `shape.1` columns, offset characters aside. A cell outside has none.
     pub fn get_border(&self, pos: Position, shape: (usize, usize)) -> Border<char>
-        ensures { result ≡ border_shown (keeps self.now.characters) shape pos }
+        ensures { result ≡ border_shown (state_at self.now.characters) shape pos }
     {
         let shown = self.characters.get_border(pos, shape);
         Border {
@@ -66,23 +66,23 @@ impl SpannedConfig {
         self.characters.erase_border(pos);
     }
 
-    /// Writes the given colours of a cell's sides and corners, whatever the shape of the table; what is not
-    /// given stays as it is. Where memory is refused nothing changes; where each of these places had a colour
+    /// Writes the given colors of a cell's sides and corners, whatever the shape of the table; what is not
+    /// given stays as it is. Where memory is refused nothing changes; where each of these places had a color
     /// of its own, none is asked for.
     pub fn set_border_color(
         &mut self,
         pos: Position,
         border: Border<ANSIBuf>,
     ) -> Result<(), OutOfMemory>
-        ensures ok { OnOk result (Changes (by_colours (border_set pos border)) self.old self.new) }
+        ensures ok { OnOk result (Changes (by_colors (border_set pos border)) self.old self.new) }
         ensures err { OnErr result (self.new ≡ self.old) }
-        ensures absent { OnErr result (IsTrue (writes_anew (keeps self.old.colours) (border_set pos border))) }
+        ensures absent { OnErr result (IsTrue (writes_anew (state_at self.old.colors) (border_set pos border))) }
     {
-        self.colours.set_border(pos, border)
+        self.colors.set_border(pos, border)
     }
 
-    /// The colours that show at the sides and corners of a cell in a table of `shape.0` rows and `shape.1`
-    /// columns, offset colours aside. A cell outside has none.
+    /// The colors that show at the sides and corners of a cell in a table of `shape.0` rows and `shape.1`
+    /// columns, offset colors aside. A cell outside has none.
     pub fn get_border_color(&self, pos: Position, shape: (usize, usize)) -> Border<&ANSIBuf>
         ensures { record {
           top = option_copied result.top;
@@ -93,16 +93,16 @@ impl SpannedConfig {
           left_bottom_corner = option_copied result.left_bottom_corner;
           right_top_corner = option_copied result.right_top_corner;
           right_bottom_corner = option_copied result.right_bottom_corner;
-        } ≡ border_shown (keeps self.now.colours) shape pos }
+        } ≡ border_shown (state_at self.now.colors) shape pos }
     {
-        self.colours.get_border(pos, shape)
+        self.colors.get_border(pos, shape)
     }
 
-    /// Erases the cell colours of a cell's sides and corners, also of those that it shares with the cells
+    /// Erases the cell colors of a cell's sides and corners, also of those that it shares with the cells
     /// beside it.
     pub fn remove_border_color(&mut self, pos: Position)
-        ensures { Changes (by_colours (border_erased pos)) self.old self.new }
+        ensures { Changes (by_colors (border_erased pos)) self.old self.new }
     {
-        self.colours.erase_border(pos);
+        self.colors.erase_border(pos);
     }
 }

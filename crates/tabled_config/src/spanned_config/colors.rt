@@ -1,56 +1,56 @@
-//! Border colours, level by level.
+//! Border colors, level by level.
 
 ghost use Rattle.std.specs.Prelude.{◌≡◌, option_copied};
 ghost use Rattle.tabled_grid.specs.Value.{value};
 ghost use Rattle.tabled_grid.specs.Probing.{IsRaised};
 ghost use Rattle.tabled_grid.specs.Calls.{cell_erased};
-ghost use Rattle.tabled_grid.specs.Keeping.{keeps, class_record_set};
-ghost use Rattle.tabled_config.specs.Configuration.{Changes, by_colours, all_but_offsets, default_color_set};
+ghost use Rattle.tabled_grid.specs.State.{state_at, class_record_set};
+ghost use Rattle.tabled_config.specs.Configuration.{Changes, by_colors, all_but_offsets, default_color_set};
 
 use super::{SpannedConfig, erase_below_offsets};
 use tabled_grid::{ANSIBuf, Borders, Place, Probes};
 
 impl SpannedConfig {
-    /// Sets the record of class colours whole: what it had before is gone, also where the new record has
+    /// Sets the record of class colors whole: what it had before is gone, also where the new record has
     /// nothing.
     pub fn set_borders_color(&mut self, colors: Borders<ANSIBuf>)
-        ensures { Changes (by_colours (class_record_set colors)) self.old self.new }
+        ensures { Changes (by_colors (class_record_set colors)) self.old self.new }
     {
-        self.colours.set_class(colors);
+        self.colors.set_class(colors);
     }
 
-    /// The record of class colours.
+    /// The record of class colors.
     pub fn get_color_borders(&self) -> &Borders<ANSIBuf>
-        ensures { result.now ≡ self.now.colours.class_record }
+        ensures { result.now ≡ self.now.colors.class_record }
     {
-        self.colours.get_class()
+        self.colors.get_class()
     }
 
-    /// Sets the default border colour, which shows wherever no other has one, and erases the class colours
-    /// and the cells' colours. Offset colours stay.
+    /// Sets the default border color, which shows wherever no other has one, and erases the class colors
+    /// and the cells' colors. Offset colors stay.
     pub fn set_border_color_default(&mut self, color: ANSIBuf)
-        ensures { Changes (by_colours (default_color_set color)) self.old self.new }
+        ensures { Changes (by_colors (default_color_set color)) self.old self.new }
     {
-        self.colours.set_default(color);
-        self.colours.erase_class();
-        self.colours.erase_cells();
+        self.colors.set_default(color);
+        self.colors.erase_class();
+        self.colors.erase_cells();
     }
 
-    /// Erases every border colour, the offset colours aside.
+    /// Erases every border color, the offset colors aside.
     pub fn remove_borders_colors(&mut self)
-        ensures { Changes (by_colours all_but_offsets) self.old self.new }
+        ensures { Changes (by_colors all_but_offsets) self.old self.new }
     {
-        erase_below_offsets(&mut self.colours);
+        erase_below_offsets(&mut self.colors);
     }
 
-    /// Erases the cell colour of one edge or one crossing; for an edge `at` is not read.
+    /// Erases the cell color of one edge or one crossing; for an edge `at` is not read.
     pub fn erase_color(&mut self, place: Place)
-        ensures { Changes (by_colours (cell_erased place)) self.old self.new }
+        ensures { Changes (by_colors (cell_erased place)) self.old self.new }
     {
-        self.colours.erase_cell(place);
+        self.colors.erase_cell(place);
     }
 
-    /// The colour that shows at a place of a table of `shape.0` rows and `shape.1` columns. `size` is
+    /// The color that shows at a place of a table of `shape.0` rows and `shape.1` columns. `size` is
     /// the width of a horizontal edge's column or the height of a vertical edge's row; for a crossing
     /// it is not read. A place outside the table has none. At most six readings are made.
     pub fn color_at(
@@ -60,9 +60,9 @@ impl SpannedConfig {
         size: usize,
         probes: &mut Probes,
     ) -> Option<&ANSIBuf>
-        ensures value { option_copied result ≡ value (keeps self.now.colours) shape size place }
+        ensures value { option_copied result ≡ value (state_at self.now.colors) shape size place }
         ensures probes { IsRaised 6 probes.old probes.new }
     {
-        self.colours.at(place, shape, size, probes)
+        self.colors.at(place, shape, size, probes)
     }
 }

@@ -11,7 +11,7 @@ impl Keep for SpannedConfig {
     fn keep(&self, alloc: Global) -> Result<Self, OutOfMemory> {
         Ok(SpannedConfig {
             characters: self.characters.keep(alloc)?,
-            colours: self.colours.keep(alloc)?,
+            colors: self.colors.keep(alloc)?,
         })
     }
 }

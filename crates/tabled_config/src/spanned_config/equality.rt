@@ -4,7 +4,7 @@ ghost use Rattle.tabled_config.specs.SameConfiguration.{same_configuration};
 
 use super::SpannedConfig;
 
-/// Equality compares the characters and the colours that are kept, and nothing else: not the allocator.
+/// Equality compares the characters and the colors that are kept, and nothing else: not the allocator.
 impl PartialEq for SpannedConfig {
     ghost use Rattle.tabled_config.specs.SameConfiguration.{configuration_per};
 
@@ -14,7 +14,7 @@ impl PartialEq for SpannedConfig {
 
     #[tactic(auto, unfolding(crate::specs::SameConfiguration::same_configuration))]
     fn eq(&self, other: &Self) -> bool {
-        self.characters == other.characters && self.colours == other.colours
+        self.characters == other.characters && self.colors == other.colors
     }
 }
 

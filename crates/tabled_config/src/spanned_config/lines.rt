@@ -6,7 +6,7 @@ ghost use Rattle.std.specs.FinMap as map;
 ghost use Rattle.tabled_grid.specs.Table.{table};
 ghost use Rattle.tabled_grid.specs.Site.{of_line, mark};
 ghost use Rattle.tabled_grid.specs.Calls.{line_set_across, line_set_down, line_removed};
-ghost use Rattle.tabled_grid.specs.Keeping.{keeps};
+ghost use Rattle.tabled_grid.specs.State.{state_at};
 ghost use Rattle.tabled_grid.specs.declared.place.LineOf.{LineOf as Line};
 ghost use Rattle.tabled_config.specs.Configuration.{Changes, by_characters};
 
@@ -24,7 +24,7 @@ impl SpannedConfig {
     ) -> Result<(), OutOfMemory>
         ensures ok { OnOk result (Changes (by_characters (line_set_across line fields)) self.old self.new) }
         ensures err { OnErr result (self.new ≡ self.old) }
-        ensures absent { OnErr result (keeps self.old.characters (of_line (Line.Horizontal line) mark) ≡ None) }
+        ensures absent { OnErr result (state_at self.old.characters (of_line (Line.Horizontal line) mark) ≡ None) }
     {
         self.characters.insert_hline(line, fields)
     }
@@ -59,7 +59,7 @@ impl SpannedConfig {
     ) -> Result<(), OutOfMemory>
         ensures ok { OnOk result (Changes (by_characters (line_set_down line fields)) self.old self.new) }
         ensures err { OnErr result (self.new ≡ self.old) }
-        ensures absent { OnErr result (keeps self.old.characters (of_line (Line.Vertical line) mark) ≡ None) }
+        ensures absent { OnErr result (state_at self.old.characters (of_line (Line.Vertical line) mark) ≡ None) }
     {
         self.characters.insert_vline(line, fields)
     }

@@ -1,11 +1,11 @@
-//! Characters and colours at numbered places of an edge.
+//! Characters and colors at numbered places of an edge.
 
 ghost use Rattle.std.specs.Prelude.{◌≡◌, None, OnOk, OnErr};
 ghost use Rattle.tabled_grid.specs.Site.{across, down};
 ghost use Rattle.tabled_grid.specs.Calls.{edge_site, edge_offset, offsets_erased};
-ghost use Rattle.tabled_grid.specs.Keeping.{keeps};
+ghost use Rattle.tabled_grid.specs.State.{state_at};
 ghost use Rattle.tabled_grid.specs.declared.place.Place.{Place as Spot};
-ghost use Rattle.tabled_config.specs.Configuration.{Changes, by_characters, by_colours};
+ghost use Rattle.tabled_config.specs.Configuration.{Changes, by_characters, by_colors};
 
 use super::SpannedConfig;
 use tabled_grid::{ANSIBuf, Offset, OutOfMemory, Place, Position};
@@ -22,7 +22,7 @@ impl SpannedConfig {
     ) -> Result<(), OutOfMemory>
         ensures ok { OnOk result (Changes (by_characters (edge_offset across pos.row pos.col offset character)) self.old self.new) }
         ensures err { OnErr result (self.new ≡ self.old) }
-        ensures absent { OnErr result (keeps self.old.characters (edge_site across pos.row pos.col offset) ≡ None) }
+        ensures absent { OnErr result (state_at self.old.characters (edge_site across pos.row pos.col offset) ≡ None) }
     {
         self.characters
             .set_offset(across_at(pos), offset, character)
@@ -39,12 +39,12 @@ impl SpannedConfig {
     ) -> Result<(), OutOfMemory>
         ensures ok { OnOk result (Changes (by_characters (edge_offset down pos.row pos.col offset character)) self.old self.new) }
         ensures err { OnErr result (self.new ≡ self.old) }
-        ensures absent { OnErr result (keeps self.old.characters (edge_site down pos.row pos.col offset) ≡ None) }
+        ensures absent { OnErr result (state_at self.old.characters (edge_site down pos.row pos.col offset) ≡ None) }
     {
         self.characters.set_offset(down_at(pos), offset, character)
     }
 
-    /// Writes a colour at a numbered place of the edge of horizontal line `pos.row` over column `pos.col`,
+    /// Writes a color at a numbered place of the edge of horizontal line `pos.row` over column `pos.col`,
     /// counted from its start or back from its end. Only a place that has none needs memory; where that is
     /// refused nothing changes.
     pub fn set_horizontal_char_color(
@@ -53,14 +53,14 @@ impl SpannedConfig {
         offset: Offset,
         color: ANSIBuf,
     ) -> Result<(), OutOfMemory>
-        ensures ok { OnOk result (Changes (by_colours (edge_offset across pos.row pos.col offset color)) self.old self.new) }
+        ensures ok { OnOk result (Changes (by_colors (edge_offset across pos.row pos.col offset color)) self.old self.new) }
         ensures err { OnErr result (self.new ≡ self.old) }
-        ensures absent { OnErr result (keeps self.old.colours (edge_site across pos.row pos.col offset) ≡ None) }
+        ensures absent { OnErr result (state_at self.old.colors (edge_site across pos.row pos.col offset) ≡ None) }
     {
-        self.colours.set_offset(across_at(pos), offset, color)
+        self.colors.set_offset(across_at(pos), offset, color)
     }
 
-    /// Writes a colour at a numbered place of the edge of vertical line `pos.col` beside row `pos.row`,
+    /// Writes a color at a numbered place of the edge of vertical line `pos.col` beside row `pos.row`,
     /// counted from its start or back from its end. Only a place that has none needs memory; where that is
     /// refused nothing changes.
     pub fn set_vertical_char_color(
@@ -69,11 +69,11 @@ impl SpannedConfig {
         offset: Offset,
         color: ANSIBuf,
     ) -> Result<(), OutOfMemory>
-        ensures ok { OnOk result (Changes (by_colours (edge_offset down pos.row pos.col offset color)) self.old self.new) }
+        ensures ok { OnOk result (Changes (by_colors (edge_offset down pos.row pos.col offset color)) self.old self.new) }
         ensures err { OnErr result (self.new ≡ self.old) }
-        ensures absent { OnErr result (keeps self.old.colours (edge_site down pos.row pos.col offset) ≡ None) }
+        ensures absent { OnErr result (state_at self.old.colors (edge_site down pos.row pos.col offset) ≡ None) }
     {
-        self.colours.set_offset(down_at(pos), offset, color)
+        self.colors.set_offset(down_at(pos), offset, color)
     }
 
     /// Erases all offset characters on the edges of horizontal lines.
@@ -90,18 +90,18 @@ impl SpannedConfig {
         self.characters.erase_vertical_offsets();
     }
 
-    /// Erases all offset colours on the edges of horizontal lines.
+    /// Erases all offset colors on the edges of horizontal lines.
     pub fn remove_color_line_horizontal(&mut self)
-        ensures { Changes (by_colours (offsets_erased across)) self.old self.new }
+        ensures { Changes (by_colors (offsets_erased across)) self.old self.new }
     {
-        self.colours.erase_horizontal_offsets();
+        self.colors.erase_horizontal_offsets();
     }
 
-    /// Erases all offset colours on the edges of vertical lines.
+    /// Erases all offset colors on the edges of vertical lines.
     pub fn remove_color_line_vertical(&mut self)
-        ensures { Changes (by_colours (offsets_erased down)) self.old self.new }
+        ensures { Changes (by_colors (offsets_erased down)) self.old self.new }
     {
-        self.colours.erase_vertical_offsets();
+        self.colors.erase_vertical_offsets();
     }
 }
 

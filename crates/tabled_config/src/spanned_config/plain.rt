@@ -3,7 +3,7 @@
 ghost use Rattle.std.specs.Prelude.{◌≡◌, ◌↔◌, IsFalse};
 ghost use Rattle.tabled_grid.specs.Site.{across};
 ghost use Rattle.tabled_grid.specs.Value.{plain_value};
-ghost use Rattle.tabled_grid.specs.Keeping.{keeps, HasNoOffsets};
+ghost use Rattle.tabled_grid.specs.State.{state_at, HasNoOffsets};
 
 use super::SpannedConfig;
 use tabled_grid::Place;
@@ -11,7 +11,7 @@ use tabled_grid::Place;
 impl SpannedConfig {
     /// The character of an edge or a crossing without its offset characters. `at` of an edge is not read.
     pub(crate) fn plain_char_at(&self, place: Place, shape: (usize, usize)) -> Option<char>
-        ensures { result ≡ plain_value (keeps self.now.characters) shape place }
+        ensures { result ≡ plain_value (state_at self.now.characters) shape place }
     {
         self.characters.plain_at(place, shape).copied()
     }

@@ -2,7 +2,7 @@
 
 ghost use Rattle.std.specs.Prelude.{◌≡◌, [], ◌++◌, OnOk, OnErr, IfOk, IsOk};
 ghost use Rattle.tabled_grid.specs.Event as grid;
-ghost use Rattle.tabled_grid.specs.Keeping.{keeps, class_record_set};
+ghost use Rattle.tabled_grid.specs.State.{state_at, class_record_set};
 ghost use Rattle.tabled_config.specs.Configuration.{Changes, borders_replaced, horizontal_lines_put, vertical_lines_put};
 
 use super::{SpannedConfig, erase_all};
@@ -10,7 +10,7 @@ use std::alloc::Global;
 use tabled_grid::{Borders, HorizontalLine, Layers, OutOfMemory, VerticalLine};
 
 impl SpannedConfig {
-    /// Erases every border character and colour of every level, offsets too; then puts each custom line at
+    /// Erases every border character and color of every level, offsets too; then puts each custom line at
     /// its index, in the order of the lists, and sets the class record. Where memory is refused nothing
     /// changes; without custom lines none is asked for.
     pub fn replace_borders(
@@ -25,7 +25,7 @@ impl SpannedConfig {
     {
         let characters = store_of(self.allocator(), class, horizontals, verticals)?;
         self.characters = characters;
-        erase_all(&mut self.colours);
+        erase_all(&mut self.colors);
         Ok(())
     }
 }
@@ -37,7 +37,7 @@ fn store_of(
     horizontals: &[(usize, HorizontalLine<char>)],
     verticals: &[(usize, VerticalLine<char>)],
 ) -> Result<Layers<char>, OutOfMemory>
-    ensures ok { IfOk result (λ store. grid.Shows (horizontal_lines_put horizontals.now ++ vertical_lines_put verticals.now ++ class_record_set class) (keeps store)) }
+    ensures ok { IfOk result (λ store. grid.Shows (horizontal_lines_put horizontals.now ++ vertical_lines_put verticals.now ++ class_record_set class) (state_at store)) }
     ensures without_lines { horizontals.now ≡ [] → verticals.now ≡ [] → IsOk result }
 {
     let mut store = Layers::new(alloc);
@@ -52,7 +52,7 @@ fn put_horizontals(
     store: &mut Layers<char>,
     lines: &[(usize, HorizontalLine<char>)],
 ) -> Result<(), OutOfMemory>
-    ensures ok { OnOk result (grid.Changes (horizontal_lines_put lines.now) (keeps store.old) (keeps store.new)) }
+    ensures ok { OnOk result (grid.Changes (horizontal_lines_put lines.now) (state_at store.old) (state_at store.new)) }
     ensures without_lines { lines.now ≡ [] → IsOk result }
 {
     for line in lines {
@@ -66,7 +66,7 @@ fn put_verticals(
     store: &mut Layers<char>,
     lines: &[(usize, VerticalLine<char>)],
 ) -> Result<(), OutOfMemory>
-    ensures ok { OnOk result (grid.Changes (vertical_lines_put lines.now) (keeps store.old) (keeps store.new)) }
+    ensures ok { OnOk result (grid.Changes (vertical_lines_put lines.now) (state_at store.old) (state_at store.new)) }
     ensures without_lines { lines.now ≡ [] → IsOk result }
 {
     for line in lines {

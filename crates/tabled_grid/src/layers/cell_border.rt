@@ -12,7 +12,7 @@ type Note<T> = Option<(Place, Option<T>)>;
 impl<T> Layers<T> {
     ghost use Rattle.tabled_grid.specs.Event.{Changes};
     ghost use Rattle.tabled_grid.specs.Value.{plain_value};
-    ghost use Rattle.tabled_grid.specs.Keeping.{Keeping, keeps};
+    ghost use Rattle.tabled_grid.specs.State.{State, state_at};
     ghost use Rattle.tabled_grid.specs.Calls.{border_set, places_set, writes_anew, border_erased, places_erased};
     ghost use Rattle.tabled_grid.specs.PutBack.{PutsNoteBack, PutsBackTwo, PutsBackFour};
     ghost use Rattle.tabled_grid.specs.Writes.{Stays};
@@ -24,9 +24,9 @@ impl<T> Layers<T> {
     pub fn set_border(&mut self, pos: Position, border: Border<T>) -> Result<(), OutOfMemory>
     where
         T: Drop,
-        ensures ok { OnOk result (Changes (border_set pos border) (keeps self.old) (keeps self.new)) }
+        ensures ok { OnOk result (Changes (border_set pos border) (state_at self.old) (state_at self.new)) }
         ensures err { OnErr result (self.new ≡ self.old) }
-        ensures absent { OnErr result (IsTrue (writes_anew (keeps self.old) (border_set pos border))) }
+        ensures absent { OnErr result (IsTrue (writes_anew (state_at self.old) (border_set pos border))) }
     {
         let places = places(pos);
         let sides = self.write_four(
@@ -64,11 +64,11 @@ impl<T> Layers<T> {
     where
         T: Drop,
         ensures ok { OnOk result (Changes (places_set ((places.0.0, values.0.0) ∷ (places.0.1, values.0.1) ∷ (places.1.0, values.1.0) ∷ (places.1.1, values.1.1) ∷ []))
-            (keeps self.old) (keeps self.new)) }
+            (state_at self.old) (state_at self.new)) }
         ensures notes { IfOk result (λ notes. PutsBackFour notes self.old self.new) }
-        ensures stays { OnOk result (Stays (keeps self.old) (keeps self.new)) }
+        ensures stays { OnOk result (Stays (state_at self.old) (state_at self.new)) }
         ensures err { OnErr result (self.new ≡ self.old) }
-        ensures absent { OnErr result (IsTrue (writes_anew (keeps self.old)
+        ensures absent { OnErr result (IsTrue (writes_anew (state_at self.old)
             (places_set ((places.0.0, values.0.0) ∷ (places.0.1, values.0.1) ∷ (places.1.0, values.1.0) ∷ (places.1.1, values.1.1) ∷ [])))) }
     {
         let first = self.write_two(places.0, values.0)?;
@@ -89,11 +89,11 @@ impl<T> Layers<T> {
     ) -> Result<(Note<T>, Note<T>), OutOfMemory>
     where
         T: Drop,
-        ensures ok { OnOk result (Changes (places_set ((places.0, values.0) ∷ (places.1, values.1) ∷ [])) (keeps self.old) (keeps self.new)) }
+        ensures ok { OnOk result (Changes (places_set ((places.0, values.0) ∷ (places.1, values.1) ∷ [])) (state_at self.old) (state_at self.new)) }
         ensures notes { IfOk result (λ notes. PutsBackTwo notes self.old self.new) }
-        ensures stays { OnOk result (Stays (keeps self.old) (keeps self.new)) }
+        ensures stays { OnOk result (Stays (state_at self.old) (state_at self.new)) }
         ensures err { OnErr result (self.new ≡ self.old) }
-        ensures absent { OnErr result (IsTrue (writes_anew (keeps self.old) (places_set ((places.0, values.0) ∷ (places.1, values.1) ∷ [])))) }
+        ensures absent { OnErr result (IsTrue (writes_anew (state_at self.old) (places_set ((places.0, values.0) ∷ (places.1, values.1) ∷ [])))) }
     {
         let first = self.write_place(places.0, values.0)?;
         match self.write_place(places.1, values.1) {
@@ -113,11 +113,11 @@ impl<T> Layers<T> {
     ) -> Result<Note<T>, OutOfMemory>
     where
         T: Drop,
-        ensures ok { OnOk result (Changes (places_set ((place, value) ∷ [])) (keeps self.old) (keeps self.new)) }
+        ensures ok { OnOk result (Changes (places_set ((place, value) ∷ [])) (state_at self.old) (state_at self.new)) }
         ensures note { IfOk result (λ note. PutsNoteBack note self.old self.new) }
-        ensures stays { OnOk result (Stays (keeps self.old) (keeps self.new)) }
+        ensures stays { OnOk result (Stays (state_at self.old) (state_at self.new)) }
         ensures err { OnErr result (self.new ≡ self.old) }
-        ensures absent { OnErr result (IsTrue (writes_anew (keeps self.old) (places_set ((place, value) ∷ [])))) }
+        ensures absent { OnErr result (IsTrue (writes_anew (state_at self.old) (places_set ((place, value) ∷ [])))) }
     {
         let Some(place) = place else {
             return Ok(None);
@@ -133,7 +133,7 @@ impl<T> Layers<T> {
     fn put_back_four(&mut self, notes: ((Note<T>, Note<T>), (Note<T>, Note<T>)))
     where
         T: Drop,
-        ensures { (old : Keeping T) → PutsBackFour notes old self.old → self.new ≡ old }
+        ensures { (old : State T) → PutsBackFour notes old self.old → self.new ≡ old }
     {
         self.put_back_two(notes.1);
         self.put_back_two(notes.0);
@@ -143,7 +143,7 @@ impl<T> Layers<T> {
     fn put_back_two(&mut self, notes: (Note<T>, Note<T>))
     where
         T: Drop,
-        ensures { (old : Keeping T) → PutsBackTwo notes old self.old → self.new ≡ old }
+        ensures { (old : State T) → PutsBackTwo notes old self.old → self.new ≡ old }
     {
         self.put_note_back(notes.1);
         self.put_note_back(notes.0);
@@ -153,7 +153,7 @@ impl<T> Layers<T> {
     fn put_note_back(&mut self, note: Note<T>)
     where
         T: Drop,
-        ensures { (old : Keeping T) → PutsNoteBack note old self.old → self.new ≡ old }
+        ensures { (old : State T) → PutsNoteBack note old self.old → self.new ≡ old }
     {
         match note {
             Some((place, before)) => self.put_back_at(Target::Cell(place), before),
@@ -166,7 +166,7 @@ impl<T> Layers<T> {
     pub fn erase_border(&mut self, pos: Position)
     where
         T: Drop,
-        ensures { Changes (border_erased pos) (keeps self.old) (keeps self.new) }
+        ensures { Changes (border_erased pos) (state_at self.old) (state_at self.new) }
     {
         let places = places(pos);
         self.erase_place(places.top);
@@ -183,7 +183,7 @@ impl<T> Layers<T> {
     fn erase_place(&mut self, place: Option<Place>)
     where
         T: Drop,
-        ensures { Changes (places_erased (place ∷ [])) (keeps self.old) (keeps self.new) }
+        ensures { Changes (places_erased (place ∷ [])) (state_at self.old) (state_at self.new) }
     {
         if let Some(place) = place {
             self.erase_cell(place);
@@ -203,7 +203,7 @@ impl<T> Layers<T> {
           left_bottom_corner = option_copied result.left_bottom_corner;
           right_top_corner = option_copied result.right_top_corner;
           right_bottom_corner = option_copied result.right_bottom_corner;
-        } ≡ border_shown (keeps self.now) shape pos }
+        } ≡ border_shown (state_at self.now) shape pos }
     {
         if pos.row >= shape.0 || pos.col >= shape.1 {
             return Border::empty();
@@ -223,7 +223,7 @@ impl<T> Layers<T> {
 
     /// What shows at a place, where there is one.
     fn shown(&self, place: Option<Place>, shape: (usize, usize)) -> Option<&T>
-        ensures { option_copied result ≡ option_and_then (plain_value (keeps self.now) shape) place }
+        ensures { option_copied result ≡ option_and_then (plain_value (state_at self.now) shape) place }
     {
         self.plain_at(place?, shape)
     }

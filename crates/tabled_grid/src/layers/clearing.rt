@@ -8,7 +8,7 @@ use crate::{Entity, EntityIterator, Place};
 
 impl<T> Layers<T> {
     ghost use Rattle.tabled_grid.specs.Event.{Changes};
-    ghost use Rattle.tabled_grid.specs.Keeping.{keeps};
+    ghost use Rattle.tabled_grid.specs.State.{state_at};
     ghost use Rattle.tabled_grid.specs.Calls.{borders_erased, entity_border_erased, spots_erased, line_across, line_down, frame_erased};
 
     /// Erases the cell level of the sides and corners of each cell that the entity names in a table of
@@ -17,7 +17,7 @@ impl<T> Layers<T> {
     pub fn erase_entity_border(&mut self, entity: Entity, shape: (usize, usize))
     where
         T: Drop,
-        ensures { Changes (entity_border_erased entity shape) (keeps self.old) (keeps self.new) }
+        ensures { Changes (entity_border_erased entity shape) (state_at self.old) (state_at self.new) }
     {
         self.erase_borders(entity.iter(shape.0, shape.1), shape);
     }
@@ -26,7 +26,7 @@ impl<T> Layers<T> {
     fn erase_borders(&mut self, cells: EntityIterator, shape: (usize, usize))
     where
         T: Drop,
-        ensures { Changes (borders_erased shape cells) (keeps self.old) (keeps self.new) }
+        ensures { Changes (borders_erased shape cells) (state_at self.old) (state_at self.new) }
     {
         for pos in cells {
             if is_inside(pos, shape) {
@@ -41,7 +41,7 @@ impl<T> Layers<T> {
     pub fn erase_frame(&mut self, shape: (usize, usize))
     where
         T: Drop,
-        ensures { Changes (frame_erased shape) (keeps self.old) (keeps self.new) }
+        ensures { Changes (frame_erased shape) (state_at self.old) (state_at self.new) }
     {
         let (rows, cols) = shape;
         if rows == 0 || cols == 0 {
@@ -57,7 +57,7 @@ impl<T> Layers<T> {
     fn erase_across(&mut self, line: usize, cols: usize)
     where
         T: Drop,
-        ensures { Changes (spots_erased (line_across line cols)) (keeps self.old) (keeps self.new) }
+        ensures { Changes (spots_erased (line_across line cols)) (state_at self.old) (state_at self.new) }
     {
         let row = line;
         for col in 0..cols {
@@ -71,7 +71,7 @@ impl<T> Layers<T> {
     fn erase_down(&mut self, line: usize, rows: usize)
     where
         T: Drop,
-        ensures { Changes (spots_erased (line_down line rows)) (keeps self.old) (keeps self.new) }
+        ensures { Changes (spots_erased (line_down line rows)) (state_at self.old) (state_at self.new) }
     {
         let col = line;
         for row in 0..rows {

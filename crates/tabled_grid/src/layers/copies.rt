@@ -3,20 +3,20 @@
 ghost use Rattle.std.specs.Prelude.{◌≡◌, IfOk};
 
 use super::Layers;
-use crate::kept_map::KeptMap;
+use crate::counted_map::CountedMap;
 use crate::keys::EdgePlace;
 use crate::number::Number;
 use crate::{Borders, HorizontalLine, Keep, OutOfMemory, Position, VerticalLine};
 use std::alloc::Global;
 
 /// What is kept under the number of a line.
-type Lines<V> = KeptMap<usize, V>;
+type Lines<V> = CountedMap<usize, V>;
 
 /// What is kept under the position of an edge or of a crossing.
-type Spots<T> = KeptMap<Position, T>;
+type Spots<T> = CountedMap<Position, T>;
 
 /// What is kept under an edge and a number on it.
-type Offsets<T> = KeptMap<EdgePlace, T>;
+type Offsets<T> = CountedMap<EdgePlace, T>;
 
 /// The copy keeps `alloc` for the calls that need memory. The pattern names each field, and the copies name their
 /// types, so this does not compile over a store that has one field more, or a list in place of a value.

@@ -88,7 +88,7 @@ fn add<T: Drop>(
 
 impl<T> Layers<T> {
     ghost use Rattle.tabled_grid.specs.Event.{Changes};
-    ghost use Rattle.tabled_grid.specs.Keeping.{keeps};
+    ghost use Rattle.tabled_grid.specs.State.{state_at};
 
     /// Writes what the border gives at the cell level of the sides and corners of each cell that the entity
     /// names in a table of `shape.0` rows and `shape.1` columns, row by row: for what two cells share the
@@ -102,7 +102,7 @@ impl<T> Layers<T> {
     ) -> Result<(), OutOfMemory>
     where
         T: Keep,
-        ensures ok { OnOk result (Changes (entity_border_set entity shape border.now) (keeps self.old) (keeps self.new)) }
+        ensures ok { OnOk result (Changes (entity_border_set entity shape border.now) (state_at self.old) (state_at self.new)) }
         ensures err { OnErr result (self.new ≡ self.old) }
         ensures without_cells { filter (is_inside shape.0 shape.1) (cells_of entity shape.0 shape.1) ≡ [] → IsOk result }
     {

@@ -1,20 +1,20 @@
 //! When two stores are equal.
 
 ghost use Rattle.std.specs.Prelude.{◌≡◌};
-ghost use Rattle.tabled_grid.specs.Same.{same_below, same_lines, same_cells, same_offsets, same_keeping};
+ghost use Rattle.tabled_grid.specs.Same.{same_below, same_lines, same_cells, same_offsets, same_state};
 
 use super::Layers;
 
 /// Equality compares what is kept, level by level, and nothing else: not the allocator, and not the
 /// numbers by which drawn lines are found.
 impl<T: PartialEq> PartialEq for Layers<T> {
-    ghost use Rattle.tabled_grid.specs.SameLaws.{keeping_per};
+    ghost use Rattle.tabled_grid.specs.SameLaws.{state_per};
 
-    ghost eq = { same_keeping T.eq };
+    ghost eq = { same_state T.eq };
 
-    ghost laws = { keeping_per T.laws };
+    ghost laws = { state_per T.laws };
 
-    #[tactic(auto, unfolding(crate::specs::Same::same_keeping))]
+    #[tactic(auto, unfolding(crate::specs::Same::same_state))]
     fn eq(&self, other: &Self) -> bool {
         self.is_same_below(other)
             && self.has_same_lines(other)
@@ -24,9 +24,9 @@ impl<T: PartialEq> PartialEq for Layers<T> {
 }
 
 impl<T: Eq> Eq for Layers<T> {
-    ghost use Rattle.tabled_grid.specs.SameLaws.{keeping_equiv};
+    ghost use Rattle.tabled_grid.specs.SameLaws.{state_equiv};
 
-    ghost laws = { keeping_equiv T.Eq.laws };
+    ghost laws = { state_equiv T.Eq.laws };
 }
 
 impl<T: PartialEq> Layers<T> {

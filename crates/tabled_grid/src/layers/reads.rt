@@ -7,10 +7,10 @@ ghost use Rattle.tabled_grid.specs.Table.{table};
 ghost use Rattle.tabled_grid.specs.Probing.{IsCounted, IsRaised};
 ghost use Rattle.tabled_grid.specs.Reading.{row_drawn, col_drawn};
 ghost use Rattle.tabled_grid.specs.Site.{rank, horizontal_meeting, vertical_meeting, edges, crossings, class_value, across as going_across, down as going_down};
-ghost use Rattle.tabled_grid.specs.Keeping.{class_draws as class_drawn};
+ghost use Rattle.tabled_grid.specs.State.{class_draws as class_drawn};
 
 use super::Layers;
-use crate::kept_map::KeptMap;
+use crate::counted_map::CountedMap;
 use crate::keys::EdgePlace;
 use crate::number::Number;
 use crate::{
@@ -21,7 +21,7 @@ use std::collections::BTreeMap;
 impl<T> Layers<T> {
     ghost use Rattle.tabled_grid.specs.Value.{value, plain_value};
     ghost use Rattle.tabled_grid.specs.Drawn.{Drawn};
-    ghost use Rattle.tabled_grid.specs.Keeping.{keeps, HasNoOffsets};
+    ghost use Rattle.tabled_grid.specs.State.{state_at, HasNoOffsets};
     ghost use Rattle.tabled_grid.specs.Reading.{under_across, under_down, under_crossing, plain_across, plain_down, plain_crossing, edge_across, edge_down};
 
     /// The class record.
@@ -76,7 +76,7 @@ impl<T> Layers<T> {
         size: usize,
         probes: &mut Probes,
     ) -> Option<&T>
-        ensures value { option_copied result ≡ value (keeps self.now) shape size place }
+        ensures value { option_copied result ≡ value (state_at self.now) shape size place }
         ensures probes { IsRaised 6 probes.old probes.new }
     {
         if !place.is_inside(shape, size) {
@@ -98,7 +98,7 @@ impl<T> Layers<T> {
     /// columns: what is kept at the highest level below them that has something there. `at` of an edge
     /// is not read, so an edge of length 0 is answered too. An edge or a crossing outside has nothing.
     pub fn plain_at(&self, place: Place, shape: (usize, usize)) -> Option<&T>
-        ensures { option_copied result ≡ plain_value (keeps self.now) shape place }
+        ensures { option_copied result ≡ plain_value (state_at self.now) shape place }
     {
         if !place.has_spot(shape) {
             return None;
@@ -275,7 +275,7 @@ impl<T> Layers<T> {
     /// Whether a line is drawn, of the lines 0 to `count` of its direction. At most six readings are
     /// made.
     pub fn draws(&self, line: LineOf, count: usize, probes: &mut Probes) -> bool
-        ensures drawn { IsTrue result ↔ Drawn (keeps self.now) count line }
+        ensures drawn { IsTrue result ↔ Drawn (state_at self.now) count line }
         ensures probes { IsRaised 6 probes.old probes.new }
     {
         if line.number() > count {
@@ -320,7 +320,7 @@ fn read_default<'a, T>(default_value: &'a Option<T>, probes: &mut Probes) -> Opt
 
 /// What a custom horizontal line has for its edges: one reading.
 fn main_across<'a, T>(
-    lines: &'a KeptMap<usize, HorizontalLine<T>>,
+    lines: &'a CountedMap<usize, HorizontalLine<T>>,
     row: usize,
     probes: &mut Probes,
 ) -> Option<&'a T>
@@ -336,7 +336,7 @@ fn main_across<'a, T>(
 
 /// What a custom vertical line has for its edges: one reading.
 fn main_down<'a, T>(
-    lines: &'a KeptMap<usize, VerticalLine<T>>,
+    lines: &'a CountedMap<usize, VerticalLine<T>>,
     col: usize,
     probes: &mut Probes,
 ) -> Option<&'a T>
@@ -352,7 +352,7 @@ fn main_down<'a, T>(
 
 /// What a custom horizontal line has for its crossing with a vertical line: one reading.
 fn meeting_across<'a, T>(
-    lines: &'a KeptMap<usize, HorizontalLine<T>>,
+    lines: &'a CountedMap<usize, HorizontalLine<T>>,
     row: usize,
     col: usize,
     cols: usize,
@@ -370,7 +370,7 @@ fn meeting_across<'a, T>(
 
 /// What a custom vertical line has for its crossing with a horizontal line: one reading.
 fn meeting_down<'a, T>(
-    lines: &'a KeptMap<usize, VerticalLine<T>>,
+    lines: &'a CountedMap<usize, VerticalLine<T>>,
     row: usize,
     col: usize,
     rows: usize,
@@ -455,9 +455,9 @@ fn class_draws<T>(class: &Borders<T>, line: LineOf, count: usize, probes: &mut P
 
 /// Whether a horizontal line is drawn by a custom line, or by the cells on it: at most four readings.
 fn row_is_drawn<T>(
-    lines: &KeptMap<usize, HorizontalLine<T>>,
+    lines: &CountedMap<usize, HorizontalLine<T>>,
     ends: (&Number, &Number),
-    numbers: &KeptMap<usize, u128>,
+    numbers: &CountedMap<usize, u128>,
     row: usize,
     count: usize,
     probes: &mut Probes,
@@ -474,9 +474,9 @@ fn row_is_drawn<T>(
 
 /// Whether a vertical line is drawn by a custom line, or by the cells on it: at most four readings.
 fn col_is_drawn<T>(
-    lines: &KeptMap<usize, VerticalLine<T>>,
+    lines: &CountedMap<usize, VerticalLine<T>>,
     meetings: (&Number, &Number, &Number),
-    numbers: &KeptMap<usize, u128>,
+    numbers: &CountedMap<usize, u128>,
     col: usize,
     count: usize,
     probes: &mut Probes,

@@ -12,7 +12,7 @@ use crate::{Offset, OutOfMemory, Position, Target, Write};
 impl<T> Layers<T> {
     ghost use Rattle.tabled_grid.specs.Event.{sign, write, erase, these_sites, Changes};
     ghost use Rattle.tabled_grid.specs.Site.{across, down};
-    ghost use Rattle.tabled_grid.specs.Keeping.{Keeping, keeps};
+    ghost use Rattle.tabled_grid.specs.State.{State, state_at};
     ghost use Rattle.tabled_grid.specs.Calls.{edge_site, edge_offset, writes_anew};
     ghost use Rattle.tabled_grid.specs.Writes.{site_of, writes_made, PutsBackAt, PutsBack, PutsBackAll, Stays};
 
@@ -21,9 +21,9 @@ impl<T> Layers<T> {
     pub fn write_all(&mut self, writes: Vec<Write<T>>) -> Result<(), OutOfMemory>
     where
         T: Drop,
-        ensures ok { OnOk result (Changes (writes_made writes.items) (keeps self.old) (keeps self.new)) }
+        ensures ok { OnOk result (Changes (writes_made writes.items) (state_at self.old) (state_at self.new)) }
         ensures err { OnErr result (self.new ≡ self.old) }
-        ensures absent { OnErr result (IsTrue (writes_anew (keeps self.old) (writes_made writes.items))) }
+        ensures absent { OnErr result (IsTrue (writes_anew (state_at self.old) (writes_made writes.items))) }
     {
         let mut list = writes;
         self.exchange_all(&mut list)
@@ -34,10 +34,10 @@ impl<T> Layers<T> {
     pub(super) fn exchange_all(&mut self, writes: &mut Vec<Write<T>>) -> Result<(), OutOfMemory>
     where
         T: Drop,
-        ensures ok { OnOk result (Changes (writes_made writes.old.items) (keeps self.old) (keeps self.new)) }
+        ensures ok { OnOk result (Changes (writes_made writes.old.items) (state_at self.old) (state_at self.new)) }
         ensures back { OnOk result (PutsBackAll writes.new.items self.old self.new) }
         ensures err { OnErr result (self.new ≡ self.old) }
-        ensures absent { OnErr result (IsTrue (writes_anew (keeps self.old) (writes_made writes.old.items))) }
+        ensures absent { OnErr result (IsTrue (writes_anew (state_at self.old) (writes_made writes.old.items))) }
     {
         let mut made = 0;
         while made < writes.len() {
@@ -57,11 +57,11 @@ impl<T> Layers<T> {
     fn exchange(&mut self, entry: &mut Write<T>) -> Result<(), OutOfMemory>
     where
         T: Drop,
-        ensures ok { OnOk result (Changes (writes_made (entry.old ∷ [])) (keeps self.old) (keeps self.new)) }
+        ensures ok { OnOk result (Changes (writes_made (entry.old ∷ [])) (state_at self.old) (state_at self.new)) }
         ensures back { OnOk result (PutsBack entry.new.target entry.new.value self.old self.new) }
-        ensures stays { OnOk result (Stays (keeps self.old) (keeps self.new)) }
+        ensures stays { OnOk result (Stays (state_at self.old) (state_at self.new)) }
         ensures err { OnErr result (self.new ≡ self.old) }
-        ensures absent { OnErr result (IsTrue (writes_anew (keeps self.old) (writes_made (entry.old ∷ [])))) }
+        ensures absent { OnErr result (IsTrue (writes_anew (state_at self.old) (writes_made (entry.old ∷ [])))) }
     {
         let Some(target) = entry.target else {
             return Ok(());
@@ -78,7 +78,7 @@ impl<T> Layers<T> {
     pub(super) fn put_all_back(&mut self, writes: &mut Vec<Write<T>>)
     where
         T: Drop,
-        ensures { (before : Keeping T) → PutsBackAll writes.old.items before self.old → self.new ≡ before }
+        ensures { (before : State T) → PutsBackAll writes.old.items before self.old → self.new ≡ before }
     {
         while let Some(entry) = writes.pop() {
             self.put_back(entry);
@@ -89,7 +89,7 @@ impl<T> Layers<T> {
     fn put_back(&mut self, entry: Write<T>)
     where
         T: Drop,
-        ensures { (before : Keeping T) → PutsBack entry.target entry.value before self.old → self.new ≡ before }
+        ensures { (before : State T) → PutsBack entry.target entry.value before self.old → self.new ≡ before }
     {
         let Write { target, value } = entry;
         match target {
@@ -102,7 +102,7 @@ impl<T> Layers<T> {
     pub(super) fn put_back_at(&mut self, target: Target, before: Option<T>)
     where
         T: Drop,
-        ensures { (old : Keeping T) → PutsBackAt (site_of target) before old self.old → self.new ≡ old }
+        ensures { (old : State T) → PutsBackAt (site_of target) before old self.old → self.new ≡ old }
     {
         match before {
             Some(value) => {
@@ -116,9 +116,9 @@ impl<T> Layers<T> {
     fn put(&mut self, target: Target, value: T) -> Result<(), OutOfMemory>
     where
         T: Drop,
-        ensures ok { OnOk result (Changes (write (site_of target) (sign value) ∷ []) (keeps self.old) (keeps self.new)) }
+        ensures ok { OnOk result (Changes (write (site_of target) (sign value) ∷ []) (state_at self.old) (state_at self.new)) }
         ensures err { OnErr result (self.new ≡ self.old) }
-        ensures absent { OnErr result (keeps self.old (site_of target) ≡ None) }
+        ensures absent { OnErr result (state_at self.old (site_of target) ≡ None) }
     {
         self.replace(target, value)?;
         Ok(())
@@ -128,10 +128,10 @@ impl<T> Layers<T> {
     fn replace(&mut self, target: Target, value: T) -> Result<Option<T>, OutOfMemory>
     where
         T: Drop,
-        ensures before { IfOk result (λ before. option_map sign before ≡ keeps self.old (site_of target)) }
-        ensures ok { OnOk result (Changes (write (site_of target) (sign value) ∷ []) (keeps self.old) (keeps self.new)) }
+        ensures before { IfOk result (λ before. option_map sign before ≡ state_at self.old (site_of target)) }
+        ensures ok { OnOk result (Changes (write (site_of target) (sign value) ∷ []) (state_at self.old) (state_at self.new)) }
         ensures err { OnErr result (self.new ≡ self.old) }
-        ensures absent { OnErr result (keeps self.old (site_of target) ≡ None) }
+        ensures absent { OnErr result (state_at self.old (site_of target) ≡ None) }
     {
         match target {
             Target::Cell(place) => self.replace_cell(place, value),
@@ -149,10 +149,10 @@ impl<T> Layers<T> {
     ) -> Result<Option<T>, OutOfMemory>
     where
         T: Drop,
-        ensures before { IfOk result (λ before. option_map sign before ≡ keeps self.old (edge_site across pos.row pos.col offset)) }
-        ensures ok { OnOk result (Changes (edge_offset across pos.row pos.col offset value) (keeps self.old) (keeps self.new)) }
+        ensures before { IfOk result (λ before. option_map sign before ≡ state_at self.old (edge_site across pos.row pos.col offset)) }
+        ensures ok { OnOk result (Changes (edge_offset across pos.row pos.col offset value) (state_at self.old) (state_at self.new)) }
         ensures err { OnErr result (self.new ≡ self.old) }
-        ensures absent { OnErr result (keeps self.old (edge_site across pos.row pos.col offset) ≡ None) }
+        ensures absent { OnErr result (state_at self.old (edge_site across pos.row pos.col offset) ≡ None) }
     {
         let Position { row, col } = pos;
         match offset {
@@ -174,10 +174,10 @@ impl<T> Layers<T> {
     ) -> Result<Option<T>, OutOfMemory>
     where
         T: Drop,
-        ensures before { IfOk result (λ before. option_map sign before ≡ keeps self.old (edge_site down pos.row pos.col offset)) }
-        ensures ok { OnOk result (Changes (edge_offset down pos.row pos.col offset value) (keeps self.old) (keeps self.new)) }
+        ensures before { IfOk result (λ before. option_map sign before ≡ state_at self.old (edge_site down pos.row pos.col offset)) }
+        ensures ok { OnOk result (Changes (edge_offset down pos.row pos.col offset value) (state_at self.old) (state_at self.new)) }
         ensures err { OnErr result (self.new ≡ self.old) }
-        ensures absent { OnErr result (keeps self.old (edge_site down pos.row pos.col offset) ≡ None) }
+        ensures absent { OnErr result (state_at self.old (edge_site down pos.row pos.col offset) ≡ None) }
     {
         let Position { row, col } = pos;
         match offset {
@@ -192,7 +192,7 @@ impl<T> Layers<T> {
     fn erase_at(&mut self, target: Target)
     where
         T: Drop,
-        ensures { Changes (erase (these_sites (site_of target ∷ [])) ∷ []) (keeps self.old) (keeps self.new) }
+        ensures { Changes (erase (these_sites (site_of target ∷ [])) ∷ []) (state_at self.old) (state_at self.new) }
     {
         match target {
             Target::Cell(place) => self.erase_cell(place),
@@ -205,7 +205,7 @@ impl<T> Layers<T> {
     fn erase_horizontal(&mut self, pos: Position, offset: Offset)
     where
         T: Drop,
-        ensures { Changes (erase (these_sites (edge_site across pos.row pos.col offset ∷ [])) ∷ []) (keeps self.old) (keeps self.new) }
+        ensures { Changes (erase (these_sites (edge_site across pos.row pos.col offset ∷ [])) ∷ []) (state_at self.old) (state_at self.new) }
     {
         let Position { row, col } = pos;
         match offset {
@@ -218,7 +218,7 @@ impl<T> Layers<T> {
     fn erase_vertical(&mut self, pos: Position, offset: Offset)
     where
         T: Drop,
-        ensures { Changes (erase (these_sites (edge_site down pos.row pos.col offset ∷ [])) ∷ []) (keeps self.old) (keeps self.new) }
+        ensures { Changes (erase (these_sites (edge_site down pos.row pos.col offset ∷ [])) ∷ []) (state_at self.old) (state_at self.new) }
     {
         let Position { row, col } = pos;
         match offset {
@@ -230,7 +230,7 @@ impl<T> Layers<T> {
 
 impl<A: Drop> Layers<A> {
     ghost use Rattle.tabled_grid.specs.Event.{Changes};
-    ghost use Rattle.tabled_grid.specs.Keeping.{keeps};
+    ghost use Rattle.tabled_grid.specs.State.{state_at};
     ghost use Rattle.tabled_grid.specs.Calls.{writes_anew};
     ghost use Rattle.tabled_grid.specs.Writes.{writes_made};
     ghost use Rattle.std.specs.Prelude.{◌||◌};
@@ -243,11 +243,11 @@ impl<A: Drop> Layers<A> {
         other: &mut Layers<B>,
         others: Vec<Write<B>>,
     ) -> Result<(), OutOfMemory>
-        ensures ok { OnOk result (Changes (writes_made writes.items) (keeps self.old) (keeps self.new)) }
-        ensures others_ok { OnOk result (Changes (writes_made others.items) (keeps other.old) (keeps other.new)) }
+        ensures ok { OnOk result (Changes (writes_made writes.items) (state_at self.old) (state_at self.new)) }
+        ensures others_ok { OnOk result (Changes (writes_made others.items) (state_at other.old) (state_at other.new)) }
         ensures err { OnErr result (self.new ≡ self.old) }
         ensures others_err { OnErr result (other.new ≡ other.old) }
-        ensures absent { OnErr result (IsTrue (writes_anew (keeps self.old) (writes_made writes.items) || writes_anew (keeps other.old) (writes_made others.items))) }
+        ensures absent { OnErr result (IsTrue (writes_anew (state_at self.old) (writes_made writes.items) || writes_anew (state_at other.old) (writes_made others.items))) }
     {
         let mut writes = writes;
         self.exchange_all(&mut writes)?;

@@ -100,7 +100,7 @@ impl<Data: Records + ExactRecords, Dims> TableOption<Data, ColoredConfig, Dims> 
     ghost hinted = { λ border. Some cells.Global };
 
     /// Removes the frame of the table: the class record keeps what lies inside, and the cell characters on the outer
-    /// lines are erased. Custom lines, offset characters and colours stay. A table without rows or columns has no
+    /// lines are erased. Custom lines, offset characters and colors stay. A table without rows or columns has no
     /// frame. It takes no memory and answers Ok.
     fn change(
         self,

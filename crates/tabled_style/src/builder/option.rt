@@ -17,7 +17,7 @@ impl<T, B, L, R, H, V, const HN: usize, const VN: usize, Data, Dims> TableOption
 
     ghost hinted = { λ style. None };
 
-    /// Erases every border character and colour of every level, offsets too; then puts the custom lines at their
+    /// Erases every border character and color of every level, offsets too; then puts the custom lines at their
     /// indices, in their order, and sets the class record. Without custom lines it takes no memory and answers Ok.
     fn change(
         self,

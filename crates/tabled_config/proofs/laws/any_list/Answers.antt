@@ -1,8 +1,8 @@
 use Rattle.std.proofs.Common.{ap}
 use Rattle.std.specs.List.{join_with_byte}
-use Rattle.tabled_grid.specs.Keeping.{keeps}
+use Rattle.tabled_grid.specs.State.{state_at}
 use Rattle.tabled_grid.proofs.DrawnLemmas.{value-shown, Drawn-drawn}
-use Rattle.tabled_config.specs.Configuration.{characters_of, colours_of}
+use Rattle.tabled_config.specs.Configuration.{characters_of, colors_of}
 use Rattle.tabled_config.specs.Picture.{text_lines}
 use Rattle.tabled_config.specs.Colored.{Changes}
 use Rattle.tabled_config.specs.ChangeLaws.{none_change, both_change}
@@ -17,15 +17,15 @@ returns-clause-shows c = λ steps before made old new by shows.
 
 pub returns-clause-characters : goal.returns-clause-characters
 returns-clause-characters c = λ es cfg shape size place shows.
-    value-shown (characters_of es) (keeps cfg.spanned.characters) shape size place shows.characters_shown
+    value-shown (characters_of es) (state_at cfg.spanned.characters) shape size place shows.characters_shown
 
-pub returns-clause-colours : goal.returns-clause-colours
-returns-clause-colours c = λ es cfg shape size place shows.
-    value-shown (colours_of es) (keeps cfg.spanned.colours) shape size place shows.colours_shown
+pub returns-clause-colors : goal.returns-clause-colors
+returns-clause-colors c = λ es cfg shape size place shows.
+    value-shown (colors_of es) (state_at cfg.spanned.colors) shape size place shows.colors_shown
 
 pub returns-clause-lines : goal.returns-clause-lines
 returns-clause-lines c = λ es cfg count line shows.
-    Drawn-drawn (characters_of es) (keeps cfg.spanned.characters) count line shows.characters_shown
+    Drawn-drawn (characters_of es) (state_at cfg.spanned.characters) count line shows.characters_shown
 
 pub returns-clause-text : goal.returns-clause-text
 returns-clause-text c = λ es fs cfg shape widths heights cells by with.

@@ -14,7 +14,7 @@ returns-then-is_some c =
     sym
     (drawn_found _ _ _ _ _ _ _ c.loop-event-test.true c.in-Write.is upto c.loop-event.invariant
     (sym c.draws.ensures ∙ c.if-draws.true)
-    (sym (ap is_some c.kept.ensures) ∙ is_some-written c.kept.result ∙ sym c.is_some.ensures ∙ c.if-is_some.true))
+    (sym (ap is_some c.replay.ensures) ∙ is_some-written c.replay.result ∙ sym c.is_some.ensures ∙ c.if-is_some.true))
 
 pub returns : goal.returns
 returns c =

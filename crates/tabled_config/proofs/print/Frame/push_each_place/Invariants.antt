@@ -1,7 +1,7 @@
 -- The places of the edge so far.
 use Rattle.std.proofs.Common.{◌≡◌, ◌++◌, map, string_bytes}
 use Rattle.tabled_grid.specs.declared.place.Place.{Place}
-use Rattle.tabled_config.specs.Along.{below}
+use Rattle.tabled_object.specs.Entities.{below}
 use Rattle.tabled_config.specs.Picture.{Look, text_shown}
 use Rattle.tabled_config.specs.Framed.{framed}
 use Rattle.tabled_config.proofs.print.Frame.push_each_place.Given as goal

@@ -2,7 +2,7 @@
 use Rattle.std.proofs.Common.{◌≡◌, ◌++◌, [], string_bytes, slice_index_or}
 use Rattle.std.specs.List.{flat_map}
 use Rattle.tabled_config.specs.Pieces.{lent, first_piece}
-use Rattle.tabled_config.specs.Along.{below}
+use Rattle.tabled_object.specs.Entities.{below}
 use Rattle.tabled_config.specs.Picture.{Look, text_shown, side_shown}
 use Rattle.tabled_config.specs.Framed.{framed}
 use Rattle.tabled_config.proofs.PieceLemmas.{CutBelow}

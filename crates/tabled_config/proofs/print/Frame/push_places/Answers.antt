@@ -1,7 +1,8 @@
 -- A crossing and an edge are one more step along the line.
 use Rattle.std.proofs.Common.{ℕ, List, ◌++◌, map, arith, ap, ◌∙◌}
 use Rattle.tabled_grid.specs.declared.place.Place.{Place}
-use Rattle.tabled_config.specs.Along.{below, crossing_at}
+use Rattle.tabled_object.specs.Entities.{below}
+use Rattle.tabled_config.specs.Along.{crossing_at}
 use Rattle.tabled_config.specs.Picture.{Look, text_shown}
 use Rattle.tabled_config.specs.Framed.{framed}
 use Rattle.tabled_config.proofs.TextLemmas.{line_more, line_closed, along_any, written_both, appends_last}

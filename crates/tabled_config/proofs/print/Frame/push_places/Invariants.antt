@@ -2,7 +2,8 @@
 use Rattle.std.proofs.Common.{◌≡◌, ◌++◌, map, string_bytes}
 use Rattle.std.specs.List.{flat_map}
 use Rattle.tabled_grid.specs.declared.place.Place.{Place}
-use Rattle.tabled_config.specs.Along.{below, crossing_at}
+use Rattle.tabled_object.specs.Entities.{below}
+use Rattle.tabled_config.specs.Along.{crossing_at}
 use Rattle.tabled_config.specs.Picture.{Look, text_shown}
 use Rattle.tabled_config.specs.Framed.{framed}
 use Rattle.tabled_config.proofs.print.Frame.push_places.Given as goal

@@ -1,7 +1,7 @@
 -- The lines so far, and what is left of the texts.
 use Rattle.std.proofs.Common.{◌≡◌, ◌++◌, [], ◌∷◌, length, map, string_bytes}
 use Rattle.std.specs.List.{flat_map}
-use Rattle.tabled_config.specs.Along.{below}
+use Rattle.tabled_object.specs.Entities.{below}
 use Rattle.tabled_config.specs.Pieces.{lent}
 use Rattle.tabled_config.specs.Picture.{Look, cell_line}
 use Rattle.tabled_config.specs.Framed.{framed}

@@ -3,7 +3,8 @@ use Rattle.std.proofs.Common.{ℕ, ◌<◌, ◌++◌, List, [], length, map, ap,
 use Rattle.std.specs.List.{flat_map}
 use Rattle.std.proofs.lemmas.List.{length-map}
 use Rattle.tabled_config.specs.Texts.{texts}
-use Rattle.tabled_config.specs.Along.{below, is_empty}
+use Rattle.tabled_object.specs.Entities.{below}
+use Rattle.tabled_config.specs.Along.{is_empty}
 use Rattle.tabled_config.specs.Picture.{Look, line_if_drawn, row_lines}
 use Rattle.tabled_config.specs.Framed.{framed}
 use Rattle.tabled_config.proofs.TextLemmas.{ended, texts_at, rows_more, rows_closed, written_both, appends_last}

@@ -2,7 +2,7 @@ use Rattle.std.proofs.Common.{◌≡◌, [], ◌∷◌, sym, subst, arith}
 use Rattle.tabled_grid.specs.Site.{across, edge, crossing}
 use Rattle.tabled_grid.specs.Calls.{spots_erased, line_across}
 use Rattle.tabled_grid.specs.Event.{Changes}
-use Rattle.tabled_grid.specs.Keeping.{keeps}
+use Rattle.tabled_grid.specs.State.{state_at}
 use Rattle.tabled_grid.proofs.Clearing.{one_spot, none_so_far, one_further, line_closed}
 use Rattle.tabled_grid.proofs.layers.Layers.erase_across.Goals as goal
 
@@ -17,6 +17,6 @@ loop-col-preserved g c =
 pub returns : goal.returns
 returns g c =
     let all : c.loop-col.col ≡ c.args.cols = omega arith in
-    subst (λ cols. Changes (spots_erased (line_across c.args.line cols)) (keeps c.args.self.now) (keeps c.erase_cell-2.new.self)) all
+    subst (λ cols. Changes (spots_erased (line_across c.args.line cols)) (state_at c.args.self.now) (state_at c.erase_cell-2.new.self)) all
     (line_closed (λ col. edge across c.args.line col) (λ col. crossing c.args.line col) c.loop-col.col _ _ _ c.loop-col.invariant
-    (subst (λ cols. Changes (spots_erased (crossing c.args.line cols ∷ [])) (keeps c.loop-col.self) (keeps c.erase_cell-2.new.self)) (sym all) (one_spot _ _ _ c.erase_cell-2.ensures)))
+    (subst (λ cols. Changes (spots_erased (crossing c.args.line cols ∷ [])) (state_at c.loop-col.self) (state_at c.erase_cell-2.new.self)) (sym all) (one_spot _ _ _ c.erase_cell-2.ensures)))

@@ -1,5 +1,5 @@
 use Rattle.std.proofs.Common.{ap}
-use Rattle.tabled_grid.specs.Keeping.{position}
+use Rattle.tabled_grid.specs.State.{position}
 use Rattle.tabled_grid.specs.Calls.{cell_erased}
 use Rattle.tabled_grid.proofs.CountedLemmas.{across_counts, down_counts, crossing_counts_row, crossing_counts_col, across_taken, down_taken, crossing_taken}
 use Rattle.tabled_grid.proofs.Changing.{edge_across_erased, edge_down_erased, crossing_erased}

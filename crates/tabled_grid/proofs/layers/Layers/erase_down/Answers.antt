@@ -2,7 +2,7 @@ use Rattle.std.proofs.Common.{◌≡◌, [], ◌∷◌, sym, subst, arith}
 use Rattle.tabled_grid.specs.Site.{down, edge, crossing}
 use Rattle.tabled_grid.specs.Calls.{spots_erased, line_down}
 use Rattle.tabled_grid.specs.Event.{Changes}
-use Rattle.tabled_grid.specs.Keeping.{keeps}
+use Rattle.tabled_grid.specs.State.{state_at}
 use Rattle.tabled_grid.proofs.Clearing.{one_spot, none_so_far, one_further, line_closed}
 use Rattle.tabled_grid.proofs.layers.Layers.erase_down.Goals as goal
 
@@ -17,6 +17,6 @@ loop-row-preserved g c =
 pub returns : goal.returns
 returns g c =
     let all : c.loop-row.row ≡ c.args.rows = omega arith in
-    subst (λ rows. Changes (spots_erased (line_down c.args.line rows)) (keeps c.args.self.now) (keeps c.erase_cell-2.new.self)) all
+    subst (λ rows. Changes (spots_erased (line_down c.args.line rows)) (state_at c.args.self.now) (state_at c.erase_cell-2.new.self)) all
     (line_closed (λ row. edge down row c.args.line) (λ row. crossing row c.args.line) c.loop-row.row _ _ _ c.loop-row.invariant
-    (subst (λ rows. Changes (spots_erased (crossing rows c.args.line ∷ [])) (keeps c.loop-row.self) (keeps c.erase_cell-2.new.self)) (sym all) (one_spot _ _ _ c.erase_cell-2.ensures)))
+    (subst (λ rows. Changes (spots_erased (crossing rows c.args.line ∷ [])) (state_at c.loop-row.self) (state_at c.erase_cell-2.new.self)) (sym all) (one_spot _ _ _ c.erase_cell-2.ensures)))

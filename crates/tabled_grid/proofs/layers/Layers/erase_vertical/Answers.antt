@@ -2,7 +2,7 @@ use Rattle.std.proofs.Common.{[], ◌∷◌, ap}
 use Rattle.tabled_grid.specs.Site.{down}
 use Rattle.tabled_grid.specs.Event.{erase, these_sites}
 use Rattle.tabled_grid.specs.Calls.{edge_site}
-use Rattle.tabled_grid.specs.Keeping.{edge_place}
+use Rattle.tabled_grid.specs.State.{edge_place}
 use Rattle.tabled_grid.proofs.Changing.{start_down_erased, end_down_erased}
 use Rattle.tabled_grid.proofs.Seen.{seen, changed, as_events, with_starts_down, with_ends_down}
 use Rattle.tabled_grid.proofs.layers.Layers.erase_vertical.Goals as goal

@@ -1,6 +1,6 @@
 use Rattle.std.proofs.Common.{sym, ◌∙◌}
 use Rattle.tabled_grid.specs.Event.{sign}
-use Rattle.tabled_grid.specs.Keeping.{keeps}
+use Rattle.tabled_grid.specs.State.{state_at}
 use Rattle.tabled_grid.specs.Writes.{site_of}
 use Rattle.tabled_grid.proofs.PuttingBack.{written_over}
 use Rattle.tabled_grid.proofs.Seen.{if_err}
@@ -12,14 +12,14 @@ pub returns-in_default-clause-ok : goal.returns-in_default-clause-ok
 returns-in_default-clause-ok g c = none_made c.args.entry.now.target c.args.entry.now.value c.args.self.now c.in_default.is
 
 pub returns-in_default-clause-stays : goal.returns-in_default-clause-stays
-returns-in_default-clause-stays g c = stays_same (keeps c.args.self.now)
+returns-in_default-clause-stays g c = stays_same (state_at c.args.self.now)
 
 pub returns-in_default-take-clause-ok : goal.returns-in_default-take-clause-ok
 returns-in_default-take-clause-ok g c =
     no_value_made c.args.entry.now.target c.args.entry.now.value c.in-Some.target c.args.self.now c.in-Some.is (sym c.take.ensures.value ∙ c.in_default-take.is)
 
 pub returns-in_default-take-clause-stays : goal.returns-in_default-take-clause-stays
-returns-in_default-take-clause-stays g c = stays_same (keeps c.args.self.now)
+returns-in_default-take-clause-stays g c = stays_same (state_at c.args.self.now)
 
 pub returns-in_err-entry-clause-absent : goal.returns-in_err-entry-clause-absent
 returns-in_err-entry-clause-absent g c =

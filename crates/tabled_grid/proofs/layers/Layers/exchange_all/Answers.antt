@@ -1,7 +1,7 @@
 use Rattle.std.proofs.Common.{◌≡◌, ◌+◌, ◌<◌, ◌≤◌, [], ◌∷◌, ◌++◌, length, get_or, take, drop, refl, ap, sym, subst, ◌∙◌, arith}
 use Rattle.std.proofs.lemmas.List.{length-set, take_more, take_more_set, take-set, take_all, take-append-drop}
 use Rattle.tabled_grid.specs.Event.{Changes}
-use Rattle.tabled_grid.specs.Keeping.{keeps}
+use Rattle.tabled_grid.specs.State.{state_at}
 use Rattle.tabled_grid.specs.Writes.{writes_made, PutsBackAll}
 use Rattle.tabled_grid.proofs.EntityBorders.{nothing_written}
 use Rattle.tabled_grid.proofs.Replay.{Changes-nil}
@@ -14,9 +14,9 @@ loop-made-init g c = record {
   within = omega arith;
   as_long = refl;
   behind = refl;
-  made = subst (λ es. Changes es (keeps c.args.self.now) (keeps c.args.self.now)) (sym (nothing_written (take 0 c.args.writes.now.items) refl)) (Changes-nil (keeps c.args.self.now));
+  made = subst (λ es. Changes es (state_at c.args.self.now) (state_at c.args.self.now)) (sym (nothing_written (take 0 c.args.writes.now.items) refl)) (Changes-nil (state_at c.args.self.now));
   back = nothing_back_yet (take 0 c.args.writes.now.items) c.args.self.now refl;
-  stays = stays_same (keeps c.args.self.now);
+  stays = stays_same (state_at c.args.self.now);
 }
 
 pub loop-made-smaller : goal.loop-made-smaller
@@ -64,7 +64,7 @@ returns-in-Err-clause-absent g c =
 pub returns-clause-ok : goal.returns-clause-ok
 returns-clause-ok g c =
     let all : length c.args.writes.now.items ≤ c.loop-made.made = omega (arith, c.len.ensures, c.loop-made-test.false, c.loop-made.invariant.as_long) in
-    subst (λ ws. Changes (writes_made ws) (keeps c.args.self.now) (keeps c.loop-made.self)) (take_all c.loop-made.made c.args.writes.now.items all) c.loop-made.invariant.made
+    subst (λ ws. Changes (writes_made ws) (state_at c.args.self.now) (state_at c.loop-made.self)) (take_all c.loop-made.made c.args.writes.now.items all) c.loop-made.invariant.made
 
 pub returns-clause-back : goal.returns-clause-back
 returns-clause-back g c =

@@ -1,10 +1,10 @@
-use Rattle.tabled_grid.specs.Keeping.{keeps}
+use Rattle.tabled_grid.specs.State.{state_at}
 use Rattle.tabled_grid.proofs.CellBorders.{border_inside}
 use Rattle.tabled_grid.proofs.layers.Layers.get_border.Goals as goal
 
 pub returns : goal.returns
 returns g c =
-    border_inside (keeps c.args.self.now) c.args.shape c.args.pos c.places-places.result _ c.if-pos-shape.false c.if-pos-shape-2.false c.places-places.ensures
+    border_inside (state_at c.args.self.now) c.args.shape c.args.pos c.places-places.result _ c.if-pos-shape.false c.if-pos-shape-2.false c.places-places.ensures
     (λ i. record {
       top = c.shown.ensures i;
       bottom = c.shown-2.ensures i;

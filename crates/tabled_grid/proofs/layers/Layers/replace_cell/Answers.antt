@@ -1,5 +1,5 @@
 use Rattle.std.proofs.Common.{ap}
-use Rattle.tabled_grid.specs.Keeping.{position}
+use Rattle.tabled_grid.specs.State.{position}
 use Rattle.tabled_grid.specs.Calls.{cell_set}
 use Rattle.tabled_grid.proofs.CountedLemmas.{small_row, small_col, across_either, down_either, crossing_either}
 use Rattle.tabled_grid.proofs.Changing.{edge_across_set, edge_down_set, crossing_set}

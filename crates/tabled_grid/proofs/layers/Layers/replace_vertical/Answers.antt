@@ -4,15 +4,15 @@ use Rattle.tabled_grid.specs.declared.offset.Offset.{Offset}
 use Rattle.tabled_grid.specs.Site.{down}
 use Rattle.tabled_grid.specs.Event.{sign}
 use Rattle.tabled_grid.specs.Calls.{edge_site, edge_offset}
-use Rattle.tabled_grid.specs.Keeping.{keeps, edge_place}
+use Rattle.tabled_grid.specs.State.{state_at, edge_place}
 use Rattle.tabled_grid.proofs.Changing.{start_down_set, end_down_set}
 use Rattle.tabled_grid.proofs.Seen.{seen, changed, on_ok, if_ok, as_events, with_starts_down, with_ends_down}
 use Rattle.tabled_grid.proofs.layers.Layers.replace_vertical.Goals as goal
 
 pub returns-in-Start-clause-before : goal.returns-in-Start-clause-before
 returns-in-Start-clause-before g c =
-    if_ok c.insert.result (λ before e. ap (option_map sign) e ∙ ap (λ k. keeps k (edge_site down c.args.pos.row c.args.pos.col (Offset.Start c.in-Start.number))) c.self.view_is
-    ∙ ap (λ o. keeps c.args.self.now (edge_site down c.args.pos.row c.args.pos.col o)) (sym c.in-Start.is)) c.insert.ensures.before
+    if_ok c.insert.result (λ before e. ap (option_map sign) e ∙ ap (λ k. state_at k (edge_site down c.args.pos.row c.args.pos.col (Offset.Start c.in-Start.number))) c.self.view_is
+    ∙ ap (λ o. state_at c.args.self.now (edge_site down c.args.pos.row c.args.pos.col o)) (sym c.in-Start.is)) c.insert.ensures.before
 
 pub returns-in-Start-clause-ok : goal.returns-in-Start-clause-ok
 returns-in-Start-clause-ok g c =
@@ -20,8 +20,8 @@ returns-in-Start-clause-ok g c =
 
 pub returns-in-End-clause-before : goal.returns-in-End-clause-before
 returns-in-End-clause-before g c =
-    if_ok c.insert-in-End.result (λ before e. ap (option_map sign) e ∙ ap (λ k. keeps k (edge_site down c.args.pos.row c.args.pos.col (Offset.End c.in-End.number))) c.self.view_is
-    ∙ ap (λ o. keeps c.args.self.now (edge_site down c.args.pos.row c.args.pos.col o)) (sym c.in-End.is)) c.insert-in-End.ensures.before
+    if_ok c.insert-in-End.result (λ before e. ap (option_map sign) e ∙ ap (λ k. state_at k (edge_site down c.args.pos.row c.args.pos.col (Offset.End c.in-End.number))) c.self.view_is
+    ∙ ap (λ o. state_at c.args.self.now (edge_site down c.args.pos.row c.args.pos.col o)) (sym c.in-End.is)) c.insert-in-End.ensures.before
 
 pub returns-in-End-clause-ok : goal.returns-in-End-clause-ok
 returns-in-End-clause-ok g c =

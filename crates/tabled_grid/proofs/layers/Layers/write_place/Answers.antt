@@ -5,7 +5,7 @@ use Rattle.tabled_grid.specs.declared.writes.Target.{Target}
 use Rattle.tabled_grid.specs.Site.{at_spot}
 use Rattle.tabled_grid.specs.Event.{sign}
 use Rattle.tabled_grid.specs.Calls.{spot_of}
-use Rattle.tabled_grid.specs.Keeping.{keeps}
+use Rattle.tabled_grid.specs.State.{state_at}
 use Rattle.tabled_grid.proofs.layers.Layers.write_place.Goals as goal
 
 pub returns-in_default-clause-ok : goal.returns-in_default-clause-ok
@@ -21,14 +21,14 @@ pub returns-clause-note : goal.returns-clause-note
 returns-clause-note g c = written_over (Target.Cell c.in-Some.place) c.in-Some-value.value c.in_ok-before.before _ _ c.in_ok-before.ensures.before c.in_ok-before.ensures.ok
 
 pub returns-in_default-clause-stays : goal.returns-in_default-clause-stays
-returns-in_default-clause-stays g c = stays_same (keeps c.args.self.now)
+returns-in_default-clause-stays g c = stays_same (state_at c.args.self.now)
 
 pub returns-in_default-value-clause-stays : goal.returns-in_default-value-clause-stays
-returns-in_default-value-clause-stays g c = stays_same (keeps c.args.self.now)
+returns-in_default-value-clause-stays g c = stays_same (state_at c.args.self.now)
 
 pub returns-in_err-before-clause-absent : goal.returns-in_err-before-clause-absent
 returns-in_err-before-clause-absent g c =
-    if_err c.from_residual.result (place_anew c.args.place c.in-Some.place c.args.value c.in-Some-value.value (keeps c.args.self.now) c.in-Some.is c.in-Some-value.is c.in_err-before.ensures.absent)
+    if_err c.from_residual.result (place_anew c.args.place c.in-Some.place c.args.value c.in-Some-value.value (state_at c.args.self.now) c.in-Some.is c.in-Some-value.is c.in_err-before.ensures.absent)
 
 pub returns-clause-stays : goal.returns-clause-stays
 returns-clause-stays g c = stays_written (at_spot (spot_of c.in-Some.place)) (sign c.in-Some-value.value) _ _ c.in_ok-before.ensures.ok

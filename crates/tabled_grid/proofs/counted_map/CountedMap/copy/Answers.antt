@@ -1,0 +1,11 @@
+use Rattle.std.proofs.Common.{subst}
+use Rattle.std.specs.List.Sorted.{IsStrictlySortedBy}
+use Rattle.std.specs.Map.{keys_of}
+use Rattle.tabled_grid.proofs.Ascending.{copied_further}
+use Rattle.tabled_grid.proofs.counted_map.CountedMap.copy.Goals as goal
+
+pub loop-key-preserved : goal.loop-key-preserved
+loop-key-preserved g c =
+    copied_further g.met.K.Ord.total c.args.self.now
+    (subst (λ es. IsStrictlySortedBy g.K.Ord.cmp (keys_of es)) c.self.view_is c.into_iter-key-iterator.ensures.into_iter_gives.5)
+    c.loop-key.copy.entries c.loop-key.key-iterator c.in-Some.key.now c.in-Some.value.now c.next.new.self _ c.loop-key.invariant c.in-Some.ensures.steps c.in_ok-put_copy.ensures
