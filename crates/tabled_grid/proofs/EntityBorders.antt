@@ -1,8 +1,9 @@
 -- The writes of borders, cell by cell.
-use Rattle.std.proofs.Common.{◌≡◌, ℕ, true, false, cond, IsTrue, Option, Some, None, List, [], ◌∷◌, ◌++◌, refl, ap, sym, ◌∙◌, append_assoc, Result, Ok, Err, IsOk, OnErr}
+use Rattle.std.proofs.Common.{◌≡◌, ℕ, true, false, cond, IsTrue, is_some, Option, Some, None, List, [], ◌∷◌, ◌++◌, map, refl, ap, sym, ◌∙◌, Result, Ok, Err, IsOk, OnErr}
+use Rattle.std.specs.Option.{option_map}
 use Rattle.std.proofs.lemmas.List.{append-nil}
 use Rattle.std.proofs.lemmas.List.Elements.{filter_map-append}
-use Rattle.std.specs.List.{flat_map, filter, zip}
+use Rattle.std.specs.List.{flat_map, filter, cons_option}
 use Rattle.tabled_border.specs.declared.border.Border.{Border}
 use Rattle.tabled_grid.specs.declared.place.Place.{Place}
 use Rattle.tabled_grid.specs.declared.writes.Target.{Target}
@@ -11,10 +12,8 @@ use Rattle.tabled_object.specs.declared.position.Position.{Position}
 use Rattle.tabled_object.specs.Entities.{is_inside}
 use Rattle.tabled_grid.specs.Site.{Site}
 use Rattle.tabled_grid.specs.Event.{Event, Written}
-use Rattle.tabled_grid.specs.CellBorder.{border_places, border_fields}
-use Rattle.tabled_grid.specs.Calls.{border_set, borders_of, places_set, writes_anew}
+use Rattle.tabled_grid.specs.Calls.{border_set, borders_of, given_write, places_set, writes_anew}
 use Rattle.tabled_grid.specs.Writes.{given_event, writes_made}
-use Rattle.tabled_grid.proofs.PuttingBack.{places_set-append}
 
 -- a cell inside, and then the others
 pub borders_inside : {T : Type 0} (rows cols : ℕ) (border : Border T) (pos : Position) (rest : List Position) → is_inside rows cols pos ≡ true → borders_of (rows, cols) border (pos ∷ rest) ≡ border_set pos border ++ borders_of (rows, cols) border rest
@@ -61,28 +60,37 @@ pub nothing_written : {T : Type 0} (ws : List (Write T)) → ws ≡ [] → write
 unfolding writes_made
 nothing_written ws e = ap writes_made e
 
--- one write more
-one_entry : {T : Type 0} (there : Place) (value : Option T) → writes_made (record { target = Some (Target.Cell there); value = value } ∷ []) ≡ places_set ((Some there, value) ∷ [])
+-- the writes of groups, and of groups of groups
+two_groups : {T : Type 0} (a b c d : List (Write T)) → (writes_made a ++ writes_made b) ++ (writes_made c ++ writes_made d) ≡ writes_made ((a ++ b) ++ (c ++ d))
+two_groups a b c d = (λ i. sym (writes_made-append a b) i ++ sym (writes_made-append c d) i) ∙ sym (writes_made-append (a ++ b) (c ++ d))
+
+pub eight_made : {T : Type 0} (a b c d e f g h : Write T) → ((writes_made (a ∷ []) ++ writes_made (b ∷ [])) ++ (writes_made (c ∷ []) ++ writes_made (d ∷ []))) ++ ((writes_made (e ∷ []) ++ writes_made (f ∷ [])) ++ (writes_made (g ∷ []) ++ writes_made (h ∷ []))) ≡ writes_made (a ∷ b ∷ c ∷ d ∷ e ∷ f ∷ g ∷ h ∷ [])
+eight_made a b c d e f g h =
+    (λ i. two_groups (a ∷ []) (b ∷ []) (c ∷ []) (d ∷ []) i ++ two_groups (e ∷ []) (f ∷ []) (g ∷ []) (h ∷ []) i)
+    ∙ sym (writes_made-append (a ∷ b ∷ c ∷ d ∷ []) (e ∷ f ∷ g ∷ h ∷ []))
+
+-- a list with a write more; one without a target writes nothing
+pub added : {T : Type 0} (all ws : List (Write T)) (entry : Write T) → all ≡ ws ++ entry ∷ [] → writes_made all ≡ writes_made ws ++ writes_made (entry ∷ [])
+added all ws entry more = ap writes_made more ∙ writes_made-append ws (entry ∷ [])
+
+pub none_added : {T : Type 0} (ws : List (Write T)) (entry : Write T) → is_some entry.target ≡ false → writes_made ws ≡ writes_made ws ++ writes_made (entry ∷ [])
+unfolding writes_made
+none_added ws entry h = sym (append-nil (writes_made ws)) ∙ ap (λ es. writes_made ws ++ es) (nothing entry.target entry.value h)
+  where
+    nothing : {T : Type 0} (target : Option Target) (value : Option T) → is_some target ≡ false → [] ≡ writes_made (record { target = target; value = value } ∷ [])
+    nothing None value h = refl
+    nothing (Some target) value h = absurd cc
+
+-- a write at the cell level of a place, where there is one
+abbrev pub write_at : {T : Type 0} → Option Place × Option T → Write T
+write_at (place, value) = record { target = option_map Target.Cell place; value = value }
+
+given_at : {T : Type 0} (w : Option Place × Option T) → given_event (write_at w).target (write_at w).value ≡ given_write w
+given_at (Some place, Some value) = refl
+given_at (Some place, None) = refl
+given_at (None, value) = refl
+
+pub all_at : {T : Type 0} (ws : List (Option Place × Option T)) → writes_made (map write_at ws) ≡ places_set ws
 unfolding writes_made places_set
-one_entry there (Some x) = refl
-one_entry there None = refl
-
-pub added : {T : Type 0} (all ws : List (Write T)) (target : Option Target) (value : Option T) (place : Option Place) (there : Place) → place ≡ Some there → target ≡ Some (Target.Cell there) → all ≡ ws ++ record { target = target; value = value } ∷ [] → writes_made all ≡ writes_made ws ++ places_set ((place, value) ∷ [])
-unfolding writes_made places_set
-added all ws target value place there is at more =
-    ap writes_made more ∙ writes_made-append ws (record { target = target; value = value } ∷ [])
-    ∙ ap (λ t. writes_made ws ++ writes_made (record { target = t; value = value } ∷ [])) at
-    ∙ ap (λ es. writes_made ws ++ es) (one_entry there value) ∙ ap (λ p. writes_made ws ++ places_set ((p, value) ∷ [])) (sym is)
-
-pub none_added : {T : Type 0} (ws : List (Write T)) (value : Option T) (place : Option Place) → place ≡ None → writes_made ws ≡ writes_made ws ++ places_set ((place, value) ∷ [])
-unfolding places_set
-none_added ws value place is = sym (append-nil (writes_made ws)) ∙ ap (λ p. writes_made ws ++ places_set ((p, value) ∷ [])) (sym is)
-
--- two lists of places in a row
-pub added_then : {T : Type 0} (xs ys zs : List (Event T)) (ws vs : List (Option Place × Option T)) → ys ≡ xs ++ places_set ws → zs ≡ ys ++ places_set vs → zs ≡ xs ++ places_set (ws ++ vs)
-added_then xs ys zs ws vs one other =
-    other ∙ ap (λ start. start ++ places_set vs) one ∙ append_assoc xs (places_set ws) (places_set vs) ∙ ap (λ es. xs ++ es) (sym (places_set-append ws vs))
-
--- all places of a cell's border
-pub border_added : {T : Type 0} (xs zs : List (Event T)) (pos : Position) (places : Border Place) (border : Border T) → places ≡ border_places pos → zs ≡ xs ++ places_set (zip (border_fields places) (border_fields border)) → zs ≡ xs ++ border_set pos border
-border_added xs zs pos places border e h = h ∙ ap (λ p. xs ++ places_set (zip (border_fields p) (border_fields border))) e
+all_at [] = refl
+all_at (w ∷ ws) = λ i. cons_option (given_at w i) (all_at ws i)

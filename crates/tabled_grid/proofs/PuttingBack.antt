@@ -1,27 +1,21 @@
 -- Single writes, and what puts them back.
-use Rattle.std.proofs.Common.{◌≡◌, ℕ, Bool, true, false, cond, ◌&&◌, ◌||◌, ◌==◌, Option, Some, None, is_some, IsSome, List, [], ◌∷◌, ◌++◌, refl, ap, sym, ◌∙◌, subst, option_and_then, Result, Ok, Err, OnOk, OnErr}
+use Rattle.std.proofs.Common.{◌≡◌, ℕ, Bool, true, false, cond, ◌&&◌, ◌||◌, ◌==◌, Option, Some, None, is_some, IsSome, [], ◌∷◌, refl, ap, sym, ◌∙◌, option_and_then, Result, Ok, Err, OnOk, OnErr}
 use Rattle.std.specs.Option.{option_map}
-use Rattle.std.specs.List.{zip, cons_option}
 use Rattle.std.specs.Cmp.{nat_cmp_total}
 use Rattle.std.specs.FinMap as map
-use Rattle.tabled_border.specs.declared.border.Border.{Border}
 use Rattle.tabled_grid.specs.declared.borders.Borders.{Borders}
 use Rattle.tabled_grid.specs.declared.lines.HorizontalLine.{HorizontalLine}
 use Rattle.tabled_grid.specs.declared.lines.VerticalLine.{VerticalLine}
 use Rattle.tabled_grid.specs.declared.place.LineOf.{LineOf}
-use Rattle.tabled_grid.specs.declared.place.Place.{Place}
-use Rattle.tabled_object.specs.declared.position.Position.{Position}
 use Rattle.tabled_grid.specs.Keys.{position_cmp, edge_place_cmp, positions_total, exact_positions, edge_places_total, exact_edge_places}
 use Rattle.tabled_grid.specs.Site.{across, down, first, inner, closing, Class, edges, crossings, class_value, Part, mark, main_edges, meeting, Spot, edge, crossing, Site, the_default, of_class, of_line, at_spot, from_end, from_start, same_site}
-use Rattle.tabled_grid.specs.Event.{Written, sign, standing, Event, write, erase, replay, these_sites, Changes}
+use Rattle.tabled_grid.specs.Event.{Written, sign, standing, write, erase, replay, these_sites, Changes}
 use Rattle.tabled_grid.specs.State.{State, state_at, position, edge_place, horizontal_part, vertical_part}
-use Rattle.tabled_grid.specs.CellBorder.{border_places, border_fields}
-use Rattle.tabled_grid.specs.Calls.{spot_of, cell_set, given_write, places_set, border_set}
+use Rattle.tabled_grid.specs.Calls.{spot_of}
 use Rattle.tabled_grid.specs.declared.offset.Offset.{Offset}
 use Rattle.tabled_grid.specs.declared.writes.Target.{Target}
 use Rattle.tabled_grid.specs.Writes.{site_of, PutsBackAt}
-use Rattle.tabled_grid.specs.PutBack.{PutsNoteBack, PutsBoth, PutsBackTwo, PutsBackFour}
-use Rattle.tabled_grid.proofs.Replay.{replay_one, Changes-append, Changes-nil}
+use Rattle.tabled_grid.proofs.Replay.{replay_one}
 use Rattle.tabled_grid.proofs.LineWrites.{same_number}
 use Rattle.tabled_grid.proofs.SameSite.{same_site-eq}
 use Rattle.tabled_grid.proofs.CellBorders.{by_erasure}
@@ -169,57 +163,3 @@ nothing_back site before old now new is changes puts =
     same_state new old (λ q. by_erasure (these_sites (site ∷ [])) (state_at now) (state_at new) changes q
     ∙ ap (λ b. cond b None (state_at now q)) (or-none (same_site q site))
     ∙ ap (λ o. cond (same_site q site) (option_map sign o) (state_at now q)) (sym is) ∙ sym (puts.1 q))
-
--- the later of two changes is put back first
-both_back : {A B T : Type 0} (one : A → State T → State T → Type 0) (other : B → State T → State T → Type 0) (notes : A × B) (now mid new : State T) → ((old : State T) → other notes.1 old now → mid ≡ old) → ((old : State T) → one notes.0 old mid → new ≡ old) → (old : State T) → PutsBoth one other notes old now → new ≡ old
-both_back one other notes now mid new later sooner old puts =
-    sooner old (subst (λ k. one notes.0 old k) (sym (later puts.0 puts.2)) puts.1)
-
-pub two_back : {T : Type 0} (notes : Option (Place × Option T) × Option (Place × Option T)) (now mid new : State T) → ((old : State T) → PutsNoteBack notes.1 old now → mid ≡ old) → ((old : State T) → PutsNoteBack notes.0 old mid → new ≡ old) → (old : State T) → PutsBackTwo notes old now → new ≡ old
-unfolding PutsBackTwo
-two_back notes now mid new later sooner old puts = both_back PutsNoteBack PutsNoteBack notes now mid new later sooner old puts
-
-pub four_back : {T : Type 0} (notes : (Option (Place × Option T) × Option (Place × Option T)) × (Option (Place × Option T) × Option (Place × Option T))) (now mid new : State T) → ((old : State T) → PutsBackTwo notes.1 old now → mid ≡ old) → ((old : State T) → PutsBackTwo notes.0 old mid → new ≡ old) → (old : State T) → PutsBackFour notes old now → new ≡ old
-unfolding PutsBackFour
-four_back notes now mid new later sooner old puts = both_back PutsBackTwo PutsBackTwo notes now mid new later sooner old puts
-
-pub two_noted : {T : Type 0} (a b : Option (Place × Option T)) (old between new : State T) → PutsNoteBack a old between → PutsNoteBack b between new → PutsBackTwo (a, b) old new
-unfolding PutsBackTwo
-two_noted a b old between new f g = (between, f, g)
-
-pub four_noted : {T : Type 0} (a b : Option (Place × Option T) × Option (Place × Option T)) (old between new : State T) → PutsBackTwo a old between → PutsBackTwo b between new → PutsBackFour (a, b) old new
-unfolding PutsBackFour
-four_noted a b old between new f g = (between, f, g)
-
--- the writes of places and values, list by list
-in_front : {T : Type 0} (o : Option (Event T)) (es fs : List (Event T)) → cons_option o (es ++ fs) ≡ cons_option o es ++ fs
-in_front None es fs = refl
-in_front (Some e) es fs = refl
-
-pub places_set-append : {T : Type 0} (ws vs : List (Option Place × Option T)) → places_set (ws ++ vs) ≡ places_set ws ++ places_set vs
-unfolding places_set
-places_set-append [] vs = refl
-places_set-append (w ∷ ws) vs = ap (cons_option (given_write w)) (places_set-append ws vs) ∙ in_front (given_write w) (places_set ws) (places_set vs)
-
-pub set_then : {T : Type 0} (ws vs : List (Option Place × Option T)) (old mid new : State T) → Changes (places_set ws) (state_at old) (state_at mid) → Changes (places_set vs) (state_at mid) (state_at new) → Changes (places_set (ws ++ vs)) (state_at old) (state_at new)
-set_then ws vs old mid new f g =
-    subst (λ es. Changes es (state_at old) (state_at new)) (sym (places_set-append ws vs)) (Changes-append (places_set ws) (places_set vs) (state_at old) (state_at mid) (state_at new) f g)
-
--- one place
-pub no_place : {T : Type 0} (place : Option Place) (value : Option T) (state : State T) → place ≡ None → Changes (places_set ((place, value) ∷ [])) (state_at state) (state_at state)
-unfolding places_set
-no_place place value state e = subst (λ p. Changes (places_set ((p, value) ∷ [])) (state_at state) (state_at state)) (sym e) (Changes-nil (state_at state))
-
-pub no_value : {T : Type 0} (place : Option Place) (there : Place) (value : Option T) (state : State T) → place ≡ Some there → value ≡ None → Changes (places_set ((place, value) ∷ [])) (state_at state) (state_at state)
-unfolding places_set
-no_value place there value state e f =
-    subst (λ p. Changes (places_set ((p, value) ∷ [])) (state_at state) (state_at state)) (sym e) (subst (λ v. Changes (places_set ((Some there, v) ∷ [])) (state_at state) (state_at state)) (sym f) (Changes-nil (state_at state)))
-
-pub value_set : {T : Type 0} (place : Option Place) (there : Place) (value : Option T) (given : T) (old new : State T) → place ≡ Some there → value ≡ Some given → Changes (cell_set there given) (state_at old) (state_at new) → Changes (places_set ((place, value) ∷ [])) (state_at old) (state_at new)
-unfolding places_set
-value_set place there value given old new e f h =
-    subst (λ p. Changes (places_set ((p, value) ∷ [])) (state_at old) (state_at new)) (sym e) (subst (λ v. Changes (places_set ((Some there, v) ∷ [])) (state_at old) (state_at new)) (sym f) h)
-
--- all places of a cell's border
-pub border_written : {T : Type 0} (pos : Position) (places : Border Place) (border : Border T) (old new : State T) → places ≡ border_places pos → Changes (places_set (zip (border_fields places) (border_fields border))) (state_at old) (state_at new) → Changes (border_set pos border) (state_at old) (state_at new)
-border_written pos places border old new e h = subst (λ p. Changes (places_set (zip (border_fields p) (border_fields border))) (state_at old) (state_at new)) e h

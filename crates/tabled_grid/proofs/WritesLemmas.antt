@@ -4,13 +4,12 @@ use Rattle.std.proofs.lemmas.List.{drop-drop, drop-set-lt, get_or-drop}
 use Rattle.tabled_grid.specs.declared.writes.Target.{Target}
 use Rattle.tabled_grid.specs.declared.writes.Write.{Write}
 use Rattle.tabled_grid.specs.Event.{sign, write, Changes}
-use Rattle.tabled_grid.specs.Drawn.{written}
 use Rattle.tabled_grid.specs.State.{State, state_at}
 use Rattle.tabled_grid.specs.Calls.{writes_anew}
 use Rattle.tabled_grid.specs.Writes.{site_of, writes_made, PutsBackAt, PutsBack, PutsBackAll, Stays}
 use Rattle.tabled_grid.proofs.Replay.{Changes-append, Changes-nil}
 use Rattle.tabled_grid.proofs.EntityBorders.{writes_made-append}
-use Rattle.tabled_grid.proofs.WritingAnew.{anew-append, anew_before, or-true}
+use Rattle.tabled_grid.proofs.WritingAnew.{sooner_anew, later_anew}
 
 module _ {T : Type 0} where
   -- one write that is given
@@ -75,13 +74,10 @@ module _ {T : Type 0} where
   nothing_back_yet ws store e = subst (λ es. PutsBackAll es store store) (sym e) refl
 
   -- where a write after those that were made is refused, something of the list was new
-  pub later_anew : (all ws rest : List (Write T)) (entry : Write T) (old between : State T) → all ≡ (ws ++ entry ∷ []) ++ rest → Stays (state_at old) (state_at between) → IsTrue (writes_anew (state_at between) (writes_made (entry ∷ []))) → IsTrue (writes_anew (state_at old) (writes_made all))
-  later_anew all ws rest entry old between is stays anew =
+  pub entry_anew : (all ws rest : List (Write T)) (entry : Write T) (old between : State T) → all ≡ (ws ++ entry ∷ []) ++ rest → Stays (state_at old) (state_at between) → IsTrue (writes_anew (state_at between) (writes_made (entry ∷ []))) → IsTrue (writes_anew (state_at old) (writes_made all))
+  entry_anew all ws rest entry old between is stays anew =
       subst (λ es. IsTrue (writes_anew (state_at old) es)) (sym (ap writes_made is ∙ writes_made-append (ws ++ entry ∷ []) rest ∙ ap (λ es. es ++ writes_made rest) (writes_made-append ws (entry ∷ []))))
-      (anew-append (state_at old) (writes_made ws ++ writes_made (entry ∷ [])) (writes_made rest)
-      ∙ ap (λ b. b || writes_anew (state_at old) (writes_made rest)) (anew-append (state_at old) (writes_made ws) (writes_made (entry ∷ []))
-      ∙ ap (λ b. writes_anew (state_at old) (writes_made ws) || b) (anew_before (state_at old) (state_at between) (written (writes_made (entry ∷ []))) stays anew)
-      ∙ or-true (writes_anew (state_at old) (writes_made ws))))
+      (sooner_anew (writes_made ws ++ writes_made (entry ∷ [])) (writes_made rest) (state_at old) (later_anew (writes_made ws) (writes_made (entry ∷ [])) (state_at old) (state_at between) stays anew))
 
 -- the list while its entries are exchanged, beside the one that was given: behind the index both are the same
 pub same_behind : {X : Type 0} (xs ys : List X) (i : ℕ) (x : X) → drop i xs ≡ drop i ys → drop (i + 1) (set xs i x) ≡ drop (i + 1) ys

@@ -1,17 +1,13 @@
 -- Where writes are refused memory, nothing stood at one of their sites.
-use Rattle.std.proofs.Common.{◌≡◌, Bool, true, false, cond, ◌||◌, IsTrue, is_some, is_none, Option, Some, None, List, [], ◌∷◌, ◌++◌, refl, ap, sym, ◌∙◌, subst}
-use Rattle.std.specs.List.{zip, list_any}
+use Rattle.std.proofs.Common.{◌≡◌, Bool, true, false, cond, ◌||◌, IsTrue, is_some, is_none, Option, Some, None, List, [], ◌∷◌, ◌++◌, refl, ap, sym, ◌∙◌}
+use Rattle.std.specs.List.{list_any}
 use Rattle.std.proofs.lemmas.List.Folds.{list_any-append}
-use Rattle.tabled_border.specs.declared.border.Border.{Border}
-use Rattle.tabled_grid.specs.declared.place.Place.{Place}
-use Rattle.tabled_object.specs.declared.position.Position.{Position}
-use Rattle.tabled_grid.specs.Site.{Site, at_spot, same_site}
+use Rattle.tabled_grid.specs.Site.{Site, same_site}
 use Rattle.tabled_grid.specs.Event.{Written, Event, write, erase, Changes}
 use Rattle.tabled_grid.specs.Drawn.{written}
-use Rattle.tabled_grid.specs.CellBorder.{border_places, border_fields}
-use Rattle.tabled_grid.specs.Calls.{spot_of, places_set, border_set, writes_anew}
+use Rattle.tabled_grid.specs.Calls.{writes_anew}
 use Rattle.tabled_grid.specs.Writes.{Stays}
-use Rattle.tabled_grid.proofs.PuttingBack.{by_write, places_set-append}
+use Rattle.tabled_grid.proofs.PuttingBack.{by_write}
 
 pub or-true : (b : Bool) → (b || true) ≡ true
 or-true true = refl
@@ -57,22 +53,10 @@ pub stays_then : {T : Type 0} (old mid new : Site → Option (Written T)) → St
 unfolding Stays
 stays_then old mid new f g q e = f q (g q e)
 
--- one place
-pub place_anew : {T : Type 0} (place : Option Place) (there : Place) (value : Option T) (given : T) (keep : Site → Option (Written T)) → place ≡ Some there → value ≡ Some given → keep (at_spot (spot_of there)) ≡ None → IsTrue (writes_anew keep (places_set ((place, value) ∷ [])))
-unfolding places_set
-place_anew place there value given keep e f h =
-    subst (λ p. IsTrue (writes_anew keep (places_set ((p, value) ∷ [])))) (sym e) (subst (λ v. IsTrue (writes_anew keep (places_set ((Some there, v) ∷ [])))) (sym f) (ap (λ o. is_none o || false) h))
+-- the first of two lists of events, and the second
+pub sooner_anew : {T : Type 0} (es fs : List (Event T)) (old : Site → Option (Written T)) → IsTrue (writes_anew old es) → IsTrue (writes_anew old (es ++ fs))
+sooner_anew es fs old h = anew-append old es fs ∙ ap (λ b. b || writes_anew old fs) h
 
--- the first of two lists of places, and the second
-pub first_anew : {T : Type 0} (ws vs : List (Option Place × Option T)) (keep : Site → Option (Written T)) → IsTrue (writes_anew keep (places_set ws)) → IsTrue (writes_anew keep (places_set (ws ++ vs)))
-first_anew ws vs keep h =
-    subst (λ es. IsTrue (writes_anew keep es)) (sym (places_set-append ws vs)) (anew-append keep (places_set ws) (places_set vs) ∙ ap (λ b. b || writes_anew keep (places_set vs)) h)
-
-pub second_anew : {T : Type 0} (ws vs : List (Option Place × Option T)) (old mid : Site → Option (Written T)) → Stays old mid → IsTrue (writes_anew mid (places_set vs)) → IsTrue (writes_anew old (places_set (ws ++ vs)))
-second_anew ws vs old mid stays h =
-    subst (λ es. IsTrue (writes_anew old es)) (sym (places_set-append ws vs))
-    (anew-append old (places_set ws) (places_set vs) ∙ ap (λ b. writes_anew old (places_set ws) || b) (anew_before old mid (written (places_set vs)) stays h) ∙ or-true (writes_anew old (places_set ws)))
-
--- all places of a cell's border
-pub border_anew : {T : Type 0} (pos : Position) (places : Border Place) (border : Border T) (keep : Site → Option (Written T)) → places ≡ border_places pos → IsTrue (writes_anew keep (places_set (zip (border_fields places) (border_fields border)))) → IsTrue (writes_anew keep (border_set pos border))
-border_anew pos places border keep e h = subst (λ p. IsTrue (writes_anew keep (places_set (zip (border_fields p) (border_fields border))))) e h
+pub later_anew : {T : Type 0} (es fs : List (Event T)) (old mid : Site → Option (Written T)) → Stays old mid → IsTrue (writes_anew mid fs) → IsTrue (writes_anew old (es ++ fs))
+later_anew es fs old mid stays h =
+    anew-append old es fs ∙ ap (λ b. writes_anew old es || b) (anew_before old mid (written fs) stays h) ∙ or-true (writes_anew old es)

@@ -15,4 +15,3 @@ pub mod Same
 pub mod SameLaws
 pub mod CellBorder
 pub mod Writes
-pub mod PutBack

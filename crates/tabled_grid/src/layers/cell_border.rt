@@ -1,21 +1,23 @@
 //! The border of one cell: its sides and corners, written, erased and read together.
 
-ghost use Rattle.std.specs.Prelude.{◌≡◌, [], ◌∷◌, OnOk, OnErr, IfOk, IsTrue, option_copied, option_and_then};
+ghost use Rattle.std.specs.Prelude.{◌≡◌, [], ◌∷◌, OnOk, OnErr, IsTrue, option_copied, option_map, option_and_then};
+ghost use Rattle.tabled_grid.specs.Calls.{border_set};
+ghost use Rattle.tabled_grid.specs.Writes.{writes_made};
+ghost use Rattle.tabled_grid.specs.declared.writes.Target.{Target};
 ghost use Rattle.tabled_grid.specs.CellBorder.{next_line, side_across, side_down, corner, border_places, border_shown};
 
 use super::Layers;
-use crate::{Border, OutOfMemory, Place, Position, Target};
+use super::writes::Group;
+use crate::{Border, OutOfMemory, Place, Position, Target, Write};
 
-/// What stood at a place before it was written; none where nothing was written.
-type Note<T> = Option<(Place, Option<T>)>;
+/// Four writes, as two groups.
+type Four<T> = ((Write<T>, Write<T>), (Write<T>, Write<T>));
 
 impl<T> Layers<T> {
     ghost use Rattle.tabled_grid.specs.Event.{Changes};
     ghost use Rattle.tabled_grid.specs.Value.{plain_value};
-    ghost use Rattle.tabled_grid.specs.State.{State, state_at};
-    ghost use Rattle.tabled_grid.specs.Calls.{border_set, places_set, writes_anew, border_erased, places_erased};
-    ghost use Rattle.tabled_grid.specs.PutBack.{PutsNoteBack, PutsBackTwo, PutsBackFour};
-    ghost use Rattle.tabled_grid.specs.Writes.{Stays};
+    ghost use Rattle.tabled_grid.specs.State.{state_at};
+    ghost use Rattle.tabled_grid.specs.Calls.{writes_anew, border_erased, places_erased};
 
     /// Writes what the border gives at the cell level of a cell's sides and corners, whatever the shape of
     /// the table. What it does not give stays as it is, and past the last number of a line nothing is
@@ -28,137 +30,7 @@ impl<T> Layers<T> {
         ensures err { OnErr result (self.new ≡ self.old) }
         ensures absent { OnErr result (IsTrue (writes_anew (state_at self.old) (border_set pos border))) }
     {
-        let places = places(pos);
-        let sides = self.write_four(
-            ((places.top, places.bottom), (places.left, places.right)),
-            ((border.top, border.bottom), (border.left, border.right)),
-        )?;
-        let corners = self.write_four(
-            (
-                (places.left_top_corner, places.left_bottom_corner),
-                (places.right_top_corner, places.right_bottom_corner),
-            ),
-            (
-                (border.left_top_corner, border.left_bottom_corner),
-                (border.right_top_corner, border.right_bottom_corner),
-            ),
-        );
-        match corners {
-            Ok(_) => Ok(()),
-            Err(error) => {
-                self.put_back_four(sides);
-                Err(error)
-            }
-        }
-    }
-
-    /// Writes at four places, or at none.
-    fn write_four(
-        &mut self,
-        places: (
-            (Option<Place>, Option<Place>),
-            (Option<Place>, Option<Place>),
-        ),
-        values: ((Option<T>, Option<T>), (Option<T>, Option<T>)),
-    ) -> Result<((Note<T>, Note<T>), (Note<T>, Note<T>)), OutOfMemory>
-    where
-        T: Drop,
-        ensures ok { OnOk result (Changes (places_set ((places.0.0, values.0.0) ∷ (places.0.1, values.0.1) ∷ (places.1.0, values.1.0) ∷ (places.1.1, values.1.1) ∷ []))
-            (state_at self.old) (state_at self.new)) }
-        ensures notes { IfOk result (λ notes. PutsBackFour notes self.old self.new) }
-        ensures stays { OnOk result (Stays (state_at self.old) (state_at self.new)) }
-        ensures err { OnErr result (self.new ≡ self.old) }
-        ensures absent { OnErr result (IsTrue (writes_anew (state_at self.old)
-            (places_set ((places.0.0, values.0.0) ∷ (places.0.1, values.0.1) ∷ (places.1.0, values.1.0) ∷ (places.1.1, values.1.1) ∷ [])))) }
-    {
-        let first = self.write_two(places.0, values.0)?;
-        match self.write_two(places.1, values.1) {
-            Ok(second) => Ok((first, second)),
-            Err(error) => {
-                self.put_back_two(first);
-                Err(error)
-            }
-        }
-    }
-
-    /// Writes at two places, or at none.
-    fn write_two(
-        &mut self,
-        places: (Option<Place>, Option<Place>),
-        values: (Option<T>, Option<T>),
-    ) -> Result<(Note<T>, Note<T>), OutOfMemory>
-    where
-        T: Drop,
-        ensures ok { OnOk result (Changes (places_set ((places.0, values.0) ∷ (places.1, values.1) ∷ [])) (state_at self.old) (state_at self.new)) }
-        ensures notes { IfOk result (λ notes. PutsBackTwo notes self.old self.new) }
-        ensures stays { OnOk result (Stays (state_at self.old) (state_at self.new)) }
-        ensures err { OnErr result (self.new ≡ self.old) }
-        ensures absent { OnErr result (IsTrue (writes_anew (state_at self.old) (places_set ((places.0, values.0) ∷ (places.1, values.1) ∷ [])))) }
-    {
-        let first = self.write_place(places.0, values.0)?;
-        match self.write_place(places.1, values.1) {
-            Ok(second) => Ok((first, second)),
-            Err(error) => {
-                self.put_note_back(first);
-                Err(error)
-            }
-        }
-    }
-
-    /// Writes a value that is given, where there is a place for it.
-    fn write_place(
-        &mut self,
-        place: Option<Place>,
-        value: Option<T>,
-    ) -> Result<Note<T>, OutOfMemory>
-    where
-        T: Drop,
-        ensures ok { OnOk result (Changes (places_set ((place, value) ∷ [])) (state_at self.old) (state_at self.new)) }
-        ensures note { IfOk result (λ note. PutsNoteBack note self.old self.new) }
-        ensures stays { OnOk result (Stays (state_at self.old) (state_at self.new)) }
-        ensures err { OnErr result (self.new ≡ self.old) }
-        ensures absent { OnErr result (IsTrue (writes_anew (state_at self.old) (places_set ((place, value) ∷ [])))) }
-    {
-        let Some(place) = place else {
-            return Ok(None);
-        };
-        let Some(value) = value else {
-            return Ok(None);
-        };
-        let before = self.replace_cell(place, value)?;
-        Ok(Some((place, before)))
-    }
-
-    /// Puts back what four writes replaced, which takes no memory.
-    fn put_back_four(&mut self, notes: ((Note<T>, Note<T>), (Note<T>, Note<T>)))
-    where
-        T: Drop,
-        ensures { (old : State T) → PutsBackFour notes old self.old → self.new ≡ old }
-    {
-        self.put_back_two(notes.1);
-        self.put_back_two(notes.0);
-    }
-
-    /// Puts back what two writes replaced, which takes no memory.
-    fn put_back_two(&mut self, notes: (Note<T>, Note<T>))
-    where
-        T: Drop,
-        ensures { (old : State T) → PutsBackTwo notes old self.old → self.new ≡ old }
-    {
-        self.put_note_back(notes.1);
-        self.put_note_back(notes.0);
-    }
-
-    /// Puts back what a write replaced, which takes no memory.
-    fn put_note_back(&mut self, note: Note<T>)
-    where
-        T: Drop,
-        ensures { (old : State T) → PutsNoteBack note old self.old → self.new ≡ old }
-    {
-        match note {
-            Some((place, before)) => self.put_back_at(Target::Cell(place), before),
-            None => {}
-        }
+        writes_around(pos, border).exchange(self)
     }
 
     /// Erases the cell level of the sides and the corners of a cell, also of those that it shares with the
@@ -229,8 +101,47 @@ impl<T> Layers<T> {
     }
 }
 
+/// The writes of a border at the sides and the corners of a cell.
+pub(super) fn writes_around<T>(pos: Position, border: Border<T>) -> (Four<T>, Four<T>)
+    ensures { writes_made (result.0.0.0 ∷ result.0.0.1 ∷ result.0.1.0 ∷ result.0.1.1 ∷ result.1.0.0 ∷ result.1.0.1 ∷ result.1.1.0 ∷ result.1.1.1 ∷ [])
+        ≡ border_set pos border }
+{
+    let places = places(pos);
+    let sides = (
+        (
+            write_at(places.top, border.top),
+            write_at(places.bottom, border.bottom),
+        ),
+        (
+            write_at(places.left, border.left),
+            write_at(places.right, border.right),
+        ),
+    );
+    let corners = (
+        (
+            write_at(places.left_top_corner, border.left_top_corner),
+            write_at(places.left_bottom_corner, border.left_bottom_corner),
+        ),
+        (
+            write_at(places.right_top_corner, border.right_top_corner),
+            write_at(places.right_bottom_corner, border.right_bottom_corner),
+        ),
+    );
+    (sides, corners)
+}
+
+/// A write at the cell level of a place, where there is one.
+fn write_at<T>(place: Option<Place>, value: Option<T>) -> Write<T>
+    ensures { result ≡ record { target = option_map Target.Cell place; value = value } }
+{
+    Write {
+        target: place.map(Target::Cell),
+        value,
+    }
+}
+
 /// The places of a cell's sides and corners. Past the last number of a line there are none.
-pub(super) fn places(pos: Position) -> Border<Place>
+fn places(pos: Position) -> Border<Place>
     ensures { result ≡ border_places pos }
 {
     let Position { row, col } = pos;

@@ -3,12 +3,13 @@
 ghost use Rattle.std.specs.Prelude.{◌≡◌, ◌++◌, [], ◌∷◌, OnOk, OnErr, IfOk, IsOk};
 ghost use Rattle.std.specs.List.{filter};
 ghost use Rattle.tabled_object.specs.Entities.{cells_of, is_inside};
-ghost use Rattle.tabled_grid.specs.Calls.{border_set, borders_of, entity_border_set, places_set};
+ghost use Rattle.tabled_grid.specs.Calls.{borders_of, entity_border_set};
 ghost use Rattle.tabled_grid.specs.Writes.{writes_made};
 
 use super::Layers;
-use super::cell_border::places;
-use crate::{Border, Entity, EntityIterator, Keep, OutOfMemory, Place, Position, Target, Write};
+use super::cell_border::writes_around;
+use super::writes::Group;
+use crate::{Border, Entity, EntityIterator, Keep, OutOfMemory, Position, Write};
 use std::alloc::Global;
 
 /// The writes of a border around each cell that the entity names in a table of `shape.0` rows and `shape.1` columns,
@@ -41,48 +42,9 @@ fn add_borders<T: Keep>(
     for pos in cells {
         if is_inside(pos, shape) {
             let copy = border.keep(*writes.allocator())?;
-            add_border(writes, pos, copy)?;
+            writes_around(pos, copy).add_to(writes)?;
         }
     }
-    Ok(())
-}
-
-/// Adds the writes of a border around a cell.
-fn add_border<T: Drop>(
-    writes: &mut Vec<Write<T>>,
-    pos: Position,
-    border: Border<T>,
-) -> Result<(), OutOfMemory>
-    ensures { OnOk result (writes_made writes.new.items ≡ writes_made writes.old.items ++ border_set pos border) }
-{
-    let places = places(pos);
-    add(writes, places.top, border.top)?;
-    add(writes, places.bottom, border.bottom)?;
-    add(writes, places.left, border.left)?;
-    add(writes, places.right, border.right)?;
-    add(writes, places.left_top_corner, border.left_top_corner)?;
-    add(writes, places.left_bottom_corner, border.left_bottom_corner)?;
-    add(writes, places.right_top_corner, border.right_top_corner)?;
-    add(
-        writes,
-        places.right_bottom_corner,
-        border.right_bottom_corner,
-    )
-}
-
-/// Adds a write at the cell level of a place, where both the place and the value are there.
-fn add<T: Drop>(
-    writes: &mut Vec<Write<T>>,
-    place: Option<Place>,
-    value: Option<T>,
-) -> Result<(), OutOfMemory>
-    ensures { OnOk result (writes_made writes.new.items ≡ writes_made writes.old.items ++ places_set ((place, value) ∷ [])) }
-{
-    let Some(place) = place else {
-        return Ok(());
-    };
-    let target = Some(Target::Cell(place));
-    writes.push(Write { target, value })?;
     Ok(())
 }
 

@@ -9,6 +9,140 @@ use super::Layers;
 use crate::keys::EdgePlace;
 use crate::{Offset, OutOfMemory, Position, Target, Write};
 
+/// Writes that are made together, whole or not at all, and what then puts them back.
+pub(super) trait Group<T> {
+    ghost use Rattle.tabled_grid.specs.Event.{Event, Changes};
+    ghost use Rattle.tabled_grid.specs.State.{State, state_at};
+    ghost use Rattle.tabled_grid.specs.Calls.{writes_anew};
+    ghost use Rattle.tabled_grid.specs.Writes.{writes_made, Stays};
+    ghost use Rattle.std.specs.Prelude.{List, ◌++◌};
+
+    /// The events of the writes, in their order.
+    ghost events: { Self → List (Event T) };
+
+    /// Once they are made, whether the group has what leads from the second store back to the first.
+    ghost leads_back: { Self → State T → State T → Type 0 };
+
+    /// Makes the writes; the group then has what stood there before. Where memory is refused the store is as it was.
+    fn exchange(&mut self, store: &mut Layers<T>) -> Result<(), OutOfMemory>
+        ensures ok { OnOk result (Changes (events self.old) (state_at store.old) (state_at store.new)) }
+        ensures back { OnOk result (leads_back self.new store.old store.new) }
+        ensures stays { OnOk result (Stays (state_at store.old) (state_at store.new)) }
+        ensures err { OnErr result (store.new ≡ store.old) }
+        ensures absent { OnErr result (IsTrue (writes_anew (state_at store.old) (events self.old))) };
+
+    /// Puts back what the writes replaced, which takes no memory.
+    fn put_back(&mut self, store: &mut Layers<T>)
+        ensures { (before : State T) → leads_back self.old before store.old → store.new ≡ before };
+
+    /// Adds the writes to a list.
+    fn add_to(self, list: &mut Vec<Write<T>>) -> Result<(), OutOfMemory>
+        ensures { OnOk result (writes_made list.new.items ≡ writes_made list.old.items ++ events self) };
+}
+
+/// One write; once made it has what stood there before, or no target where nothing was written.
+impl<T: Drop> Group<T> for Write<T> {
+    ghost use Rattle.tabled_grid.specs.Writes.{writes_made, PutsBack};
+
+    ghost events = { λ entry. writes_made (entry ∷ []) };
+
+    ghost leads_back = { λ entry. PutsBack entry.target entry.value };
+
+    fn exchange(&mut self, store: &mut Layers<T>) -> Result<(), OutOfMemory> {
+        let Some(target) = self.target else {
+            return Ok(());
+        };
+        let Some(value) = self.value.take() else {
+            self.target = None;
+            return Ok(());
+        };
+        self.value = store.replace(target, value)?;
+        Ok(())
+    }
+
+    fn put_back(&mut self, store: &mut Layers<T>) {
+        match self.target {
+            Some(target) => store.put_back_at(target, self.value.take()),
+            None => {}
+        }
+    }
+
+    fn add_to(self, list: &mut Vec<Write<T>>) -> Result<(), OutOfMemory> {
+        if self.target.is_some() {
+            list.push(self)?;
+        }
+        Ok(())
+    }
+}
+
+/// One group, and then another.
+impl<T, A: Group<T>, B: Group<T> + Drop> Group<T> for (A, B) {
+    ghost use Rattle.std.specs.Prelude.{◌++◌};
+    ghost use Rattle.tabled_grid.specs.State.{State};
+
+    ghost events = { λ groups. A.events groups.0 ++ B.events groups.1 };
+
+    ghost leads_back = { λ groups old new. (between : State T) × A.leads_back groups.0 old between × B.leads_back groups.1 between new };
+
+    fn exchange(&mut self, store: &mut Layers<T>) -> Result<(), OutOfMemory> {
+        self.0.exchange(store)?;
+        match self.1.exchange(store) {
+            Ok(()) => Ok(()),
+            Err(refused) => {
+                self.0.put_back(store);
+                Err(refused)
+            }
+        }
+    }
+
+    fn put_back(&mut self, store: &mut Layers<T>) {
+        let (first, second) = self;
+        second.put_back(store);
+        first.put_back(store);
+    }
+
+    fn add_to(self, list: &mut Vec<Write<T>>) -> Result<(), OutOfMemory> {
+        self.0.add_to(list)?;
+        self.1.add_to(list)
+    }
+}
+
+/// A list of writes, in its order; they are put back from its end.
+impl<T: Drop> Group<T> for Vec<Write<T>> {
+    ghost use Rattle.tabled_grid.specs.Writes.{writes_made, PutsBackAll};
+
+    ghost events = { λ writes. writes_made writes.items };
+
+    ghost leads_back = { λ writes. PutsBackAll writes.items };
+
+    fn exchange(&mut self, store: &mut Layers<T>) -> Result<(), OutOfMemory> {
+        let mut made = 0;
+        while made < self.len() {
+            match self[made].exchange(store) {
+                Ok(()) => made += 1,
+                Err(error) => {
+                    self.truncate(made);
+                    self.put_back(store);
+                    return Err(error);
+                }
+            }
+        }
+        Ok(())
+    }
+
+    fn put_back(&mut self, store: &mut Layers<T>) {
+        while let Some(mut entry) = self.pop() {
+            entry.put_back(store);
+        }
+    }
+
+    fn add_to(self, list: &mut Vec<Write<T>>) -> Result<(), OutOfMemory> {
+        let mut writes = self;
+        list.append(&mut writes)?;
+        Ok(())
+    }
+}
+
 impl<T> Layers<T> {
     ghost use Rattle.tabled_grid.specs.Event.{sign, write, erase, these_sites, Changes};
     ghost use Rattle.tabled_grid.specs.Site.{across, down};
@@ -26,80 +160,11 @@ impl<T> Layers<T> {
         ensures absent { OnErr result (IsTrue (writes_anew (state_at self.old) (writes_made writes.items))) }
     {
         let mut list = writes;
-        self.exchange_all(&mut list)
-    }
-
-    /// Makes the writes of a list; each entry then has what stood there before. Where memory is refused nothing changes
-    /// but the list.
-    pub(super) fn exchange_all(&mut self, writes: &mut Vec<Write<T>>) -> Result<(), OutOfMemory>
-    where
-        T: Drop,
-        ensures ok { OnOk result (Changes (writes_made writes.old.items) (state_at self.old) (state_at self.new)) }
-        ensures back { OnOk result (PutsBackAll writes.new.items self.old self.new) }
-        ensures err { OnErr result (self.new ≡ self.old) }
-        ensures absent { OnErr result (IsTrue (writes_anew (state_at self.old) (writes_made writes.old.items))) }
-    {
-        let mut made = 0;
-        while made < writes.len() {
-            match self.exchange(&mut writes[made]) {
-                Ok(()) => made += 1,
-                Err(error) => {
-                    writes.truncate(made);
-                    self.put_all_back(writes);
-                    return Err(error);
-                }
-            }
-        }
-        Ok(())
-    }
-
-    /// Makes one write; its entry then has what stood there before, or no target where nothing was written.
-    fn exchange(&mut self, entry: &mut Write<T>) -> Result<(), OutOfMemory>
-    where
-        T: Drop,
-        ensures ok { OnOk result (Changes (writes_made (entry.old ∷ [])) (state_at self.old) (state_at self.new)) }
-        ensures back { OnOk result (PutsBack entry.new.target entry.new.value self.old self.new) }
-        ensures stays { OnOk result (Stays (state_at self.old) (state_at self.new)) }
-        ensures err { OnErr result (self.new ≡ self.old) }
-        ensures absent { OnErr result (IsTrue (writes_anew (state_at self.old) (writes_made (entry.old ∷ [])))) }
-    {
-        let Some(target) = entry.target else {
-            return Ok(());
-        };
-        let Some(value) = entry.value.take() else {
-            entry.target = None;
-            return Ok(());
-        };
-        entry.value = self.replace(target, value)?;
-        Ok(())
-    }
-
-    /// Puts back what the writes of a list replaced, the last one first, which takes no memory.
-    pub(super) fn put_all_back(&mut self, writes: &mut Vec<Write<T>>)
-    where
-        T: Drop,
-        ensures { (before : State T) → PutsBackAll writes.old.items before self.old → self.new ≡ before }
-    {
-        while let Some(entry) = writes.pop() {
-            self.put_back(entry);
-        }
-    }
-
-    /// Puts back what a write replaced, which takes no memory.
-    fn put_back(&mut self, entry: Write<T>)
-    where
-        T: Drop,
-        ensures { (before : State T) → PutsBack entry.target entry.value before self.old → self.new ≡ before }
-    {
-        let Write { target, value } = entry;
-        match target {
-            Some(target) => self.put_back_at(target, value),
-            None => {}
-        }
+        list.exchange(self)
     }
 
     /// Puts back what stood at a target where something stands, which takes no memory.
-    pub(super) fn put_back_at(&mut self, target: Target, before: Option<T>)
+    fn put_back_at(&mut self, target: Target, before: Option<T>)
     where
         T: Drop,
         ensures { (old : State T) → PutsBackAt (site_of target) before old self.old → self.new ≡ old }
@@ -250,11 +315,11 @@ impl<A: Drop> Layers<A> {
         ensures absent { OnErr result (IsTrue (writes_anew (state_at self.old) (writes_made writes.items) || writes_anew (state_at other.old) (writes_made others.items))) }
     {
         let mut writes = writes;
-        self.exchange_all(&mut writes)?;
+        writes.exchange(self)?;
         match other.write_all(others) {
             Ok(()) => Ok(()),
             Err(error) => {
-                self.put_all_back(&mut writes);
+                writes.put_back(self);
                 Err(error)
             }
         }

@@ -2,15 +2,15 @@ use Rattle.std.proofs.Common.{◌++◌, ap, sym, ◌∙◌, append_assoc}
 use Rattle.std.proofs.lemmas.List.{append-nil}
 use Rattle.tabled_grid.specs.Calls.{border_set, borders_of}
 use Rattle.tabled_grid.specs.Writes.{writes_made}
-use Rattle.tabled_grid.proofs.EntityBorders.{borders_inside, borders_outside, no_borders_left, some_inside, none_after}
+use Rattle.tabled_grid.proofs.EntityBorders.{eight_made, borders_inside, borders_outside, no_borders_left, some_inside, none_after}
 use Rattle.tabled_grid.proofs.layers.entity_border.add_borders.Goals as goal
 
 pub returns-in_err-copy-clause-without_cells : goal.returns-in_err-copy-clause-without_cells
 returns-in_err-copy-clause-without_cells g c = λ none.
     absurd (some_inside c.args.shape.0 c.args.shape.1 c.in-Some.pos c.next.new.self c.loop-pos.pos-iterator c.in-Some.ensures.steps (sym c.is_inside.ensures ∙ c.if-is_inside.true) (c.loop-pos.invariant.3 none))
 
-pub returns-in_err-add_border-clause-without_cells : goal.returns-in_err-add_border-clause-without_cells
-returns-in_err-add_border-clause-without_cells g c = λ none.
+pub returns-in_err-add_to-clause-without_cells : goal.returns-in_err-add_to-clause-without_cells
+returns-in_err-add_to-clause-without_cells g c = λ none.
     absurd (some_inside c.args.shape.0 c.args.shape.1 c.in-Some.pos c.next.new.self c.loop-pos.pos-iterator c.in-Some.ensures.steps (sym c.is_inside.ensures ∙ c.if-is_inside.true) (c.loop-pos.invariant.3 none))
 
 pub loop-pos-preserved-in-Continue-branch-2 : goal.loop-pos-preserved-in-Continue-branch-2
@@ -18,7 +18,7 @@ loop-pos-preserved-in-Continue-branch-2 g c =
     let rest = borders_of c.args.shape c.args.border.now c.next.new.self in (
       tt,
       tt,
-      (ap (λ es. es ++ rest) (c.in_ok-add_border.ensures ∙ ap (λ border. writes_made c.loop-pos.writes.items ++ border_set c.in-Some.pos border) c.in_ok-copy.ensures)
+      (ap (λ es. es ++ rest) (c.in_ok-add_to.ensures ∙ ap (λ es. writes_made c.loop-pos.writes.items ++ es) (eight_made _ _ _ _ _ _ _ _ ∙ c.writes_around.ensures) ∙ ap (λ border. writes_made c.loop-pos.writes.items ++ border_set c.in-Some.pos border) c.in_ok-copy.ensures)
           ∙ append_assoc (writes_made c.loop-pos.writes.items) (border_set c.in-Some.pos c.args.border.now) rest
           ∙ ap (λ es. writes_made c.loop-pos.writes.items ++ es) (sym (borders_inside c.args.shape.0 c.args.shape.1 c.args.border.now c.in-Some.pos c.next.new.self (sym c.is_inside.ensures ∙ c.if-is_inside.true)) ∙ ap (borders_of c.args.shape c.args.border.now) (sym c.in-Some.ensures.steps))
           ∙ c.loop-pos.invariant.2),
