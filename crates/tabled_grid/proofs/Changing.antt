@@ -2,25 +2,26 @@
 use Rattle.std.proofs.Common.{◌≡◌, ℕ, Bool, true, false, cond, ◌&&◌, ◌||◌, ◌==◌, Option, Some, None, [], ◌∷◌, refl, sym, ap, ◌∙◌, option_and_then}
 use Rattle.std.specs.Option.{option_map}
 use Rattle.std.specs.Ordering.{nat_cmp}
-use Rattle.std.specs.Cmp.{nat_cmp_total}
+use Rattle.std.specs.Cmp.{IsTotalOrder, nat_cmp_total}
+use Rattle.std.specs.Ordering.{eq_by_cmp}
+use Rattle.std.specs.declared.cmp.Ordering.{Ordering}
 use Rattle.std.specs.FinMap as map
 use Rattle.tabled_grid.specs.declared.borders.Borders.{Borders}
 use Rattle.tabled_grid.specs.declared.lines.HorizontalLine.{HorizontalLine}
 use Rattle.tabled_grid.specs.declared.lines.VerticalLine.{VerticalLine}
 use Rattle.tabled_grid.specs.declared.place.LineOf.{LineOf}
-use Rattle.tabled_object.specs.declared.position.Position.{Position}
 use Rattle.tabled_grid.specs.declared.keys.EdgePlace.{EdgePlace}
-use Rattle.tabled_grid.specs.Keys.{position_cmp, edge_place_cmp, positions_total, edge_places_total}
-use Rattle.tabled_grid.specs.Site.{across, down, Class, Part, edge, crossing, Site, the_default, of_class, of_line, at_spot, from_end, from_start, level, same_site}
+use Rattle.tabled_grid.specs.Keys.{spot_cmp, edge_place_cmp, spots_total, edge_places_total, is_same_spot, is_same_edge_place}
+use Rattle.tabled_grid.specs.declared.offset.Offset.{Offset}
+use Rattle.tabled_grid.specs.Site.{Horizontal, Vertical, Spot, Class, Part, Site, the_default, of_class, of_line, at_spot, at_offset, level, same_site, same_spot, same_offset}
 use Rattle.tabled_grid.specs.Event.{Written, sign, Region, level_sites, offset_sites, line_sites, these_sites, within, write, erase, covered, replay, Shows, Changes}
 use Rattle.tabled_grid.specs.Lines.{horizontal_line_set, vertical_line_set}
-use Rattle.tabled_grid.specs.State.{State, state_at, HasNothing, classes, class_writes, class_record_set, position, edge_place, horizontal_part, vertical_part}
+use Rattle.tabled_grid.specs.State.{State, state_at, HasNothing, classes, class_writes, class_record_set, edge_place, horizontal_part, vertical_part}
 use Rattle.tabled_grid.proofs.Replay.{replay-nil, replay_one, replay_cleared}
 use Rattle.tabled_grid.proofs.ClassWrites.{replay_classes, uncovered_other}
 use Rattle.tabled_grid.proofs.Blocks.{is_eq-nat_cmp}
 use Rattle.tabled_grid.proofs.LineWrites.{replay-horizontal_line_set, replay-vertical_line_set, covered-horizontal_line_set, covered-vertical_line_set, number_sym}
 use Rattle.std.proofs.lemmas.Bool.{eqb-true}
-use Rattle.tabled_grid.proofs.Writing.{same_position, same_edge_place}
 
 or-none : (b : Bool) → (b || false) ≡ b
 or-none true = refl
@@ -64,32 +65,17 @@ signs_taken : {T : Type 0} (b : Bool) (o : Option T) → option_map sign (cond b
 signs_taken true o = refl
 signs_taken false o = refl
 
--- a value put at a spot, a value taken there, and those of an edge's numbered places
-spot_put : {T : Type 0} (values : map.FinMap position_cmp T) (p : Position) (v : T) (r c : ℕ) → option_map sign (map.get (map.insert values p v) (position r c)) ≡ cond ((r == p.row) && (c == p.col)) (Some (sign v)) (option_map sign (map.get values (position r c)))
-spot_put values p v r c =
-    ap (option_map sign) (map.get-insert positions_total values p v (position r c) ∙ ap (λ b. cond b (Some v) (map.get values (position r c))) (same_position r c p))
-    ∙ signs_put ((r == p.row) && (c == p.col)) v (map.get values (position r c))
+-- a value put under a key, a value taken there, and none left
+key_put : {K T : Type 0} {R : K → K → Ordering} → IsTotalOrder R → (values : map.FinMap R T) (k : K) (v : T) (q : K) (same : Bool) → eq_by_cmp R q k ≡ same → option_map sign (map.get (map.insert values k v) q) ≡ cond same (Some (sign v)) (option_map sign (map.get values q))
+key_put total values k v q same e =
+    ap (option_map sign) (map.get-insert total values k v q ∙ ap (λ b. cond b (Some v) (map.get values q)) e) ∙ signs_put same v (map.get values q)
 
-spot_taken : {T : Type 0} (values : map.FinMap position_cmp T) (p : Position) (r c : ℕ) → option_map sign (map.get (map.remove values p) (position r c)) ≡ cond (((r == p.row) && (c == p.col)) || false) None (option_map sign (map.get values (position r c)))
-spot_taken values p r c =
-    ap (option_map sign) (map.get-remove positions_total values p (position r c) ∙ ap (λ b. cond b None (map.get values (position r c))) (same_position r c p ∙ sym (or-none ((r == p.row) && (c == p.col)))))
-    ∙ signs_taken (((r == p.row) && (c == p.col)) || false) (map.get values (position r c))
+key_taken : {K T : Type 0} {R : K → K → Ordering} → IsTotalOrder R → (values : map.FinMap R T) (k q : K) (same : Bool) → eq_by_cmp R q k ≡ same → option_map sign (map.get (map.remove values k) q) ≡ cond (same || false) None (option_map sign (map.get values q))
+key_taken total values k q same e =
+    ap (option_map sign) (map.get-remove total values k q ∙ ap (λ b. cond b None (map.get values q)) (e ∙ sym (or-none same))) ∙ signs_taken (same || false) (map.get values q)
 
-offset_put : {T : Type 0} (values : map.FinMap edge_place_cmp T) (p : EdgePlace) (v : T) (r c n : ℕ) → option_map sign (map.get (map.insert values p v) (edge_place r c n)) ≡ cond ((r == p.row) && (c == p.col) && (n == p.number)) (Some (sign v)) (option_map sign (map.get values (edge_place r c n)))
-offset_put values p v r c n =
-    ap (option_map sign) (map.get-insert edge_places_total values p v (edge_place r c n) ∙ ap (λ b. cond b (Some v) (map.get values (edge_place r c n))) (same_edge_place r c n p))
-    ∙ signs_put ((r == p.row) && (c == p.col) && (n == p.number)) v (map.get values (edge_place r c n))
-
-offset_taken : {T : Type 0} (values : map.FinMap edge_place_cmp T) (p : EdgePlace) (r c n : ℕ) → option_map sign (map.get (map.remove values p) (edge_place r c n)) ≡ cond (((r == p.row) && (c == p.col) && (n == p.number)) || false) None (option_map sign (map.get values (edge_place r c n)))
-offset_taken values p r c n =
-    ap (option_map sign) (map.get-remove edge_places_total values p (edge_place r c n) ∙ ap (λ b. cond b None (map.get values (edge_place r c n))) (same_edge_place r c n p ∙ sym (or-none ((r == p.row) && (c == p.col) && (n == p.number)))))
-    ∙ signs_taken (((r == p.row) && (c == p.col) && (n == p.number)) || false) (map.get values (edge_place r c n))
-
-no_spot_left : {T : Type 0} (p : Position) → option_map sign (map.get (map.empty {X = T} {R = position_cmp}) p) ≡ None
-no_spot_left {T} p = ap (option_map sign) (map.get-empty {X = T} position_cmp p)
-
-no_offset_left : {T : Type 0} (p : EdgePlace) → option_map sign (map.get (map.empty {X = T} {R = edge_place_cmp}) p) ≡ None
-no_offset_left {T} p = ap (option_map sign) (map.get-empty {X = T} edge_place_cmp p)
+nothing_left : {K T : Type 0} (R : K → K → Ordering) (q : K) → option_map sign (map.get (map.empty {X = T} {R = R}) q) ≡ None
+nothing_left {T = T} R q = ap (option_map sign) (map.get-empty {X = T} R q)
 
 -- a custom line put under its index, and taken there
 vertical_put : {T : Type 0} (values : map.FinMap nat_cmp (VerticalLine T)) (m : ℕ) (line : VerticalLine T) (n : ℕ) (p : Part) → option_and_then (vertical_part p) (map.get (map.insert values m line) n) ≡ cond (n == m) (vertical_part p line) (option_and_then (vertical_part p) (map.get values n))
@@ -132,383 +118,197 @@ line_put true false k w old e h = absurd cc
 line_put false true k w old e h = absurd cc
 
 default_set_sites : {T : Type 0} (k : State T) (v : T) (q : Site) → state_at (record k { default_value = Some v }) q ≡ cond (same_site q (the_default)) (Some (sign v)) (state_at k q)
-default_set_sites k v (the_default) = refl
+default_set_sites k v the_default = refl
 default_set_sites k v (of_class c) = refl
 default_set_sites k v (of_line (LineOf.Vertical n) p) = refl
 default_set_sites k v (of_line (LineOf.Horizontal n) p) = refl
-default_set_sites k v (at_spot (edge across r c)) = refl
-default_set_sites k v (at_spot (edge down r c)) = refl
-default_set_sites k v (at_spot (crossing r c)) = refl
-default_set_sites k v (from_end across r c n) = refl
-default_set_sites k v (from_end down r c n) = refl
-default_set_sites k v (from_start across r c n) = refl
-default_set_sites k v (from_start down r c n) = refl
+default_set_sites k v (at_spot spot) = refl
+default_set_sites k v (at_offset Horizontal r c o) = refl
+default_set_sites k v (at_offset Vertical r c o) = refl
 
 -- the default written
-pub default_set : {T : Type 0} (k : State T) (v : T) → Changes (write the_default (sign v) ∷ []) (state_at k) (state_at (record k { default_value = Some v }))
+pub default_set : {T : Type 0} (k : State T) (v : T) → Changes (write (the_default) (sign v) ∷ []) (state_at k) (state_at (record k { default_value = Some v }))
 default_set k v = one_write (the_default) (sign v) (state_at k) (state_at (record k { default_value = Some v })) (default_set_sites k v)
 
 default_erased_sites : {T : Type 0} (k : State T) (q : Site) → state_at (record k { default_value = None }) q ≡ cond (within (level_sites 0) q) None (state_at k q)
-default_erased_sites k (the_default) = refl
+default_erased_sites k the_default = refl
 default_erased_sites k (of_class c) = refl
 default_erased_sites k (of_line (LineOf.Vertical n) p) = refl
 default_erased_sites k (of_line (LineOf.Horizontal n) p) = refl
-default_erased_sites k (at_spot (edge across r c)) = refl
-default_erased_sites k (at_spot (edge down r c)) = refl
-default_erased_sites k (at_spot (crossing r c)) = refl
-default_erased_sites k (from_end across r c n) = refl
-default_erased_sites k (from_end down r c n) = refl
-default_erased_sites k (from_start across r c n) = refl
-default_erased_sites k (from_start down r c n) = refl
+default_erased_sites k (at_spot spot) = refl
+default_erased_sites k (at_offset Horizontal r c (Offset.Start n)) = refl
+default_erased_sites k (at_offset Horizontal r c (Offset.End n)) = refl
+default_erased_sites k (at_offset Vertical r c (Offset.Start n)) = refl
+default_erased_sites k (at_offset Vertical r c (Offset.End n)) = refl
 
 -- the default erased
 pub default_erased : {T : Type 0} (k : State T) → Changes (erase (level_sites 0) ∷ []) (state_at k) (state_at (record k { default_value = None }))
 default_erased k = one_erasure (level_sites 0) (state_at k) (state_at (record k { default_value = None })) (default_erased_sites k)
 
 lines_erased_sites : {T : Type 0} (k : State T) (q : Site) → state_at (record k { vertical_lines = map.empty; horizontal_lines = map.empty }) q ≡ cond (within (level_sites 2) q) None (cond (within (level_sites 3) q) None (state_at k q))
-lines_erased_sites k (the_default) = refl
+lines_erased_sites k the_default = refl
 lines_erased_sites k (of_class c) = refl
 lines_erased_sites k (of_line (LineOf.Vertical n) p) = ap (option_and_then (vertical_part p)) (map.get-empty nat_cmp n)
 lines_erased_sites k (of_line (LineOf.Horizontal n) p) = ap (option_and_then (horizontal_part p)) (map.get-empty nat_cmp n)
-lines_erased_sites k (at_spot (edge across r c)) = refl
-lines_erased_sites k (at_spot (edge down r c)) = refl
-lines_erased_sites k (at_spot (crossing r c)) = refl
-lines_erased_sites k (from_end across r c n) = refl
-lines_erased_sites k (from_end down r c n) = refl
-lines_erased_sites k (from_start across r c n) = refl
-lines_erased_sites k (from_start down r c n) = refl
+lines_erased_sites k (at_spot spot) = refl
+lines_erased_sites k (at_offset Horizontal r c (Offset.Start n)) = refl
+lines_erased_sites k (at_offset Horizontal r c (Offset.End n)) = refl
+lines_erased_sites k (at_offset Vertical r c (Offset.Start n)) = refl
+lines_erased_sites k (at_offset Vertical r c (Offset.End n)) = refl
 
 -- all custom lines erased
 pub lines_erased : {T : Type 0} (k : State T) → Changes (erase (level_sites 2) ∷ erase (level_sites 3) ∷ []) (state_at k) (state_at (record k { vertical_lines = map.empty; horizontal_lines = map.empty }))
 lines_erased k = two_erasures (level_sites 2) (level_sites 3) (state_at k) (state_at (record k { vertical_lines = map.empty; horizontal_lines = map.empty })) (lines_erased_sites k)
 
 vertical_line_taken_sites : {T : Type 0} (k : State T) (m : ℕ) (q : Site) → state_at (record k { vertical_lines = map.remove k.vertical_lines m }) q ≡ cond (within (line_sites (LineOf.Vertical m)) q) None (state_at k q)
-vertical_line_taken_sites k m (the_default) = refl
+vertical_line_taken_sites k m the_default = refl
 vertical_line_taken_sites k m (of_class c) = refl
 vertical_line_taken_sites k m (of_line (LineOf.Vertical n) p) = vertical_taken k.vertical_lines m n p
 vertical_line_taken_sites k m (of_line (LineOf.Horizontal n) p) = refl
-vertical_line_taken_sites k m (at_spot (edge across r c)) = refl
-vertical_line_taken_sites k m (at_spot (edge down r c)) = refl
-vertical_line_taken_sites k m (at_spot (crossing r c)) = refl
-vertical_line_taken_sites k m (from_end across r c n) = refl
-vertical_line_taken_sites k m (from_end down r c n) = refl
-vertical_line_taken_sites k m (from_start across r c n) = refl
-vertical_line_taken_sites k m (from_start down r c n) = refl
+vertical_line_taken_sites k m (at_spot spot) = refl
+vertical_line_taken_sites k m (at_offset Horizontal r c o) = refl
+vertical_line_taken_sites k m (at_offset Vertical r c o) = refl
 
 -- a custom vertical line removed
 pub vertical_line_taken : {T : Type 0} (k : State T) (m : ℕ) → Changes (erase (line_sites (LineOf.Vertical m)) ∷ []) (state_at k) (state_at (record k { vertical_lines = map.remove k.vertical_lines m }))
 vertical_line_taken k m = one_erasure (line_sites (LineOf.Vertical m)) (state_at k) (state_at (record k { vertical_lines = map.remove k.vertical_lines m })) (vertical_line_taken_sites k m)
 
 horizontal_line_taken_sites : {T : Type 0} (k : State T) (m : ℕ) (q : Site) → state_at (record k { horizontal_lines = map.remove k.horizontal_lines m }) q ≡ cond (within (line_sites (LineOf.Horizontal m)) q) None (state_at k q)
-horizontal_line_taken_sites k m (the_default) = refl
+horizontal_line_taken_sites k m the_default = refl
 horizontal_line_taken_sites k m (of_class c) = refl
 horizontal_line_taken_sites k m (of_line (LineOf.Vertical n) p) = refl
 horizontal_line_taken_sites k m (of_line (LineOf.Horizontal n) p) = horizontal_taken k.horizontal_lines m n p
-horizontal_line_taken_sites k m (at_spot (edge across r c)) = refl
-horizontal_line_taken_sites k m (at_spot (edge down r c)) = refl
-horizontal_line_taken_sites k m (at_spot (crossing r c)) = refl
-horizontal_line_taken_sites k m (from_end across r c n) = refl
-horizontal_line_taken_sites k m (from_end down r c n) = refl
-horizontal_line_taken_sites k m (from_start across r c n) = refl
-horizontal_line_taken_sites k m (from_start down r c n) = refl
+horizontal_line_taken_sites k m (at_spot spot) = refl
+horizontal_line_taken_sites k m (at_offset Horizontal r c o) = refl
+horizontal_line_taken_sites k m (at_offset Vertical r c o) = refl
 
 -- a custom horizontal line removed
 pub horizontal_line_taken : {T : Type 0} (k : State T) (m : ℕ) → Changes (erase (line_sites (LineOf.Horizontal m)) ∷ []) (state_at k) (state_at (record k { horizontal_lines = map.remove k.horizontal_lines m }))
 horizontal_line_taken k m = one_erasure (line_sites (LineOf.Horizontal m)) (state_at k) (state_at (record k { horizontal_lines = map.remove k.horizontal_lines m })) (horizontal_line_taken_sites k m)
 
-edge_across_set_sites : {T : Type 0} (k : State T) (spot : Position) (v : T) (q : Site) → state_at (record k { edges_across = map.insert k.edges_across spot v }) q ≡ cond (same_site q (at_spot (edge across spot.row spot.col))) (Some (sign v)) (state_at k q)
-edge_across_set_sites k spot v (the_default) = refl
-edge_across_set_sites k spot v (of_class c) = refl
-edge_across_set_sites k spot v (of_line (LineOf.Vertical n) p) = refl
-edge_across_set_sites k spot v (of_line (LineOf.Horizontal n) p) = refl
-edge_across_set_sites k spot v (at_spot (edge across r c)) = spot_put k.edges_across spot v r c
-edge_across_set_sites k spot v (at_spot (edge down r c)) = refl
-edge_across_set_sites k spot v (at_spot (crossing r c)) = refl
-edge_across_set_sites k spot v (from_end across r c n) = refl
-edge_across_set_sites k spot v (from_end down r c n) = refl
-edge_across_set_sites k spot v (from_start across r c n) = refl
-edge_across_set_sites k spot v (from_start down r c n) = refl
+cell_set_sites : {T : Type 0} (k : State T) (at : Spot) (v : T) (q : Site) → state_at (record k { cells = map.insert k.cells at v }) q ≡ cond (same_site q (at_spot at)) (Some (sign v)) (state_at k q)
+cell_set_sites k at v the_default = refl
+cell_set_sites k at v (of_class c) = refl
+cell_set_sites k at v (of_line (LineOf.Vertical n) p) = refl
+cell_set_sites k at v (of_line (LineOf.Horizontal n) p) = refl
+cell_set_sites k at v (at_spot spot) = key_put spots_total k.cells at v spot (same_spot spot at) (is_same_spot spot at)
+cell_set_sites k at v (at_offset Horizontal r c o) = refl
+cell_set_sites k at v (at_offset Vertical r c o) = refl
 
--- a cell's character written at an edge of a horizontal line
-pub edge_across_set : {T : Type 0} (k : State T) (spot : Position) (v : T) → Changes (write (at_spot (edge across spot.row spot.col)) (sign v) ∷ []) (state_at k) (state_at (record k { edges_across = map.insert k.edges_across spot v }))
-edge_across_set k spot v = one_write (at_spot (edge across spot.row spot.col)) (sign v) (state_at k) (state_at (record k { edges_across = map.insert k.edges_across spot v })) (edge_across_set_sites k spot v)
+-- a value written at an edge or a crossing
+pub cell_set : {T : Type 0} (k : State T) (at : Spot) (v : T) → Changes (write (at_spot at) (sign v) ∷ []) (state_at k) (state_at (record k { cells = map.insert k.cells at v }))
+cell_set k at v = one_write (at_spot at) (sign v) (state_at k) (state_at (record k { cells = map.insert k.cells at v })) (cell_set_sites k at v)
 
-edge_across_erased_sites : {T : Type 0} (k : State T) (spot : Position) (q : Site) → state_at (record k { edges_across = map.remove k.edges_across spot }) q ≡ cond (within (these_sites (at_spot (edge across spot.row spot.col) ∷ [])) q) None (state_at k q)
-edge_across_erased_sites k spot (the_default) = refl
-edge_across_erased_sites k spot (of_class c) = refl
-edge_across_erased_sites k spot (of_line (LineOf.Vertical n) p) = refl
-edge_across_erased_sites k spot (of_line (LineOf.Horizontal n) p) = refl
-edge_across_erased_sites k spot (at_spot (edge across r c)) = spot_taken k.edges_across spot r c
-edge_across_erased_sites k spot (at_spot (edge down r c)) = refl
-edge_across_erased_sites k spot (at_spot (crossing r c)) = refl
-edge_across_erased_sites k spot (from_end across r c n) = refl
-edge_across_erased_sites k spot (from_end down r c n) = refl
-edge_across_erased_sites k spot (from_start across r c n) = refl
-edge_across_erased_sites k spot (from_start down r c n) = refl
+cell_erased_sites : {T : Type 0} (k : State T) (at : Spot) (q : Site) → state_at (record k { cells = map.remove k.cells at }) q ≡ cond (within (these_sites (at_spot at ∷ [])) q) None (state_at k q)
+cell_erased_sites k at the_default = refl
+cell_erased_sites k at (of_class c) = refl
+cell_erased_sites k at (of_line (LineOf.Vertical n) p) = refl
+cell_erased_sites k at (of_line (LineOf.Horizontal n) p) = refl
+cell_erased_sites k at (at_spot spot) = key_taken spots_total k.cells at spot (same_spot spot at) (is_same_spot spot at)
+cell_erased_sites k at (at_offset Horizontal r c o) = refl
+cell_erased_sites k at (at_offset Vertical r c o) = refl
 
--- a cell's character erased at an edge of a horizontal line
-pub edge_across_erased : {T : Type 0} (k : State T) (spot : Position) → Changes (erase (these_sites (at_spot (edge across spot.row spot.col) ∷ [])) ∷ []) (state_at k) (state_at (record k { edges_across = map.remove k.edges_across spot }))
-edge_across_erased k spot = one_erasure (these_sites (at_spot (edge across spot.row spot.col) ∷ [])) (state_at k) (state_at (record k { edges_across = map.remove k.edges_across spot })) (edge_across_erased_sites k spot)
+-- a value erased there
+pub cell_erased : {T : Type 0} (k : State T) (at : Spot) → Changes (erase (these_sites (at_spot at ∷ [])) ∷ []) (state_at k) (state_at (record k { cells = map.remove k.cells at }))
+cell_erased k at = one_erasure (these_sites (at_spot at ∷ [])) (state_at k) (state_at (record k { cells = map.remove k.cells at })) (cell_erased_sites k at)
 
-edge_down_set_sites : {T : Type 0} (k : State T) (spot : Position) (v : T) (q : Site) → state_at (record k { edges_down = map.insert k.edges_down spot v }) q ≡ cond (same_site q (at_spot (edge down spot.row spot.col))) (Some (sign v)) (state_at k q)
-edge_down_set_sites k spot v (the_default) = refl
-edge_down_set_sites k spot v (of_class c) = refl
-edge_down_set_sites k spot v (of_line (LineOf.Vertical n) p) = refl
-edge_down_set_sites k spot v (of_line (LineOf.Horizontal n) p) = refl
-edge_down_set_sites k spot v (at_spot (edge across r c)) = refl
-edge_down_set_sites k spot v (at_spot (edge down r c)) = spot_put k.edges_down spot v r c
-edge_down_set_sites k spot v (at_spot (crossing r c)) = refl
-edge_down_set_sites k spot v (from_end across r c n) = refl
-edge_down_set_sites k spot v (from_end down r c n) = refl
-edge_down_set_sites k spot v (from_start across r c n) = refl
-edge_down_set_sites k spot v (from_start down r c n) = refl
-
--- a cell's character written at an edge of a vertical line
-pub edge_down_set : {T : Type 0} (k : State T) (spot : Position) (v : T) → Changes (write (at_spot (edge down spot.row spot.col)) (sign v) ∷ []) (state_at k) (state_at (record k { edges_down = map.insert k.edges_down spot v }))
-edge_down_set k spot v = one_write (at_spot (edge down spot.row spot.col)) (sign v) (state_at k) (state_at (record k { edges_down = map.insert k.edges_down spot v })) (edge_down_set_sites k spot v)
-
-edge_down_erased_sites : {T : Type 0} (k : State T) (spot : Position) (q : Site) → state_at (record k { edges_down = map.remove k.edges_down spot }) q ≡ cond (within (these_sites (at_spot (edge down spot.row spot.col) ∷ [])) q) None (state_at k q)
-edge_down_erased_sites k spot (the_default) = refl
-edge_down_erased_sites k spot (of_class c) = refl
-edge_down_erased_sites k spot (of_line (LineOf.Vertical n) p) = refl
-edge_down_erased_sites k spot (of_line (LineOf.Horizontal n) p) = refl
-edge_down_erased_sites k spot (at_spot (edge across r c)) = refl
-edge_down_erased_sites k spot (at_spot (edge down r c)) = spot_taken k.edges_down spot r c
-edge_down_erased_sites k spot (at_spot (crossing r c)) = refl
-edge_down_erased_sites k spot (from_end across r c n) = refl
-edge_down_erased_sites k spot (from_end down r c n) = refl
-edge_down_erased_sites k spot (from_start across r c n) = refl
-edge_down_erased_sites k spot (from_start down r c n) = refl
-
--- a cell's character erased at an edge of a vertical line
-pub edge_down_erased : {T : Type 0} (k : State T) (spot : Position) → Changes (erase (these_sites (at_spot (edge down spot.row spot.col) ∷ [])) ∷ []) (state_at k) (state_at (record k { edges_down = map.remove k.edges_down spot }))
-edge_down_erased k spot = one_erasure (these_sites (at_spot (edge down spot.row spot.col) ∷ [])) (state_at k) (state_at (record k { edges_down = map.remove k.edges_down spot })) (edge_down_erased_sites k spot)
-
-crossing_set_sites : {T : Type 0} (k : State T) (spot : Position) (v : T) (q : Site) → state_at (record k { crosses = map.insert k.crosses spot v }) q ≡ cond (same_site q (at_spot (crossing spot.row spot.col))) (Some (sign v)) (state_at k q)
-crossing_set_sites k spot v (the_default) = refl
-crossing_set_sites k spot v (of_class c) = refl
-crossing_set_sites k spot v (of_line (LineOf.Vertical n) p) = refl
-crossing_set_sites k spot v (of_line (LineOf.Horizontal n) p) = refl
-crossing_set_sites k spot v (at_spot (edge across r c)) = refl
-crossing_set_sites k spot v (at_spot (edge down r c)) = refl
-crossing_set_sites k spot v (at_spot (crossing r c)) = spot_put k.crosses spot v r c
-crossing_set_sites k spot v (from_end across r c n) = refl
-crossing_set_sites k spot v (from_end down r c n) = refl
-crossing_set_sites k spot v (from_start across r c n) = refl
-crossing_set_sites k spot v (from_start down r c n) = refl
-
--- a cell's character written at a crossing
-pub crossing_set : {T : Type 0} (k : State T) (spot : Position) (v : T) → Changes (write (at_spot (crossing spot.row spot.col)) (sign v) ∷ []) (state_at k) (state_at (record k { crosses = map.insert k.crosses spot v }))
-crossing_set k spot v = one_write (at_spot (crossing spot.row spot.col)) (sign v) (state_at k) (state_at (record k { crosses = map.insert k.crosses spot v })) (crossing_set_sites k spot v)
-
-crossing_erased_sites : {T : Type 0} (k : State T) (spot : Position) (q : Site) → state_at (record k { crosses = map.remove k.crosses spot }) q ≡ cond (within (these_sites (at_spot (crossing spot.row spot.col) ∷ [])) q) None (state_at k q)
-crossing_erased_sites k spot (the_default) = refl
-crossing_erased_sites k spot (of_class c) = refl
-crossing_erased_sites k spot (of_line (LineOf.Vertical n) p) = refl
-crossing_erased_sites k spot (of_line (LineOf.Horizontal n) p) = refl
-crossing_erased_sites k spot (at_spot (edge across r c)) = refl
-crossing_erased_sites k spot (at_spot (edge down r c)) = refl
-crossing_erased_sites k spot (at_spot (crossing r c)) = spot_taken k.crosses spot r c
-crossing_erased_sites k spot (from_end across r c n) = refl
-crossing_erased_sites k spot (from_end down r c n) = refl
-crossing_erased_sites k spot (from_start across r c n) = refl
-crossing_erased_sites k spot (from_start down r c n) = refl
-
--- a cell's character erased at a crossing
-pub crossing_erased : {T : Type 0} (k : State T) (spot : Position) → Changes (erase (these_sites (at_spot (crossing spot.row spot.col) ∷ [])) ∷ []) (state_at k) (state_at (record k { crosses = map.remove k.crosses spot }))
-crossing_erased k spot = one_erasure (these_sites (at_spot (crossing spot.row spot.col) ∷ [])) (state_at k) (state_at (record k { crosses = map.remove k.crosses spot })) (crossing_erased_sites k spot)
-
-cells_erased_sites : {T : Type 0} (k : State T) (q : Site) → state_at (record k { edges_across = map.empty; edges_down = map.empty; crosses = map.empty }) q ≡ cond (within (level_sites 4) q) None (state_at k q)
-cells_erased_sites k (the_default) = refl
+cells_erased_sites : {T : Type 0} (k : State T) (q : Site) → state_at (record k { cells = map.empty }) q ≡ cond (within (level_sites 4) q) None (state_at k q)
+cells_erased_sites k the_default = refl
 cells_erased_sites k (of_class c) = refl
 cells_erased_sites k (of_line (LineOf.Vertical n) p) = refl
 cells_erased_sites k (of_line (LineOf.Horizontal n) p) = refl
-cells_erased_sites k (at_spot (edge across r c)) = no_spot_left (position r c)
-cells_erased_sites k (at_spot (edge down r c)) = no_spot_left (position r c)
-cells_erased_sites k (at_spot (crossing r c)) = no_spot_left (position r c)
-cells_erased_sites k (from_end across r c n) = refl
-cells_erased_sites k (from_end down r c n) = refl
-cells_erased_sites k (from_start across r c n) = refl
-cells_erased_sites k (from_start down r c n) = refl
+cells_erased_sites k (at_spot spot) = nothing_left spot_cmp spot
+cells_erased_sites k (at_offset Horizontal r c (Offset.Start n)) = refl
+cells_erased_sites k (at_offset Horizontal r c (Offset.End n)) = refl
+cells_erased_sites k (at_offset Vertical r c (Offset.Start n)) = refl
+cells_erased_sites k (at_offset Vertical r c (Offset.End n)) = refl
 
--- all cells' characters erased
-pub cells_erased : {T : Type 0} (k : State T) → Changes (erase (level_sites 4) ∷ []) (state_at k) (state_at (record k { edges_across = map.empty; edges_down = map.empty; crosses = map.empty }))
-cells_erased k = one_erasure (level_sites 4) (state_at k) (state_at (record k { edges_across = map.empty; edges_down = map.empty; crosses = map.empty })) (cells_erased_sites k)
+-- the whole cell level erased
+pub cells_erased : {T : Type 0} (k : State T) → Changes (erase (level_sites 4) ∷ []) (state_at k) (state_at (record k { cells = map.empty }))
+cells_erased k = one_erasure (level_sites 4) (state_at k) (state_at (record k { cells = map.empty })) (cells_erased_sites k)
 
-end_across_set_sites : {T : Type 0} (k : State T) (spot : EdgePlace) (v : T) (q : Site) → state_at (record k { ends_across = map.insert k.ends_across spot v }) q ≡ cond (same_site q (from_end across spot.row spot.col spot.number)) (Some (sign v)) (state_at k q)
-end_across_set_sites k spot v (the_default) = refl
-end_across_set_sites k spot v (of_class c) = refl
-end_across_set_sites k spot v (of_line (LineOf.Vertical n) p) = refl
-end_across_set_sites k spot v (of_line (LineOf.Horizontal n) p) = refl
-end_across_set_sites k spot v (at_spot (edge across r c)) = refl
-end_across_set_sites k spot v (at_spot (edge down r c)) = refl
-end_across_set_sites k spot v (at_spot (crossing r c)) = refl
-end_across_set_sites k spot v (from_end across r c n) = offset_put k.ends_across spot v r c n
-end_across_set_sites k spot v (from_end down r c n) = refl
-end_across_set_sites k spot v (from_start across r c n) = refl
-end_across_set_sites k spot v (from_start down r c n) = refl
+horizontal_offset_set_sites : {T : Type 0} (k : State T) (at : EdgePlace) (v : T) (q : Site) → state_at (record k { horizontal_offsets = map.insert k.horizontal_offsets at v }) q ≡ cond (same_site q (at_offset Horizontal at.row at.col at.offset)) (Some (sign v)) (state_at k q)
+horizontal_offset_set_sites k at v the_default = refl
+horizontal_offset_set_sites k at v (of_class c) = refl
+horizontal_offset_set_sites k at v (of_line (LineOf.Vertical n) p) = refl
+horizontal_offset_set_sites k at v (of_line (LineOf.Horizontal n) p) = refl
+horizontal_offset_set_sites k at v (at_spot spot) = refl
+horizontal_offset_set_sites k at v (at_offset Horizontal r c o) = key_put edge_places_total k.horizontal_offsets at v (edge_place r c o) ((r == at.row) && (c == at.col) && same_offset o at.offset) (is_same_edge_place (edge_place r c o) at)
+horizontal_offset_set_sites k at v (at_offset Vertical r c o) = refl
 
--- an offset written, counted from the end of an edge of a horizontal line
-pub end_across_set : {T : Type 0} (k : State T) (spot : EdgePlace) (v : T) → Changes (write (from_end across spot.row spot.col spot.number) (sign v) ∷ []) (state_at k) (state_at (record k { ends_across = map.insert k.ends_across spot v }))
-end_across_set k spot v = one_write (from_end across spot.row spot.col spot.number) (sign v) (state_at k) (state_at (record k { ends_across = map.insert k.ends_across spot v })) (end_across_set_sites k spot v)
+-- an offset written on an edge of a horizontal line
+pub horizontal_offset_set : {T : Type 0} (k : State T) (at : EdgePlace) (v : T) → Changes (write (at_offset Horizontal at.row at.col at.offset) (sign v) ∷ []) (state_at k) (state_at (record k { horizontal_offsets = map.insert k.horizontal_offsets at v }))
+horizontal_offset_set k at v = one_write (at_offset Horizontal at.row at.col at.offset) (sign v) (state_at k) (state_at (record k { horizontal_offsets = map.insert k.horizontal_offsets at v })) (horizontal_offset_set_sites k at v)
 
-end_down_set_sites : {T : Type 0} (k : State T) (spot : EdgePlace) (v : T) (q : Site) → state_at (record k { ends_down = map.insert k.ends_down spot v }) q ≡ cond (same_site q (from_end down spot.row spot.col spot.number)) (Some (sign v)) (state_at k q)
-end_down_set_sites k spot v (the_default) = refl
-end_down_set_sites k spot v (of_class c) = refl
-end_down_set_sites k spot v (of_line (LineOf.Vertical n) p) = refl
-end_down_set_sites k spot v (of_line (LineOf.Horizontal n) p) = refl
-end_down_set_sites k spot v (at_spot (edge across r c)) = refl
-end_down_set_sites k spot v (at_spot (edge down r c)) = refl
-end_down_set_sites k spot v (at_spot (crossing r c)) = refl
-end_down_set_sites k spot v (from_end across r c n) = refl
-end_down_set_sites k spot v (from_end down r c n) = offset_put k.ends_down spot v r c n
-end_down_set_sites k spot v (from_start across r c n) = refl
-end_down_set_sites k spot v (from_start down r c n) = refl
+horizontal_offset_erased_sites : {T : Type 0} (k : State T) (at : EdgePlace) (q : Site) → state_at (record k { horizontal_offsets = map.remove k.horizontal_offsets at }) q ≡ cond (within (these_sites (at_offset Horizontal at.row at.col at.offset ∷ [])) q) None (state_at k q)
+horizontal_offset_erased_sites k at the_default = refl
+horizontal_offset_erased_sites k at (of_class c) = refl
+horizontal_offset_erased_sites k at (of_line (LineOf.Vertical n) p) = refl
+horizontal_offset_erased_sites k at (of_line (LineOf.Horizontal n) p) = refl
+horizontal_offset_erased_sites k at (at_spot spot) = refl
+horizontal_offset_erased_sites k at (at_offset Horizontal r c o) = key_taken edge_places_total k.horizontal_offsets at (edge_place r c o) ((r == at.row) && (c == at.col) && same_offset o at.offset) (is_same_edge_place (edge_place r c o) at)
+horizontal_offset_erased_sites k at (at_offset Vertical r c o) = refl
 
--- an offset written, counted from the end of an edge of a vertical line
-pub end_down_set : {T : Type 0} (k : State T) (spot : EdgePlace) (v : T) → Changes (write (from_end down spot.row spot.col spot.number) (sign v) ∷ []) (state_at k) (state_at (record k { ends_down = map.insert k.ends_down spot v }))
-end_down_set k spot v = one_write (from_end down spot.row spot.col spot.number) (sign v) (state_at k) (state_at (record k { ends_down = map.insert k.ends_down spot v })) (end_down_set_sites k spot v)
+-- and erased there
+pub horizontal_offset_erased : {T : Type 0} (k : State T) (at : EdgePlace) → Changes (erase (these_sites (at_offset Horizontal at.row at.col at.offset ∷ [])) ∷ []) (state_at k) (state_at (record k { horizontal_offsets = map.remove k.horizontal_offsets at }))
+horizontal_offset_erased k at = one_erasure (these_sites (at_offset Horizontal at.row at.col at.offset ∷ [])) (state_at k) (state_at (record k { horizontal_offsets = map.remove k.horizontal_offsets at })) (horizontal_offset_erased_sites k at)
 
-start_across_set_sites : {T : Type 0} (k : State T) (spot : EdgePlace) (v : T) (q : Site) → state_at (record k { starts_across = map.insert k.starts_across spot v }) q ≡ cond (same_site q (from_start across spot.row spot.col spot.number)) (Some (sign v)) (state_at k q)
-start_across_set_sites k spot v (the_default) = refl
-start_across_set_sites k spot v (of_class c) = refl
-start_across_set_sites k spot v (of_line (LineOf.Vertical n) p) = refl
-start_across_set_sites k spot v (of_line (LineOf.Horizontal n) p) = refl
-start_across_set_sites k spot v (at_spot (edge across r c)) = refl
-start_across_set_sites k spot v (at_spot (edge down r c)) = refl
-start_across_set_sites k spot v (at_spot (crossing r c)) = refl
-start_across_set_sites k spot v (from_end across r c n) = refl
-start_across_set_sites k spot v (from_end down r c n) = refl
-start_across_set_sites k spot v (from_start across r c n) = offset_put k.starts_across spot v r c n
-start_across_set_sites k spot v (from_start down r c n) = refl
+horizontal_offsets_erased_sites : {T : Type 0} (k : State T) (q : Site) → state_at (record k { horizontal_offsets = map.empty }) q ≡ cond (within (offset_sites Horizontal) q) None (state_at k q)
+horizontal_offsets_erased_sites k the_default = refl
+horizontal_offsets_erased_sites k (of_class c) = refl
+horizontal_offsets_erased_sites k (of_line (LineOf.Vertical n) p) = refl
+horizontal_offsets_erased_sites k (of_line (LineOf.Horizontal n) p) = refl
+horizontal_offsets_erased_sites k (at_spot spot) = refl
+horizontal_offsets_erased_sites k (at_offset Horizontal r c o) = nothing_left edge_place_cmp (edge_place r c o)
+horizontal_offsets_erased_sites k (at_offset Vertical r c o) = refl
 
--- an offset written, counted from the start of an edge of a horizontal line
-pub start_across_set : {T : Type 0} (k : State T) (spot : EdgePlace) (v : T) → Changes (write (from_start across spot.row spot.col spot.number) (sign v) ∷ []) (state_at k) (state_at (record k { starts_across = map.insert k.starts_across spot v }))
-start_across_set k spot v = one_write (from_start across spot.row spot.col spot.number) (sign v) (state_at k) (state_at (record k { starts_across = map.insert k.starts_across spot v })) (start_across_set_sites k spot v)
+-- all offsets on the edges of horizontal lines erased
+pub horizontal_offsets_erased : {T : Type 0} (k : State T) → Changes (erase (offset_sites Horizontal) ∷ []) (state_at k) (state_at (record k { horizontal_offsets = map.empty }))
+horizontal_offsets_erased k = one_erasure (offset_sites Horizontal) (state_at k) (state_at (record k { horizontal_offsets = map.empty })) (horizontal_offsets_erased_sites k)
 
-start_down_set_sites : {T : Type 0} (k : State T) (spot : EdgePlace) (v : T) (q : Site) → state_at (record k { starts_down = map.insert k.starts_down spot v }) q ≡ cond (same_site q (from_start down spot.row spot.col spot.number)) (Some (sign v)) (state_at k q)
-start_down_set_sites k spot v (the_default) = refl
-start_down_set_sites k spot v (of_class c) = refl
-start_down_set_sites k spot v (of_line (LineOf.Vertical n) p) = refl
-start_down_set_sites k spot v (of_line (LineOf.Horizontal n) p) = refl
-start_down_set_sites k spot v (at_spot (edge across r c)) = refl
-start_down_set_sites k spot v (at_spot (edge down r c)) = refl
-start_down_set_sites k spot v (at_spot (crossing r c)) = refl
-start_down_set_sites k spot v (from_end across r c n) = refl
-start_down_set_sites k spot v (from_end down r c n) = refl
-start_down_set_sites k spot v (from_start across r c n) = refl
-start_down_set_sites k spot v (from_start down r c n) = offset_put k.starts_down spot v r c n
+vertical_offset_set_sites : {T : Type 0} (k : State T) (at : EdgePlace) (v : T) (q : Site) → state_at (record k { vertical_offsets = map.insert k.vertical_offsets at v }) q ≡ cond (same_site q (at_offset Vertical at.row at.col at.offset)) (Some (sign v)) (state_at k q)
+vertical_offset_set_sites k at v the_default = refl
+vertical_offset_set_sites k at v (of_class c) = refl
+vertical_offset_set_sites k at v (of_line (LineOf.Vertical n) p) = refl
+vertical_offset_set_sites k at v (of_line (LineOf.Horizontal n) p) = refl
+vertical_offset_set_sites k at v (at_spot spot) = refl
+vertical_offset_set_sites k at v (at_offset Horizontal r c o) = refl
+vertical_offset_set_sites k at v (at_offset Vertical r c o) = key_put edge_places_total k.vertical_offsets at v (edge_place r c o) ((r == at.row) && (c == at.col) && same_offset o at.offset) (is_same_edge_place (edge_place r c o) at)
 
--- an offset written, counted from the start of an edge of a vertical line
-pub start_down_set : {T : Type 0} (k : State T) (spot : EdgePlace) (v : T) → Changes (write (from_start down spot.row spot.col spot.number) (sign v) ∷ []) (state_at k) (state_at (record k { starts_down = map.insert k.starts_down spot v }))
-start_down_set k spot v = one_write (from_start down spot.row spot.col spot.number) (sign v) (state_at k) (state_at (record k { starts_down = map.insert k.starts_down spot v })) (start_down_set_sites k spot v)
+-- an offset written on an edge of a vertical line
+pub vertical_offset_set : {T : Type 0} (k : State T) (at : EdgePlace) (v : T) → Changes (write (at_offset Vertical at.row at.col at.offset) (sign v) ∷ []) (state_at k) (state_at (record k { vertical_offsets = map.insert k.vertical_offsets at v }))
+vertical_offset_set k at v = one_write (at_offset Vertical at.row at.col at.offset) (sign v) (state_at k) (state_at (record k { vertical_offsets = map.insert k.vertical_offsets at v })) (vertical_offset_set_sites k at v)
 
-end_across_erased_sites : {T : Type 0} (k : State T) (spot : EdgePlace) (q : Site) → state_at (record k { ends_across = map.remove k.ends_across spot }) q ≡ cond (within (these_sites (from_end across spot.row spot.col spot.number ∷ [])) q) None (state_at k q)
-end_across_erased_sites k spot (the_default) = refl
-end_across_erased_sites k spot (of_class c) = refl
-end_across_erased_sites k spot (of_line (LineOf.Vertical n) p) = refl
-end_across_erased_sites k spot (of_line (LineOf.Horizontal n) p) = refl
-end_across_erased_sites k spot (at_spot (edge across r c)) = refl
-end_across_erased_sites k spot (at_spot (edge down r c)) = refl
-end_across_erased_sites k spot (at_spot (crossing r c)) = refl
-end_across_erased_sites k spot (from_end across r c n) = offset_taken k.ends_across spot r c n
-end_across_erased_sites k spot (from_end down r c n) = refl
-end_across_erased_sites k spot (from_start across r c n) = refl
-end_across_erased_sites k spot (from_start down r c n) = refl
+vertical_offset_erased_sites : {T : Type 0} (k : State T) (at : EdgePlace) (q : Site) → state_at (record k { vertical_offsets = map.remove k.vertical_offsets at }) q ≡ cond (within (these_sites (at_offset Vertical at.row at.col at.offset ∷ [])) q) None (state_at k q)
+vertical_offset_erased_sites k at the_default = refl
+vertical_offset_erased_sites k at (of_class c) = refl
+vertical_offset_erased_sites k at (of_line (LineOf.Vertical n) p) = refl
+vertical_offset_erased_sites k at (of_line (LineOf.Horizontal n) p) = refl
+vertical_offset_erased_sites k at (at_spot spot) = refl
+vertical_offset_erased_sites k at (at_offset Horizontal r c o) = refl
+vertical_offset_erased_sites k at (at_offset Vertical r c o) = key_taken edge_places_total k.vertical_offsets at (edge_place r c o) ((r == at.row) && (c == at.col) && same_offset o at.offset) (is_same_edge_place (edge_place r c o) at)
 
--- an offset erased, counted from the end of an edge of a horizontal line
-pub end_across_erased : {T : Type 0} (k : State T) (spot : EdgePlace) → Changes (erase (these_sites (from_end across spot.row spot.col spot.number ∷ [])) ∷ []) (state_at k) (state_at (record k { ends_across = map.remove k.ends_across spot }))
-end_across_erased k spot = one_erasure (these_sites (from_end across spot.row spot.col spot.number ∷ [])) (state_at k) (state_at (record k { ends_across = map.remove k.ends_across spot })) (end_across_erased_sites k spot)
+-- and erased there
+pub vertical_offset_erased : {T : Type 0} (k : State T) (at : EdgePlace) → Changes (erase (these_sites (at_offset Vertical at.row at.col at.offset ∷ [])) ∷ []) (state_at k) (state_at (record k { vertical_offsets = map.remove k.vertical_offsets at }))
+vertical_offset_erased k at = one_erasure (these_sites (at_offset Vertical at.row at.col at.offset ∷ [])) (state_at k) (state_at (record k { vertical_offsets = map.remove k.vertical_offsets at })) (vertical_offset_erased_sites k at)
 
-end_down_erased_sites : {T : Type 0} (k : State T) (spot : EdgePlace) (q : Site) → state_at (record k { ends_down = map.remove k.ends_down spot }) q ≡ cond (within (these_sites (from_end down spot.row spot.col spot.number ∷ [])) q) None (state_at k q)
-end_down_erased_sites k spot (the_default) = refl
-end_down_erased_sites k spot (of_class c) = refl
-end_down_erased_sites k spot (of_line (LineOf.Vertical n) p) = refl
-end_down_erased_sites k spot (of_line (LineOf.Horizontal n) p) = refl
-end_down_erased_sites k spot (at_spot (edge across r c)) = refl
-end_down_erased_sites k spot (at_spot (edge down r c)) = refl
-end_down_erased_sites k spot (at_spot (crossing r c)) = refl
-end_down_erased_sites k spot (from_end across r c n) = refl
-end_down_erased_sites k spot (from_end down r c n) = offset_taken k.ends_down spot r c n
-end_down_erased_sites k spot (from_start across r c n) = refl
-end_down_erased_sites k spot (from_start down r c n) = refl
+vertical_offsets_erased_sites : {T : Type 0} (k : State T) (q : Site) → state_at (record k { vertical_offsets = map.empty }) q ≡ cond (within (offset_sites Vertical) q) None (state_at k q)
+vertical_offsets_erased_sites k the_default = refl
+vertical_offsets_erased_sites k (of_class c) = refl
+vertical_offsets_erased_sites k (of_line (LineOf.Vertical n) p) = refl
+vertical_offsets_erased_sites k (of_line (LineOf.Horizontal n) p) = refl
+vertical_offsets_erased_sites k (at_spot spot) = refl
+vertical_offsets_erased_sites k (at_offset Horizontal r c o) = refl
+vertical_offsets_erased_sites k (at_offset Vertical r c o) = nothing_left edge_place_cmp (edge_place r c o)
 
--- an offset erased, counted from the end of an edge of a vertical line
-pub end_down_erased : {T : Type 0} (k : State T) (spot : EdgePlace) → Changes (erase (these_sites (from_end down spot.row spot.col spot.number ∷ [])) ∷ []) (state_at k) (state_at (record k { ends_down = map.remove k.ends_down spot }))
-end_down_erased k spot = one_erasure (these_sites (from_end down spot.row spot.col spot.number ∷ [])) (state_at k) (state_at (record k { ends_down = map.remove k.ends_down spot })) (end_down_erased_sites k spot)
-
-start_across_erased_sites : {T : Type 0} (k : State T) (spot : EdgePlace) (q : Site) → state_at (record k { starts_across = map.remove k.starts_across spot }) q ≡ cond (within (these_sites (from_start across spot.row spot.col spot.number ∷ [])) q) None (state_at k q)
-start_across_erased_sites k spot (the_default) = refl
-start_across_erased_sites k spot (of_class c) = refl
-start_across_erased_sites k spot (of_line (LineOf.Vertical n) p) = refl
-start_across_erased_sites k spot (of_line (LineOf.Horizontal n) p) = refl
-start_across_erased_sites k spot (at_spot (edge across r c)) = refl
-start_across_erased_sites k spot (at_spot (edge down r c)) = refl
-start_across_erased_sites k spot (at_spot (crossing r c)) = refl
-start_across_erased_sites k spot (from_end across r c n) = refl
-start_across_erased_sites k spot (from_end down r c n) = refl
-start_across_erased_sites k spot (from_start across r c n) = offset_taken k.starts_across spot r c n
-start_across_erased_sites k spot (from_start down r c n) = refl
-
--- an offset erased, counted from the start of an edge of a horizontal line
-pub start_across_erased : {T : Type 0} (k : State T) (spot : EdgePlace) → Changes (erase (these_sites (from_start across spot.row spot.col spot.number ∷ [])) ∷ []) (state_at k) (state_at (record k { starts_across = map.remove k.starts_across spot }))
-start_across_erased k spot = one_erasure (these_sites (from_start across spot.row spot.col spot.number ∷ [])) (state_at k) (state_at (record k { starts_across = map.remove k.starts_across spot })) (start_across_erased_sites k spot)
-
-start_down_erased_sites : {T : Type 0} (k : State T) (spot : EdgePlace) (q : Site) → state_at (record k { starts_down = map.remove k.starts_down spot }) q ≡ cond (within (these_sites (from_start down spot.row spot.col spot.number ∷ [])) q) None (state_at k q)
-start_down_erased_sites k spot (the_default) = refl
-start_down_erased_sites k spot (of_class c) = refl
-start_down_erased_sites k spot (of_line (LineOf.Vertical n) p) = refl
-start_down_erased_sites k spot (of_line (LineOf.Horizontal n) p) = refl
-start_down_erased_sites k spot (at_spot (edge across r c)) = refl
-start_down_erased_sites k spot (at_spot (edge down r c)) = refl
-start_down_erased_sites k spot (at_spot (crossing r c)) = refl
-start_down_erased_sites k spot (from_end across r c n) = refl
-start_down_erased_sites k spot (from_end down r c n) = refl
-start_down_erased_sites k spot (from_start across r c n) = refl
-start_down_erased_sites k spot (from_start down r c n) = offset_taken k.starts_down spot r c n
-
--- an offset erased, counted from the start of an edge of a vertical line
-pub start_down_erased : {T : Type 0} (k : State T) (spot : EdgePlace) → Changes (erase (these_sites (from_start down spot.row spot.col spot.number ∷ [])) ∷ []) (state_at k) (state_at (record k { starts_down = map.remove k.starts_down spot }))
-start_down_erased k spot = one_erasure (these_sites (from_start down spot.row spot.col spot.number ∷ [])) (state_at k) (state_at (record k { starts_down = map.remove k.starts_down spot })) (start_down_erased_sites k spot)
-
-offsets_across_erased_sites : {T : Type 0} (k : State T) (q : Site) → state_at (record k { ends_across = map.empty; starts_across = map.empty }) q ≡ cond (within (offset_sites across) q) None (state_at k q)
-offsets_across_erased_sites k (the_default) = refl
-offsets_across_erased_sites k (of_class c) = refl
-offsets_across_erased_sites k (of_line (LineOf.Vertical n) p) = refl
-offsets_across_erased_sites k (of_line (LineOf.Horizontal n) p) = refl
-offsets_across_erased_sites k (at_spot (edge across r c)) = refl
-offsets_across_erased_sites k (at_spot (edge down r c)) = refl
-offsets_across_erased_sites k (at_spot (crossing r c)) = refl
-offsets_across_erased_sites k (from_end across r c n) = no_offset_left (edge_place r c n)
-offsets_across_erased_sites k (from_end down r c n) = refl
-offsets_across_erased_sites k (from_start across r c n) = no_offset_left (edge_place r c n)
-offsets_across_erased_sites k (from_start down r c n) = refl
-
--- all offsets of one direction erased
-pub offsets_across_erased : {T : Type 0} (k : State T) → Changes (erase (offset_sites across) ∷ []) (state_at k) (state_at (record k { ends_across = map.empty; starts_across = map.empty }))
-offsets_across_erased k = one_erasure (offset_sites across) (state_at k) (state_at (record k { ends_across = map.empty; starts_across = map.empty })) (offsets_across_erased_sites k)
-
-offsets_down_erased_sites : {T : Type 0} (k : State T) (q : Site) → state_at (record k { ends_down = map.empty; starts_down = map.empty }) q ≡ cond (within (offset_sites down) q) None (state_at k q)
-offsets_down_erased_sites k (the_default) = refl
-offsets_down_erased_sites k (of_class c) = refl
-offsets_down_erased_sites k (of_line (LineOf.Vertical n) p) = refl
-offsets_down_erased_sites k (of_line (LineOf.Horizontal n) p) = refl
-offsets_down_erased_sites k (at_spot (edge across r c)) = refl
-offsets_down_erased_sites k (at_spot (edge down r c)) = refl
-offsets_down_erased_sites k (at_spot (crossing r c)) = refl
-offsets_down_erased_sites k (from_end across r c n) = refl
-offsets_down_erased_sites k (from_end down r c n) = no_offset_left (edge_place r c n)
-offsets_down_erased_sites k (from_start across r c n) = refl
-offsets_down_erased_sites k (from_start down r c n) = no_offset_left (edge_place r c n)
-
--- all offsets of one direction erased
-pub offsets_down_erased : {T : Type 0} (k : State T) → Changes (erase (offset_sites down) ∷ []) (state_at k) (state_at (record k { ends_down = map.empty; starts_down = map.empty }))
-offsets_down_erased k = one_erasure (offset_sites down) (state_at k) (state_at (record k { ends_down = map.empty; starts_down = map.empty })) (offsets_down_erased_sites k)
+-- all offsets on the edges of vertical lines erased
+pub vertical_offsets_erased : {T : Type 0} (k : State T) → Changes (erase (offset_sites Vertical) ∷ []) (state_at k) (state_at (record k { vertical_offsets = map.empty }))
+vertical_offsets_erased k = one_erasure (offset_sites Vertical) (state_at k) (state_at (record k { vertical_offsets = map.empty })) (vertical_offsets_erased_sites k)
 
 -- a custom vertical line put at its index
 pub vertical_line_put : {T : Type 0} (k : State T) (m : ℕ) (line : VerticalLine T) → Changes (vertical_line_set m line) (state_at k) (state_at (record k { vertical_lines = map.insert k.vertical_lines m line }))
 unfolding Changes
-vertical_line_put k m line (the_default) = sym (ap (λ b. cond b (replay (vertical_line_set m line) (the_default)) (state_at k (the_default))) (covered-vertical_line_set m line (the_default)))
+vertical_line_put k m line the_default = sym (ap (λ b. cond b (replay (vertical_line_set m line) the_default) (state_at k the_default)) (covered-vertical_line_set m line the_default))
 vertical_line_put k m line (of_class c) = sym (ap (λ b. cond b (replay (vertical_line_set m line) (of_class c)) (state_at k (of_class c))) (covered-vertical_line_set m line (of_class c)))
 vertical_line_put k m line (of_line (LineOf.Vertical n) p) =
     vertical_put k.vertical_lines m line n p
@@ -516,18 +316,14 @@ vertical_line_put k m line (of_line (LineOf.Vertical n) p) =
     (number_sym n m ∙ sym (covered-vertical_line_set m line (of_line (LineOf.Vertical n) p)))
     (λ e. ap (λ i. replay (vertical_line_set i line) (of_line (LineOf.Vertical n) p)) (sym (eqb-true n m e)) ∙ replay-vertical_line_set n line p)
 vertical_line_put k m line (of_line (LineOf.Horizontal n) p) = sym (ap (λ b. cond b (replay (vertical_line_set m line) (of_line (LineOf.Horizontal n) p)) (state_at k (of_line (LineOf.Horizontal n) p))) (covered-vertical_line_set m line (of_line (LineOf.Horizontal n) p)))
-vertical_line_put k m line (at_spot (edge across r c)) = sym (ap (λ b. cond b (replay (vertical_line_set m line) (at_spot (edge across r c))) (state_at k (at_spot (edge across r c)))) (covered-vertical_line_set m line (at_spot (edge across r c))))
-vertical_line_put k m line (at_spot (edge down r c)) = sym (ap (λ b. cond b (replay (vertical_line_set m line) (at_spot (edge down r c))) (state_at k (at_spot (edge down r c)))) (covered-vertical_line_set m line (at_spot (edge down r c))))
-vertical_line_put k m line (at_spot (crossing r c)) = sym (ap (λ b. cond b (replay (vertical_line_set m line) (at_spot (crossing r c))) (state_at k (at_spot (crossing r c)))) (covered-vertical_line_set m line (at_spot (crossing r c))))
-vertical_line_put k m line (from_end across r c n) = sym (ap (λ b. cond b (replay (vertical_line_set m line) (from_end across r c n)) (state_at k (from_end across r c n))) (covered-vertical_line_set m line (from_end across r c n)))
-vertical_line_put k m line (from_end down r c n) = sym (ap (λ b. cond b (replay (vertical_line_set m line) (from_end down r c n)) (state_at k (from_end down r c n))) (covered-vertical_line_set m line (from_end down r c n)))
-vertical_line_put k m line (from_start across r c n) = sym (ap (λ b. cond b (replay (vertical_line_set m line) (from_start across r c n)) (state_at k (from_start across r c n))) (covered-vertical_line_set m line (from_start across r c n)))
-vertical_line_put k m line (from_start down r c n) = sym (ap (λ b. cond b (replay (vertical_line_set m line) (from_start down r c n)) (state_at k (from_start down r c n))) (covered-vertical_line_set m line (from_start down r c n)))
+vertical_line_put k m line (at_spot spot) = sym (ap (λ b. cond b (replay (vertical_line_set m line) (at_spot spot)) (state_at k (at_spot spot))) (covered-vertical_line_set m line (at_spot spot)))
+vertical_line_put k m line (at_offset Horizontal r c o) = sym (ap (λ b. cond b (replay (vertical_line_set m line) (at_offset Horizontal r c o)) (state_at k (at_offset Horizontal r c o))) (covered-vertical_line_set m line (at_offset Horizontal r c o)))
+vertical_line_put k m line (at_offset Vertical r c o) = sym (ap (λ b. cond b (replay (vertical_line_set m line) (at_offset Vertical r c o)) (state_at k (at_offset Vertical r c o))) (covered-vertical_line_set m line (at_offset Vertical r c o)))
 
 -- a custom horizontal line put at its index
 pub horizontal_line_put : {T : Type 0} (k : State T) (m : ℕ) (line : HorizontalLine T) → Changes (horizontal_line_set m line) (state_at k) (state_at (record k { horizontal_lines = map.insert k.horizontal_lines m line }))
 unfolding Changes
-horizontal_line_put k m line (the_default) = sym (ap (λ b. cond b (replay (horizontal_line_set m line) (the_default)) (state_at k (the_default))) (covered-horizontal_line_set m line (the_default)))
+horizontal_line_put k m line the_default = sym (ap (λ b. cond b (replay (horizontal_line_set m line) the_default) (state_at k the_default)) (covered-horizontal_line_set m line the_default))
 horizontal_line_put k m line (of_class c) = sym (ap (λ b. cond b (replay (horizontal_line_set m line) (of_class c)) (state_at k (of_class c))) (covered-horizontal_line_set m line (of_class c)))
 horizontal_line_put k m line (of_line (LineOf.Vertical n) p) = sym (ap (λ b. cond b (replay (horizontal_line_set m line) (of_line (LineOf.Vertical n) p)) (state_at k (of_line (LineOf.Vertical n) p))) (covered-horizontal_line_set m line (of_line (LineOf.Vertical n) p)))
 horizontal_line_put k m line (of_line (LineOf.Horizontal n) p) =
@@ -535,13 +331,9 @@ horizontal_line_put k m line (of_line (LineOf.Horizontal n) p) =
     ∙ line_put (n == m) (covered (horizontal_line_set m line) (of_line (LineOf.Horizontal n) p)) (replay (horizontal_line_set m line) (of_line (LineOf.Horizontal n) p)) (horizontal_part p line) (state_at k (of_line (LineOf.Horizontal n) p))
     (number_sym n m ∙ sym (covered-horizontal_line_set m line (of_line (LineOf.Horizontal n) p)))
     (λ e. ap (λ i. replay (horizontal_line_set i line) (of_line (LineOf.Horizontal n) p)) (sym (eqb-true n m e)) ∙ replay-horizontal_line_set n line p)
-horizontal_line_put k m line (at_spot (edge across r c)) = sym (ap (λ b. cond b (replay (horizontal_line_set m line) (at_spot (edge across r c))) (state_at k (at_spot (edge across r c)))) (covered-horizontal_line_set m line (at_spot (edge across r c))))
-horizontal_line_put k m line (at_spot (edge down r c)) = sym (ap (λ b. cond b (replay (horizontal_line_set m line) (at_spot (edge down r c))) (state_at k (at_spot (edge down r c)))) (covered-horizontal_line_set m line (at_spot (edge down r c))))
-horizontal_line_put k m line (at_spot (crossing r c)) = sym (ap (λ b. cond b (replay (horizontal_line_set m line) (at_spot (crossing r c))) (state_at k (at_spot (crossing r c)))) (covered-horizontal_line_set m line (at_spot (crossing r c))))
-horizontal_line_put k m line (from_end across r c n) = sym (ap (λ b. cond b (replay (horizontal_line_set m line) (from_end across r c n)) (state_at k (from_end across r c n))) (covered-horizontal_line_set m line (from_end across r c n)))
-horizontal_line_put k m line (from_end down r c n) = sym (ap (λ b. cond b (replay (horizontal_line_set m line) (from_end down r c n)) (state_at k (from_end down r c n))) (covered-horizontal_line_set m line (from_end down r c n)))
-horizontal_line_put k m line (from_start across r c n) = sym (ap (λ b. cond b (replay (horizontal_line_set m line) (from_start across r c n)) (state_at k (from_start across r c n))) (covered-horizontal_line_set m line (from_start across r c n)))
-horizontal_line_put k m line (from_start down r c n) = sym (ap (λ b. cond b (replay (horizontal_line_set m line) (from_start down r c n)) (state_at k (from_start down r c n))) (covered-horizontal_line_set m line (from_start down r c n)))
+horizontal_line_put k m line (at_spot spot) = sym (ap (λ b. cond b (replay (horizontal_line_set m line) (at_spot spot)) (state_at k (at_spot spot))) (covered-horizontal_line_set m line (at_spot spot)))
+horizontal_line_put k m line (at_offset Horizontal r c o) = sym (ap (λ b. cond b (replay (horizontal_line_set m line) (at_offset Horizontal r c o)) (state_at k (at_offset Horizontal r c o))) (covered-horizontal_line_set m line (at_offset Horizontal r c o)))
+horizontal_line_put k m line (at_offset Vertical r c o) = sym (ap (λ b. cond b (replay (horizontal_line_set m line) (at_offset Vertical r c o)) (state_at k (at_offset Vertical r c o))) (covered-horizontal_line_set m line (at_offset Vertical r c o)))
 
 beside : {T : Type 0} (borders : Borders T) (q : Site) (k : Option (Written T)) → ((d : Class) → same_site q (of_class d) ≡ false) → (level q == 1) ≡ false → k ≡ cond (covered (class_record_set borders) q) (replay (class_record_set borders) q) k
 unfolding class_record_set
@@ -551,48 +343,39 @@ beside borders q k other no_level =
 -- the class record set whole
 pub class_put : {T : Type 0} (k : State T) (borders : Borders T) → Changes (class_record_set borders) (state_at k) (state_at (record k { class_record = borders }))
 unfolding Changes class_record_set
-class_put k borders (the_default) = beside borders (the_default) (state_at k (the_default)) (λ d. refl) refl
+class_put k borders the_default = beside borders the_default (state_at k the_default) (λ d. refl) refl
 class_put k borders (of_class c) = sym (replay_cleared (level_sites 1) (class_writes borders classes) (of_class c) ∙ replay_classes borders c)
 class_put k borders (of_line (LineOf.Vertical n) p) = beside borders (of_line (LineOf.Vertical n) p) (state_at k (of_line (LineOf.Vertical n) p)) (λ d. refl) refl
 class_put k borders (of_line (LineOf.Horizontal n) p) = beside borders (of_line (LineOf.Horizontal n) p) (state_at k (of_line (LineOf.Horizontal n) p)) (λ d. refl) refl
-class_put k borders (at_spot (edge across r c)) = beside borders (at_spot (edge across r c)) (state_at k (at_spot (edge across r c))) (λ d. refl) refl
-class_put k borders (at_spot (edge down r c)) = beside borders (at_spot (edge down r c)) (state_at k (at_spot (edge down r c))) (λ d. refl) refl
-class_put k borders (at_spot (crossing r c)) = beside borders (at_spot (crossing r c)) (state_at k (at_spot (crossing r c))) (λ d. refl) refl
-class_put k borders (from_end across r c n) = beside borders (from_end across r c n) (state_at k (from_end across r c n)) (λ d. refl) refl
-class_put k borders (from_end down r c n) = beside borders (from_end down r c n) (state_at k (from_end down r c n)) (λ d. refl) refl
-class_put k borders (from_start across r c n) = beside borders (from_start across r c n) (state_at k (from_start across r c n)) (λ d. refl) refl
-class_put k borders (from_start down r c n) = beside borders (from_start down r c n) (state_at k (from_start down r c n)) (λ d. refl) refl
+class_put k borders (at_spot spot) = beside borders (at_spot spot) (state_at k (at_spot spot)) (λ d. refl) refl
+class_put k borders (at_offset Horizontal r c (Offset.Start n)) = beside borders (at_offset Horizontal r c (Offset.Start n)) (state_at k (at_offset Horizontal r c (Offset.Start n))) (λ d. refl) refl
+class_put k borders (at_offset Horizontal r c (Offset.End n)) = beside borders (at_offset Horizontal r c (Offset.End n)) (state_at k (at_offset Horizontal r c (Offset.End n))) (λ d. refl) refl
+class_put k borders (at_offset Vertical r c (Offset.Start n)) = beside borders (at_offset Vertical r c (Offset.Start n)) (state_at k (at_offset Vertical r c (Offset.Start n))) (λ d. refl) refl
+class_put k borders (at_offset Vertical r c (Offset.End n)) = beside borders (at_offset Vertical r c (Offset.End n)) (state_at k (at_offset Vertical r c (Offset.End n))) (λ d. refl) refl
 
 class_erased_sites : {T : Type 0} (k : State T) (borders : Borders T) → HasNothing borders → (q : Site) → state_at (record k { class_record = borders }) q ≡ cond (within (level_sites 1) q) None (state_at k q)
-class_erased_sites k borders h (the_default) = refl
+class_erased_sites k borders h the_default = refl
 class_erased_sites k borders h (of_class c) = ap (option_map sign) (h c)
 class_erased_sites k borders h (of_line (LineOf.Vertical n) p) = refl
 class_erased_sites k borders h (of_line (LineOf.Horizontal n) p) = refl
-class_erased_sites k borders h (at_spot (edge across r c)) = refl
-class_erased_sites k borders h (at_spot (edge down r c)) = refl
-class_erased_sites k borders h (at_spot (crossing r c)) = refl
-class_erased_sites k borders h (from_end across r c n) = refl
-class_erased_sites k borders h (from_end down r c n) = refl
-class_erased_sites k borders h (from_start across r c n) = refl
-class_erased_sites k borders h (from_start down r c n) = refl
+class_erased_sites k borders h (at_spot spot) = refl
+class_erased_sites k borders h (at_offset Horizontal r c (Offset.Start n)) = refl
+class_erased_sites k borders h (at_offset Horizontal r c (Offset.End n)) = refl
+class_erased_sites k borders h (at_offset Vertical r c (Offset.Start n)) = refl
+class_erased_sites k borders h (at_offset Vertical r c (Offset.End n)) = refl
 
 -- the class record cleared
 pub class_erased : {T : Type 0} (k : State T) (borders : Borders T) → HasNothing borders → Changes (erase (level_sites 1) ∷ []) (state_at k) (state_at (record k { class_record = borders }))
 class_erased k borders h = one_erasure (level_sites 1) (state_at k) (state_at (record k { class_record = borders })) (class_erased_sites k borders h)
 
 -- a store with nothing in it shows no event
-pub nothing_shown : {T : Type 0} (k : State T) → k.default_value ≡ None → HasNothing k.class_record → k.vertical_lines ≡ map.empty → k.horizontal_lines ≡ map.empty
-    → k.edges_across ≡ map.empty → k.edges_down ≡ map.empty → k.crosses ≡ map.empty
-    → k.ends_across ≡ map.empty → k.ends_down ≡ map.empty → k.starts_across ≡ map.empty → k.starts_down ≡ map.empty → Shows [] (state_at k)
+pub nothing_shown : {T : Type 0} (k : State T) → k.default_value ≡ None → HasNothing k.class_record → k.vertical_lines ≡ map.empty → k.horizontal_lines ≡ map.empty → k.cells ≡ map.empty
+    → k.horizontal_offsets ≡ map.empty → k.vertical_offsets ≡ map.empty → Shows [] (state_at k)
 unfolding Shows
-nothing_shown k e h v w a d x i j m n the_default = ap (option_map sign) e ∙ sym (replay-nil the_default)
-nothing_shown k e h v w a d x i j m n (of_class c) = ap (option_map sign) (h c) ∙ sym (replay-nil (of_class c))
-nothing_shown k e h v w a d x i j m n (of_line (LineOf.Vertical l) p) = ap (λ o. option_and_then (vertical_part p) (map.get o l)) v ∙ ap (option_and_then (vertical_part p)) (map.get-empty nat_cmp l) ∙ sym (replay-nil (of_line (LineOf.Vertical l) p))
-nothing_shown k e h v w a d x i j m n (of_line (LineOf.Horizontal l) p) = ap (λ o. option_and_then (horizontal_part p) (map.get o l)) w ∙ ap (option_and_then (horizontal_part p)) (map.get-empty nat_cmp l) ∙ sym (replay-nil (of_line (LineOf.Horizontal l) p))
-nothing_shown k e h v w a d x i j m n (at_spot (edge across r c)) = ap (λ o. option_map sign (map.get o (position r c))) a ∙ no_spot_left (position r c) ∙ sym (replay-nil (at_spot (edge across r c)))
-nothing_shown k e h v w a d x i j m n (at_spot (edge down r c)) = ap (λ o. option_map sign (map.get o (position r c))) d ∙ no_spot_left (position r c) ∙ sym (replay-nil (at_spot (edge down r c)))
-nothing_shown k e h v w a d x i j m n (at_spot (crossing r c)) = ap (λ o. option_map sign (map.get o (position r c))) x ∙ no_spot_left (position r c) ∙ sym (replay-nil (at_spot (crossing r c)))
-nothing_shown k e h v w a d x i j m n (from_end across r c b) = ap (λ o. option_map sign (map.get o (edge_place r c b))) i ∙ no_offset_left (edge_place r c b) ∙ sym (replay-nil (from_end across r c b))
-nothing_shown k e h v w a d x i j m n (from_end down r c b) = ap (λ o. option_map sign (map.get o (edge_place r c b))) j ∙ no_offset_left (edge_place r c b) ∙ sym (replay-nil (from_end down r c b))
-nothing_shown k e h v w a d x i j m n (from_start across r c b) = ap (λ o. option_map sign (map.get o (edge_place r c b))) m ∙ no_offset_left (edge_place r c b) ∙ sym (replay-nil (from_start across r c b))
-nothing_shown k e h v w a d x i j m n (from_start down r c b) = ap (λ o. option_map sign (map.get o (edge_place r c b))) n ∙ no_offset_left (edge_place r c b) ∙ sym (replay-nil (from_start down r c b))
+nothing_shown k e h v w x i j the_default = ap (option_map sign) e ∙ sym (replay-nil the_default)
+nothing_shown k e h v w x i j (of_class c) = ap (option_map sign) (h c) ∙ sym (replay-nil (of_class c))
+nothing_shown k e h v w x i j (of_line (LineOf.Vertical l) p) = ap (λ o. option_and_then (vertical_part p) (map.get o l)) v ∙ ap (option_and_then (vertical_part p)) (map.get-empty nat_cmp l) ∙ sym (replay-nil (of_line (LineOf.Vertical l) p))
+nothing_shown k e h v w x i j (of_line (LineOf.Horizontal l) p) = ap (λ o. option_and_then (horizontal_part p) (map.get o l)) w ∙ ap (option_and_then (horizontal_part p)) (map.get-empty nat_cmp l) ∙ sym (replay-nil (of_line (LineOf.Horizontal l) p))
+nothing_shown k e h v w x i j (at_spot spot) = ap (λ m. option_map sign (map.get m spot)) x ∙ nothing_left spot_cmp spot ∙ sym (replay-nil (at_spot spot))
+nothing_shown k e h v w x i j (at_offset Horizontal r c o) = ap (λ m. option_map sign (map.get m (edge_place r c o))) i ∙ nothing_left edge_place_cmp (edge_place r c o) ∙ sym (replay-nil (at_offset Horizontal r c o))
+nothing_shown k e h v w x i j (at_offset Vertical r c o) = ap (λ m. option_map sign (map.get m (edge_place r c o))) j ∙ nothing_left edge_place_cmp (edge_place r c o) ∙ sym (replay-nil (at_offset Vertical r c o))

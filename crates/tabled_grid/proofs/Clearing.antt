@@ -7,10 +7,11 @@ use Rattle.std.proofs.lemmas.List.Folds.{list_any-append}
 use Rattle.std.proofs.lemmas.List.FromFn.{map-range_with_len_more}
 use Rattle.tabled_object.specs.declared.position.Position.{Position}
 use Rattle.tabled_object.specs.Entities.{is_inside}
+use Rattle.tabled_grid.specs.declared.place.LineOf.{LineOf}
 use Rattle.tabled_grid.specs.Site.{Spot, Site, at_spot, same_site}
 use Rattle.tabled_grid.specs.Event.{these_sites, erase, Changes}
 use Rattle.tabled_grid.specs.State.{State, state_at}
-use Rattle.tabled_grid.specs.Calls.{border_erased, borders_erased, spots_erased, line_across, line_down, frame_erased}
+use Rattle.tabled_grid.specs.Calls.{border_erased, borders_erased, spots_erased, line_spots, frame_erased}
 use Rattle.tabled_grid.proofs.Replay.{Changes-append, Changes-nil}
 use Rattle.tabled_grid.proofs.Changing.{one_erasure}
 use Rattle.tabled_grid.proofs.CellBorders.{by_erasure}
@@ -61,9 +62,10 @@ spots_then ps qs old mid new first then =
     either true false x = refl
     either false b x = refl
 
-pub one_spot : {T : Type 0} (spot : Spot) (old new : State T) → Changes (erase (these_sites (at_spot spot ∷ [])) ∷ []) (state_at old) (state_at new) → Changes (spots_erased (spot ∷ [])) (state_at old) (state_at new)
+-- one spot, by its name
+pub named_spot : {T : Type 0} (spot named : Spot) (old new : State T) → spot ≡ named → Changes (erase (these_sites (at_spot spot ∷ [])) ∷ []) (state_at old) (state_at new) → Changes (spots_erased (named ∷ [])) (state_at old) (state_at new)
 unfolding spots_erased
-one_spot spot old new h = h
+named_spot spot named old new e h = subst (λ s. Changes (erase (these_sites (at_spot s ∷ [])) ∷ []) (state_at old) (state_at new)) e h
 
 module _ (f g : ℕ → Spot) where
   -- the edges and the crossings of a line so far
@@ -103,14 +105,14 @@ no_zero : (rows cols : ℕ) → 0 < rows → 0 < cols → ((rows == 0) || (cols 
 no_zero rows cols h k = grind (arith, nat_tests)
 
 -- a table with rows and columns has a frame, whose four lines are erased in a row
-pub frame_there : {T : Type 0} (rows cols : ℕ) (old a b c new : State T) → 0 < rows → 0 < cols → Changes (spots_erased (line_across 0 cols)) (state_at old) (state_at a) → Changes (spots_erased (line_across rows cols)) (state_at a) (state_at b) → Changes (spots_erased (line_down 0 rows)) (state_at b) (state_at c) → Changes (spots_erased (line_down cols rows)) (state_at c) (state_at new) → Changes (frame_erased (rows, cols)) (state_at old) (state_at new)
+pub frame_there : {T : Type 0} (rows cols : ℕ) (old a b c new : State T) → 0 < rows → 0 < cols → Changes (spots_erased (line_spots (LineOf.Horizontal 0) cols)) (state_at old) (state_at a) → Changes (spots_erased (line_spots (LineOf.Horizontal rows) cols)) (state_at a) (state_at b) → Changes (spots_erased (line_spots (LineOf.Vertical 0) rows)) (state_at b) (state_at c) → Changes (spots_erased (line_spots (LineOf.Vertical cols) rows)) (state_at c) (state_at new) → Changes (frame_erased (rows, cols)) (state_at old) (state_at new)
 frame_there rows cols old a b c new h k top bottom left right =
-    subst (λ z. Changes (cond z [] (spots_erased (line_across 0 cols ++ line_across rows cols ++ line_down 0 rows ++ line_down cols rows))) (state_at old) (state_at new)) (sym (no_zero rows cols h k))
-    (spots_then _ (line_down cols rows) old c new (spots_then _ (line_down 0 rows) old b c (spots_then (line_across 0 cols) (line_across rows cols) old a b top bottom) left) right)
+    subst (λ z. Changes (cond z [] (spots_erased (line_spots (LineOf.Horizontal 0) cols ++ line_spots (LineOf.Horizontal rows) cols ++ line_spots (LineOf.Vertical 0) rows ++ line_spots (LineOf.Vertical cols) rows))) (state_at old) (state_at new)) (sym (no_zero rows cols h k))
+    (spots_then _ (line_spots (LineOf.Vertical cols) rows) old c new (spots_then _ (line_spots (LineOf.Vertical 0) rows) old b c (spots_then (line_spots (LineOf.Horizontal 0) cols) (line_spots (LineOf.Horizontal rows) cols) old a b top bottom) left) right)
 
 -- a table without has none
 pub no_frame : {T : Type 0} (rows cols : ℕ) (store : State T) → ((rows == 0) || (cols == 0)) ≡ true → Changes (frame_erased (rows, cols)) (state_at store) (state_at store)
-no_frame rows cols store e = subst (λ z. Changes (cond z [] (spots_erased (line_across 0 cols ++ line_across rows cols ++ line_down 0 rows ++ line_down cols rows))) (state_at store) (state_at store)) (sym e) (Changes-nil (state_at store))
+no_frame rows cols store e = subst (λ z. Changes (cond z [] (spots_erased (line_spots (LineOf.Horizontal 0) cols ++ line_spots (LineOf.Horizontal rows) cols ++ line_spots (LineOf.Vertical 0) rows ++ line_spots (LineOf.Vertical cols) rows))) (state_at store) (state_at store)) (sym e) (Changes-nil (state_at store))
 
 pub no_rows : (rows cols : ℕ) → rows ≡ 0 → ((rows == 0) || (cols == 0)) ≡ true
 no_rows rows cols e = grind (arith, nat_tests)

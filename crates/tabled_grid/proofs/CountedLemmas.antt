@@ -1,193 +1,107 @@
 -- The numbers of lines stay right.
-use Rattle.std.proofs.Common.{◌≡◌, ℕ, Bool, true, ◌&&◌, ◌==◌, Option, Some, None, is_some, IsSome, unwrap_or, zero, suc, ◌⊎◌, inl, inr, refl, sym, ap, subst, ◌∙◌, Result, Ok, Err, OnOk, OnErr, ◌+◌, ◌<◌, ◌≤◌, ◌^◌, arith}
+use Rattle.std.proofs.Common.{◌≡◌, ℕ, Bool, true, ◌&&◌, Option, Some, None, is_some, IsSome, unwrap_or, refl, sym, ap, subst, ◌∙◌, Result, Ok, Err, OnOk, OnErr, ◌+◌, ◌<◌, ◌≤◌, ◌^◌, arith}
 use Rattle.std.specs.Ordering.{nat_cmp}
 use Rattle.std.specs.Cmp.{nat_cmp_total}
 use Rattle.std.specs.FinMap as map
-use Rattle.tabled_object.specs.declared.position.Position.{Position}
+use Rattle.tabled_grid.specs.declared.place.LineOf.{LineOf}
 use Rattle.tabled_grid.specs.declared.lines.HorizontalLine.{HorizontalLine}
 use Rattle.tabled_grid.specs.declared.lines.VerticalLine.{VerticalLine}
-use Rattle.tabled_grid.specs.Keys.{position_cmp, positions_total, exact_positions}
+use Rattle.tabled_grid.specs.Keys.{line_cmp, spot_cmp, spots_total, exact_spots}
+use Rattle.tabled_grid.specs.Site.{Horizontal, Vertical, Spot, Edge, Crossing, same_line}
+use Rattle.tabled_grid.specs.Drawn.{lies_on}
 use Rattle.tabled_grid.specs.Table.{count, passes, one_if}
-use Rattle.tabled_grid.specs.Counted.{number_at, on_row, on_col, CellsCounted, VerticalCounted, HorizontalCounted}
+use Rattle.tabled_grid.specs.Counted.{number_at, first_line, second_line, CellsCounted, VerticalCounted, HorizontalCounted}
 use Rattle.tabled_grid.proofs.Counting.{count-insert, count-remove, count-empty, count_positive, count_from, count-le}
-use Rattle.tabled_grid.proofs.LineWrites.{number_sym, same_number}
-use Rattle.std.proofs.lemmas.Bool.{eqb-true}
 
 here : {T : Type 0} (o : Option T) (b : Bool) → is_some o ≡ true → b ≡ true → (is_some o && b) ≡ true
 here (Some x) b e f = f
 here None b e f = absurd cc
 
-one_positive : (a b : ℕ) → 0 < a + b → (0 < a) ⊎ (0 < b)
-one_positive zero b h = inr (omega arith)
-one_positive (suc a) b h = inl (omega arith)
+-- something is there and passes
+was_there : {T : Type 0} (b : Bool) (o : Option T) → passes (λ _. b) o ≡ (is_some o && b)
+was_there b None = refl
+was_there b (Some x) = refl
 
--- something is there and on the line
-on_line : {T : Type 0} (o : Option T) (m n : ℕ) → passes (λ _. m == n) o ≡ true → (m ≡ n) × IsSome o
-on_line None m n h = absurd cc
-on_line (Some x) m n h = (eqb-true m n h, refl)
+and_there : {T : Type 0} (b : Bool) (o : Option T) → passes (λ _. b) o ≡ true → (b ≡ true) × IsSome o
+and_there b None h = absurd cc
+and_there b (Some x) h = (h, refl)
 
-module _ {T : Type 0} where
-  was_on_row : (q : ℕ) (p : Position) (o : Option T) → passes (on_row q p) o ≡ (is_some o && (q == p.row))
-  was_on_row q p None = refl
-  was_on_row q p (Some x) = number_sym p.row q
+-- the number of the values on a line
+abbrev on_line : {T : Type 0} → LineOf → map.FinMap spot_cmp T → ℕ
+on_line line cells = count (λ spot _. lies_on line spot) cells
 
-  was_on_col : (q : ℕ) (p : Position) (o : Option T) → passes (on_col q p) o ≡ (is_some o && (q == p.col))
-  was_on_col q p None = refl
-  was_on_col q p (Some x) = number_sym p.col q
-
-  -- a value put at a spot counts on its row
-  row-put : (values : map.FinMap position_cmp T) (p : Position) (v : T) (q : ℕ) → count (on_row q) (map.insert values p v) + one_if (is_some (map.get values p) && (q == p.row)) ≡ count (on_row q) values + one_if (q == p.row)
-  row-put values p v q =
-      ap (λ b. count (on_row q) (map.insert values p v) + one_if b) (sym (was_on_row q p (map.get values p)))
-      ∙ count-insert positions_total exact_positions (on_row q) values p v ∙ ap (λ b. count (on_row q) values + one_if b) (number_sym p.row q)
-
-  row-taken : (values : map.FinMap position_cmp T) (p : Position) (q : ℕ) → count (on_row q) (map.remove values p) + one_if (is_some (map.get values p) && (q == p.row)) ≡ count (on_row q) values
-  row-taken values p q =
-      ap (λ b. count (on_row q) (map.remove values p) + one_if b) (sym (was_on_row q p (map.get values p)))
-      ∙ count-remove positions_total exact_positions (on_row q) values p
-
-  col-put : (values : map.FinMap position_cmp T) (p : Position) (v : T) (q : ℕ) → count (on_col q) (map.insert values p v) + one_if (is_some (map.get values p) && (q == p.col)) ≡ count (on_col q) values + one_if (q == p.col)
-  col-put values p v q =
-      ap (λ b. count (on_col q) (map.insert values p v) + one_if b) (sym (was_on_col q p (map.get values p)))
-      ∙ count-insert positions_total exact_positions (on_col q) values p v ∙ ap (λ b. count (on_col q) values + one_if b) (number_sym p.col q)
-
-  col-taken : (values : map.FinMap position_cmp T) (p : Position) (q : ℕ) → count (on_col q) (map.remove values p) + one_if (is_some (map.get values p) && (q == p.col)) ≡ count (on_col q) values
-  col-taken values p q =
-      ap (λ b. count (on_col q) (map.remove values p) + one_if b) (sym (was_on_col q p (map.get values p)))
-      ∙ count-remove positions_total exact_positions (on_col q) values p
-
-module _ {T : Type 0} (rows cols : map.FinMap nat_cmp ℕ) (across down crosses : map.FinMap position_cmp T) (h : CellsCounted rows cols across down crosses) where
+module _ {T : Type 0} (numbers : map.FinMap line_cmp ℕ) (cells : map.FinMap spot_cmp T) (h : CellsCounted numbers cells) where
   -- a number is small enough to be raised
-  pub small_row : (n : ℕ) → number_at rows n < 2 ^ 64
-  small_row n = omega (arith, h.on_rows n, count-le positions_total exact_positions (on_row n) across, count-le positions_total exact_positions (on_row n) crosses, h.few_across, h.few_crosses)
+  pub small_number : (line : LineOf) → number_at numbers line < 2 ^ 64
+  small_number line = omega (arith, h.on_lines line, count-le spots_total exact_spots (λ spot _. lies_on line spot) cells, h.few_cells)
 
-  pub small_col : (n : ℕ) → number_at cols n < 2 ^ 64
-  small_col n = omega (arith, h.on_cols n, count-le positions_total exact_positions (on_col n) down, count-le positions_total exact_positions (on_col n) crosses, h.few_down, h.few_crosses)
-
-  pub across_put : (rows' : map.FinMap nat_cmp ℕ) (across' : map.FinMap position_cmp T) (p : Position) (v : T) → across' ≡ map.insert across p v → ((q : ℕ) → number_at rows' q + one_if (is_some (map.get across p) && (q == p.row)) ≡ number_at rows q + one_if (q == p.row)) → map.len across' < 2 ^ 63 → CellsCounted rows' cols across' down crosses
-  across_put rows' across' p v e counted few = record {
-    on_rows = λ q. let e' : count (on_row q) across' ≡ count (on_row q) (map.insert across p v) = ap (count (on_row q)) e in omega (arith, counted q, h.on_rows q, row-put across p v q, e');
-    on_cols = h.on_cols;
-    few_across = few;
-    few_down = h.few_down;
-    few_crosses = h.few_crosses;
+  pub cell_put : (numbers' : map.FinMap line_cmp ℕ) (cells' : map.FinMap spot_cmp T) (at : Spot) (v : T) → cells' ≡ map.insert cells at v → ((line : LineOf) → number_at numbers' line + one_if (is_some (map.get cells at) && lies_on line at) ≡ number_at numbers line + one_if (lies_on line at)) → map.len cells' < 2 ^ 63 → CellsCounted numbers' cells'
+  cell_put numbers' cells' at v e counted few = record {
+    on_lines = λ line.
+        let more : on_line line cells' + one_if (is_some (map.get cells at) && lies_on line at) ≡ on_line line cells + one_if (lies_on line at) =
+        (λ i. on_line line (e i) + one_if (sym (was_there (lies_on line at) (map.get cells at)) i)) ∙ count-insert spots_total exact_spots (λ spot _. lies_on line spot) cells at v in
+        omega (arith, counted line, h.on_lines line, more);
+    few_cells = few;
   }
 
-  pub down_put : (cols' : map.FinMap nat_cmp ℕ) (down' : map.FinMap position_cmp T) (p : Position) (v : T) → down' ≡ map.insert down p v → ((q : ℕ) → number_at cols' q + one_if (is_some (map.get down p) && (q == p.col)) ≡ number_at cols q + one_if (q == p.col)) → map.len down' < 2 ^ 63 → CellsCounted rows cols' across down' crosses
-  down_put cols' down' p v e counted few = record {
-    on_cols = λ q. let e' : count (on_col q) down' ≡ count (on_col q) (map.insert down p v) = ap (count (on_col q)) e in omega (arith, counted q, h.on_cols q, col-put down p v q, e');
-    on_rows = h.on_rows;
-    few_across = h.few_across;
-    few_down = few;
-    few_crosses = h.few_crosses;
-  }
-
-  pub crossing_put : (rows' cols' : map.FinMap nat_cmp ℕ) (crosses' : map.FinMap position_cmp T) (p : Position) (v : T) → crosses' ≡ map.insert crosses p v → ((q : ℕ) → number_at rows' q + one_if (is_some (map.get crosses p) && (q == p.row)) ≡ number_at rows q + one_if (q == p.row)) → ((q : ℕ) → number_at cols' q + one_if (is_some (map.get crosses p) && (q == p.col)) ≡ number_at cols q + one_if (q == p.col)) → map.len crosses' < 2 ^ 63 → CellsCounted rows' cols' across down crosses'
-  crossing_put rows' cols' crosses' p v e by_row by_col few = record {
-    on_rows = λ q. let e' : count (on_row q) crosses' ≡ count (on_row q) (map.insert crosses p v) = ap (count (on_row q)) e in omega (arith, by_row q, h.on_rows q, row-put crosses p v q, e');
-    on_cols = λ q. let e' : count (on_col q) crosses' ≡ count (on_col q) (map.insert crosses p v) = ap (count (on_col q)) e in omega (arith, by_col q, h.on_cols q, col-put crosses p v q, e');
-    few_across = h.few_across;
-    few_down = h.few_down;
-    few_crosses = few;
-  }
-
-  pub across_taken : (rows' : map.FinMap nat_cmp ℕ) (across' : map.FinMap position_cmp T) (p : Position) → across' ≡ map.remove across p → ((q : ℕ) → number_at rows' q + one_if (is_some (map.get across p) && (q == p.row)) ≡ number_at rows q) → map.len across' < 2 ^ 63 → CellsCounted rows' cols across' down crosses
-  across_taken rows' across' p e counted few = record {
-    on_rows = λ q. let e' : count (on_row q) across' ≡ count (on_row q) (map.remove across p) = ap (count (on_row q)) e in omega (arith, counted q, h.on_rows q, row-taken across p q, e');
-    on_cols = h.on_cols;
-    few_across = few;
-    few_down = h.few_down;
-    few_crosses = h.few_crosses;
-  }
-
-  pub down_taken : (cols' : map.FinMap nat_cmp ℕ) (down' : map.FinMap position_cmp T) (p : Position) → down' ≡ map.remove down p → ((q : ℕ) → number_at cols' q + one_if (is_some (map.get down p) && (q == p.col)) ≡ number_at cols q) → map.len down' < 2 ^ 63 → CellsCounted rows cols' across down' crosses
-  down_taken cols' down' p e counted few = record {
-    on_cols = λ q. let e' : count (on_col q) down' ≡ count (on_col q) (map.remove down p) = ap (count (on_col q)) e in omega (arith, counted q, h.on_cols q, col-taken down p q, e');
-    on_rows = h.on_rows;
-    few_across = h.few_across;
-    few_down = few;
-    few_crosses = h.few_crosses;
-  }
-
-  pub crossing_taken : (rows' cols' : map.FinMap nat_cmp ℕ) (crosses' : map.FinMap position_cmp T) (p : Position) → crosses' ≡ map.remove crosses p → ((q : ℕ) → number_at rows' q + one_if (is_some (map.get crosses p) && (q == p.row)) ≡ number_at rows q) → ((q : ℕ) → number_at cols' q + one_if (is_some (map.get crosses p) && (q == p.col)) ≡ number_at cols q) → map.len crosses' < 2 ^ 63 → CellsCounted rows' cols' across down crosses'
-  crossing_taken rows' cols' crosses' p e by_row by_col few = record {
-    on_rows = λ q. let e' : count (on_row q) crosses' ≡ count (on_row q) (map.remove crosses p) = ap (count (on_row q)) e in omega (arith, by_row q, h.on_rows q, row-taken crosses p q, e');
-    on_cols = λ q. let e' : count (on_col q) crosses' ≡ count (on_col q) (map.remove crosses p) = ap (count (on_col q)) e in omega (arith, by_col q, h.on_cols q, col-taken crosses p q, e');
-    few_across = h.few_across;
-    few_down = h.few_down;
-    few_crosses = few;
+  pub cell_taken : (numbers' : map.FinMap line_cmp ℕ) (cells' : map.FinMap spot_cmp T) (at : Spot) → cells' ≡ map.remove cells at → ((line : LineOf) → number_at numbers' line + one_if (is_some (map.get cells at) && lies_on line at) ≡ number_at numbers line) → map.len cells' < 2 ^ 63 → CellsCounted numbers' cells'
+  cell_taken numbers' cells' at e counted few = record {
+    on_lines = λ line.
+        let less : on_line line cells' + one_if (is_some (map.get cells at) && lies_on line at) ≡ on_line line cells =
+        (λ i. on_line line (e i) + one_if (sym (was_there (lies_on line at) (map.get cells at)) i)) ∙ count-remove spots_total exact_spots (λ spot _. lies_on line spot) cells at in
+        omega (arith, counted line, h.on_lines line, less);
+    few_cells = few;
   }
 
   -- the number of a line on which something is kept is not zero
-  pub across_counts : (p : Position) → IsSome (map.get across p) → 0 < number_at rows p.row
-  across_counts p some =
-      let positive : 0 < count (on_row p.row) across = count_positive positions_total exact_positions (on_row p.row) across p (was_on_row p.row p (map.get across p) ∙ here (map.get across p) (p.row == p.row) some (same_number p.row)) in
-      omega (arith, h.on_rows p.row)
-
-  pub down_counts : (p : Position) → IsSome (map.get down p) → 0 < number_at cols p.col
-  down_counts p some =
-      let positive : 0 < count (on_col p.col) down = count_positive positions_total exact_positions (on_col p.col) down p (was_on_col p.col p (map.get down p) ∙ here (map.get down p) (p.col == p.col) some (same_number p.col)) in
-      omega (arith, h.on_cols p.col)
-
-  pub crossing_counts_row : (p : Position) → IsSome (map.get crosses p) → 0 < number_at rows p.row
-  crossing_counts_row p some =
-      let positive : 0 < count (on_row p.row) crosses = count_positive positions_total exact_positions (on_row p.row) crosses p (was_on_row p.row p (map.get crosses p) ∙ here (map.get crosses p) (p.row == p.row) some (same_number p.row)) in
-      omega (arith, h.on_rows p.row)
-
-  pub crossing_counts_col : (p : Position) → IsSome (map.get crosses p) → 0 < number_at cols p.col
-  crossing_counts_col p some =
-      let positive : 0 < count (on_col p.col) crosses = count_positive positions_total exact_positions (on_col p.col) crosses p (was_on_col p.col p (map.get crosses p) ∙ here (map.get crosses p) (p.col == p.col) some (same_number p.col)) in
-      omega (arith, h.on_cols p.col)
-
-  -- nothing changed, whatever the keys of the numbers
-  pub counts_kept : (rows' cols' : map.FinMap nat_cmp ℕ) (across' down' crosses' : map.FinMap position_cmp T) → ((q : ℕ) → number_at rows' q ≡ number_at rows q) → ((q : ℕ) → number_at cols' q ≡ number_at cols q) → across' ≡ across → down' ≡ down → crosses' ≡ crosses → CellsCounted rows' cols' across' down' crosses'
-  counts_kept rows' cols' across' down' crosses' by_row by_col a d x = record {
-    on_rows = λ q. by_row q ∙ h.on_rows q ∙ (λ i. count (on_row q) (sym a i) + count (on_row q) (sym x i));
-    on_cols = λ q. by_col q ∙ h.on_cols q ∙ (λ i. count (on_col q) (sym d i) + count (on_col q) (sym x i));
-    few_across = subst (λ m. map.len m < 2 ^ 63) (sym a) h.few_across;
-    few_down = subst (λ m. map.len m < 2 ^ 63) (sym d) h.few_down;
-    few_crosses = subst (λ m. map.len m < 2 ^ 63) (sym x) h.few_crosses;
-  }
+  pub cell_counts : (at : Spot) → IsSome (map.get cells at) → (line : LineOf) → lies_on line at ≡ true → 0 < number_at numbers line
+  cell_counts at some line lies =
+      let positive : 0 < on_line line cells = count_positive spots_total exact_spots (λ spot _. lies_on line spot) cells at (was_there (lies_on line at) (map.get cells at) ∙ here (map.get cells at) (lies_on line at) some lies) in
+      omega (arith, h.on_lines line, positive)
 
   -- a number that is not zero is that of a line with something on it
-  pub some_on_row : (n : ℕ) → 0 < number_at rows n → ((p : Position) × (p.row ≡ n) × IsSome (map.get across p)) ⊎ ((p : Position) × (p.row ≡ n) × IsSome (map.get crosses p))
-  some_on_row n positive = elim (one_positive (count (on_row n) across) (count (on_row n) crosses) (omega (arith, h.on_rows n))) [
-    | inl some ↦ let found = count_from positions_total exact_positions (on_row n) across some in
-        let facts = on_line (map.get across found.0) (found.0).row n found.1 in inl (found.0, facts.0, facts.1)
-    | inr some ↦ let found = count_from positions_total exact_positions (on_row n) crosses some in
-        let facts = on_line (map.get crosses found.0) (found.0).row n found.1 in inr (found.0, facts.0, facts.1)
-  ]
+  pub some_on_line : (line : LineOf) → 0 < number_at numbers line → (at : Spot) × (lies_on line at ≡ true) × IsSome (map.get cells at)
+  some_on_line line positive =
+      let some : 0 < on_line line cells = omega (arith, h.on_lines line, positive) in
+      let found = count_from spots_total exact_spots (λ spot _. lies_on line spot) cells some in
+      let facts = and_there (lies_on line found.0) (map.get cells found.0) found.1 in
+      (found.0, facts.0, facts.1)
 
-  pub some_on_col : (n : ℕ) → 0 < number_at cols n → ((p : Position) × (p.col ≡ n) × IsSome (map.get down p)) ⊎ ((p : Position) × (p.col ≡ n) × IsSome (map.get crosses p))
-  some_on_col n positive = elim (one_positive (count (on_col n) down) (count (on_col n) crosses) (omega (arith, h.on_cols n))) [
-    | inl some ↦ let found = count_from positions_total exact_positions (on_col n) down some in
-        let facts = on_line (map.get down found.0) (found.0).col n found.1 in inl (found.0, facts.0, facts.1)
-    | inr some ↦ let found = count_from positions_total exact_positions (on_col n) crosses some in
-        let facts = on_line (map.get crosses found.0) (found.0).col n found.1 in inr (found.0, facts.0, facts.1)
-  ]
+  -- nothing changed, whatever the keys of the numbers
+  pub cells_kept : (numbers' : map.FinMap line_cmp ℕ) (cells' : map.FinMap spot_cmp T) → ((line : LineOf) → number_at numbers' line ≡ number_at numbers line) → cells' ≡ cells → CellsCounted numbers' cells'
+  cells_kept numbers' cells' same e = record {
+    on_lines = λ line. same line ∙ h.on_lines line ∙ (λ i. on_line line (sym e i));
+    few_cells = subst (λ m. map.len m < 2 ^ 63) (sym e) h.few_cells;
+  }
 
   -- whether memory was there or not
-  pub across_either : {A E : Type 0} (result : Result A E) (rows' : map.FinMap nat_cmp ℕ) (across' : map.FinMap position_cmp T) (p : Position) (v : T) → OnOk result (across' ≡ map.insert across p v) → OnOk result ((q : ℕ) → number_at rows' q + one_if (is_some (map.get across p) && (q == p.row)) ≡ number_at rows q + one_if (q == p.row)) → OnErr result (across' ≡ across) → OnErr result ((q : ℕ) → number_at rows' q ≡ number_at rows q) → map.len across' < 2 ^ 63 → CellsCounted rows' cols across' down crosses
-  across_either (Ok x) rows' across' p v ok counted err same few = across_put rows' across' p v ok counted few
-  across_either (Err e) rows' across' p v ok counted err same few = counts_kept rows' cols across' down crosses same (λ q. refl) err refl refl
+  pub cell_either : {A E : Type 0} (result : Result A E) (numbers' : map.FinMap line_cmp ℕ) (cells' : map.FinMap spot_cmp T) (at : Spot) (v : T) → OnOk result (cells' ≡ map.insert cells at v) → OnOk result ((line : LineOf) → number_at numbers' line + one_if (is_some (map.get cells at) && lies_on line at) ≡ number_at numbers line + one_if (lies_on line at)) → OnErr result (cells' ≡ cells) → OnErr result ((line : LineOf) → number_at numbers' line ≡ number_at numbers line) → map.len cells' < 2 ^ 63 → CellsCounted numbers' cells'
+  cell_either (Ok x) numbers' cells' at v ok counted err same few = cell_put numbers' cells' at v ok counted few
+  cell_either (Err e) numbers' cells' at v ok counted err same few = cells_kept numbers' cells' same err
 
-  pub down_either : {A E : Type 0} (result : Result A E) (cols' : map.FinMap nat_cmp ℕ) (down' : map.FinMap position_cmp T) (p : Position) (v : T) → OnOk result (down' ≡ map.insert down p v) → OnOk result ((q : ℕ) → number_at cols' q + one_if (is_some (map.get down p) && (q == p.col)) ≡ number_at cols q + one_if (q == p.col)) → OnErr result (down' ≡ down) → OnErr result ((q : ℕ) → number_at cols' q ≡ number_at cols q) → map.len down' < 2 ^ 63 → CellsCounted rows cols' across down' crosses
-  down_either (Ok x) cols' down' p v ok counted err same few = down_put cols' down' p v ok counted few
-  down_either (Err e) cols' down' p v ok counted err same few = counts_kept rows cols' across down' crosses (λ q. refl) same refl err refl
-
-  pub crossing_either : {A E : Type 0} (result : Result A E) (rows' cols' : map.FinMap nat_cmp ℕ) (crosses' : map.FinMap position_cmp T) (p : Position) (v : T) → OnOk result (crosses' ≡ map.insert crosses p v) → OnOk result ((q : ℕ) → number_at rows' q + one_if (is_some (map.get crosses p) && (q == p.row)) ≡ number_at rows q + one_if (q == p.row)) → OnOk result ((q : ℕ) → number_at cols' q + one_if (is_some (map.get crosses p) && (q == p.col)) ≡ number_at cols q + one_if (q == p.col)) → OnErr result (crosses' ≡ crosses) → OnErr result ((q : ℕ) → number_at rows' q ≡ number_at rows q) → OnErr result ((q : ℕ) → number_at cols' q ≡ number_at cols q) → map.len crosses' < 2 ^ 63 → CellsCounted rows' cols' across down crosses'
-  crossing_either (Ok x) rows' cols' crosses' p v ok by_row by_col err same_row same_col few = crossing_put rows' cols' crosses' p v ok by_row by_col few
-  crossing_either (Err e) rows' cols' crosses' p v ok by_row by_col err same_row same_col few = counts_kept rows' cols' across down crosses' same_row same_col refl refl err
-
--- in empty maps nothing is counted
-pub nothing_counted : {T : Type 0} → CellsCounted {T = T} map.empty map.empty map.empty map.empty map.empty
-nothing_counted {T} = record {
-  on_rows = λ q. ap (λ o. unwrap_or o 0) (map.get-empty {X = ℕ} nat_cmp q) ∙ sym (λ i. count-empty {X = T} positions_total exact_positions (on_row q) i + count-empty {X = T} positions_total exact_positions (on_row q) i);
-  on_cols = λ q. ap (λ o. unwrap_or o 0) (map.get-empty {X = ℕ} nat_cmp q) ∙ sym (λ i. count-empty {X = T} positions_total exact_positions (on_col q) i + count-empty {X = T} positions_total exact_positions (on_col q) i);
-  few_across = omega (arith, map.len-empty position_cmp T);
-  few_down = omega (arith, map.len-empty position_cmp T);
-  few_crosses = omega (arith, map.len-empty position_cmp T);
+-- without cells nothing is counted
+pub no_cells_counted : {T : Type 0} (numbers : map.FinMap line_cmp ℕ) (cells : map.FinMap spot_cmp T) → numbers ≡ map.empty → cells ≡ map.empty → CellsCounted numbers cells
+no_cells_counted {T} numbers cells n c = record {
+  on_lines = λ line. (λ i. number_at (n i) line) ∙ ap (λ o. unwrap_or o 0) (map.get-empty {X = ℕ} line_cmp line)
+      ∙ sym ((λ i. on_line line (c i)) ∙ count-empty {X = T} spots_total exact_spots (λ spot _. lies_on line spot));
+  few_cells = omega (arith, ap map.len c, map.len-empty spot_cmp T);
 }
+
+-- a spot lies on its lines alone
+pub on_one_line : (line : LineOf) (spot : Spot) → second_line spot ≡ None → lies_on line spot ≡ same_line (first_line spot) line
+on_one_line (LineOf.Horizontal n) (Edge Horizontal r c) h = refl
+on_one_line (LineOf.Horizontal n) (Edge Vertical r c) h = refl
+on_one_line (LineOf.Vertical n) (Edge Horizontal r c) h = refl
+on_one_line (LineOf.Vertical n) (Edge Vertical r c) h = refl
+on_one_line line (Crossing r c) h = absurd cc
+
+pub on_two_lines : (line second : LineOf) (spot : Spot) → second_line spot ≡ Some second → one_if (lies_on line spot) ≡ one_if (same_line (first_line spot) line) + one_if (same_line second line)
+on_two_lines line second (Edge d r c) h = absurd cc
+on_two_lines line second (Crossing r c) h = ap (λ o. one_if (lies_on line (Crossing r c))) h ∙ crossed line ∙ ap (λ o. one_if (same_line (LineOf.Horizontal r) line) + one_if (same_line (unwrap_or o second) line)) h
+  where
+    crossed : (l : LineOf) → one_if (lies_on l (Crossing r c)) ≡ one_if (same_line (LineOf.Horizontal r) l) + one_if (same_line (LineOf.Vertical c) l)
+    crossed (LineOf.Horizontal n) = omega arith
+    crossed (LineOf.Vertical n) = omega arith
 
 module _ {T : Type 0} (tops bottoms : ℕ) (lines : map.FinMap nat_cmp (VerticalLine T)) (h : VerticalCounted tops bottoms lines) where
   pub tops_small : tops < 2 ^ 64
@@ -301,18 +215,6 @@ no_horizontal_counted {T} l r w lines l0 r0 w0 e = record {
   betweens_are = w0 ∙ sym (ap (count (λ _ x. is_some x.intersection)) e ∙ count-empty {X = HorizontalLine T} nat_cmp_total map.nat_cmp-IsAntisymmetric (λ _ x. is_some x.intersection));
   few = omega (arith, ap map.len e, map.len-empty nat_cmp (HorizontalLine T));
 }
-
--- without cells neither
-pub no_cells_counted : {T : Type 0} (rows cols : map.FinMap nat_cmp ℕ) (across down crosses : map.FinMap position_cmp T) → rows ≡ map.empty → cols ≡ map.empty → across ≡ map.empty → down ≡ map.empty → crosses ≡ map.empty → CellsCounted rows cols across down crosses
-no_cells_counted {T} rows cols across down crosses r c a d x =
-    let h : CellsCounted {T = T} map.empty map.empty map.empty map.empty map.empty = nothing_counted in
-    record {
-      on_rows = λ q. (λ i. number_at (r i) q) ∙ h.on_rows q ∙ sym (λ i. count (on_row q) (a i) + count (on_row q) (x i));
-      on_cols = λ q. (λ i. number_at (c i) q) ∙ h.on_cols q ∙ sym (λ i. count (on_col q) (d i) + count (on_col q) (x i));
-      few_across = subst (λ m. map.len m < 2 ^ 63) (sym a) h.few_across;
-      few_down = subst (λ m. map.len m < 2 ^ 63) (sym d) h.few_down;
-      few_crosses = subst (λ m. map.len m < 2 ^ 63) (sym x) h.few_crosses;
-    }
 
 -- answers for what they say
 pub settled : (was now a b : Bool) (n : ℕ) → was ≡ a → now ≡ b → one_if a ≤ n + one_if b → one_if was ≤ n + one_if now

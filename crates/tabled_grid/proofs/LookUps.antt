@@ -4,15 +4,17 @@ use Rattle.std.specs.Option.{option_map}
 use Rattle.tabled_grid.specs.declared.borders.Borders.{Borders}
 use Rattle.tabled_grid.specs.declared.place.Place.{Place}
 use Rattle.tabled_grid.specs.declared.place.LineOf.{LineOf}
-use Rattle.tabled_grid.specs.Site.{Direction, across, down, Rank, first, inner, closing, stands, Class, edges, crossings, main_edges, meeting, horizontal_meeting, vertical_meeting, rank, of_class, class_value}
+use Rattle.tabled_grid.specs.Site.{Direction, Horizontal, Vertical, Rank, first, inner, closing, stands, Class, edges, crossings, main_edges, meeting, horizontal_meeting, vertical_meeting, rank, the_default, of_class, of_line, at_spot, Crossing, class_value}
 use Rattle.tabled_grid.specs.Event.{sign}
 use Rattle.tabled_grid.specs.Value.{has_spot, inside, class_at, plain_sites, sites, sign_or, first_sign, value, plain_value}
 use Rattle.tabled_grid.specs.Drawn.{draws}
 use Rattle.std.specs.FinMap.{get}
 use Rattle.tabled_grid.specs.declared.lines.HorizontalLine.{HorizontalLine}
 use Rattle.tabled_grid.specs.declared.lines.VerticalLine.{VerticalLine}
-use Rattle.tabled_grid.specs.Reading.{pick, plain_across, plain_down, plain_crossing, edge_across, edge_down}
-use Rattle.tabled_grid.specs.State.{State, state_at, position, edge_place, horizontal_part, vertical_part, line_classes, has_class, rank_draws}
+use Rattle.tabled_grid.specs.Reading.{pick, main_of, plain_edge, plain_crossing, edge_shown}
+use Rattle.tabled_grid.specs.Calls.{edge_of}
+use Rattle.tabled_grid.specs.declared.offset.Offset.{Offset}
+use Rattle.tabled_grid.specs.State.{State, state_at, edge_place, horizontal_part, vertical_part, line_classes, has_class, rank_draws}
 
 -- every class of the list draws the line
 abbrev pub AllDraw : ℕ → LineOf → List Class → Type 0
@@ -48,46 +50,53 @@ pick-none : {T : Type 0} (o : Option T) → pick o None ≡ o
 pick-none None = refl
 pick-none (Some x) = refl
 
+-- the place of an edge of a line, of the lines 0 to count of its direction
+abbrev pub place_on : LineOf → ℕ → ℕ → Place
+place_on (LineOf.Horizontal r) c n = Place.Horizontal r c n
+place_on (LineOf.Vertical c) r n = Place.Vertical r c n
+
+abbrev pub of_line_count : ℕ × ℕ → LineOf → ℕ
+of_line_count shape (LineOf.Horizontal r) = shape.0
+of_line_count shape (LineOf.Vertical c) = shape.1
+
 module _ {T : Type 0} (k : State T) where
   last_levels : (class_has : Option T) → sign_or (option_map sign class_has) (sign_or (option_map sign k.default_value) None) ≡ pick class_has k.default_value
   last_levels class_has = sign_or-sign class_has (sign_or (option_map sign k.default_value) None) ∙ ap (pick class_has) (sign_or-sign k.default_value None ∙ pick-none k.default_value)
 
   -- what the sites below the offsets have, for each kind of place
-  pub plain-across : (rows cols r c n : ℕ) → first_sign (state_at k) (plain_sites (rows, cols) (Place.Horizontal r c n)) ≡ plain_across k rows r c
-  plain-across rows cols r c n =
-      sign_or-sign (get k.edges_across (position r c)) _
-      ∙ ap (pick (get k.edges_across (position r c))) (sign_or-horizontal_main (get k.horizontal_lines r) _
-      ∙ ap (pick (option_and_then (λ line. line.main) (get k.horizontal_lines r))) (last_levels (class_value (class_at (rows, cols) (Place.Horizontal r c n)) k.class_record)))
+  main_level : (line : LineOf) (rest : Option T) → sign_or (state_at k (of_line line main_edges)) rest ≡ pick (main_of k line) rest
+  main_level (LineOf.Horizontal n) rest = sign_or-horizontal_main (get k.horizontal_lines n) rest
+  main_level (LineOf.Vertical n) rest = sign_or-vertical_main (get k.vertical_lines n) rest
 
-  pub plain-down : (rows cols r c n : ℕ) → first_sign (state_at k) (plain_sites (rows, cols) (Place.Vertical r c n)) ≡ plain_down k cols r c
-  plain-down rows cols r c n =
-      sign_or-sign (get k.edges_down (position r c)) _
-      ∙ ap (pick (get k.edges_down (position r c))) (sign_or-vertical_main (get k.vertical_lines c) _
-      ∙ ap (pick (option_and_then (λ line. line.main) (get k.vertical_lines c))) (last_levels (class_value (class_at (rows, cols) (Place.Vertical r c n)) k.class_record)))
+  plain_levels : (line : LineOf) (at : ℕ) (class : Class) → first_sign (state_at k) (at_spot (edge_of line at) ∷ of_line line main_edges ∷ of_class class ∷ the_default ∷ []) ≡ pick (get k.cells (edge_of line at)) (pick (main_of k line) (pick (class_value class k.class_record) k.default_value))
+  plain_levels line at class =
+      sign_or-sign (get k.cells (edge_of line at)) _
+      ∙ ap (pick (get k.cells (edge_of line at))) (main_level line _ ∙ ap (pick (main_of k line)) (last_levels (class_value class k.class_record)))
+
+  pub plain-edge : (shape : ℕ × ℕ) (line : LineOf) (at n : ℕ) → first_sign (state_at k) (plain_sites shape (place_on line at n)) ≡ plain_edge k line (of_line_count shape line) at
+  plain-edge shape (LineOf.Horizontal r) c n = plain_levels (LineOf.Horizontal r) c (class_at shape (Place.Horizontal r c n))
+  plain-edge shape (LineOf.Vertical c) r n = plain_levels (LineOf.Vertical c) r (class_at shape (Place.Vertical r c n))
 
   pub plain-crossing : (rows cols r c : ℕ) → first_sign (state_at k) (plain_sites (rows, cols) (Place.Cross r c)) ≡ plain_crossing k rows cols r c
   plain-crossing rows cols r c =
-      sign_or-sign (get k.crosses (position r c)) _
-      ∙ ap (pick (get k.crosses (position r c))) (sign_or-horizontal_meeting (rank cols c) (get k.horizontal_lines r) _
+      sign_or-sign (get k.cells (Crossing r c)) _
+      ∙ ap (pick (get k.cells (Crossing r c))) (sign_or-horizontal_meeting (rank cols c) (get k.horizontal_lines r) _
       ∙ ap (pick (option_and_then (horizontal_meeting (rank cols c)) (get k.horizontal_lines r))) (sign_or-vertical_meeting (rank rows r) (get k.vertical_lines c) _
       ∙ ap (pick (option_and_then (vertical_meeting (rank rows r)) (get k.vertical_lines c))) (last_levels (class_value (class_at (rows, cols) (Place.Cross r c)) k.class_record))))
 
   -- the value of each kind of place inside
-  pub value-across : (rows cols size r c n : ℕ) → inside (rows, cols) size (Place.Horizontal r c n) ≡ true → value (state_at k) (rows, cols) size (Place.Horizontal r c n) ≡ edge_across k rows r c n (size - 1 - n)
+  pub value-edge : (shape : ℕ × ℕ) (size : ℕ) (line : LineOf) (at n : ℕ) → inside shape size (place_on line at n) ≡ true → value (state_at k) shape size (place_on line at n) ≡ edge_shown k line (of_line_count shape line) at n size
   unfolding value
-  value-across rows cols size r c n h =
-      ap (λ b. cond b (first_sign (state_at k) (sites (rows, cols) size (Place.Horizontal r c n))) None) h
-      ∙ sign_or-sign (get k.starts_across (edge_place r c n)) _
-      ∙ ap (pick (get k.starts_across (edge_place r c n))) (sign_or-sign (get k.ends_across (edge_place r c (size - 1 - n))) _
-      ∙ ap (pick (get k.ends_across (edge_place r c (size - 1 - n)))) (plain-across rows cols r c n))
-
-  pub value-down : (rows cols size r c n : ℕ) → inside (rows, cols) size (Place.Vertical r c n) ≡ true → value (state_at k) (rows, cols) size (Place.Vertical r c n) ≡ edge_down k cols r c n (size - 1 - n)
-  unfolding value
-  value-down rows cols size r c n h =
-      ap (λ b. cond b (first_sign (state_at k) (sites (rows, cols) size (Place.Vertical r c n))) None) h
-      ∙ sign_or-sign (get k.starts_down (edge_place r c n)) _
-      ∙ ap (pick (get k.starts_down (edge_place r c n))) (sign_or-sign (get k.ends_down (edge_place r c (size - 1 - n))) _
-      ∙ ap (pick (get k.ends_down (edge_place r c (size - 1 - n)))) (plain-down rows cols r c n))
+  value-edge shape size (LineOf.Horizontal r) c n h =
+      ap (λ b. cond b (first_sign (state_at k) (sites shape size (Place.Horizontal r c n))) None) h
+      ∙ sign_or-sign (get k.horizontal_offsets (edge_place r c (Offset.Start n))) _
+      ∙ ap (pick (get k.horizontal_offsets (edge_place r c (Offset.Start n)))) (sign_or-sign (get k.horizontal_offsets (edge_place r c (Offset.End (size - 1 - n)))) _
+      ∙ ap (pick (get k.horizontal_offsets (edge_place r c (Offset.End (size - 1 - n))))) (plain-edge shape (LineOf.Horizontal r) c n))
+  value-edge shape size (LineOf.Vertical c) r n h =
+      ap (λ b. cond b (first_sign (state_at k) (sites shape size (Place.Vertical r c n))) None) h
+      ∙ sign_or-sign (get k.vertical_offsets (edge_place r c (Offset.Start n))) _
+      ∙ ap (pick (get k.vertical_offsets (edge_place r c (Offset.Start n)))) (sign_or-sign (get k.vertical_offsets (edge_place r c (Offset.End (size - 1 - n)))) _
+      ∙ ap (pick (get k.vertical_offsets (edge_place r c (Offset.End (size - 1 - n))))) (plain-edge shape (LineOf.Vertical c) r n))
 
   pub value-crossing : (rows cols size r c : ℕ) → inside (rows, cols) size (Place.Cross r c) ≡ true → value (state_at k) (rows, cols) size (Place.Cross r c) ≡ plain_crossing k rows cols r c
   unfolding value
@@ -120,8 +129,8 @@ is_some-sign (Some x) = refl
 
 -- the line of that direction and number
 unfoldable pub line_of : Direction → ℕ → LineOf
-line_of across n = LineOf.Horizontal n
-line_of down n = LineOf.Vertical n
+line_of Horizontal n = LineOf.Horizontal n
+line_of Vertical n = LineOf.Vertical n
 
 module _ {T : Type 0} (borders : Borders T) where
   -- one of the classes has a field, and they all draw the line
@@ -156,32 +165,32 @@ module _ {T : Type 0} (borders : Borders T) where
   -- the classes of the lines of a rank draw each of them
   pub all_draw : (d : Direction) (rank : Rank) (count n : ℕ) → stands rank count n ≡ true → AllDraw count (line_of d n) (line_classes d rank)
   unfolding line_of
-  all_draw across rank count n e = (e, (e, (e, (e, tt))))
-  all_draw down rank count n e = (e, (e, (e, (e, tt))))
+  all_draw Horizontal rank count n e = (e, (e, (e, (e, tt))))
+  all_draw Vertical rank count n e = (e, (e, (e, (e, tt))))
 
   given_edge : (d : Direction) (rank : Rank) → is_some (class_value (edges d rank) borders) ≡ true → has_class borders (line_classes d rank) ≡ true
-  given_edge across rank e = or_left (is_some (class_value (edges across rank) borders)) _ e
-  given_edge down rank e = or_left (is_some (class_value (edges down rank) borders)) _ e
+  given_edge Horizontal rank e = or_left (is_some (class_value (edges Horizontal rank) borders)) _ e
+  given_edge Vertical rank e = or_left (is_some (class_value (edges Vertical rank) borders)) _ e
 
-  given_across : (row col : Rank) → is_some (class_value (crossings row col) borders) ≡ true → has_class borders (line_classes across row) ≡ true
-  given_across row first e = or_right (is_some (class_value (edges across row) borders)) _ (or_left _ _ e)
-  given_across row inner e = or_right (is_some (class_value (edges across row) borders)) _ (or_right (is_some (class_value (crossings row first) borders)) _ (or_left _ _ e))
-  given_across row closing e = or_right (is_some (class_value (edges across row) borders)) _ (or_right (is_some (class_value (crossings row first) borders)) _ (or_right (is_some (class_value (crossings row inner) borders)) _ (or_left _ _ e)))
+  given_across : (row col : Rank) → is_some (class_value (crossings row col) borders) ≡ true → has_class borders (line_classes Horizontal row) ≡ true
+  given_across row first e = or_right (is_some (class_value (edges Horizontal row) borders)) _ (or_left _ _ e)
+  given_across row inner e = or_right (is_some (class_value (edges Horizontal row) borders)) _ (or_right (is_some (class_value (crossings row first) borders)) _ (or_left _ _ e))
+  given_across row closing e = or_right (is_some (class_value (edges Horizontal row) borders)) _ (or_right (is_some (class_value (crossings row first) borders)) _ (or_right (is_some (class_value (crossings row inner) borders)) _ (or_left _ _ e)))
 
-  given_down : (row col : Rank) → is_some (class_value (crossings row col) borders) ≡ true → has_class borders (line_classes down col) ≡ true
-  given_down first col e = or_right (is_some (class_value (edges down col) borders)) _ (or_left _ _ e)
-  given_down inner col e = or_right (is_some (class_value (edges down col) borders)) _ (or_right (is_some (class_value (crossings first col) borders)) _ (or_left _ _ e))
-  given_down closing col e = or_right (is_some (class_value (edges down col) borders)) _ (or_right (is_some (class_value (crossings first col) borders)) _ (or_right (is_some (class_value (crossings inner col) borders)) _ (or_left _ _ e)))
+  given_down : (row col : Rank) → is_some (class_value (crossings row col) borders) ≡ true → has_class borders (line_classes Vertical col) ≡ true
+  given_down first col e = or_right (is_some (class_value (edges Vertical col) borders)) _ (or_left _ _ e)
+  given_down inner col e = or_right (is_some (class_value (edges Vertical col) borders)) _ (or_right (is_some (class_value (crossings first col) borders)) _ (or_left _ _ e))
+  given_down closing col e = or_right (is_some (class_value (edges Vertical col) borders)) _ (or_right (is_some (class_value (crossings first col) borders)) _ (or_right (is_some (class_value (crossings inner col) borders)) _ (or_left _ _ e)))
 
   -- a class that draws a line and has a field is one of those of the line's rank
   pub class_draws_it : (d : Direction) (count n : ℕ) (c : Class) → draws count (line_of d n) (of_class c) ≡ true → is_some (class_value c borders) ≡ true → rank_draws borders count d n ≡ true
   unfolding line_of
-  class_draws_it across count n (edges across rank) e f = by_rank across rank count n e (given_edge across rank f)
-  class_draws_it across count n (edges down rank) e f = absurd cc
-  class_draws_it across count n (crossings row col) e f = by_rank across row count n e (given_across row col f)
-  class_draws_it down count n (edges down rank) e f = by_rank down rank count n e (given_edge down rank f)
-  class_draws_it down count n (edges across rank) e f = absurd cc
-  class_draws_it down count n (crossings row col) e f = by_rank down col count n e (given_down row col f)
+  class_draws_it Horizontal count n (edges Horizontal rank) e f = by_rank Horizontal rank count n e (given_edge Horizontal rank f)
+  class_draws_it Horizontal count n (edges Vertical rank) e f = absurd cc
+  class_draws_it Horizontal count n (crossings row col) e f = by_rank Horizontal row count n e (given_across row col f)
+  class_draws_it Vertical count n (edges Vertical rank) e f = by_rank Vertical rank count n e (given_edge Vertical rank f)
+  class_draws_it Vertical count n (edges Horizontal rank) e f = absurd cc
+  class_draws_it Vertical count n (crossings row col) e f = by_rank Vertical col count n e (given_down row col f)
 
 -- an edge or a crossing outside has no plain value
 pub plain_outside : {T : Type 0} (state : State T) (shape : ℕ × ℕ) (place : Place) → has_spot shape place ≡ false → plain_value (state_at state) shape place ≡ None
@@ -194,26 +203,18 @@ unfolding plain_value
 plain_inside state shape place h = ap (λ b. cond b (first_sign (state_at state) (plain_sites shape place)) None) h
 
 -- the plain value of each kind, from what was read
-pub plain_at_across : {T : Type 0} (k : State T) (shape : ℕ × ℕ) (place : Place) (r c n : ℕ) (o : Option T) → place ≡ Place.Horizontal r c n → has_spot shape place ≡ true → o ≡ plain_across k shape.0 r c → o ≡ plain_value (state_at k) shape place
-plain_at_across k shape place r c n o e h is =
-    is ∙ sym (plain_inside k shape place h ∙ ap (λ p. first_sign (state_at k) (plain_sites shape p)) e ∙ plain-across k shape.0 shape.1 r c n)
-
-pub plain_at_down : {T : Type 0} (k : State T) (shape : ℕ × ℕ) (place : Place) (r c n : ℕ) (o : Option T) → place ≡ Place.Vertical r c n → has_spot shape place ≡ true → o ≡ plain_down k shape.1 r c → o ≡ plain_value (state_at k) shape place
-plain_at_down k shape place r c n o e h is =
-    is ∙ sym (plain_inside k shape place h ∙ ap (λ p. first_sign (state_at k) (plain_sites shape p)) e ∙ plain-down k shape.0 shape.1 r c n)
+pub plain_at_edge : {T : Type 0} (k : State T) (shape : ℕ × ℕ) (place : Place) (line : LineOf) (at n : ℕ) (o : Option T) → place ≡ place_on line at n → has_spot shape place ≡ true → o ≡ plain_edge k line (of_line_count shape line) at → o ≡ plain_value (state_at k) shape place
+plain_at_edge k shape place line at n o e h is =
+    is ∙ sym (plain_inside k shape place h ∙ ap (λ p. first_sign (state_at k) (plain_sites shape p)) e ∙ plain-edge k shape line at n)
 
 pub plain_at_crossing : {T : Type 0} (k : State T) (shape : ℕ × ℕ) (place : Place) (r c : ℕ) (o : Option T) → place ≡ Place.Cross r c → has_spot shape place ≡ true → o ≡ plain_crossing k shape.0 shape.1 r c → o ≡ plain_value (state_at k) shape place
 plain_at_crossing k shape place r c o e h is =
     is ∙ sym (plain_inside k shape place h ∙ ap (λ p. first_sign (state_at k) (plain_sites shape p)) e ∙ plain-crossing k shape.0 shape.1 r c)
 
 -- the value of a place of each kind, from what was read
-pub at_across : {T : Type 0} (k : State T) (shape : ℕ × ℕ) (size : ℕ) (place : Place) (r c n : ℕ) (o : Option T) → place ≡ Place.Horizontal r c n → inside shape size place ≡ true → o ≡ edge_across k shape.0 r c n (size - 1 - n) → o ≡ value (state_at k) shape size place
-at_across k shape size place r c n o e h is =
-    is ∙ sym (value-across k shape.0 shape.1 size r c n (sym (ap (inside shape size) e) ∙ h)) ∙ sym (ap (value (state_at k) shape size) e)
-
-pub at_down : {T : Type 0} (k : State T) (shape : ℕ × ℕ) (size : ℕ) (place : Place) (r c n : ℕ) (o : Option T) → place ≡ Place.Vertical r c n → inside shape size place ≡ true → o ≡ edge_down k shape.1 r c n (size - 1 - n) → o ≡ value (state_at k) shape size place
-at_down k shape size place r c n o e h is =
-    is ∙ sym (value-down k shape.0 shape.1 size r c n (sym (ap (inside shape size) e) ∙ h)) ∙ sym (ap (value (state_at k) shape size) e)
+pub at_edge : {T : Type 0} (k : State T) (shape : ℕ × ℕ) (size : ℕ) (place : Place) (line : LineOf) (at n : ℕ) (o : Option T) → place ≡ place_on line at n → inside shape size place ≡ true → o ≡ edge_shown k line (of_line_count shape line) at n size → o ≡ value (state_at k) shape size place
+at_edge k shape size place line at n o e h is =
+    is ∙ sym (value-edge k shape size line at n (sym (ap (inside shape size) e) ∙ h)) ∙ sym (ap (value (state_at k) shape size) e)
 
 pub at_crossing : {T : Type 0} (k : State T) (shape : ℕ × ℕ) (size : ℕ) (place : Place) (r c : ℕ) (o : Option T) → place ≡ Place.Cross r c → inside shape size place ≡ true → o ≡ plain_crossing k shape.0 shape.1 r c → o ≡ value (state_at k) shape size place
 at_crossing k shape size place r c o e h is =

@@ -1,22 +1,22 @@
 -- Single writes, and what puts them back.
 use Rattle.std.proofs.Common.{◌≡◌, ℕ, Bool, true, false, cond, ◌&&◌, ◌||◌, ◌==◌, Option, Some, None, is_some, IsSome, [], ◌∷◌, refl, ap, sym, ◌∙◌, option_and_then, Result, Ok, Err, OnOk, OnErr}
 use Rattle.std.specs.Option.{option_map}
-use Rattle.std.specs.Cmp.{nat_cmp_total}
+use Rattle.std.specs.Cmp.{IsTotalOrder, nat_cmp_total, eq_by_cmp_equiv}
+use Rattle.std.specs.declared.cmp.Ordering.{Ordering}
 use Rattle.std.specs.FinMap as map
 use Rattle.tabled_grid.specs.declared.borders.Borders.{Borders}
 use Rattle.tabled_grid.specs.declared.lines.HorizontalLine.{HorizontalLine}
 use Rattle.tabled_grid.specs.declared.lines.VerticalLine.{VerticalLine}
 use Rattle.tabled_grid.specs.declared.place.LineOf.{LineOf}
-use Rattle.tabled_grid.specs.Keys.{position_cmp, edge_place_cmp, positions_total, exact_positions, edge_places_total, exact_edge_places}
-use Rattle.tabled_grid.specs.Site.{across, down, first, inner, closing, Class, edges, crossings, class_value, Part, mark, main_edges, meeting, Spot, edge, crossing, Site, the_default, of_class, of_line, at_spot, from_end, from_start, same_site}
+use Rattle.tabled_grid.specs.Keys.{spots_total, exact_spots, is_same_spot, edge_places_total, exact_edge_places, is_same_edge_place}
+use Rattle.tabled_grid.specs.Site.{Horizontal, Vertical, first, inner, closing, Class, edges, crossings, class_value, Part, mark, main_edges, meeting, Site, the_default, of_class, of_line, at_spot, at_offset, same_site, same_offset}
 use Rattle.tabled_grid.specs.Event.{Written, sign, standing, write, erase, replay, these_sites, Changes}
-use Rattle.tabled_grid.specs.State.{State, state_at, position, edge_place, horizontal_part, vertical_part}
+use Rattle.tabled_grid.specs.State.{State, state_at, edge_place, horizontal_part, vertical_part}
 use Rattle.tabled_grid.specs.Calls.{spot_of}
 use Rattle.tabled_grid.specs.declared.offset.Offset.{Offset}
 use Rattle.tabled_grid.specs.declared.writes.Target.{Target}
 use Rattle.tabled_grid.specs.Writes.{site_of, PutsBackAt}
 use Rattle.tabled_grid.proofs.Replay.{replay_one}
-use Rattle.tabled_grid.proofs.LineWrites.{same_number}
 use Rattle.tabled_grid.proofs.SameSite.{same_site-eq}
 use Rattle.tabled_grid.proofs.CellBorders.{by_erasure}
 
@@ -34,11 +34,8 @@ unsigned-sign (Some x) = refl
 of_signs : {T : Type 0} (o p : Option T) → option_map sign o ≡ option_map sign p → o ≡ p
 of_signs o p h = sym (unsigned-sign o) ∙ ap unsigned h ∙ unsigned-sign p
 
-same_spots : {T : Type 0} (m n : map.FinMap position_cmp T) → ((r c : ℕ) → option_map sign (map.get m (position r c)) ≡ option_map sign (map.get n (position r c))) → m ≡ n
-same_spots m n h = map.same_map positions_total exact_positions m n (λ p. of_signs (map.get m p) (map.get n p) (h p.row p.col))
-
-same_offsets : {T : Type 0} (m n : map.FinMap edge_place_cmp T) → ((r c k : ℕ) → option_map sign (map.get m (edge_place r c k)) ≡ option_map sign (map.get n (edge_place r c k))) → m ≡ n
-same_offsets m n h = map.same_map edge_places_total exact_edge_places m n (λ p. of_signs (map.get m p) (map.get n p) (h p.row p.col p.number))
+same_values : {K T : Type 0} {R : K → K → Ordering} → IsTotalOrder R → map.IsAntisymmetric R → (m n : map.FinMap R T) → ((k : K) → option_map sign (map.get m k) ≡ option_map sign (map.get n k)) → m ≡ n
+same_values total exact m n h = map.same_map total exact m n (λ k. of_signs (map.get m k) (map.get n k) (h k))
 
 same_horizontal : {T : Type 0} (o p : Option (HorizontalLine T)) → ((part : Part) → option_and_then (horizontal_part part) o ≡ option_and_then (horizontal_part part) p) → o ≡ p
 same_horizontal None None h = refl
@@ -64,10 +61,10 @@ same_vertical (Some l) (Some m) h = λ i. Some (record {
 
 same_classes : {T : Type 0} (a b : Borders T) → ((class : Class) → class_value class a ≡ class_value class b) → a ≡ b
 same_classes a b h = λ i. record {
-  top = h (edges across first) i;
-  bottom = h (edges across closing) i;
-  left = h (edges down first) i;
-  right = h (edges down closing) i;
+  top = h (edges Horizontal first) i;
+  bottom = h (edges Horizontal closing) i;
+  left = h (edges Vertical first) i;
+  right = h (edges Vertical closing) i;
   top_left = h (crossings first first) i;
   top_right = h (crossings first closing) i;
   bottom_left = h (crossings closing first) i;
@@ -76,8 +73,8 @@ same_classes a b h = λ i. record {
   bottom_intersection = h (crossings closing inner) i;
   left_intersection = h (crossings inner first) i;
   right_intersection = h (crossings inner closing) i;
-  horizontal = h (edges across inner) i;
-  vertical = h (edges down inner) i;
+  horizontal = h (edges Horizontal inner) i;
+  vertical = h (edges Vertical inner) i;
   intersection = h (crossings inner inner) i;
 }
 
@@ -88,13 +85,9 @@ same_state a b h = λ i. record {
   class_record = same_classes a.class_record b.class_record (λ class. of_signs (class_value class a.class_record) (class_value class b.class_record) (h (of_class class))) i;
   vertical_lines = map.same_map nat_cmp_total map.nat_cmp-IsAntisymmetric a.vertical_lines b.vertical_lines (λ n. same_vertical (map.get a.vertical_lines n) (map.get b.vertical_lines n) (λ part. h (of_line (LineOf.Vertical n) part))) i;
   horizontal_lines = map.same_map nat_cmp_total map.nat_cmp-IsAntisymmetric a.horizontal_lines b.horizontal_lines (λ n. same_horizontal (map.get a.horizontal_lines n) (map.get b.horizontal_lines n) (λ part. h (of_line (LineOf.Horizontal n) part))) i;
-  edges_across = same_spots a.edges_across b.edges_across (λ r c. h (at_spot (edge across r c))) i;
-  edges_down = same_spots a.edges_down b.edges_down (λ r c. h (at_spot (edge down r c))) i;
-  crosses = same_spots a.crosses b.crosses (λ r c. h (at_spot (crossing r c))) i;
-  ends_across = same_offsets a.ends_across b.ends_across (λ r c n. h (from_end across r c n)) i;
-  ends_down = same_offsets a.ends_down b.ends_down (λ r c n. h (from_end down r c n)) i;
-  starts_across = same_offsets a.starts_across b.starts_across (λ r c n. h (from_start across r c n)) i;
-  starts_down = same_offsets a.starts_down b.starts_down (λ r c n. h (from_start down r c n)) i;
+  cells = same_values spots_total exact_spots a.cells b.cells (λ spot. h (at_spot spot)) i;
+  horizontal_offsets = same_values edge_places_total exact_edge_places a.horizontal_offsets b.horizontal_offsets (λ p. h (at_offset Horizontal p.row p.col p.offset)) i;
+  vertical_offsets = same_values edge_places_total exact_edge_places a.vertical_offsets b.vertical_offsets (λ p. h (at_offset Vertical p.row p.col p.offset)) i;
 }
 
 or-none : (b : Bool) → (b || false) ≡ b
@@ -112,23 +105,13 @@ by_write site w old new h q =
     h q ∙ ap (λ b. cond b (replay (write site w ∷ []) q) (old q)) (or-none (same_site q site))
     ∙ ap (λ k. cond (same_site q site) k (old q)) (replay_one q (write site w)) ∙ once (same_site q site) (Some w) None (old q)
 
-two_same : (r c : ℕ) → ((r == r) && (c == c)) ≡ true
-two_same r c = ap (λ b. b && (c == c)) (same_number r) ∙ same_number c
-
-spot_itself : (spot : Spot) → same_site (at_spot spot) (at_spot spot) ≡ true
-spot_itself (edge across r c) = two_same r c
-spot_itself (edge down r c) = two_same r c
-spot_itself (crossing r c) = two_same r c
-
-three_same : (r c n : ℕ) → ((r == r) && (c == c) && (n == n)) ≡ true
-three_same r c n = ap (λ b. b && (n == n)) (two_same r c) ∙ same_number n
+offset_itself : (r c : ℕ) (o : Offset) → ((r == r) && (c == c) && same_offset o o) ≡ true
+offset_itself r c o = let p = edge_place r c o in sym (is_same_edge_place p p) ∙ (eq_by_cmp_equiv edge_places_total).refl p
 
 pub target_itself : (target : Target) → same_site (site_of target) (site_of target) ≡ true
-target_itself (Target.Cell place) = spot_itself (spot_of place)
-target_itself (Target.Horizontal pos (Offset.Start n)) = three_same pos.row pos.col n
-target_itself (Target.Horizontal pos (Offset.End n)) = three_same pos.row pos.col n
-target_itself (Target.Vertical pos (Offset.Start n)) = three_same pos.row pos.col n
-target_itself (Target.Vertical pos (Offset.End n)) = three_same pos.row pos.col n
+target_itself (Target.Cell place) = sym (is_same_spot (spot_of place) (spot_of place)) ∙ (eq_by_cmp_equiv spots_total).refl (spot_of place)
+target_itself (Target.Horizontal pos offset) = offset_itself pos.row pos.col offset
+target_itself (Target.Vertical pos offset) = offset_itself pos.row pos.col offset
 
 some_there : {A : Type 0} (o : Option A) (x : A) → o ≡ Some x → IsSome o
 some_there o x e = ap is_some e

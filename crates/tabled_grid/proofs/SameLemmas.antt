@@ -6,8 +6,8 @@ use Rattle.std.specs.Cmp.{Equal-is, first_so, second_so}
 use Rattle.std.specs.Cmp.Lexicographic.{pointwise}
 use Rattle.std.specs.declared.cmp.Ordering.{Ordering}
 use Rattle.std.specs.FinMap as map
-use Rattle.tabled_grid.specs.Keys.{exact_positions, exact_edge_places}
-use Rattle.tabled_grid.specs.Same.{same_map, same_horizontal, same_vertical, same_borders, same_below, same_lines, same_cells, same_offsets, same_state}
+use Rattle.tabled_grid.specs.Keys.{exact_spots, exact_edge_places}
+use Rattle.tabled_grid.specs.Same.{same_map, same_horizontal, same_vertical, same_borders, same_below, same_lines, same_cells, same_state}
 
 -- only equal values pass
 abbrev pub IsExact : {A : Type 0} → (A → A → Bool) → Type 0
@@ -89,29 +89,21 @@ module _ {T : Type 0} {E : T → T → Bool} (exact : IsExact E) where
 
   -- stores that keep the same by that equality keep the same
   pub exact_state : IsExact (same_state E)
-  unfolding same_below same_lines same_cells same_offsets same_state
+  unfolding same_below same_lines same_cells same_state
   exact_state a b h =
       let numbers = map.nat_cmp-IsAntisymmetric in
       let upper = both _ _ h in
-      let middle = both _ _ upper.0 in
-      let lower = both _ _ middle.0 in
+      let lower = both _ _ upper.0 in
       let below = both _ _ lower.0 in
       let lines = both _ _ lower.1 in
-      let cells = both _ _ middle.1 in
-      let edges = both _ _ cells.0 in
-      let starts_down = both _ _ upper.1 in
-      let starts_across = both _ _ starts_down.0 in
-      let ends = both _ _ starts_across.0 in
+      let offsets = both _ _ upper.1 in
+      let cells = both _ _ offsets.0 in
       λ i. record {
         default_value = exact_options exact a.default_value b.default_value below.0 i;
         class_record = exact_borders a.class_record b.class_record below.1 i;
         vertical_lines = exact_maps numbers exact_vertical a.vertical_lines b.vertical_lines lines.0 i;
         horizontal_lines = exact_maps numbers exact_horizontal a.horizontal_lines b.horizontal_lines lines.1 i;
-        edges_across = exact_maps exact_positions exact a.edges_across b.edges_across edges.0 i;
-        edges_down = exact_maps exact_positions exact a.edges_down b.edges_down edges.1 i;
-        crosses = exact_maps exact_positions exact a.crosses b.crosses cells.1 i;
-        ends_across = exact_maps exact_edge_places exact a.ends_across b.ends_across ends.0 i;
-        ends_down = exact_maps exact_edge_places exact a.ends_down b.ends_down ends.1 i;
-        starts_across = exact_maps exact_edge_places exact a.starts_across b.starts_across starts_across.1 i;
-        starts_down = exact_maps exact_edge_places exact a.starts_down b.starts_down starts_down.1 i;
+        cells = exact_maps exact_spots exact a.cells b.cells cells.0 i;
+        horizontal_offsets = exact_maps exact_edge_places exact a.horizontal_offsets b.horizontal_offsets cells.1 i;
+        vertical_offsets = exact_maps exact_edge_places exact a.vertical_offsets b.vertical_offsets offsets.1 i;
       }

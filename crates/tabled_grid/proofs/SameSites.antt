@@ -13,12 +13,12 @@ use Rattle.tabled_grid.specs.declared.borders.Borders.{Borders}
 use Rattle.tabled_grid.specs.declared.lines.HorizontalLine.{HorizontalLine}
 use Rattle.tabled_grid.specs.declared.lines.VerticalLine.{VerticalLine}
 use Rattle.tabled_grid.specs.declared.place.LineOf.{LineOf}
-use Rattle.tabled_grid.specs.Keys.{positions_total, edge_places_total}
-use Rattle.tabled_grid.specs.Site.{across, down, first, inner, closing, Class, edges, crossings, class_value, Part, mark, main_edges, meeting, edge, crossing, Site, the_default, of_class, of_line, at_spot, from_end, from_start}
+use Rattle.tabled_grid.specs.Keys.{spots_total, edge_places_total}
+use Rattle.tabled_grid.specs.Site.{Horizontal, Vertical, first, inner, closing, Class, edges, crossings, class_value, Part, mark, main_edges, meeting, Site, the_default, of_class, of_line, at_spot, at_offset}
 use Rattle.tabled_grid.specs.Event.{Written, sign}
-use Rattle.tabled_grid.specs.State.{State, state_at, position, edge_place, horizontal_part, vertical_part}
+use Rattle.tabled_grid.specs.State.{State, state_at, edge_place, horizontal_part, vertical_part}
 use Rattle.tabled_grid.proofs.SameLemmas.{both}
-use Rattle.tabled_grid.specs.Same.{same_map, same_horizontal, same_vertical, same_borders, same_below, same_lines, same_cells, same_offsets, same_state, same_written}
+use Rattle.tabled_grid.specs.Same.{same_map, same_horizontal, same_vertical, same_borders, same_below, same_lines, same_cells, same_state, same_written}
 
 all_of : {a b : Bool} → a ≡ true → b ≡ true → (a && b) ≡ true
 all_of p q = λ i. p i && q i
@@ -187,10 +187,10 @@ module _ {V : Type 0} (E : V → V → Bool) where
 
   whole_borders : (a b : Borders V) → ((class : Class) → SameValues E (class_value class a) (class_value class b)) → same_borders E a b ≡ true
   whole_borders a b h =
-      all_of (h (edges across first)) (all_of (h (edges across closing)) (all_of (h (edges down first)) (all_of (h (edges down closing))
+      all_of (h (edges Horizontal first)) (all_of (h (edges Horizontal closing)) (all_of (h (edges Vertical first)) (all_of (h (edges Vertical closing))
       (all_of (h (crossings first first)) (all_of (h (crossings first closing)) (all_of (h (crossings closing first)) (all_of (h (crossings closing closing))
       (all_of (h (crossings first inner)) (all_of (h (crossings closing inner)) (all_of (h (crossings inner first)) (all_of (h (crossings inner closing))
-      (all_of (h (edges across inner)) (all_of (h (edges down inner)) (h (crossings inner inner)))))))))))))))
+      (all_of (h (edges Horizontal inner)) (all_of (h (edges Vertical inner)) (h (crossings inner inner)))))))))))))))
 
   borders_parts : (a b : Borders V) → same_borders E a b ≡ true → (class : Class) → SameValues E (class_value class a) (class_value class b)
   borders_parts a b h class =
@@ -211,12 +211,12 @@ module _ {V : Type 0} (E : V → V → Bool) where
       of_fields class f1.0 f2.0 f3.0 f4.0 f5.0 f6.0 f7.0 f8.0 f9.0 f10.0 f11.0 f12.0 f13.0 f14.0 f14.1
     where
       of_fields : (class : Class) → SameValues E a.top b.top → SameValues E a.bottom b.bottom → SameValues E a.left b.left → SameValues E a.right b.right → SameValues E a.top_left b.top_left → SameValues E a.top_right b.top_right → SameValues E a.bottom_left b.bottom_left → SameValues E a.bottom_right b.bottom_right → SameValues E a.top_intersection b.top_intersection → SameValues E a.bottom_intersection b.bottom_intersection → SameValues E a.left_intersection b.left_intersection → SameValues E a.right_intersection b.right_intersection → SameValues E a.horizontal b.horizontal → SameValues E a.vertical b.vertical → SameValues E a.intersection b.intersection → SameValues E (class_value class a) (class_value class b)
-      of_fields (edges across first) t b' l r tl tr bl br ti bi li ri h v i = t
-      of_fields (edges across inner) t b' l r tl tr bl br ti bi li ri h v i = h
-      of_fields (edges across closing) t b' l r tl tr bl br ti bi li ri h v i = b'
-      of_fields (edges down first) t b' l r tl tr bl br ti bi li ri h v i = l
-      of_fields (edges down inner) t b' l r tl tr bl br ti bi li ri h v i = v
-      of_fields (edges down closing) t b' l r tl tr bl br ti bi li ri h v i = r
+      of_fields (edges Horizontal first) t b' l r tl tr bl br ti bi li ri h v i = t
+      of_fields (edges Horizontal inner) t b' l r tl tr bl br ti bi li ri h v i = h
+      of_fields (edges Horizontal closing) t b' l r tl tr bl br ti bi li ri h v i = b'
+      of_fields (edges Vertical first) t b' l r tl tr bl br ti bi li ri h v i = l
+      of_fields (edges Vertical inner) t b' l r tl tr bl br ti bi li ri h v i = v
+      of_fields (edges Vertical closing) t b' l r tl tr bl br ti bi li ri h v i = r
       of_fields (crossings first first) t b' l r tl tr bl br ti bi li ri h v i = tl
       of_fields (crossings first inner) t b' l r tl tr bl br ti bi li ri h v i = ti
       of_fields (crossings first closing) t b' l r tl tr bl br ti bi li ri h v i = tr
@@ -229,45 +229,33 @@ module _ {V : Type 0} (E : V → V → Bool) where
 
 -- two stores that are the same by that equality keep the same at every site
 pub same_at_sites : {V : Type 0} (E : V → V → Bool) (a b : State V) → same_state E a b ≡ true → (site : Site) → option_eq (same_written E) (state_at a site) (state_at b site) ≡ true
-unfolding same_below same_lines same_cells same_offsets same_state
+unfolding same_below same_lines same_cells same_state
 same_at_sites E a b h =
     let upper = both _ _ h in
-    let middle = both _ _ upper.0 in
-    let lower = both _ _ middle.0 in
+    let lower = both _ _ upper.0 in
     let below = both _ _ lower.0 in
     let lines = both _ _ lower.1 in
-    let cells = both _ _ middle.1 in
-    let edges' = both _ _ cells.0 in
-    let starts = both _ _ upper.1 in
-    let ends = both _ _ starts.0 in
-    let more = both _ _ ends.0 in
-    at_site below.0 below.1 lines.0 lines.1 edges'.0 edges'.1 cells.1 more.0 more.1 ends.1 starts.1
+    let offsets = both _ _ upper.1 in
+    let cells = both _ _ offsets.0 in
+    at_site below.0 below.1 lines.0 lines.1 cells.0 cells.1 offsets.1
   where
-    at_site : option_eq E a.default_value b.default_value ≡ true → same_borders E a.class_record b.class_record ≡ true → same_map (same_vertical E) a.vertical_lines b.vertical_lines ≡ true → same_map (same_horizontal E) a.horizontal_lines b.horizontal_lines ≡ true → same_map E a.edges_across b.edges_across ≡ true → same_map E a.edges_down b.edges_down ≡ true → same_map E a.crosses b.crosses ≡ true → same_map E a.ends_across b.ends_across ≡ true → same_map E a.ends_down b.ends_down ≡ true → same_map E a.starts_across b.starts_across ≡ true → same_map E a.starts_down b.starts_down ≡ true → (site : Site) → option_eq (same_written E) (state_at a site) (state_at b site) ≡ true
-    at_site d r vl hl ea ed cr na nd sa sd the_default = as_signs E a.default_value b.default_value d
-    at_site d r vl hl ea ed cr na nd sa sd (of_class class) = as_signs E _ _ (borders_parts E a.class_record b.class_record r class)
-    at_site d r vl hl ea ed cr na nd sa sd (of_line (LineOf.Horizontal n) part) = horizontal_parts E _ _ (get_alike nat_cmp_total (same_horizontal E) a.horizontal_lines b.horizontal_lines hl n) part
-    at_site d r vl hl ea ed cr na nd sa sd (of_line (LineOf.Vertical n) part) = vertical_parts E _ _ (get_alike nat_cmp_total (same_vertical E) a.vertical_lines b.vertical_lines vl n) part
-    at_site d r vl hl ea ed cr na nd sa sd (at_spot (edge across i j)) = as_signs E _ _ (get_alike positions_total E a.edges_across b.edges_across ea (position i j))
-    at_site d r vl hl ea ed cr na nd sa sd (at_spot (edge down i j)) = as_signs E _ _ (get_alike positions_total E a.edges_down b.edges_down ed (position i j))
-    at_site d r vl hl ea ed cr na nd sa sd (at_spot (crossing i j)) = as_signs E _ _ (get_alike positions_total E a.crosses b.crosses cr (position i j))
-    at_site d r vl hl ea ed cr na nd sa sd (from_end across i j n) = as_signs E _ _ (get_alike edge_places_total E a.ends_across b.ends_across na (edge_place i j n))
-    at_site d r vl hl ea ed cr na nd sa sd (from_end down i j n) = as_signs E _ _ (get_alike edge_places_total E a.ends_down b.ends_down nd (edge_place i j n))
-    at_site d r vl hl ea ed cr na nd sa sd (from_start across i j n) = as_signs E _ _ (get_alike edge_places_total E a.starts_across b.starts_across sa (edge_place i j n))
-    at_site d r vl hl ea ed cr na nd sa sd (from_start down i j n) = as_signs E _ _ (get_alike edge_places_total E a.starts_down b.starts_down sd (edge_place i j n))
+    at_site : option_eq E a.default_value b.default_value ≡ true → same_borders E a.class_record b.class_record ≡ true → same_map (same_vertical E) a.vertical_lines b.vertical_lines ≡ true → same_map (same_horizontal E) a.horizontal_lines b.horizontal_lines ≡ true → same_map E a.cells b.cells ≡ true → same_map E a.horizontal_offsets b.horizontal_offsets ≡ true → same_map E a.vertical_offsets b.vertical_offsets ≡ true → (site : Site) → option_eq (same_written E) (state_at a site) (state_at b site) ≡ true
+    at_site d r vl hl cs ho vo the_default = as_signs E a.default_value b.default_value d
+    at_site d r vl hl cs ho vo (of_class class) = as_signs E _ _ (borders_parts E a.class_record b.class_record r class)
+    at_site d r vl hl cs ho vo (of_line (LineOf.Horizontal n) part) = horizontal_parts E _ _ (get_alike nat_cmp_total (same_horizontal E) a.horizontal_lines b.horizontal_lines hl n) part
+    at_site d r vl hl cs ho vo (of_line (LineOf.Vertical n) part) = vertical_parts E _ _ (get_alike nat_cmp_total (same_vertical E) a.vertical_lines b.vertical_lines vl n) part
+    at_site d r vl hl cs ho vo (at_spot spot) = as_signs E _ _ (get_alike spots_total E a.cells b.cells cs spot)
+    at_site d r vl hl cs ho vo (at_offset Horizontal i j o) = as_signs E _ _ (get_alike edge_places_total E a.horizontal_offsets b.horizontal_offsets ho (edge_place i j o))
+    at_site d r vl hl cs ho vo (at_offset Vertical i j o) = as_signs E _ _ (get_alike edge_places_total E a.vertical_offsets b.vertical_offsets vo (edge_place i j o))
 
 -- and those that keep the same at every site are the same by it
 pub same_by_sites : {V : Type 0} (E : V → V → Bool) (a b : State V) → ((site : Site) → option_eq (same_written E) (state_at a site) (state_at b site) ≡ true) → same_state E a b ≡ true
-unfolding same_below same_lines same_cells same_offsets same_state
+unfolding same_below same_lines same_cells same_state
 same_by_sites E a b h =
-    all_of (all_of (all_of
+    all_of (all_of
     (all_of (of_signs E a.default_value b.default_value (h the_default)) (whole_borders E a.class_record b.class_record (λ class. of_signs E _ _ (h (of_class class)))))
     (all_of (alike_get nat_cmp_total (same_vertical E) a.vertical_lines b.vertical_lines (λ n. whole_vertical E _ _ (λ part. h (of_line (LineOf.Vertical n) part))))
     (alike_get nat_cmp_total (same_horizontal E) a.horizontal_lines b.horizontal_lines (λ n. whole_horizontal E _ _ (λ part. h (of_line (LineOf.Horizontal n) part))))))
-    (all_of (all_of (alike_get positions_total E a.edges_across b.edges_across (λ p. of_signs E _ _ (h (at_spot (edge across p.row p.col)))))
-    (alike_get positions_total E a.edges_down b.edges_down (λ p. of_signs E _ _ (h (at_spot (edge down p.row p.col))))))
-    (alike_get positions_total E a.crosses b.crosses (λ p. of_signs E _ _ (h (at_spot (crossing p.row p.col)))))))
-    (all_of (all_of (all_of (alike_get edge_places_total E a.ends_across b.ends_across (λ p. of_signs E _ _ (h (from_end across p.row p.col p.number))))
-    (alike_get edge_places_total E a.ends_down b.ends_down (λ p. of_signs E _ _ (h (from_end down p.row p.col p.number)))))
-    (alike_get edge_places_total E a.starts_across b.starts_across (λ p. of_signs E _ _ (h (from_start across p.row p.col p.number)))))
-    (alike_get edge_places_total E a.starts_down b.starts_down (λ p. of_signs E _ _ (h (from_start down p.row p.col p.number)))))
+    (all_of (all_of (alike_get spots_total E a.cells b.cells (λ spot. of_signs E _ _ (h (at_spot spot))))
+    (alike_get edge_places_total E a.horizontal_offsets b.horizontal_offsets (λ p. of_signs E _ _ (h (at_offset Horizontal p.row p.col p.offset)))))
+    (alike_get edge_places_total E a.vertical_offsets b.vertical_offsets (λ p. of_signs E _ _ (h (at_offset Vertical p.row p.col p.offset)))))

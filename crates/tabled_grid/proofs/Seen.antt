@@ -7,7 +7,7 @@ use Rattle.tabled_grid.specs.declared.lines.HorizontalLine.{HorizontalLine}
 use Rattle.tabled_grid.specs.declared.lines.VerticalLine.{VerticalLine}
 use Rattle.tabled_grid.specs.declared.layers.Layers.TheInside.{Inside}
 use Rattle.tabled_grid.specs.Table.{table}
-use Rattle.tabled_grid.specs.Keys.{position_cmp, edge_place_cmp}
+use Rattle.tabled_grid.specs.Keys.{spot_cmp, edge_place_cmp}
 use Rattle.tabled_grid.specs.Event.{Event, Changes}
 use Rattle.tabled_grid.specs.State.{State, state_at}
 
@@ -18,13 +18,9 @@ seen i = record {
   class_record = i.class_record;
   vertical_lines = table nat_cmp i.vertical_lines;
   horizontal_lines = table nat_cmp i.horizontal_lines;
-  edges_across = table position_cmp i.edges_across;
-  edges_down = table position_cmp i.edges_down;
-  crosses = table position_cmp i.crosses;
-  ends_across = table edge_place_cmp i.ends_across;
-  ends_down = table edge_place_cmp i.ends_down;
-  starts_across = table edge_place_cmp i.starts_across;
-  starts_down = table edge_place_cmp i.starts_down;
+  cells = table spot_cmp i.cells;
+  horizontal_offsets = table edge_place_cmp i.horizontal_offsets;
+  vertical_offsets = table edge_place_cmp i.vertical_offsets;
 }
 
 -- a change of what the fields keep, up to equations at both ends
@@ -48,35 +44,14 @@ with_horizontal k a b e = ap (λ x. record k { horizontal_lines = x }) e
 pub with_lines : {T : Type 0} (k : State T) (a b : map.FinMap nat_cmp (VerticalLine T)) (c d : map.FinMap nat_cmp (HorizontalLine T)) → a ≡ b → c ≡ d → record k { vertical_lines = a; horizontal_lines = c } ≡ record k { vertical_lines = b; horizontal_lines = d }
 with_lines k a b c d e f = λ i. record k { vertical_lines = e i; horizontal_lines = f i }
 
-pub with_edges_across : {T : Type 0} (k : State T) (a b : map.FinMap position_cmp T) → a ≡ b → record k { edges_across = a } ≡ record k { edges_across = b }
-with_edges_across k a b e = ap (λ x. record k { edges_across = x }) e
+pub with_cells : {T : Type 0} (k : State T) (a b : map.FinMap spot_cmp T) → a ≡ b → record k { cells = a } ≡ record k { cells = b }
+with_cells k a b e = ap (λ x. record k { cells = x }) e
 
-pub with_edges_down : {T : Type 0} (k : State T) (a b : map.FinMap position_cmp T) → a ≡ b → record k { edges_down = a } ≡ record k { edges_down = b }
-with_edges_down k a b e = ap (λ x. record k { edges_down = x }) e
+pub with_horizontal_offsets : {T : Type 0} (k : State T) (a b : map.FinMap edge_place_cmp T) → a ≡ b → record k { horizontal_offsets = a } ≡ record k { horizontal_offsets = b }
+with_horizontal_offsets k a b e = ap (λ x. record k { horizontal_offsets = x }) e
 
-pub with_crosses : {T : Type 0} (k : State T) (a b : map.FinMap position_cmp T) → a ≡ b → record k { crosses = a } ≡ record k { crosses = b }
-with_crosses k a b e = ap (λ x. record k { crosses = x }) e
-
-pub with_ends_across : {T : Type 0} (k : State T) (a b : map.FinMap edge_place_cmp T) → a ≡ b → record k { ends_across = a } ≡ record k { ends_across = b }
-with_ends_across k a b e = ap (λ x. record k { ends_across = x }) e
-
-pub with_ends_down : {T : Type 0} (k : State T) (a b : map.FinMap edge_place_cmp T) → a ≡ b → record k { ends_down = a } ≡ record k { ends_down = b }
-with_ends_down k a b e = ap (λ x. record k { ends_down = x }) e
-
-pub with_starts_across : {T : Type 0} (k : State T) (a b : map.FinMap edge_place_cmp T) → a ≡ b → record k { starts_across = a } ≡ record k { starts_across = b }
-with_starts_across k a b e = ap (λ x. record k { starts_across = x }) e
-
-pub with_starts_down : {T : Type 0} (k : State T) (a b : map.FinMap edge_place_cmp T) → a ≡ b → record k { starts_down = a } ≡ record k { starts_down = b }
-with_starts_down k a b e = ap (λ x. record k { starts_down = x }) e
-
-pub with_cells : {T : Type 0} (k : State T) (a b c d e f : map.FinMap position_cmp T) → a ≡ b → c ≡ d → e ≡ f → record k { edges_across = a; edges_down = c; crosses = e } ≡ record k { edges_across = b; edges_down = d; crosses = f }
-with_cells k a b c d e f p q r = λ i. record k { edges_across = p i; edges_down = q i; crosses = r i }
-
-pub with_offsets_across : {T : Type 0} (k : State T) (a b c d : map.FinMap edge_place_cmp T) → a ≡ b → c ≡ d → record k { ends_across = a; starts_across = c } ≡ record k { ends_across = b; starts_across = d }
-with_offsets_across k a b c d p q = λ i. record k { ends_across = p i; starts_across = q i }
-
-pub with_offsets_down : {T : Type 0} (k : State T) (a b c d : map.FinMap edge_place_cmp T) → a ≡ b → c ≡ d → record k { ends_down = a; starts_down = c } ≡ record k { ends_down = b; starts_down = d }
-with_offsets_down k a b c d p q = λ i. record k { ends_down = p i; starts_down = q i }
+pub with_vertical_offsets : {T : Type 0} (k : State T) (a b : map.FinMap edge_place_cmp T) → a ≡ b → record k { vertical_offsets = a } ≡ record k { vertical_offsets = b }
+with_vertical_offsets k a b e = ap (λ x. record k { vertical_offsets = x }) e
 
 -- what follows where the call succeeded
 pub on_ok : {A E P Q : Type 0} (r : Result A E) → (P → Q) → OnOk r P → OnOk r Q

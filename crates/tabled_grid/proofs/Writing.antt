@@ -1,20 +1,20 @@
 -- A store shows the writes of all that it keeps.
-use Rattle.std.proofs.Common.{◌≡◌, ℕ, Bool, true, false, cond, ◌&&◌, ◌||◌, ◌==◌, Option, Some, None, List, [], ◌∷◌, ◌++◌, refl, sym, ap, ◌∙◌, option_and_then}
+use Rattle.std.proofs.Common.{◌≡◌, ℕ, Bool, true, false, cond, ◌||◌, Option, Some, None, List, [], ◌∷◌, ◌++◌, refl, sym, ap, ◌∙◌, option_and_then}
 use Rattle.std.specs.Option.{option_map}
-use Rattle.std.specs.Ordering.{nat_cmp, ordering_then, eq_by_cmp, is_eq}
+use Rattle.std.specs.Ordering.{eq_by_cmp}
+use Rattle.std.specs.Cmp.{IsTotalOrder, eq_by_cmp_equiv}
+use Rattle.std.specs.declared.cmp.Ordering.{Ordering}
 use Rattle.std.specs.FinMap as map
 use Rattle.tabled_grid.specs.declared.place.LineOf.{LineOf}
-use Rattle.tabled_object.specs.declared.position.Position.{Position}
-use Rattle.tabled_grid.specs.declared.keys.EdgePlace.{EdgePlace}
-use Rattle.tabled_grid.specs.Keys.{position_cmp, edge_place_cmp, exact_positions, exact_edge_places}
-use Rattle.tabled_grid.specs.Site.{across, down, Class, Part, edge, crossing, Site, the_default, of_class, of_line, at_spot, from_end, from_start, same_site}
+use Rattle.tabled_grid.specs.Keys.{spots_total, exact_spots, is_same_spot, edge_places_total, exact_edge_places, is_same_edge_place}
+use Rattle.tabled_grid.specs.Site.{Horizontal, Vertical, Class, Part, Site, the_default, of_class, of_line, at_spot, at_offset, same_site}
 use Rattle.tabled_grid.specs.Event.{sign, Event, write, line_sites, within, covered, replay, Shows}
 use Rattle.tabled_grid.specs.Lines.{horizontal_line_set, vertical_line_set}
-use Rattle.tabled_grid.specs.State.{State, state_at, classes, class_writes, default_writes, entry_events, spot_writes, offset_writes, writes_of, position, edge_place, horizontal_part, vertical_part}
+use Rattle.tabled_grid.specs.State.{State, state_at, classes, class_writes, default_writes, entry_events, key_writes, place_site, writes_of, edge_place, horizontal_part, vertical_part}
 use Rattle.tabled_grid.proofs.Replay.{replay-nil, replay_one}
 use Rattle.tabled_grid.proofs.ClassWrites.{replay_classes, uncovered_other}
-use Rattle.tabled_grid.proofs.Blocks.{replay_skip, replay_rest, uncovered_both, uncovered_entries, replay_entries, is_eq-then, is_eq-nat_cmp}
-use Rattle.tabled_grid.proofs.LineWrites.{replay-horizontal_line_set, replay-vertical_line_set, covered-horizontal_line_set, covered-vertical_line_set, number_sym, same_number}
+use Rattle.tabled_grid.proofs.Blocks.{replay_skip, replay_rest, uncovered_both, uncovered_entries, replay_entries, is_eq-nat_cmp}
+use Rattle.tabled_grid.proofs.LineWrites.{replay-horizontal_line_set, replay-vertical_line_set, covered-horizontal_line_set, covered-vertical_line_set, number_sym}
 
 -- blocks of events in a row
 chain : {T : Type 0} → List (List (Event T)) → List (Event T)
@@ -58,11 +58,8 @@ module _ {T : Type 0} (state : State T) (q : Site) where
   no_horizontal : ((n : ℕ) → within (line_sites (LineOf.Horizontal n)) q ≡ false) → covered (entry_events horizontal_line_set (map.entries state.horizontal_lines)) q ≡ false
   no_horizontal h = uncovered_entries q horizontal_line_set (λ n line. covered-horizontal_line_set n line q ∙ h n) (map.entries state.horizontal_lines)
 
-no_spot : {T : Type 0} (site : Position → Site) (values : map.FinMap position_cmp T) (q : Site) → ((p : Position) → same_site q (site p) ≡ false) → covered (spot_writes site values) q ≡ false
-no_spot site values q h = uncovered_entries q (λ p x. write (site p) (sign x) ∷ []) (λ p x. ap (λ b. b || false) (h p)) (map.entries values)
-
-no_offset : {T : Type 0} (site : EdgePlace → Site) (values : map.FinMap edge_place_cmp T) (q : Site) → ((p : EdgePlace) → same_site q (site p) ≡ false) → covered (offset_writes site values) q ≡ false
-no_offset site values q h = uncovered_entries q (λ p x. write (site p) (sign x) ∷ []) (λ p x. ap (λ b. b || false) (h p)) (map.entries values)
+no_key : {K T : Type 0} {R : K → K → Ordering} (site : K → Site) (values : map.FinMap R T) (q : Site) → ((k : K) → same_site q (site k) ≡ false) → covered (key_writes site values) q ≡ false
+no_key site values q h = uncovered_entries q (λ k x. write (site k) (sign x) ∷ []) (λ k x. ap (λ b. b || false) (h k)) (map.entries values)
 
 replay-default_writes : {T : Type 0} (o : Option T) → replay (default_writes o) the_default ≡ option_map sign o
 replay-default_writes None = replay-nil the_default
@@ -76,45 +73,14 @@ or-none : (b : Bool) → (b || false) ≡ b
 or-none true = refl
 or-none false = refl
 
--- keys are equal where their numbers are
-pub same_position : (r c : ℕ) (p : Position) → eq_by_cmp position_cmp (position r c) p ≡ ((r == p.row) && (c == p.col))
-same_position r c p = is_eq-then (nat_cmp r p.row) (nat_cmp c p.col) ∙ ap (λ b. b && is_eq (nat_cmp c p.col)) (is_eq-nat_cmp r p.row) ∙ ap (λ b. (r == p.row) && b) (is_eq-nat_cmp c p.col)
-
-and_assoc : (a b c : Bool) → (a && (b && c)) ≡ (a && b && c)
-and_assoc true b c = refl
-and_assoc false b c = refl
-
-pub same_edge_place : (r c n : ℕ) (p : EdgePlace) → eq_by_cmp edge_place_cmp (edge_place r c n) p ≡ ((r == p.row) && (c == p.col) && (n == p.number))
-same_edge_place r c n p =
-    is_eq-then (nat_cmp r p.row) (ordering_then (nat_cmp c p.col) (nat_cmp n p.number))
-    ∙ ap (λ b. is_eq (nat_cmp r p.row) && b) (is_eq-then (nat_cmp c p.col) (nat_cmp n p.number))
-    ∙ ap (λ b. b && (is_eq (nat_cmp c p.col) && is_eq (nat_cmp n p.number))) (is_eq-nat_cmp r p.row)
-    ∙ ap (λ b. (r == p.row) && (b && is_eq (nat_cmp n p.number))) (is_eq-nat_cmp c p.col)
-    ∙ ap (λ b. (r == p.row) && ((c == p.col) && b)) (is_eq-nat_cmp n p.number)
-    ∙ and_assoc (r == p.row) (c == p.col) (n == p.number)
-
-two_same : (r c : ℕ) → ((r == r) && (c == c)) ≡ true
-two_same r c = ap (λ b. b && (c == c)) (same_number r) ∙ same_number c
-
-three_same : (r c n : ℕ) → ((r == r) && (c == c) && (n == n)) ≡ true
-three_same r c n = ap (λ b. b && (n == n)) (two_same r c) ∙ same_number n
-
--- what the writes of the values at spots leave at one of them
-replay_spot : {T : Type 0} (site : Position → Site) (values : map.FinMap position_cmp T) (r c : ℕ) → ((p : Position) → same_site (site (position r c)) (site p) ≡ ((r == p.row) && (c == p.col))) → replay (spot_writes site values) (site (position r c)) ≡ option_map sign (map.get values (position r c))
-replay_spot site values r c same =
-    replay_entries (site (position r c)) exact_positions (λ p x. write (site p) (sign x) ∷ []) (position r c) (λ x. Some (sign x))
-    (λ p x. or-none (same_site (site (position r c)) (site p)) ∙ same p ∙ sym (same_position r c p))
-    (λ x. replay_one (site (position r c)) (write (site (position r c)) (sign x)) ∙ ap (λ b. cond b (Some (sign x)) None) (same (position r c) ∙ two_same r c))
+-- what the writes of the values under keys leave at the site of one of them
+replay_key : {K T : Type 0} {R : K → K → Ordering} → IsTotalOrder R → map.IsAntisymmetric R → (site : K → Site) (values : map.FinMap R T) (k : K) → ((j : K) → same_site (site k) (site j) ≡ eq_by_cmp R k j) → replay (key_writes site values) (site k) ≡ option_map sign (map.get values k)
+replay_key {R = R} total exact site values k same =
+    replay_entries (site k) exact (λ j x. write (site j) (sign x) ∷ []) k (λ x. Some (sign x))
+    (λ j x. or-none (same_site (site k) (site j)) ∙ same j)
+    (λ x. replay_one (site k) (write (site k) (sign x)) ∙ ap (λ b. cond b (Some (sign x)) None) (same k ∙ (eq_by_cmp_equiv total).refl k))
     (map.entries values)
-    ∙ as_signs (map.find position_cmp (position r c) (map.entries values)) ∙ ap (option_map sign) (sym (map.get-entries values (position r c)))
-
-replay_offset : {T : Type 0} (site : EdgePlace → Site) (values : map.FinMap edge_place_cmp T) (r c n : ℕ) → ((p : EdgePlace) → same_site (site (edge_place r c n)) (site p) ≡ ((r == p.row) && (c == p.col) && (n == p.number))) → replay (offset_writes site values) (site (edge_place r c n)) ≡ option_map sign (map.get values (edge_place r c n))
-replay_offset site values r c n same =
-    replay_entries (site (edge_place r c n)) exact_edge_places (λ p x. write (site p) (sign x) ∷ []) (edge_place r c n) (λ x. Some (sign x))
-    (λ p x. or-none (same_site (site (edge_place r c n)) (site p)) ∙ same p ∙ sym (same_edge_place r c n p))
-    (λ x. replay_one (site (edge_place r c n)) (write (site (edge_place r c n)) (sign x)) ∙ ap (λ b. cond b (Some (sign x)) None) (same (edge_place r c n) ∙ three_same r c n))
-    (map.entries values)
-    ∙ as_signs (map.find edge_place_cmp (edge_place r c n) (map.entries values)) ∙ ap (option_map sign) (sym (map.get-entries values (edge_place r c n)))
+    ∙ as_signs (map.find R k (map.entries values)) ∙ ap (option_map sign) (sym (map.get-entries values k))
 
 module _ {T : Type 0} (state : State T) where
   replay_vertical : (n : ℕ) (p : Part) → replay (entry_events vertical_line_set (map.entries state.vertical_lines)) (of_line (LineOf.Vertical n) p) ≡ state_at state (of_line (LineOf.Vertical n) p)
@@ -134,47 +100,31 @@ module _ {T : Type 0} (state : State T) where
 -- a store shows the writes of all that it keeps
 pub Shows-writes_of : {T : Type 0} (state : State T) → Shows (writes_of state) (state_at state)
 unfolding Shows writes_of chain
-Shows-writes_of state (the_default) = sym (only_block (the_default) ([]) (default_writes state.default_value) (class_writes state.class_record classes ∷ entry_events vertical_line_set (map.entries state.vertical_lines) ∷ entry_events horizontal_line_set (map.entries state.horizontal_lines) ∷ spot_writes (λ p. at_spot (edge across p.row p.col)) state.edges_across ∷ spot_writes (λ p. at_spot (edge down p.row p.col)) state.edges_down ∷ spot_writes (λ p. at_spot (crossing p.row p.col)) state.crosses ∷ offset_writes (λ p. from_end across p.row p.col p.number) state.ends_across ∷ offset_writes (λ p. from_end down p.row p.col p.number) state.ends_down ∷ offset_writes (λ p. from_start across p.row p.col p.number) state.starts_across ∷ offset_writes (λ p. from_start down p.row p.col p.number) state.starts_down ∷ [])
+Shows-writes_of state the_default = sym (only_block the_default ([]) (default_writes state.default_value) (class_writes state.class_record classes ∷ entry_events vertical_line_set (map.entries state.vertical_lines) ∷ entry_events horizontal_line_set (map.entries state.horizontal_lines) ∷ key_writes at_spot state.cells ∷ key_writes (place_site Horizontal) state.horizontal_offsets ∷ key_writes (place_site Vertical) state.vertical_offsets ∷ [])
     tt
-    (no_class state (the_default) (λ d. refl), (no_vertical state (the_default) (λ n. refl), (no_horizontal state (the_default) (λ n. refl), (no_spot (λ p. at_spot (edge across p.row p.col)) state.edges_across (the_default) (λ p. refl), (no_spot (λ p. at_spot (edge down p.row p.col)) state.edges_down (the_default) (λ p. refl), (no_spot (λ p. at_spot (crossing p.row p.col)) state.crosses (the_default) (λ p. refl), (no_offset (λ p. from_end across p.row p.col p.number) state.ends_across (the_default) (λ p. refl), (no_offset (λ p. from_end down p.row p.col p.number) state.ends_down (the_default) (λ p. refl), (no_offset (λ p. from_start across p.row p.col p.number) state.starts_across (the_default) (λ p. refl), (no_offset (λ p. from_start down p.row p.col p.number) state.starts_down (the_default) (λ p. refl), tt))))))))))
+    (no_class state the_default (λ d. refl), (no_vertical state the_default (λ n. refl), (no_horizontal state the_default (λ n. refl), (no_key at_spot state.cells the_default (λ p. refl), (no_key (place_site Horizontal) state.horizontal_offsets the_default (λ p. refl), (no_key (place_site Vertical) state.vertical_offsets the_default (λ p. refl), tt))))))
     ∙ replay-default_writes state.default_value)
-Shows-writes_of state (of_class c) = sym (only_block (of_class c) (default_writes state.default_value ∷ []) (class_writes state.class_record classes) (entry_events vertical_line_set (map.entries state.vertical_lines) ∷ entry_events horizontal_line_set (map.entries state.horizontal_lines) ∷ spot_writes (λ p. at_spot (edge across p.row p.col)) state.edges_across ∷ spot_writes (λ p. at_spot (edge down p.row p.col)) state.edges_down ∷ spot_writes (λ p. at_spot (crossing p.row p.col)) state.crosses ∷ offset_writes (λ p. from_end across p.row p.col p.number) state.ends_across ∷ offset_writes (λ p. from_end down p.row p.col p.number) state.ends_down ∷ offset_writes (λ p. from_start across p.row p.col p.number) state.starts_across ∷ offset_writes (λ p. from_start down p.row p.col p.number) state.starts_down ∷ [])
+Shows-writes_of state (of_class c) = sym (only_block (of_class c) (default_writes state.default_value ∷ []) (class_writes state.class_record classes) (entry_events vertical_line_set (map.entries state.vertical_lines) ∷ entry_events horizontal_line_set (map.entries state.horizontal_lines) ∷ key_writes at_spot state.cells ∷ key_writes (place_site Horizontal) state.horizontal_offsets ∷ key_writes (place_site Vertical) state.vertical_offsets ∷ [])
     (no_default state (of_class c) (λ x. refl), tt)
-    (no_vertical state (of_class c) (λ n. refl), (no_horizontal state (of_class c) (λ n. refl), (no_spot (λ p. at_spot (edge across p.row p.col)) state.edges_across (of_class c) (λ p. refl), (no_spot (λ p. at_spot (edge down p.row p.col)) state.edges_down (of_class c) (λ p. refl), (no_spot (λ p. at_spot (crossing p.row p.col)) state.crosses (of_class c) (λ p. refl), (no_offset (λ p. from_end across p.row p.col p.number) state.ends_across (of_class c) (λ p. refl), (no_offset (λ p. from_end down p.row p.col p.number) state.ends_down (of_class c) (λ p. refl), (no_offset (λ p. from_start across p.row p.col p.number) state.starts_across (of_class c) (λ p. refl), (no_offset (λ p. from_start down p.row p.col p.number) state.starts_down (of_class c) (λ p. refl), tt)))))))))
+    (no_vertical state (of_class c) (λ n. refl), (no_horizontal state (of_class c) (λ n. refl), (no_key at_spot state.cells (of_class c) (λ p. refl), (no_key (place_site Horizontal) state.horizontal_offsets (of_class c) (λ p. refl), (no_key (place_site Vertical) state.vertical_offsets (of_class c) (λ p. refl), tt)))))
     ∙ replay_classes state.class_record c)
-Shows-writes_of state (of_line (LineOf.Vertical n) p) = sym (only_block (of_line (LineOf.Vertical n) p) (default_writes state.default_value ∷ class_writes state.class_record classes ∷ []) (entry_events vertical_line_set (map.entries state.vertical_lines)) (entry_events horizontal_line_set (map.entries state.horizontal_lines) ∷ spot_writes (λ p. at_spot (edge across p.row p.col)) state.edges_across ∷ spot_writes (λ p. at_spot (edge down p.row p.col)) state.edges_down ∷ spot_writes (λ p. at_spot (crossing p.row p.col)) state.crosses ∷ offset_writes (λ p. from_end across p.row p.col p.number) state.ends_across ∷ offset_writes (λ p. from_end down p.row p.col p.number) state.ends_down ∷ offset_writes (λ p. from_start across p.row p.col p.number) state.starts_across ∷ offset_writes (λ p. from_start down p.row p.col p.number) state.starts_down ∷ [])
+Shows-writes_of state (of_line (LineOf.Vertical n) p) = sym (only_block (of_line (LineOf.Vertical n) p) (default_writes state.default_value ∷ class_writes state.class_record classes ∷ []) (entry_events vertical_line_set (map.entries state.vertical_lines)) (entry_events horizontal_line_set (map.entries state.horizontal_lines) ∷ key_writes at_spot state.cells ∷ key_writes (place_site Horizontal) state.horizontal_offsets ∷ key_writes (place_site Vertical) state.vertical_offsets ∷ [])
     (no_default state (of_line (LineOf.Vertical n) p) (λ x. refl), (no_class state (of_line (LineOf.Vertical n) p) (λ d. refl), tt))
-    (no_horizontal state (of_line (LineOf.Vertical n) p) (λ n. refl), (no_spot (λ p. at_spot (edge across p.row p.col)) state.edges_across (of_line (LineOf.Vertical n) p) (λ p. refl), (no_spot (λ p. at_spot (edge down p.row p.col)) state.edges_down (of_line (LineOf.Vertical n) p) (λ p. refl), (no_spot (λ p. at_spot (crossing p.row p.col)) state.crosses (of_line (LineOf.Vertical n) p) (λ p. refl), (no_offset (λ p. from_end across p.row p.col p.number) state.ends_across (of_line (LineOf.Vertical n) p) (λ p. refl), (no_offset (λ p. from_end down p.row p.col p.number) state.ends_down (of_line (LineOf.Vertical n) p) (λ p. refl), (no_offset (λ p. from_start across p.row p.col p.number) state.starts_across (of_line (LineOf.Vertical n) p) (λ p. refl), (no_offset (λ p. from_start down p.row p.col p.number) state.starts_down (of_line (LineOf.Vertical n) p) (λ p. refl), tt))))))))
+    (no_horizontal state (of_line (LineOf.Vertical n) p) (λ n. refl), (no_key at_spot state.cells (of_line (LineOf.Vertical n) p) (λ p. refl), (no_key (place_site Horizontal) state.horizontal_offsets (of_line (LineOf.Vertical n) p) (λ p. refl), (no_key (place_site Vertical) state.vertical_offsets (of_line (LineOf.Vertical n) p) (λ p. refl), tt))))
     ∙ replay_vertical state n p)
-Shows-writes_of state (of_line (LineOf.Horizontal n) p) = sym (only_block (of_line (LineOf.Horizontal n) p) (default_writes state.default_value ∷ class_writes state.class_record classes ∷ entry_events vertical_line_set (map.entries state.vertical_lines) ∷ []) (entry_events horizontal_line_set (map.entries state.horizontal_lines)) (spot_writes (λ p. at_spot (edge across p.row p.col)) state.edges_across ∷ spot_writes (λ p. at_spot (edge down p.row p.col)) state.edges_down ∷ spot_writes (λ p. at_spot (crossing p.row p.col)) state.crosses ∷ offset_writes (λ p. from_end across p.row p.col p.number) state.ends_across ∷ offset_writes (λ p. from_end down p.row p.col p.number) state.ends_down ∷ offset_writes (λ p. from_start across p.row p.col p.number) state.starts_across ∷ offset_writes (λ p. from_start down p.row p.col p.number) state.starts_down ∷ [])
+Shows-writes_of state (of_line (LineOf.Horizontal n) p) = sym (only_block (of_line (LineOf.Horizontal n) p) (default_writes state.default_value ∷ class_writes state.class_record classes ∷ entry_events vertical_line_set (map.entries state.vertical_lines) ∷ []) (entry_events horizontal_line_set (map.entries state.horizontal_lines)) (key_writes at_spot state.cells ∷ key_writes (place_site Horizontal) state.horizontal_offsets ∷ key_writes (place_site Vertical) state.vertical_offsets ∷ [])
     (no_default state (of_line (LineOf.Horizontal n) p) (λ x. refl), (no_class state (of_line (LineOf.Horizontal n) p) (λ d. refl), (no_vertical state (of_line (LineOf.Horizontal n) p) (λ n. refl), tt)))
-    (no_spot (λ p. at_spot (edge across p.row p.col)) state.edges_across (of_line (LineOf.Horizontal n) p) (λ p. refl), (no_spot (λ p. at_spot (edge down p.row p.col)) state.edges_down (of_line (LineOf.Horizontal n) p) (λ p. refl), (no_spot (λ p. at_spot (crossing p.row p.col)) state.crosses (of_line (LineOf.Horizontal n) p) (λ p. refl), (no_offset (λ p. from_end across p.row p.col p.number) state.ends_across (of_line (LineOf.Horizontal n) p) (λ p. refl), (no_offset (λ p. from_end down p.row p.col p.number) state.ends_down (of_line (LineOf.Horizontal n) p) (λ p. refl), (no_offset (λ p. from_start across p.row p.col p.number) state.starts_across (of_line (LineOf.Horizontal n) p) (λ p. refl), (no_offset (λ p. from_start down p.row p.col p.number) state.starts_down (of_line (LineOf.Horizontal n) p) (λ p. refl), tt)))))))
+    (no_key at_spot state.cells (of_line (LineOf.Horizontal n) p) (λ p. refl), (no_key (place_site Horizontal) state.horizontal_offsets (of_line (LineOf.Horizontal n) p) (λ p. refl), (no_key (place_site Vertical) state.vertical_offsets (of_line (LineOf.Horizontal n) p) (λ p. refl), tt)))
     ∙ replay_horizontal state n p)
-Shows-writes_of state (at_spot (edge across r c)) = sym (only_block (at_spot (edge across r c)) (default_writes state.default_value ∷ class_writes state.class_record classes ∷ entry_events vertical_line_set (map.entries state.vertical_lines) ∷ entry_events horizontal_line_set (map.entries state.horizontal_lines) ∷ []) (spot_writes (λ p. at_spot (edge across p.row p.col)) state.edges_across) (spot_writes (λ p. at_spot (edge down p.row p.col)) state.edges_down ∷ spot_writes (λ p. at_spot (crossing p.row p.col)) state.crosses ∷ offset_writes (λ p. from_end across p.row p.col p.number) state.ends_across ∷ offset_writes (λ p. from_end down p.row p.col p.number) state.ends_down ∷ offset_writes (λ p. from_start across p.row p.col p.number) state.starts_across ∷ offset_writes (λ p. from_start down p.row p.col p.number) state.starts_down ∷ [])
-    (no_default state (at_spot (edge across r c)) (λ x. refl), (no_class state (at_spot (edge across r c)) (λ d. refl), (no_vertical state (at_spot (edge across r c)) (λ n. refl), (no_horizontal state (at_spot (edge across r c)) (λ n. refl), tt))))
-    (no_spot (λ p. at_spot (edge down p.row p.col)) state.edges_down (at_spot (edge across r c)) (λ p. refl), (no_spot (λ p. at_spot (crossing p.row p.col)) state.crosses (at_spot (edge across r c)) (λ p. refl), (no_offset (λ p. from_end across p.row p.col p.number) state.ends_across (at_spot (edge across r c)) (λ p. refl), (no_offset (λ p. from_end down p.row p.col p.number) state.ends_down (at_spot (edge across r c)) (λ p. refl), (no_offset (λ p. from_start across p.row p.col p.number) state.starts_across (at_spot (edge across r c)) (λ p. refl), (no_offset (λ p. from_start down p.row p.col p.number) state.starts_down (at_spot (edge across r c)) (λ p. refl), tt))))))
-    ∙ replay_spot (λ p. at_spot (edge across p.row p.col)) state.edges_across r c (λ p. refl))
-Shows-writes_of state (at_spot (edge down r c)) = sym (only_block (at_spot (edge down r c)) (default_writes state.default_value ∷ class_writes state.class_record classes ∷ entry_events vertical_line_set (map.entries state.vertical_lines) ∷ entry_events horizontal_line_set (map.entries state.horizontal_lines) ∷ spot_writes (λ p. at_spot (edge across p.row p.col)) state.edges_across ∷ []) (spot_writes (λ p. at_spot (edge down p.row p.col)) state.edges_down) (spot_writes (λ p. at_spot (crossing p.row p.col)) state.crosses ∷ offset_writes (λ p. from_end across p.row p.col p.number) state.ends_across ∷ offset_writes (λ p. from_end down p.row p.col p.number) state.ends_down ∷ offset_writes (λ p. from_start across p.row p.col p.number) state.starts_across ∷ offset_writes (λ p. from_start down p.row p.col p.number) state.starts_down ∷ [])
-    (no_default state (at_spot (edge down r c)) (λ x. refl), (no_class state (at_spot (edge down r c)) (λ d. refl), (no_vertical state (at_spot (edge down r c)) (λ n. refl), (no_horizontal state (at_spot (edge down r c)) (λ n. refl), (no_spot (λ p. at_spot (edge across p.row p.col)) state.edges_across (at_spot (edge down r c)) (λ p. refl), tt)))))
-    (no_spot (λ p. at_spot (crossing p.row p.col)) state.crosses (at_spot (edge down r c)) (λ p. refl), (no_offset (λ p. from_end across p.row p.col p.number) state.ends_across (at_spot (edge down r c)) (λ p. refl), (no_offset (λ p. from_end down p.row p.col p.number) state.ends_down (at_spot (edge down r c)) (λ p. refl), (no_offset (λ p. from_start across p.row p.col p.number) state.starts_across (at_spot (edge down r c)) (λ p. refl), (no_offset (λ p. from_start down p.row p.col p.number) state.starts_down (at_spot (edge down r c)) (λ p. refl), tt)))))
-    ∙ replay_spot (λ p. at_spot (edge down p.row p.col)) state.edges_down r c (λ p. refl))
-Shows-writes_of state (at_spot (crossing r c)) = sym (only_block (at_spot (crossing r c)) (default_writes state.default_value ∷ class_writes state.class_record classes ∷ entry_events vertical_line_set (map.entries state.vertical_lines) ∷ entry_events horizontal_line_set (map.entries state.horizontal_lines) ∷ spot_writes (λ p. at_spot (edge across p.row p.col)) state.edges_across ∷ spot_writes (λ p. at_spot (edge down p.row p.col)) state.edges_down ∷ []) (spot_writes (λ p. at_spot (crossing p.row p.col)) state.crosses) (offset_writes (λ p. from_end across p.row p.col p.number) state.ends_across ∷ offset_writes (λ p. from_end down p.row p.col p.number) state.ends_down ∷ offset_writes (λ p. from_start across p.row p.col p.number) state.starts_across ∷ offset_writes (λ p. from_start down p.row p.col p.number) state.starts_down ∷ [])
-    (no_default state (at_spot (crossing r c)) (λ x. refl), (no_class state (at_spot (crossing r c)) (λ d. refl), (no_vertical state (at_spot (crossing r c)) (λ n. refl), (no_horizontal state (at_spot (crossing r c)) (λ n. refl), (no_spot (λ p. at_spot (edge across p.row p.col)) state.edges_across (at_spot (crossing r c)) (λ p. refl), (no_spot (λ p. at_spot (edge down p.row p.col)) state.edges_down (at_spot (crossing r c)) (λ p. refl), tt))))))
-    (no_offset (λ p. from_end across p.row p.col p.number) state.ends_across (at_spot (crossing r c)) (λ p. refl), (no_offset (λ p. from_end down p.row p.col p.number) state.ends_down (at_spot (crossing r c)) (λ p. refl), (no_offset (λ p. from_start across p.row p.col p.number) state.starts_across (at_spot (crossing r c)) (λ p. refl), (no_offset (λ p. from_start down p.row p.col p.number) state.starts_down (at_spot (crossing r c)) (λ p. refl), tt))))
-    ∙ replay_spot (λ p. at_spot (crossing p.row p.col)) state.crosses r c (λ p. refl))
-Shows-writes_of state (from_end across r c n) = sym (only_block (from_end across r c n) (default_writes state.default_value ∷ class_writes state.class_record classes ∷ entry_events vertical_line_set (map.entries state.vertical_lines) ∷ entry_events horizontal_line_set (map.entries state.horizontal_lines) ∷ spot_writes (λ p. at_spot (edge across p.row p.col)) state.edges_across ∷ spot_writes (λ p. at_spot (edge down p.row p.col)) state.edges_down ∷ spot_writes (λ p. at_spot (crossing p.row p.col)) state.crosses ∷ []) (offset_writes (λ p. from_end across p.row p.col p.number) state.ends_across) (offset_writes (λ p. from_end down p.row p.col p.number) state.ends_down ∷ offset_writes (λ p. from_start across p.row p.col p.number) state.starts_across ∷ offset_writes (λ p. from_start down p.row p.col p.number) state.starts_down ∷ [])
-    (no_default state (from_end across r c n) (λ x. refl), (no_class state (from_end across r c n) (λ d. refl), (no_vertical state (from_end across r c n) (λ n. refl), (no_horizontal state (from_end across r c n) (λ n. refl), (no_spot (λ p. at_spot (edge across p.row p.col)) state.edges_across (from_end across r c n) (λ p. refl), (no_spot (λ p. at_spot (edge down p.row p.col)) state.edges_down (from_end across r c n) (λ p. refl), (no_spot (λ p. at_spot (crossing p.row p.col)) state.crosses (from_end across r c n) (λ p. refl), tt)))))))
-    (no_offset (λ p. from_end down p.row p.col p.number) state.ends_down (from_end across r c n) (λ p. refl), (no_offset (λ p. from_start across p.row p.col p.number) state.starts_across (from_end across r c n) (λ p. refl), (no_offset (λ p. from_start down p.row p.col p.number) state.starts_down (from_end across r c n) (λ p. refl), tt)))
-    ∙ replay_offset (λ p. from_end across p.row p.col p.number) state.ends_across r c n (λ p. refl))
-Shows-writes_of state (from_end down r c n) = sym (only_block (from_end down r c n) (default_writes state.default_value ∷ class_writes state.class_record classes ∷ entry_events vertical_line_set (map.entries state.vertical_lines) ∷ entry_events horizontal_line_set (map.entries state.horizontal_lines) ∷ spot_writes (λ p. at_spot (edge across p.row p.col)) state.edges_across ∷ spot_writes (λ p. at_spot (edge down p.row p.col)) state.edges_down ∷ spot_writes (λ p. at_spot (crossing p.row p.col)) state.crosses ∷ offset_writes (λ p. from_end across p.row p.col p.number) state.ends_across ∷ []) (offset_writes (λ p. from_end down p.row p.col p.number) state.ends_down) (offset_writes (λ p. from_start across p.row p.col p.number) state.starts_across ∷ offset_writes (λ p. from_start down p.row p.col p.number) state.starts_down ∷ [])
-    (no_default state (from_end down r c n) (λ x. refl), (no_class state (from_end down r c n) (λ d. refl), (no_vertical state (from_end down r c n) (λ n. refl), (no_horizontal state (from_end down r c n) (λ n. refl), (no_spot (λ p. at_spot (edge across p.row p.col)) state.edges_across (from_end down r c n) (λ p. refl), (no_spot (λ p. at_spot (edge down p.row p.col)) state.edges_down (from_end down r c n) (λ p. refl), (no_spot (λ p. at_spot (crossing p.row p.col)) state.crosses (from_end down r c n) (λ p. refl), (no_offset (λ p. from_end across p.row p.col p.number) state.ends_across (from_end down r c n) (λ p. refl), tt))))))))
-    (no_offset (λ p. from_start across p.row p.col p.number) state.starts_across (from_end down r c n) (λ p. refl), (no_offset (λ p. from_start down p.row p.col p.number) state.starts_down (from_end down r c n) (λ p. refl), tt))
-    ∙ replay_offset (λ p. from_end down p.row p.col p.number) state.ends_down r c n (λ p. refl))
-Shows-writes_of state (from_start across r c n) = sym (only_block (from_start across r c n) (default_writes state.default_value ∷ class_writes state.class_record classes ∷ entry_events vertical_line_set (map.entries state.vertical_lines) ∷ entry_events horizontal_line_set (map.entries state.horizontal_lines) ∷ spot_writes (λ p. at_spot (edge across p.row p.col)) state.edges_across ∷ spot_writes (λ p. at_spot (edge down p.row p.col)) state.edges_down ∷ spot_writes (λ p. at_spot (crossing p.row p.col)) state.crosses ∷ offset_writes (λ p. from_end across p.row p.col p.number) state.ends_across ∷ offset_writes (λ p. from_end down p.row p.col p.number) state.ends_down ∷ []) (offset_writes (λ p. from_start across p.row p.col p.number) state.starts_across) (offset_writes (λ p. from_start down p.row p.col p.number) state.starts_down ∷ [])
-    (no_default state (from_start across r c n) (λ x. refl), (no_class state (from_start across r c n) (λ d. refl), (no_vertical state (from_start across r c n) (λ n. refl), (no_horizontal state (from_start across r c n) (λ n. refl), (no_spot (λ p. at_spot (edge across p.row p.col)) state.edges_across (from_start across r c n) (λ p. refl), (no_spot (λ p. at_spot (edge down p.row p.col)) state.edges_down (from_start across r c n) (λ p. refl), (no_spot (λ p. at_spot (crossing p.row p.col)) state.crosses (from_start across r c n) (λ p. refl), (no_offset (λ p. from_end across p.row p.col p.number) state.ends_across (from_start across r c n) (λ p. refl), (no_offset (λ p. from_end down p.row p.col p.number) state.ends_down (from_start across r c n) (λ p. refl), tt)))))))))
-    (no_offset (λ p. from_start down p.row p.col p.number) state.starts_down (from_start across r c n) (λ p. refl), tt)
-    ∙ replay_offset (λ p. from_start across p.row p.col p.number) state.starts_across r c n (λ p. refl))
-Shows-writes_of state (from_start down r c n) = sym (only_block (from_start down r c n) (default_writes state.default_value ∷ class_writes state.class_record classes ∷ entry_events vertical_line_set (map.entries state.vertical_lines) ∷ entry_events horizontal_line_set (map.entries state.horizontal_lines) ∷ spot_writes (λ p. at_spot (edge across p.row p.col)) state.edges_across ∷ spot_writes (λ p. at_spot (edge down p.row p.col)) state.edges_down ∷ spot_writes (λ p. at_spot (crossing p.row p.col)) state.crosses ∷ offset_writes (λ p. from_end across p.row p.col p.number) state.ends_across ∷ offset_writes (λ p. from_end down p.row p.col p.number) state.ends_down ∷ offset_writes (λ p. from_start across p.row p.col p.number) state.starts_across ∷ []) (offset_writes (λ p. from_start down p.row p.col p.number) state.starts_down) ([])
-    (no_default state (from_start down r c n) (λ x. refl), (no_class state (from_start down r c n) (λ d. refl), (no_vertical state (from_start down r c n) (λ n. refl), (no_horizontal state (from_start down r c n) (λ n. refl), (no_spot (λ p. at_spot (edge across p.row p.col)) state.edges_across (from_start down r c n) (λ p. refl), (no_spot (λ p. at_spot (edge down p.row p.col)) state.edges_down (from_start down r c n) (λ p. refl), (no_spot (λ p. at_spot (crossing p.row p.col)) state.crosses (from_start down r c n) (λ p. refl), (no_offset (λ p. from_end across p.row p.col p.number) state.ends_across (from_start down r c n) (λ p. refl), (no_offset (λ p. from_end down p.row p.col p.number) state.ends_down (from_start down r c n) (λ p. refl), (no_offset (λ p. from_start across p.row p.col p.number) state.starts_across (from_start down r c n) (λ p. refl), tt))))))))))
+Shows-writes_of state (at_spot spot) = sym (only_block (at_spot spot) (default_writes state.default_value ∷ class_writes state.class_record classes ∷ entry_events vertical_line_set (map.entries state.vertical_lines) ∷ entry_events horizontal_line_set (map.entries state.horizontal_lines) ∷ []) (key_writes at_spot state.cells) (key_writes (place_site Horizontal) state.horizontal_offsets ∷ key_writes (place_site Vertical) state.vertical_offsets ∷ [])
+    (no_default state (at_spot spot) (λ x. refl), (no_class state (at_spot spot) (λ d. refl), (no_vertical state (at_spot spot) (λ n. refl), (no_horizontal state (at_spot spot) (λ n. refl), tt))))
+    (no_key (place_site Horizontal) state.horizontal_offsets (at_spot spot) (λ p. refl), (no_key (place_site Vertical) state.vertical_offsets (at_spot spot) (λ p. refl), tt))
+    ∙ replay_key spots_total exact_spots at_spot state.cells spot (λ j. sym (is_same_spot spot j)))
+Shows-writes_of state (at_offset Horizontal r c o) = sym (only_block (at_offset Horizontal r c o) (default_writes state.default_value ∷ class_writes state.class_record classes ∷ entry_events vertical_line_set (map.entries state.vertical_lines) ∷ entry_events horizontal_line_set (map.entries state.horizontal_lines) ∷ key_writes at_spot state.cells ∷ []) (key_writes (place_site Horizontal) state.horizontal_offsets) (key_writes (place_site Vertical) state.vertical_offsets ∷ [])
+    (no_default state (at_offset Horizontal r c o) (λ x. refl), (no_class state (at_offset Horizontal r c o) (λ d. refl), (no_vertical state (at_offset Horizontal r c o) (λ n. refl), (no_horizontal state (at_offset Horizontal r c o) (λ n. refl), (no_key at_spot state.cells (at_offset Horizontal r c o) (λ p. refl), tt)))))
+    (no_key (place_site Vertical) state.vertical_offsets (at_offset Horizontal r c o) (λ p. refl), tt)
+    ∙ replay_key edge_places_total exact_edge_places (place_site Horizontal) state.horizontal_offsets (edge_place r c o) (λ j. sym (is_same_edge_place (edge_place r c o) j)))
+Shows-writes_of state (at_offset Vertical r c o) = sym (only_block (at_offset Vertical r c o) (default_writes state.default_value ∷ class_writes state.class_record classes ∷ entry_events vertical_line_set (map.entries state.vertical_lines) ∷ entry_events horizontal_line_set (map.entries state.horizontal_lines) ∷ key_writes at_spot state.cells ∷ key_writes (place_site Horizontal) state.horizontal_offsets ∷ []) (key_writes (place_site Vertical) state.vertical_offsets) ([])
+    (no_default state (at_offset Vertical r c o) (λ x. refl), (no_class state (at_offset Vertical r c o) (λ d. refl), (no_vertical state (at_offset Vertical r c o) (λ n. refl), (no_horizontal state (at_offset Vertical r c o) (λ n. refl), (no_key at_spot state.cells (at_offset Vertical r c o) (λ p. refl), (no_key (place_site Horizontal) state.horizontal_offsets (at_offset Vertical r c o) (λ p. refl), tt))))))
     tt
-    ∙ replay_offset (λ p. from_start down p.row p.col p.number) state.starts_down r c n (λ p. refl))
+    ∙ replay_key edge_places_total exact_edge_places (place_site Vertical) state.vertical_offsets (edge_place r c o) (λ j. sym (is_same_edge_place (edge_place r c o) j)))

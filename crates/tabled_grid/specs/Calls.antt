@@ -11,7 +11,7 @@ use Rattle.tabled_object.specs.declared.position.Position.{Position}
 use Rattle.tabled_object.specs.declared.entity.Entity.{Entity}
 use Rattle.tabled_grid.specs.CellBorder.{border_places, border_fields}
 use Rattle.tabled_object.specs.Entities.{below, cells_of, is_inside}
-use Rattle.tabled_grid.specs.Site.{Direction, across, down, Spot, edge, crossing, Site, the_default, at_spot, from_end, from_start}
+use Rattle.tabled_grid.specs.Site.{Direction, Horizontal, Vertical, Spot, Edge, Crossing, Site, the_default, at_spot, at_offset}
 use Rattle.tabled_grid.specs.Event.{sign, Written, Event, write, erase, level_sites, offset_sites, line_sites, these_sites}
 use Rattle.tabled_grid.specs.Drawn.{written}
 use Rattle.tabled_grid.specs.Lines as lines
@@ -36,9 +36,9 @@ lines_erased = erase (level_sites 2) ∷ erase (level_sites 3) ∷ []
 
 -- the edge or the crossing of a place
 abbrev pub spot_of : Place → Spot
-spot_of (Place.Horizontal r c k) = edge across r c
-spot_of (Place.Vertical r c k) = edge down r c
-spot_of (Place.Cross r c) = crossing r c
+spot_of (Place.Horizontal r c k) = Edge Horizontal r c
+spot_of (Place.Vertical r c k) = Edge Vertical r c
+spot_of (Place.Cross r c) = Crossing r c
 
 -- a cell's value written at the spot of a place, and erased there
 abbrev pub cell_set : {T : Type 0} → Place → T → List (Event T)
@@ -92,36 +92,39 @@ entity_border_erased entity (rows, cols) = borders_erased (rows, cols) (cells_of
 unfoldable pub spots_erased : {T : Type 0} → List Spot → List (Event T)
 spots_erased spots = erase (these_sites (map at_spot spots)) ∷ []
 
--- the spots of a horizontal line over so many columns: its edges, and its crossings with all vertical lines
-abbrev pub line_across : ℕ → ℕ → List Spot
-line_across line cols = map (λ col. edge across line col) (below cols) ++ map (λ col. crossing line col) (below (cols + 1))
+-- the edge of a line over a column or beside a row, and its crossing with a line of the other direction
+abbrev pub edge_of : LineOf → ℕ → Spot
+edge_of (LineOf.Horizontal n) at = Edge Horizontal n at
+edge_of (LineOf.Vertical n) at = Edge Vertical at n
 
--- the spots of a vertical line beside so many rows
-abbrev pub line_down : ℕ → ℕ → List Spot
-line_down line rows = map (λ row. edge down row line) (below rows) ++ map (λ row. crossing row line) (below (rows + 1))
+abbrev pub crossing_of : LineOf → ℕ → Spot
+crossing_of (LineOf.Horizontal n) at = Crossing n at
+crossing_of (LineOf.Vertical n) at = Crossing at n
+
+-- the spots of a line that is so many columns or rows long: its edges, and its crossings with all lines of the other
+-- direction
+abbrev pub line_spots : LineOf → ℕ → List Spot
+line_spots line length = map (edge_of line) (below length) ++ map (crossing_of line) (below (length + 1))
 
 -- the outer lines of a table of so many rows and columns erased; one without rows or columns has none
 abbrev pub frame_erased : {T : Type 0} → ℕ × ℕ → List (Event T)
 frame_erased (rows, cols) =
-    if (rows == 0) || (cols == 0) then [] else spots_erased (line_across 0 cols ++ line_across rows cols ++ line_down 0 rows ++ line_down cols rows)
+    if (rows == 0) || (cols == 0) then [] else spots_erased (line_spots (LineOf.Horizontal 0) cols
+    ++ line_spots (LineOf.Horizontal rows) cols ++ line_spots (LineOf.Vertical 0) rows ++ line_spots (LineOf.Vertical cols) rows)
 
--- the site of a numbered place of an edge, counted from one of its ends; a crossing has none
-abbrev pub edge_site : Direction → ℕ → ℕ → Offset → Site
-edge_site d r c (Offset.Start n) = from_start d r c n
-edge_site d r c (Offset.End n) = from_end d r c n
-
+-- the site of a numbered place of an edge; a crossing has none
 abbrev pub offset_site : Place → Offset → Option Site
-offset_site (Place.Horizontal r c k) offset = Some (edge_site across r c offset)
-offset_site (Place.Vertical r c k) offset = Some (edge_site down r c offset)
+offset_site (Place.Horizontal r c k) offset = Some (at_offset Horizontal r c offset)
+offset_site (Place.Vertical r c k) offset = Some (at_offset Vertical r c offset)
 offset_site (Place.Cross r c) offset = None
 
 -- a value written there
 abbrev pub edge_offset : {T : Type 0} → Direction → ℕ → ℕ → Offset → T → List (Event T)
-edge_offset d r c offset value = write (edge_site d r c offset) (sign value) ∷ []
+edge_offset d r c offset value = write (at_offset d r c offset) (sign value) ∷ []
 
 abbrev pub offset_set : {T : Type 0} → Place → Offset → T → List (Event T)
-offset_set (Place.Horizontal r c k) offset value = edge_offset across r c offset value
-offset_set (Place.Vertical r c k) offset value = edge_offset down r c offset value
+offset_set (Place.Horizontal r c k) offset value = edge_offset Horizontal r c offset value
+offset_set (Place.Vertical r c k) offset value = edge_offset Vertical r c offset value
 offset_set (Place.Cross r c) offset value = []
 
 -- the offsets on the edges of one direction cleared

@@ -2,12 +2,20 @@
 use Rattle.std.specs.Prelude.{ℕ, Bool, true, false, ◌&&◌, ◌==◌, nat_le, IsTrue, is_some, IsSome, Option, List, [], ◌∷◌, ◌≤◌}
 use Rattle.std.specs.List.{list_any}
 use Rattle.tabled_grid.specs.declared.place.LineOf.{LineOf}
-use Rattle.tabled_grid.specs.Site.{across, down, first, closing, stands, edges, crossings, mark, meeting, edge, crossing, Site, the_default, of_class, of_line, at_spot}
+use Rattle.tabled_grid.specs.Site.{Horizontal, Vertical, first, closing, stands, edges, crossings, mark, meeting, Spot, Edge, Crossing, Site, the_default, of_class, of_line, at_spot}
 use Rattle.tabled_grid.specs.Event.{Written, Event, write, erase, replay}
 
 abbrev pub number : LineOf → ℕ
 number (LineOf.Horizontal n) = n
 number (LineOf.Vertical n) = n
+
+-- whether an edge or a crossing lies on a line
+abbrev pub lies_on : LineOf → Spot → Bool
+lies_on (LineOf.Horizontal n) (Edge Horizontal r c) = r == n
+lies_on (LineOf.Horizontal n) (Crossing r c) = r == n
+lies_on (LineOf.Vertical n) (Edge Vertical r c) = c == n
+lies_on (LineOf.Vertical n) (Crossing r c) = c == n
+lies_on _ _ = false
 
 -- whether something kept at the site draws the line, of the lines 0 to count of its direction:
 -- the default draws every line; a class those of its rank; a custom line the line at which it stands; its crossings with
@@ -15,19 +23,16 @@ number (LineOf.Vertical n) = n
 -- crossing the lines that it lies on. Offsets draw nothing.
 abbrev pub draws : ℕ → LineOf → Site → Bool
 draws count line the_default = true
-draws count (LineOf.Horizontal n) (of_class (edges across rank)) = stands rank count n
+draws count (LineOf.Horizontal n) (of_class (edges Horizontal rank)) = stands rank count n
 draws count (LineOf.Horizontal n) (of_class (crossings row col)) = stands row count n
 draws count (LineOf.Horizontal n) (of_line (LineOf.Horizontal m) mark) = m == n
 draws count (LineOf.Horizontal n) (of_line (LineOf.Vertical m) (meeting first)) = stands first count n
 draws count (LineOf.Horizontal n) (of_line (LineOf.Vertical m) (meeting closing)) = stands closing count n
-draws count (LineOf.Horizontal n) (at_spot (edge across r c)) = r == n
-draws count (LineOf.Horizontal n) (at_spot (crossing r c)) = r == n
-draws count (LineOf.Vertical n) (of_class (edges down rank)) = stands rank count n
+draws count (LineOf.Vertical n) (of_class (edges Vertical rank)) = stands rank count n
 draws count (LineOf.Vertical n) (of_class (crossings row col)) = stands col count n
 draws count (LineOf.Vertical n) (of_line (LineOf.Vertical m) mark) = m == n
 draws count (LineOf.Vertical n) (of_line (LineOf.Horizontal m) (meeting rank)) = stands rank count n
-draws count (LineOf.Vertical n) (at_spot (edge down r c)) = c == n
-draws count (LineOf.Vertical n) (at_spot (crossing r c)) = c == n
+draws count line (at_spot spot) = lies_on line spot
 draws count line _ = false
 
 -- a line is drawn where it is none past the closing one and something is kept at a site that draws it

@@ -1,33 +1,137 @@
 -- The keys of kept maps and their orders.
-use Rattle.std.specs.Prelude.{ℕ}
-use Rattle.std.specs.Ordering.{nat_cmp, ordering_then}
+use Rattle.std.specs.Prelude.{◌≡◌, ℕ, Bool, true, false, ◌&&◌, ◌==◌, refl}
+use Rattle.std.specs.Ordering.{nat_cmp, ordering_then, is_eq, eq_by_cmp}
 use Rattle.std.specs.declared.cmp.Ordering.{Ordering}
-use Rattle.std.specs.Cmp.{IsTotalOrder, nat_cmp_total}
+use Rattle.std.specs.declared.cmp.Ordering.TheVariants.{Less, Equal, Greater}
+use Rattle.std.specs.Cmp.{IsTotalOrder}
 use Rattle.std.specs.FinMap.{IsAntisymmetric}
-use Rattle.std.proofs.Common.{ap}
-use Rattle.std.proofs.lemmas.Cmp.{on_total, then_total}
-use Rattle.std.proofs.lemmas.Map.Lookups.{exact_pairs, exact_unsigned}
-use Rattle.tabled_object.specs.declared.position.Position.{Position}
+use Rattle.std.proofs.Common.{sym, ap, ◌∙◌, tests, arith}
+use Rattle.std.proofs.lemmas.Bool.{eqb-true}
+use Rattle.std.proofs.lemmas.Bool.Decides.{nat_tests}
 use Rattle.tabled_grid.specs.declared.keys.EdgePlace.{EdgePlace}
+use Rattle.tabled_grid.specs.declared.offset.Offset.{Offset}
+use Rattle.tabled_grid.specs.declared.place.LineOf.{LineOf}
+use Rattle.tabled_grid.specs.contracts.place.LineOfOrd.TheImpl.{cmp-value as line-cmp-value}
+use Rattle.tabled_grid.specs.contracts.place.LineOfOrd.TheImpl.Laws as line
+use Rattle.tabled_grid.specs.contracts.site.SpotOrd.TheImpl.{cmp-value as spot-cmp-value}
+use Rattle.tabled_grid.specs.contracts.site.SpotOrd.TheImpl.Laws as spot
+use Rattle.tabled_grid.specs.contracts.keys.EdgePlaceOrd.TheImpl.{cmp-value as edge_place-cmp-value}
+use Rattle.tabled_grid.specs.contracts.keys.EdgePlaceOrd.TheImpl.Laws as place
+use Rattle.tabled_grid.specs.Site.{Direction, Horizontal, Vertical, Spot, Edge, Crossing, same_direction, same_line, same_spot, same_offset}
 
--- by row, and then by column
-abbrev pub position_cmp : Position → Position → Ordering
-position_cmp a b = ordering_then (nat_cmp a.row b.row) (nat_cmp a.col b.col)
+-- as the types are ordered: by their variants, and then by their fields
+abbrev pub line_cmp : LineOf → LineOf → Ordering
+line_cmp = line-cmp-value.it
 
--- by row, by column, and then by number
+abbrev pub spot_cmp : Spot → Spot → Ordering
+spot_cmp = spot-cmp-value.it
+
 abbrev pub edge_place_cmp : EdgePlace → EdgePlace → Ordering
-edge_place_cmp a b = ordering_then (nat_cmp a.row b.row) (ordering_then (nat_cmp a.col b.col) (nat_cmp a.number b.number))
+edge_place_cmp = edge_place-cmp-value.it
 
-pub exact_positions : IsAntisymmetric position_cmp
-exact_positions a b h = ap (λ (p : ℕ × ℕ). record { row = p.0; col = p.1 }) (exact_pairs nat_cmp nat_cmp exact_unsigned exact_unsigned (a.row, a.col) (b.row, b.col) h)
+pub lines_total : IsTotalOrder line_cmp
+lines_total = line.total-law
 
-pub positions_total : IsTotalOrder position_cmp
-positions_total = then_total (on_total (λ p. p.row) nat_cmp_total) (on_total (λ p. p.col) nat_cmp_total)
-
-pub exact_edge_places : IsAntisymmetric edge_place_cmp
-exact_edge_places a b h =
-    ap (λ (p : ℕ × (ℕ × ℕ)). record { row = p.0; col = p.1.0; number = p.1.1 })
-    (exact_pairs nat_cmp (λ (x y : ℕ × ℕ). ordering_then (nat_cmp x.0 y.0) (nat_cmp x.1 y.1)) exact_unsigned (exact_pairs nat_cmp nat_cmp exact_unsigned exact_unsigned) (a.row, (a.col, a.number)) (b.row, (b.col, b.number)) h)
+pub spots_total : IsTotalOrder spot_cmp
+spots_total = spot.total-law
 
 pub edge_places_total : IsTotalOrder edge_place_cmp
-edge_places_total = then_total (on_total (λ p. p.row) nat_cmp_total) (then_total (on_total (λ p. p.col) nat_cmp_total) (on_total (λ p. p.number) nat_cmp_total))
+edge_places_total = place.total-law
+
+-- keys that compare alike are the same, and so equal
+same_number : (a b : ℕ) → is_eq (nat_cmp a b) ≡ (a == b)
+same_number a b = grind (arith, tests, nat_tests)
+
+both_equal : (a b : Ordering) → is_eq (ordering_then a b) ≡ (is_eq a && is_eq b)
+both_equal Less b = refl
+both_equal Equal b = refl
+both_equal Greater b = refl
+
+pub is_same_line : (l m : LineOf) → eq_by_cmp line_cmp l m ≡ same_line l m
+is_same_line (LineOf.Horizontal n) (LineOf.Horizontal m) = same_number n m
+is_same_line (LineOf.Horizontal n) (LineOf.Vertical m) = refl
+is_same_line (LineOf.Vertical n) (LineOf.Horizontal m) = refl
+is_same_line (LineOf.Vertical n) (LineOf.Vertical m) = same_number n m
+
+two_same : (r c s k : ℕ) → is_eq (ordering_then (nat_cmp r s) (nat_cmp c k)) ≡ ((r == s) && (c == k))
+two_same r c s k = both_equal (nat_cmp r s) (nat_cmp c k) ∙ (λ i. same_number r s i && same_number c k i)
+
+pub is_same_spot : (a b : Spot) → eq_by_cmp spot_cmp a b ≡ same_spot a b
+is_same_spot (Edge Horizontal r c) (Edge Horizontal s k) = two_same r c s k
+is_same_spot (Edge Horizontal r c) (Edge Vertical s k) = refl
+is_same_spot (Edge Vertical r c) (Edge Horizontal s k) = refl
+is_same_spot (Edge Vertical r c) (Edge Vertical s k) = two_same r c s k
+is_same_spot (Edge d r c) (Crossing s k) = refl
+is_same_spot (Crossing r c) (Edge e s k) = refl
+is_same_spot (Crossing r c) (Crossing s k) = two_same r c s k
+
+pub is_same_edge_place : (p q : EdgePlace) → eq_by_cmp edge_place_cmp p q ≡ ((p.row == q.row) && (p.col == q.col) && same_offset p.offset q.offset)
+is_same_edge_place p q = each p.row p.col p.offset q.row q.col q.offset
+  where
+    and_assoc : (a b c : Bool) → (a && (b && c)) ≡ (a && b && c)
+    and_assoc true b c = refl
+    and_assoc false b c = refl
+
+    three : (r c s k : ℕ) (o : Ordering) (b : Bool) → is_eq o ≡ b → is_eq (ordering_then (nat_cmp r s) (ordering_then (nat_cmp c k) o)) ≡ ((r == s) && (c == k) && b)
+    three r c s k o b e =
+        both_equal (nat_cmp r s) (ordering_then (nat_cmp c k) o) ∙ ap (λ x. is_eq (nat_cmp r s) && x) (both_equal (nat_cmp c k) o)
+        ∙ (λ i. same_number r s i && (same_number c k i && e i)) ∙ and_assoc (r == s) (c == k) b
+
+    each : (r c : ℕ) (o : Offset) (s k : ℕ) (u : Offset) → eq_by_cmp edge_place_cmp (record { row = r; col = c; offset = o }) (record { row = s; col = k; offset = u }) ≡ ((r == s) && (c == k) && same_offset o u)
+    each r c (Offset.Start n) s k (Offset.Start m) = three r c s k (nat_cmp n m) (n == m) (same_number n m)
+    each r c (Offset.End n) s k (Offset.End m) = three r c s k (nat_cmp n m) (n == m) (same_number n m)
+    each r c (Offset.Start n) s k (Offset.End m) = three r c s k Less false refl
+    each r c (Offset.End n) s k (Offset.Start m) = three r c s k Greater false refl
+
+both : (a b : Bool) → (a && b) ≡ true → (a ≡ true) × (b ≡ true)
+both true b h = (refl, h)
+both false b h = absurd cc
+
+pub same_direction-eq : (d e : Direction) → same_direction d e ≡ true → d ≡ e
+same_direction-eq Horizontal Horizontal h = refl
+same_direction-eq Vertical Vertical h = refl
+same_direction-eq Horizontal Vertical h = cc
+same_direction-eq Vertical Horizontal h = cc
+
+pub same_line-eq : (l m : LineOf) → same_line l m ≡ true → l ≡ m
+same_line-eq (LineOf.Horizontal n) (LineOf.Horizontal m) h = let e = eqb-true n m h in cc
+same_line-eq (LineOf.Vertical n) (LineOf.Vertical m) h = let e = eqb-true n m h in cc
+same_line-eq (LineOf.Horizontal n) (LineOf.Vertical m) h = cc
+same_line-eq (LineOf.Vertical n) (LineOf.Horizontal m) h = cc
+
+pub same_spot-eq : (a b : Spot) → same_spot a b ≡ true → a ≡ b
+same_spot-eq (Edge d r c) (Edge e s k) h =
+    let parts = both (same_direction d e && (r == s)) (c == k) h in
+    let front = both (same_direction d e) (r == s) parts.0 in
+    let direction = same_direction-eq d e front.0 in
+    let row = eqb-true r s front.1 in
+    let col = eqb-true c k parts.1 in
+    cc
+same_spot-eq (Crossing r c) (Crossing s k) h =
+    let parts = both (r == s) (c == k) h in
+    let row = eqb-true r s parts.0 in
+    let col = eqb-true c k parts.1 in
+    cc
+same_spot-eq (Edge d r c) (Crossing s k) h = cc
+same_spot-eq (Crossing r c) (Edge e s k) h = cc
+
+pub same_offset-eq : (o p : Offset) → same_offset o p ≡ true → o ≡ p
+same_offset-eq (Offset.Start n) (Offset.Start m) h = let e = eqb-true n m h in cc
+same_offset-eq (Offset.End n) (Offset.End m) h = let e = eqb-true n m h in cc
+same_offset-eq (Offset.Start n) (Offset.End m) h = cc
+same_offset-eq (Offset.End n) (Offset.Start m) h = cc
+
+alike : (o : Ordering) → o ≡ Equal → is_eq o ≡ true
+alike o e = ap is_eq e
+
+pub exact_lines : IsAntisymmetric line_cmp
+exact_lines l m h = same_line-eq l m (sym (is_same_line l m) ∙ alike (line_cmp l m) h)
+
+pub exact_spots : IsAntisymmetric spot_cmp
+exact_spots a b h = same_spot-eq a b (sym (is_same_spot a b) ∙ alike (spot_cmp a b) h)
+
+pub exact_edge_places : IsAntisymmetric edge_place_cmp
+exact_edge_places p q h =
+    let all = both ((p.row == q.row) && (p.col == q.col)) (same_offset p.offset q.offset) (sym (is_same_edge_place p q) ∙ alike (edge_place_cmp p q) h) in
+    let front = both (p.row == q.row) (p.col == q.col) all.0 in
+    λ i. record { row = eqb-true p.row q.row front.0 i; col = eqb-true p.col q.col front.1 i; offset = same_offset-eq p.offset q.offset all.1 i }

@@ -43,15 +43,10 @@ same_lines same a b =
 
 unfoldable pub same_cells : {T : Type 0} → (T → T → Bool) → State T → State T → Bool
 same_cells same a b =
-    same_map same a.edges_across b.edges_across && same_map same a.edges_down b.edges_down && same_map same a.crosses b.crosses
-
-unfoldable pub same_offsets : {T : Type 0} → (T → T → Bool) → State T → State T → Bool
-same_offsets same a b =
-    same_map same a.ends_across b.ends_across && same_map same a.ends_down b.ends_down
-    && same_map same a.starts_across b.starts_across && same_map same a.starts_down b.starts_down
+    same_map same a.cells b.cells && same_map same a.horizontal_offsets b.horizontal_offsets && same_map same a.vertical_offsets b.vertical_offsets
 
 unfoldable pub same_state : {T : Type 0} → (T → T → Bool) → State T → State T → Bool
-same_state same a b = same_below same a b && same_lines same a b && same_cells same a b && same_offsets same a b
+same_state same a b = same_below same a b && same_lines same a b && same_cells same a b
 
 -- two things that sites keep
 abbrev pub same_written : {T : Type 0} → (T → T → Bool) → Written T → Written T → Bool

@@ -9,8 +9,8 @@ use Rattle.std.specs.FinMap.{FinMap, entries}
 use Rattle.tabled_grid.specs.declared.borders.Borders.{Borders}
 use Rattle.tabled_grid.specs.declared.lines.HorizontalLine.{HorizontalLine}
 use Rattle.tabled_grid.specs.declared.lines.VerticalLine.{VerticalLine}
-use Rattle.tabled_grid.specs.Keys.{position_cmp, positions_total, edge_place_cmp, edge_places_total}
-use Rattle.tabled_grid.specs.Same.{same_map, same_horizontal, same_vertical, same_borders, same_below, same_lines, same_cells, same_offsets, same_state}
+use Rattle.tabled_grid.specs.Keys.{edge_place_cmp, spots_total, edge_places_total}
+use Rattle.tabled_grid.specs.Same.{same_map, same_horizontal, same_vertical, same_borders, same_below, same_lines, same_cells, same_state}
 
 module _ {T : Type 0} {E : T → T → Bool} (p : IsPartialEquivalence E) where
   option_symm : (a b : Option T) → option_eq E a b ≡ option_eq E b a
@@ -54,15 +54,13 @@ module _ {T : Type 0} {E : T → T → Bool} (p : IsPartialEquivalence E) where
 
   -- two stores
   pub state_per : IsPartialEquivalence (same_state E)
-  unfolding same_below same_lines same_cells same_offsets same_state
+  unfolding same_below same_lines same_cells same_state
   state_per =
-      let spots : IsPartialEquivalence (same_map {R = position_cmp} E) = map_per p positions_total in
       let offsets : IsPartialEquivalence (same_map {R = edge_place_cmp} E) = map_per p edge_places_total in
-      and_per (and_per (and_per
+      and_per (and_per
       (and_per (on_per (λ k. k.default_value) (option_per p)) (on_per (λ k. k.class_record) borders_per))
       (and_per (on_per (λ k. k.vertical_lines) (map_per vertical_per nat_cmp_total)) (on_per (λ k. k.horizontal_lines) (map_per horizontal_per nat_cmp_total))))
-      (and_per (and_per (on_per (λ k. k.edges_across) spots) (on_per (λ k. k.edges_down) spots)) (on_per (λ k. k.crosses) spots)))
-      (and_per (and_per (and_per (on_per (λ k. k.ends_across) offsets) (on_per (λ k. k.ends_down) offsets)) (on_per (λ k. k.starts_across) offsets)) (on_per (λ k. k.starts_down) offsets))
+      (and_per (and_per (on_per (λ k. k.cells) (map_per p spots_total)) (on_per (λ k. k.horizontal_offsets) offsets)) (on_per (λ k. k.vertical_offsets) offsets))
 
 module _ {T : Type 0} {E : T → T → Bool} (e : IsEquivalence E) where
   vertical_itself : (l : VerticalLine T) → same_vertical E l l ≡ true
@@ -87,11 +85,9 @@ map_itself {K = K} {X = X} {R = R} o E itself m = all_themselves (entries m)
     all_themselves (x ∷ xs) = λ i. ((eq_by_cmp_equiv o).refl x.0 i && itself x.1 i) && all_themselves xs i
 
 pub state_equiv : {T : Type 0} {E : T → T → Bool} → IsEquivalence E → IsEquivalence (same_state E)
-unfolding same_below same_lines same_cells same_offsets same_state
+unfolding same_below same_lines same_cells same_state
 state_equiv {E = E} e =
     equiv (state_per (partial_equiv_from_equiv e)) (λ k i.
     ((options_equiv e).refl k.default_value i && borders_itself e k.class_record i)
     && (map_itself nat_cmp_total (same_vertical E) (vertical_itself e) k.vertical_lines i && map_itself nat_cmp_total (same_horizontal E) (horizontal_itself e) k.horizontal_lines i)
-    && (map_itself positions_total E e.refl k.edges_across i && map_itself positions_total E e.refl k.edges_down i && map_itself positions_total E e.refl k.crosses i)
-    && (map_itself edge_places_total E e.refl k.ends_across i && map_itself edge_places_total E e.refl k.ends_down i
-    && map_itself edge_places_total E e.refl k.starts_across i && map_itself edge_places_total E e.refl k.starts_down i))
+    && (map_itself spots_total E e.refl k.cells i && map_itself edge_places_total E e.refl k.horizontal_offsets i && map_itself edge_places_total E e.refl k.vertical_offsets i))

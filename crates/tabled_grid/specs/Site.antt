@@ -4,12 +4,12 @@ use Rattle.std.specs.Prelude.{ℕ, Bool, true, false, ◌&&◌, ◌==◌, nat_lt
 use Rattle.tabled_grid.specs.declared.borders.Borders.{Borders}
 use Rattle.tabled_grid.specs.declared.lines.HorizontalLine.{HorizontalLine}
 use Rattle.tabled_grid.specs.declared.lines.VerticalLine.{VerticalLine}
+use Rattle.tabled_grid.specs.declared.offset.Offset.{Offset}
 use Rattle.tabled_grid.specs.declared.place.LineOf.{LineOf}
-
--- which way an edge runs: across, as part of a horizontal line, or down, as part of a vertical one
-pub data Direction : Type 0 where
-  across : Direction
-  down : Direction
+pub use Rattle.tabled_grid.specs.declared.site.Direction.{Direction}
+pub use Rattle.tabled_grid.specs.declared.site.Direction.TheVariants.{Horizontal, Vertical}
+pub use Rattle.tabled_grid.specs.declared.site.Spot.{Spot}
+pub use Rattle.tabled_grid.specs.declared.site.Spot.TheVariants.{Edge, Crossing}
 
 -- where a line stands among those of its direction: the first, the closing one, or one between
 pub data Rank : Type 0 where
@@ -39,39 +39,33 @@ pub data Part : Type 0 where
   main_edges : Part
   meeting : Rank → Part
 
--- an edge of row or line r and column or line c, or the crossing of horizontal line r and vertical line c
-pub data Spot : Type 0 where
-  edge : Direction → ℕ → ℕ → Spot
-  crossing : ℕ → ℕ → Spot
-
 -- where something can be kept
 pub data Site : Type 0 where
   the_default : Site
   of_class : Class → Site
   of_line : LineOf → Part → Site
   at_spot : Spot → Site
-  from_end : Direction → ℕ → ℕ → ℕ → Site
-  from_start : Direction → ℕ → ℕ → ℕ → Site
+  at_offset : Direction → ℕ → ℕ → Offset → Site
 
 -- how strong what is kept there is: 0 the default, 1 classes, 2 custom vertical lines, 3 custom horizontal lines,
--- 4 cells, 5 offsets from an edge's end, 6 offsets from its start
+-- 4 cells, 5 offsets from an Edge's end, 6 offsets from its start
 abbrev pub level : Site → ℕ
 level the_default = 0
 level (of_class _) = 1
 level (of_line (LineOf.Vertical _) _) = 2
 level (of_line (LineOf.Horizontal _) _) = 3
 level (at_spot _) = 4
-level (from_end _ _ _ _) = 5
-level (from_start _ _ _ _) = 6
+level (at_offset _ _ _ (Offset.End _)) = 5
+level (at_offset _ _ _ (Offset.Start _)) = 6
 
 -- what a class record has for a class
 abbrev pub class_value : {T : Type 0} → Class → Borders T → Option T
-class_value (edges across first) borders = borders.top
-class_value (edges across inner) borders = borders.horizontal
-class_value (edges across closing) borders = borders.bottom
-class_value (edges down first) borders = borders.left
-class_value (edges down inner) borders = borders.vertical
-class_value (edges down closing) borders = borders.right
+class_value (edges Horizontal first) borders = borders.top
+class_value (edges Horizontal inner) borders = borders.horizontal
+class_value (edges Horizontal closing) borders = borders.bottom
+class_value (edges Vertical first) borders = borders.left
+class_value (edges Vertical inner) borders = borders.vertical
+class_value (edges Vertical closing) borders = borders.right
 class_value (crossings first first) borders = borders.top_left
 class_value (crossings first inner) borders = borders.top_intersection
 class_value (crossings first closing) borders = borders.top_right
@@ -95,8 +89,8 @@ vertical_meeting inner line = line.intersection
 vertical_meeting closing line = line.bottom
 
 abbrev pub same_direction : Direction → Direction → Bool
-same_direction across across = true
-same_direction down down = true
+same_direction Horizontal Horizontal = true
+same_direction Vertical Vertical = true
 same_direction _ _ = false
 
 abbrev pub same_rank : Rank → Rank → Bool
@@ -122,9 +116,14 @@ same_part (meeting n) (meeting m) = same_rank n m
 same_part _ _ = false
 
 abbrev pub same_spot : Spot → Spot → Bool
-same_spot (edge d r c) (edge e s k) = same_direction d e && (r == s) && (c == k)
-same_spot (crossing r c) (crossing s k) = (r == s) && (c == k)
+same_spot (Edge d r c) (Edge e s k) = same_direction d e && (r == s) && (c == k)
+same_spot (Crossing r c) (Crossing s k) = (r == s) && (c == k)
 same_spot _ _ = false
+
+abbrev pub same_offset : Offset → Offset → Bool
+same_offset (Offset.Start n) (Offset.Start m) = n == m
+same_offset (Offset.End n) (Offset.End m) = n == m
+same_offset _ _ = false
 
 -- whether two sites are one
 abbrev pub same_site : Site → Site → Bool
@@ -132,6 +131,5 @@ same_site the_default the_default = true
 same_site (of_class a) (of_class b) = same_class a b
 same_site (of_line l p) (of_line m q) = same_line l m && same_part p q
 same_site (at_spot a) (at_spot b) = same_spot a b
-same_site (from_end d r c n) (from_end e s k m) = same_direction d e && (r == s) && (c == k) && (n == m)
-same_site (from_start d r c n) (from_start e s k m) = same_direction d e && (r == s) && (c == k) && (n == m)
+same_site (at_offset d r c o) (at_offset e s k p) = same_direction d e && (r == s) && (c == k) && same_offset o p
 same_site _ _ = false

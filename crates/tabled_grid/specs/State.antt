@@ -7,11 +7,12 @@ use Rattle.tabled_grid.specs.declared.borders.Borders.{Borders}
 use Rattle.tabled_grid.specs.declared.lines.HorizontalLine.{HorizontalLine}
 use Rattle.tabled_grid.specs.declared.lines.VerticalLine.{VerticalLine}
 use Rattle.tabled_grid.specs.declared.place.LineOf.{LineOf}
-use Rattle.tabled_object.specs.declared.position.Position.{Position}
+use Rattle.std.specs.declared.cmp.Ordering.{Ordering}
 use Rattle.tabled_grid.specs.declared.keys.EdgePlace.{EdgePlace}
 pub use Rattle.tabled_object.specs.Entities.{position}
-use Rattle.tabled_grid.specs.Keys.{position_cmp, edge_place_cmp}
-use Rattle.tabled_grid.specs.Site.{Direction, across, down, Rank, first, inner, closing, stands, Class, edges, crossings, class_value, Part, mark, main_edges, meeting, horizontal_meeting, vertical_meeting, edge, crossing, Site, the_default, of_class, of_line, at_spot, from_end, from_start}
+use Rattle.tabled_grid.specs.Keys.{spot_cmp, edge_place_cmp}
+use Rattle.tabled_grid.specs.declared.offset.Offset.{Offset}
+use Rattle.tabled_grid.specs.Site.{Direction, Horizontal, Vertical, Rank, first, inner, closing, stands, Class, edges, crossings, class_value, Part, mark, main_edges, meeting, horizontal_meeting, vertical_meeting, Site, the_default, of_class, of_line, at_spot, at_offset}
 use Rattle.tabled_grid.specs.Event.{Written, sign, standing, Event, write, erase, level_sites}
 use Rattle.tabled_grid.specs.Lines.{horizontal_line_set, vertical_line_set}
 
@@ -21,33 +22,21 @@ pub record State (T : Type 0) : Type 0 where
   pub class_record : Borders T
   pub vertical_lines : FinMap nat_cmp (VerticalLine T)
   pub horizontal_lines : FinMap nat_cmp (HorizontalLine T)
-  pub edges_across : FinMap position_cmp T
-  pub edges_down : FinMap position_cmp T
-  pub crosses : FinMap position_cmp T
-  pub ends_across : FinMap edge_place_cmp T
-  pub ends_down : FinMap edge_place_cmp T
-  pub starts_across : FinMap edge_place_cmp T
-  pub starts_down : FinMap edge_place_cmp T
+  pub cells : FinMap spot_cmp T
+  pub horizontal_offsets : FinMap edge_place_cmp T
+  pub vertical_offsets : FinMap edge_place_cmp T
 
--- the cells' edges of one direction, and their offsets from the end and from the start
-abbrev pub edge_values : {T : Type 0} → Direction → State T → FinMap position_cmp T
-edge_values across state = state.edges_across
-edge_values down state = state.edges_down
-
-abbrev pub end_values : {T : Type 0} → Direction → State T → FinMap edge_place_cmp T
-end_values across state = state.ends_across
-end_values down state = state.ends_down
-
-abbrev pub start_values : {T : Type 0} → Direction → State T → FinMap edge_place_cmp T
-start_values across state = state.starts_across
-start_values down state = state.starts_down
+-- the offsets of the edges of one direction
+abbrev pub offset_values : {T : Type 0} → Direction → State T → FinMap edge_place_cmp T
+offset_values Horizontal state = state.horizontal_offsets
+offset_values Vertical state = state.vertical_offsets
 
 -- nothing is kept at an offset of an edge of that direction
 abbrev pub HasNoOffsets : {T : Type 0} → Direction → State T → Type 0
-HasNoOffsets d state = (start_values d state ≡ empty) × (end_values d state ≡ empty)
+HasNoOffsets d state = offset_values d state ≡ empty
 
-abbrev pub edge_place : ℕ → ℕ → ℕ → EdgePlace
-edge_place r c n = record { row = r; col = c; number = n }
+abbrev pub edge_place : ℕ → ℕ → Offset → EdgePlace
+edge_place r c offset = record { row = r; col = c; offset = offset }
 
 -- what a custom line has for each of its parts; that it is there is its mark
 abbrev pub horizontal_part : {T : Type 0} → Part → HorizontalLine T → Option (Written T)
@@ -66,15 +55,13 @@ state_at state the_default = option_map sign state.default_value
 state_at state (of_class class) = option_map sign (class_value class state.class_record)
 state_at state (of_line (LineOf.Horizontal n) part) = option_and_then (horizontal_part part) (get state.horizontal_lines n)
 state_at state (of_line (LineOf.Vertical n) part) = option_and_then (vertical_part part) (get state.vertical_lines n)
-state_at state (at_spot (edge d r c)) = option_map sign (get (edge_values d state) (position r c))
-state_at state (at_spot (crossing r c)) = option_map sign (get state.crosses (position r c))
-state_at state (from_end d r c n) = option_map sign (get (end_values d state) (edge_place r c n))
-state_at state (from_start d r c n) = option_map sign (get (start_values d state) (edge_place r c n))
+state_at state (at_spot spot) = option_map sign (get state.cells spot)
+state_at state (at_offset d r c offset) = option_map sign (get (offset_values d state) (edge_place r c offset))
 
 -- the classes whose fields draw a line of that direction and rank
 abbrev pub line_classes : Direction → Rank → List Class
-line_classes across rank = edges across rank ∷ crossings rank first ∷ crossings rank inner ∷ crossings rank closing ∷ []
-line_classes down rank = edges down rank ∷ crossings first rank ∷ crossings inner rank ∷ crossings closing rank ∷ []
+line_classes Horizontal rank = edges Horizontal rank ∷ crossings rank first ∷ crossings rank inner ∷ crossings rank closing ∷ []
+line_classes Vertical rank = edges Vertical rank ∷ crossings first rank ∷ crossings inner rank ∷ crossings closing rank ∷ []
 
 -- whether a class record has a field of one of the classes
 abbrev pub has_class : {T : Type 0} → Borders T → List Class → Bool
@@ -88,8 +75,8 @@ rank_draws borders count d n =
 
 -- whether a class record draws a line, of the lines 0 to count of its direction
 abbrev pub class_draws : {T : Type 0} → Borders T → ℕ → LineOf → Bool
-class_draws borders count (LineOf.Horizontal n) = rank_draws borders count across n
-class_draws borders count (LineOf.Vertical n) = rank_draws borders count down n
+class_draws borders count (LineOf.Horizontal n) = rank_draws borders count Horizontal n
+class_draws borders count (LineOf.Vertical n) = rank_draws borders count Vertical n
 
 -- no class has something
 abbrev pub HasNothing : {T : Type 0} → Borders T → Type 0
@@ -98,7 +85,7 @@ HasNothing borders = (class : Class) → class_value class borders ≡ None
 -- all fifteen classes
 unfoldable pub classes : List Class
 classes =
-    edges across first ∷ edges across inner ∷ edges across closing ∷ edges down first ∷ edges down inner ∷ edges down closing
+    edges Horizontal first ∷ edges Horizontal inner ∷ edges Horizontal closing ∷ edges Vertical first ∷ edges Vertical inner ∷ edges Vertical closing
     ∷ crossings first first ∷ crossings first inner ∷ crossings first closing
     ∷ crossings inner first ∷ crossings inner inner ∷ crossings inner closing
     ∷ crossings closing first ∷ crossings closing inner ∷ crossings closing closing ∷ []
@@ -116,11 +103,13 @@ abbrev pub entry_events : {K X T : Type 0} → (K → X → List (Event T)) → 
 entry_events events [] = []
 entry_events events (e ∷ es) = entry_events events es ++ events e.0 e.1
 
-abbrev pub spot_writes : {T : Type 0} → (Position → Site) → FinMap position_cmp T → List (Event T)
-spot_writes site values = entry_events (λ p x. write (site p) (sign x) ∷ []) (entries values)
+-- the writes of what is under each key, at the sites of the keys
+abbrev pub key_writes : {K T : Type 0} {R : K → K → Ordering} → (K → Site) → FinMap R T → List (Event T)
+key_writes site values = entry_events (λ k x. write (site k) (sign x) ∷ []) (entries values)
 
-abbrev pub offset_writes : {T : Type 0} → (EdgePlace → Site) → FinMap edge_place_cmp T → List (Event T)
-offset_writes site values = entry_events (λ p x. write (site p) (sign x) ∷ []) (entries values)
+-- the site of a key of offsets
+abbrev pub place_site : Direction → EdgePlace → Site
+place_site d p = at_offset d p.row p.col p.offset
 
 abbrev pub default_writes : {T : Type 0} → Option T → List (Event T)
 default_writes None = []
@@ -131,7 +120,4 @@ unfoldable pub writes_of : {T : Type 0} → State T → List (Event T)
 writes_of state =
     default_writes state.default_value ++ (class_writes state.class_record classes
     ++ (entry_events vertical_line_set (entries state.vertical_lines) ++ (entry_events horizontal_line_set (entries state.horizontal_lines)
-    ++ (spot_writes (λ p. at_spot (edge across p.row p.col)) state.edges_across ++ (spot_writes (λ p. at_spot (edge down p.row p.col)) state.edges_down
-    ++ (spot_writes (λ p. at_spot (crossing p.row p.col)) state.crosses
-    ++ (offset_writes (λ p. from_end across p.row p.col p.number) state.ends_across ++ (offset_writes (λ p. from_end down p.row p.col p.number) state.ends_down
-    ++ (offset_writes (λ p. from_start across p.row p.col p.number) state.starts_across ++ offset_writes (λ p. from_start down p.row p.col p.number) state.starts_down)))))))))
+    ++ (key_writes at_spot state.cells ++ (key_writes (place_site Horizontal) state.horizontal_offsets ++ key_writes (place_site Vertical) state.vertical_offsets)))))

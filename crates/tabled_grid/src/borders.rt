@@ -51,7 +51,7 @@ impl<T: Copy> Clone for Borders<T> {
 }
 
 impl<T> Borders<T> {
-    ghost use Rattle.tabled_grid.specs.Site.{across, down, first, inner, closing, edges, crossings, rank, class_value};
+    ghost use Rattle.tabled_grid.specs.Site.{Horizontal, Vertical, first, inner, closing, edges, crossings, rank, class_value};
     ghost use Rattle.tabled_grid.specs.State.{line_classes, has_class, HasNothing};
     ghost use Rattle.tabled_grid.specs.CustomLines.{no_borders};
 
@@ -80,7 +80,7 @@ impl<T> Borders<T> {
 
     /// Whether horizontal line 0 has something: its edges or one of its crossings.
     pub fn has_top(&self) -> bool
-        ensures { result ≡ has_class self.now (line_classes across first) }
+        ensures { result ≡ has_class self.now (line_classes Horizontal first) }
     {
         self.top.is_some()
             || self.top_left.is_some()
@@ -90,7 +90,7 @@ impl<T> Borders<T> {
 
     /// Whether the closing horizontal line has something: its edges or one of its crossings.
     pub fn has_bottom(&self) -> bool
-        ensures { result ≡ has_class self.now (line_classes across closing) }
+        ensures { result ≡ has_class self.now (line_classes Horizontal closing) }
     {
         self.bottom.is_some()
             || self.bottom_left.is_some()
@@ -100,7 +100,7 @@ impl<T> Borders<T> {
 
     /// Whether vertical line 0 has something: its edges or one of its crossings.
     pub fn has_left(&self) -> bool
-        ensures { result ≡ has_class self.now (line_classes down first) }
+        ensures { result ≡ has_class self.now (line_classes Vertical first) }
     {
         self.left.is_some()
             || self.top_left.is_some()
@@ -110,7 +110,7 @@ impl<T> Borders<T> {
 
     /// Whether the closing vertical line has something: its edges or one of its crossings.
     pub fn has_right(&self) -> bool
-        ensures { result ≡ has_class self.now (line_classes down closing) }
+        ensures { result ≡ has_class self.now (line_classes Vertical closing) }
     {
         self.right.is_some()
             || self.top_right.is_some()
@@ -120,7 +120,7 @@ impl<T> Borders<T> {
 
     /// Whether the horizontal lines between have something: its edges or one of its crossings.
     pub fn has_horizontal(&self) -> bool
-        ensures { result ≡ has_class self.now (line_classes across inner) }
+        ensures { result ≡ has_class self.now (line_classes Horizontal inner) }
     {
         self.horizontal.is_some()
             || self.left_intersection.is_some()
@@ -130,7 +130,7 @@ impl<T> Borders<T> {
 
     /// Whether the vertical lines between have something: its edges or one of its crossings.
     pub fn has_vertical(&self) -> bool
-        ensures { result ≡ has_class self.now (line_classes down inner) }
+        ensures { result ≡ has_class self.now (line_classes Vertical inner) }
     {
         self.vertical.is_some()
             || self.top_intersection.is_some()
@@ -155,7 +155,7 @@ impl<T> Borders<T> {
 
     /// What the edges of horizontal line `row` have, of the lines 0 to `rows`.
     pub(crate) fn at_horizontal(&self, row: usize, rows: usize) -> Option<&T>
-        ensures { option_copied result ≡ class_value (edges across (rank rows row)) self.now }
+        ensures { option_copied result ≡ class_value (edges Horizontal (rank rows row)) self.now }
     {
         if row == 0 {
             self.top.as_ref()
@@ -168,7 +168,7 @@ impl<T> Borders<T> {
 
     /// What the edges of vertical line `col` have, of the lines 0 to `cols`.
     pub(crate) fn at_vertical(&self, col: usize, cols: usize) -> Option<&T>
-        ensures { option_copied result ≡ class_value (edges down (rank cols col)) self.now }
+        ensures { option_copied result ≡ class_value (edges Vertical (rank cols col)) self.now }
     {
         if col == 0 {
             self.left.as_ref()

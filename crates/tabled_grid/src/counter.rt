@@ -1,20 +1,22 @@
 //! How many cell sites are kept on each line.
 
-ghost use Rattle.std.specs.Prelude.{◌≡◌, ◌+◌, ◌-◌, ◌<◌, ◌^◌, ℕ, ◌==◌, if◌then◌else◌, OnOk, OnErr};
-ghost use Rattle.std.specs.Ordering.{nat_cmp};
+ghost use Rattle.std.specs.Prelude.{◌≡◌, ◌+◌, ◌-◌, ◌<◌, ◌^◌, if◌then◌else◌, OnOk, OnErr};
 ghost use Rattle.tabled_grid.specs.Table.{table};
+ghost use Rattle.tabled_grid.specs.Site.{same_line};
+ghost use Rattle.tabled_grid.specs.Keys.{line_cmp};
 ghost use Rattle.tabled_grid.specs.Counted.{number_at};
+ghost use Rattle.tabled_grid.specs.declared.place.LineOf.{LineOf};
 
 use crate::counted_map::CountedMap;
-use crate::{OutOfMemory, Probes};
+use crate::{LineOf, OutOfMemory, Probes};
 
 /// Counts one more on a line. Where memory is refused nothing changes, and the line had none.
-pub(crate) fn add(numbers: &mut CountedMap<usize, u128>, line: usize) -> Result<(), OutOfMemory>
-    requires { number_at (table nat_cmp numbers.old) line < 2 ^ 64 }
-    ensures ok { OnOk result ((q : ℕ) → number_at (table nat_cmp numbers.new) q
-        ≡ (if q == line then number_at (table nat_cmp numbers.old) line + 1 else number_at (table nat_cmp numbers.old) q)) }
+pub(crate) fn add(numbers: &mut CountedMap<LineOf, u128>, line: LineOf) -> Result<(), OutOfMemory>
+    requires { number_at (table line_cmp numbers.old) line < 2 ^ 64 }
+    ensures ok { OnOk result ((other : LineOf) → number_at (table line_cmp numbers.new) other
+        ≡ (if same_line line other then number_at (table line_cmp numbers.old) line + 1 else number_at (table line_cmp numbers.old) other)) }
     ensures err { OnErr result (numbers.new ≡ numbers.old) }
-    ensures none { OnErr result (number_at (table nat_cmp numbers.old) line ≡ 0) }
+    ensures none { OnErr result (number_at (table line_cmp numbers.old) line ≡ 0) }
 {
     let number = numbers.read(line, &mut Probes::new()).copied().unwrap_or(0);
     numbers.insert(line, number + 1)?;
@@ -22,9 +24,9 @@ pub(crate) fn add(numbers: &mut CountedMap<usize, u128>, line: usize) -> Result<
 }
 
 /// Counts one less on a line, which takes no memory.
-pub(crate) fn remove(numbers: &mut CountedMap<usize, u128>, line: usize)
-    ensures { (q : ℕ) → number_at (table nat_cmp numbers.new) q
-        ≡ (if q == line then number_at (table nat_cmp numbers.old) line - 1 else number_at (table nat_cmp numbers.old) q) }
+pub(crate) fn remove(numbers: &mut CountedMap<LineOf, u128>, line: LineOf)
+    ensures { (other : LineOf) → number_at (table line_cmp numbers.new) other
+        ≡ (if same_line line other then number_at (table line_cmp numbers.old) line - 1 else number_at (table line_cmp numbers.old) other) }
 {
     let number = numbers.read(line, &mut Probes::new()).copied().unwrap_or(0);
     if number > 1 {

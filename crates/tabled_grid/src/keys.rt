@@ -1,14 +1,20 @@
-//! The keys of what a store keeps: the positions of edges and crossings, and the numbered places of edges.
+//! The keys of what a store keeps: lines, edges and crossings, and the numbered places of edges.
 
 ghost use Rattle.std.specs.Prelude.{◌≡◌};
 
-use crate::Position;
 use crate::counted_map::Key;
+use crate::{LineOf, Offset, Spot};
 
-impl Key for Position {
-    ghost use Rattle.tabled_grid.specs.Keys.{exact_positions};
+impl Key for LineOf {
+    ghost use Rattle.tabled_grid.specs.Keys.{exact_lines};
 
-    ghost exact = { exact_positions };
+    ghost exact = { exact_lines };
+}
+
+impl Key for Spot {
+    ghost use Rattle.tabled_grid.specs.Keys.{exact_spots};
+
+    ghost exact = { exact_spots };
 }
 
 /// One numbered place of an edge: the key of an offset.
@@ -18,8 +24,8 @@ pub(crate) struct EdgePlace {
     pub(crate) row: usize,
     /// The column, or the vertical line.
     pub(crate) col: usize,
-    /// The number of the place.
-    pub(crate) number: usize,
+    /// The number of the place, and the end from which it is counted.
+    pub(crate) offset: Offset,
 }
 
 impl Key for EdgePlace {

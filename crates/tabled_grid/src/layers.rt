@@ -10,13 +10,13 @@ mod equality;
 mod reads;
 mod writes;
 
-use crate::cells::{put_crossing, put_edge, take_crossing, take_edge};
 use crate::counted_map::CountedMap;
 use crate::custom_lines::{put_horizontal, put_vertical, take_horizontal, take_vertical};
 use crate::keys::EdgePlace;
 use crate::number::Number;
 use crate::{
-    Borders, HorizontalLine, LineOf, Offset, OutOfMemory, Place, Position, Probes, VerticalLine,
+    Borders, HorizontalLine, LineOf, Offset, OutOfMemory, Place, Position, Probes, Spot, Target,
+    VerticalLine,
 };
 pub use entity_border::border_writes;
 use std::alloc::Global;
@@ -34,15 +34,10 @@ pub struct Layers<T> {
     class_record: Borders<T>,
     vertical_lines: CountedMap<usize, VerticalLine<T>>,
     horizontal_lines: CountedMap<usize, HorizontalLine<T>>,
-    edges_across: CountedMap<Position, T>,
-    edges_down: CountedMap<Position, T>,
-    crosses: CountedMap<Position, T>,
-    ends_across: CountedMap<EdgePlace, T>,
-    ends_down: CountedMap<EdgePlace, T>,
-    starts_across: CountedMap<EdgePlace, T>,
-    starts_down: CountedMap<EdgePlace, T>,
-    on_rows: CountedMap<usize, u128>,
-    on_cols: CountedMap<usize, u128>,
+    cells: CountedMap<Spot, T>,
+    horizontal_offsets: CountedMap<EdgePlace, T>,
+    vertical_offsets: CountedMap<EdgePlace, T>,
+    on_lines: CountedMap<LineOf, u128>,
     tops: Number,
     bottoms: Number,
     lefts: Number,
@@ -59,15 +54,10 @@ impl<T: Drop> Drop for Layers<T> {
             class_record: _,
             vertical_lines: _,
             horizontal_lines: _,
-            edges_across: _,
-            edges_down: _,
-            crosses: _,
-            ends_across: _,
-            ends_down: _,
-            starts_across: _,
-            starts_down: _,
-            on_rows: _,
-            on_cols: _,
+            cells: _,
+            horizontal_offsets: _,
+            vertical_offsets: _,
+            on_lines: _,
             tops: _,
             bottoms: _,
             lefts: _,
@@ -80,7 +70,7 @@ impl<T: Drop> Drop for Layers<T> {
 impl<T> Model for Layers<T> {
     ghost use Rattle.tabled_grid.specs.State.{State};
     ghost use Rattle.tabled_grid.specs.Table.{table};
-    ghost use Rattle.tabled_grid.specs.Keys.{position_cmp, edge_place_cmp};
+    ghost use Rattle.tabled_grid.specs.Keys.{line_cmp, spot_cmp, edge_place_cmp};
     ghost use Rattle.tabled_grid.specs.Counted.{CellsCounted, VerticalCounted, HorizontalCounted};
     ghost use Rattle.std.specs.Ordering.{nat_cmp};
     ghost use Rattle.std.specs.Coded.{codes};
@@ -95,18 +85,13 @@ impl<T> Model for Layers<T> {
       class_record = layers.class_record;
       vertical_lines = table nat_cmp layers.vertical_lines;
       horizontal_lines = table nat_cmp layers.horizontal_lines;
-      edges_across = table position_cmp layers.edges_across;
-      edges_down = table position_cmp layers.edges_down;
-      crosses = table position_cmp layers.crosses;
-      ends_across = table edge_place_cmp layers.ends_across;
-      ends_down = table edge_place_cmp layers.ends_down;
-      starts_across = table edge_place_cmp layers.starts_across;
-      starts_down = table edge_place_cmp layers.starts_down;
+      cells = table spot_cmp layers.cells;
+      horizontal_offsets = table edge_place_cmp layers.horizontal_offsets;
+      vertical_offsets = table edge_place_cmp layers.vertical_offsets;
     } };
 
     ghost invariant = { λ layers.
-        CellsCounted (table nat_cmp layers.on_rows) (table nat_cmp layers.on_cols)
-        (table position_cmp layers.edges_across) (table position_cmp layers.edges_down) (table position_cmp layers.crosses)
+        CellsCounted (table line_cmp layers.on_lines) (table spot_cmp layers.cells)
         × VerticalCounted layers.tops layers.bottoms (table nat_cmp layers.vertical_lines)
         × HorizontalCounted layers.lefts layers.rights layers.betweens (table nat_cmp layers.horizontal_lines) };
 }
@@ -114,8 +99,8 @@ impl<T> Model for Layers<T> {
 impl<T> Layers<T> {
     ghost use Rattle.tabled_grid.specs.Event.{sign, erase, level_sites, Shows, Changes};
     ghost use Rattle.tabled_grid.specs.State.{state_at, class_record_set};
-    ghost use Rattle.tabled_grid.specs.Site.{across, down, mark, of_line, at_spot};
-    ghost use Rattle.tabled_grid.specs.Calls.{default_set, line_set_across, line_set_down, line_removed, spot_of, cell_set, cell_erased, edge_site, offset_site, offset_set, edge_offset, offsets_erased, lines_erased};
+    ghost use Rattle.tabled_grid.specs.Site.{Horizontal, Vertical, mark, of_line, at_spot};
+    ghost use Rattle.tabled_grid.specs.Calls.{default_set, line_set_across, line_set_down, line_removed, spot_of, cell_set, cell_erased, offset_site, offset_set, edge_offset, offsets_erased, lines_erased};
     ghost use Rattle.tabled_grid.specs.declared.place.LineOf.{LineOf as Line};
 
     /// A store in which nothing was written. It keeps the allocator for the calls that need memory.
@@ -128,15 +113,10 @@ impl<T> Layers<T> {
             class_record: Borders::empty(),
             vertical_lines: CountedMap::new(alloc),
             horizontal_lines: CountedMap::new(alloc),
-            edges_across: CountedMap::new(alloc),
-            edges_down: CountedMap::new(alloc),
-            crosses: CountedMap::new(alloc),
-            ends_across: CountedMap::new(alloc),
-            ends_down: CountedMap::new(alloc),
-            starts_across: CountedMap::new(alloc),
-            starts_down: CountedMap::new(alloc),
-            on_rows: CountedMap::new(alloc),
-            on_cols: CountedMap::new(alloc),
+            cells: CountedMap::new(alloc),
+            horizontal_offsets: CountedMap::new(alloc),
+            vertical_offsets: CountedMap::new(alloc),
+            on_lines: CountedMap::new(alloc),
             tops: Number::new(),
             bottoms: Number::new(),
             lefts: Number::new(),
@@ -280,42 +260,8 @@ impl<T> Layers<T> {
         ensures err { OnErr result (self.new ≡ self.old) }
         ensures absent { OnErr result (state_at self.old (at_spot (spot_of place)) ≡ None) }
     {
-        self.replace_cell(place, value)?;
+        self.replace(Target::Cell(place), value)?;
         Ok(())
-    }
-
-    /// The same, and answers what was there before.
-    fn replace_cell(&mut self, place: Place, value: T) -> Result<Option<T>, OutOfMemory>
-    where
-        T: Drop,
-        ensures before { IfOk result (λ before. option_map sign before ≡ state_at self.old (at_spot (spot_of place))) }
-        ensures ok { OnOk result (Changes (cell_set place value) (state_at self.old) (state_at self.new)) }
-        ensures err { OnErr result (self.new ≡ self.old) }
-        ensures absent { OnErr result (state_at self.old (at_spot (spot_of place)) ≡ None) }
-    {
-        match place {
-            Place::Horizontal { row, col, .. } => put_edge(
-                &mut self.edges_across,
-                &mut self.on_rows,
-                Position { row, col },
-                row,
-                value,
-            ),
-            Place::Vertical { row, col, .. } => put_edge(
-                &mut self.edges_down,
-                &mut self.on_cols,
-                Position { row, col },
-                col,
-                value,
-            ),
-            Place::Cross { row, col } => put_crossing(
-                &mut self.crosses,
-                &mut self.on_rows,
-                &mut self.on_cols,
-                Position { row, col },
-                value,
-            ),
-        }
     }
 
     /// Erases the cell level of a place; for an edge `at` is not read.
@@ -324,26 +270,7 @@ impl<T> Layers<T> {
         T: Drop,
         ensures { Changes (cell_erased place) (state_at self.old) (state_at self.new) }
     {
-        match place {
-            Place::Horizontal { row, col, .. } => take_edge(
-                &mut self.edges_across,
-                &mut self.on_rows,
-                Position { row, col },
-                row,
-            ),
-            Place::Vertical { row, col, .. } => take_edge(
-                &mut self.edges_down,
-                &mut self.on_cols,
-                Position { row, col },
-                col,
-            ),
-            Place::Cross { row, col } => take_crossing(
-                &mut self.crosses,
-                &mut self.on_rows,
-                &mut self.on_cols,
-                Position { row, col },
-            ),
-        }
+        self.erase_spot(place.spot());
     }
 
     /// Erases the whole cell level.
@@ -352,11 +279,8 @@ impl<T> Layers<T> {
         T: Drop,
         ensures { Changes (erase (level_sites 4) ∷ []) (state_at self.old) (state_at self.new) }
     {
-        self.edges_across.clear();
-        self.edges_down.clear();
-        self.crosses.clear();
-        self.on_rows.clear();
-        self.on_cols.clear();
+        self.cells.clear();
+        self.on_lines.clear();
     }
 
     /// Writes at a numbered place of an edge, counted from its start or back from its end. `at` is not
@@ -369,15 +293,12 @@ impl<T> Layers<T> {
         ensures err { OnErr result (self.new ≡ self.old) }
         ensures absent { OnErr result (IsSomeAnd (offset_site place offset) (λ site. state_at self.old site ≡ None)) }
     {
-        match place {
-            Place::Horizontal { row, col, .. } => {
-                self.replace_horizontal(Position { row, col }, offset, value)?;
-            }
-            Place::Vertical { row, col, .. } => {
-                self.replace_vertical(Position { row, col }, offset, value)?;
-            }
-            Place::Cross { .. } => {}
-        }
+        let target = match place {
+            Place::Horizontal { row, col, .. } => Target::Horizontal(Position { row, col }, offset),
+            Place::Vertical { row, col, .. } => Target::Vertical(Position { row, col }, offset),
+            Place::Cross { .. } => return Ok(()),
+        };
+        self.replace(target, value)?;
         Ok(())
     }
 
@@ -385,19 +306,17 @@ impl<T> Layers<T> {
     pub fn erase_horizontal_offsets(&mut self)
     where
         T: Drop,
-        ensures { Changes (offsets_erased across) (state_at self.old) (state_at self.new) }
+        ensures { Changes (offsets_erased Horizontal) (state_at self.old) (state_at self.new) }
     {
-        self.ends_across.clear();
-        self.starts_across.clear();
+        self.horizontal_offsets.clear();
     }
 
     /// Erases all offsets on the edges of vertical lines.
     pub fn erase_vertical_offsets(&mut self)
     where
         T: Drop,
-        ensures { Changes (offsets_erased down) (state_at self.old) (state_at self.new) }
+        ensures { Changes (offsets_erased Vertical) (state_at self.old) (state_at self.new) }
     {
-        self.ends_down.clear();
-        self.starts_down.clear();
+        self.vertical_offsets.clear();
     }
 }

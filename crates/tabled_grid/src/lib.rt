@@ -21,6 +21,7 @@ mod number;
 mod offset;
 mod place;
 mod probes;
+mod site;
 mod writes;
 
 pub use borders::Borders;
@@ -32,6 +33,7 @@ pub use lines::{HorizontalLine, VerticalLine};
 pub use offset::Offset;
 pub use place::{LineOf, Place};
 pub use probes::Probes;
+pub use site::{Direction, Spot};
 pub use tabled_border::{ANSIBuf, ANSIFmt, ANSIStr, AnsiText, Border, Keep, OutOfMemory};
 pub use tabled_object::{
     Cell, Column, Columns, Combine, Difference, DifferenceIterator, Dimension, Entity,

@@ -4,7 +4,7 @@ use Rattle.tabled_border.specs.declared.border.Border.{Border}
 use Rattle.tabled_grid.specs.declared.borders.Borders.{Borders}
 use Rattle.tabled_grid.specs.declared.lines.HorizontalLine.{HorizontalLine}
 use Rattle.tabled_grid.specs.declared.lines.VerticalLine.{VerticalLine}
-use Rattle.tabled_grid.specs.Site.{across, down, first, inner, closing}
+use Rattle.tabled_grid.specs.Site.{Horizontal, Vertical, first, inner, closing}
 use Rattle.tabled_grid.specs.State.{line_classes, has_class}
 
 -- the class record, and the custom lines in their order, each with the index of the line that it stands for
@@ -15,22 +15,22 @@ pub record Shown : Type 0 where
 
 -- whether a record has something on the first line of a direction, on the closing one, on those between
 abbrev pub has_top : Borders ℕ → Bool
-has_top borders = has_class borders (line_classes across first)
+has_top borders = has_class borders (line_classes Horizontal first)
 
 abbrev pub has_bottom : Borders ℕ → Bool
-has_bottom borders = has_class borders (line_classes across closing)
+has_bottom borders = has_class borders (line_classes Horizontal closing)
 
 abbrev pub has_left : Borders ℕ → Bool
-has_left borders = has_class borders (line_classes down first)
+has_left borders = has_class borders (line_classes Vertical first)
 
 abbrev pub has_right : Borders ℕ → Bool
-has_right borders = has_class borders (line_classes down closing)
+has_right borders = has_class borders (line_classes Vertical closing)
 
 abbrev pub has_horizontal : Borders ℕ → Bool
-has_horizontal borders = has_class borders (line_classes across inner)
+has_horizontal borders = has_class borders (line_classes Horizontal inner)
 
 abbrev pub has_vertical : Borders ℕ → Bool
-has_vertical borders = has_class borders (line_classes down inner)
+has_vertical borders = has_class borders (line_classes Vertical inner)
 
 -- the lines that a record draws: between rows, above the first one, below the last one
 abbrev pub horizontal_of : Borders ℕ → HorizontalLine ℕ

@@ -4,12 +4,12 @@ ghost use Rattle.std.specs.Prelude.{◌≡◌};
 
 use super::Layers;
 use super::entity_border::is_inside;
-use crate::{Entity, EntityIterator, Place};
+use crate::{Entity, EntityIterator, LineOf};
 
 impl<T> Layers<T> {
     ghost use Rattle.tabled_grid.specs.Event.{Changes};
     ghost use Rattle.tabled_grid.specs.State.{state_at};
-    ghost use Rattle.tabled_grid.specs.Calls.{borders_erased, entity_border_erased, spots_erased, line_across, line_down, frame_erased};
+    ghost use Rattle.tabled_grid.specs.Calls.{borders_erased, entity_border_erased, spots_erased, line_spots, frame_erased};
 
     /// Erases the cell level of the sides and corners of each cell that the entity names in a table of
     /// `shape.0` rows and `shape.1` columns, also of those that it shares with cells beside it. Cells outside
@@ -47,37 +47,22 @@ impl<T> Layers<T> {
         if rows == 0 || cols == 0 {
             return;
         }
-        self.erase_across(0, cols);
-        self.erase_across(rows, cols);
-        self.erase_down(0, rows);
-        self.erase_down(cols, rows);
+        self.erase_line(LineOf::Horizontal(0), cols);
+        self.erase_line(LineOf::Horizontal(rows), cols);
+        self.erase_line(LineOf::Vertical(0), rows);
+        self.erase_line(LineOf::Vertical(cols), rows);
     }
 
-    /// Erases a horizontal line over so many columns.
-    fn erase_across(&mut self, line: usize, cols: usize)
+    /// Erases a line that is so many columns or rows long.
+    fn erase_line(&mut self, line: LineOf, length: usize)
     where
         T: Drop,
-        ensures { Changes (spots_erased (line_across line cols)) (state_at self.old) (state_at self.new) }
+        ensures { Changes (spots_erased (line_spots line length)) (state_at self.old) (state_at self.new) }
     {
-        let row = line;
-        for col in 0..cols {
-            self.erase_cell(Place::Horizontal { row, col, at: 0 });
-            self.erase_cell(Place::Cross { row, col });
+        for at in 0..length {
+            self.erase_spot(line.edge(at));
+            self.erase_spot(line.crossing(at));
         }
-        self.erase_cell(Place::Cross { row, col: cols });
-    }
-
-    /// Erases a vertical line beside so many rows.
-    fn erase_down(&mut self, line: usize, rows: usize)
-    where
-        T: Drop,
-        ensures { Changes (spots_erased (line_down line rows)) (state_at self.old) (state_at self.new) }
-    {
-        let col = line;
-        for row in 0..rows {
-            self.erase_cell(Place::Vertical { row, col, at: 0 });
-            self.erase_cell(Place::Cross { row, col });
-        }
-        self.erase_cell(Place::Cross { row: rows, col });
+        self.erase_spot(line.crossing(length));
     }
 }

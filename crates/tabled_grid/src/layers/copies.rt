@@ -6,14 +6,14 @@ use super::Layers;
 use crate::counted_map::CountedMap;
 use crate::keys::EdgePlace;
 use crate::number::Number;
-use crate::{Borders, HorizontalLine, Keep, OutOfMemory, Position, VerticalLine};
+use crate::{Borders, HorizontalLine, Keep, LineOf, OutOfMemory, Spot, VerticalLine};
 use std::alloc::Global;
 
-/// What is kept under the number of a line.
+/// What is kept under the index of a custom line.
 type Lines<V> = CountedMap<usize, V>;
 
-/// What is kept under the position of an edge or of a crossing.
-type Spots<T> = CountedMap<Position, T>;
+/// What is kept under an edge or a crossing.
+type Cells<T> = CountedMap<Spot, T>;
 
 /// What is kept under an edge and a number on it.
 type Offsets<T> = CountedMap<EdgePlace, T>;
@@ -28,15 +28,10 @@ impl<T: Keep> Keep for Layers<T> {
             class_record,
             vertical_lines,
             horizontal_lines,
-            edges_across,
-            edges_down,
-            crosses,
-            ends_across,
-            ends_down,
-            starts_across,
-            starts_down,
-            on_rows,
-            on_cols,
+            cells,
+            horizontal_offsets,
+            vertical_offsets,
+            on_lines,
             tops,
             bottoms,
             lefts,
@@ -48,11 +43,13 @@ impl<T: Keep> Keep for Layers<T> {
             horizontal_lines,
             alloc,
         )?;
-        let edges: (Spots<T>, Spots<T>) = keep_two(edges_across, edges_down, alloc)?;
-        let crosses: Spots<T> = crosses.keep(alloc)?;
-        let ends: (Offsets<T>, Offsets<T>) = keep_two(ends_across, ends_down, alloc)?;
-        let starts: (Offsets<T>, Offsets<T>) = keep_two(starts_across, starts_down, alloc)?;
-        let numbers: (Lines<u128>, Lines<u128>) = keep_two(on_rows, on_cols, alloc)?;
+        let cells: Cells<T> = cells.keep(alloc)?;
+        let offsets: (Offsets<T>, Offsets<T>) = keep_two(
+            horizontal_offsets,
+            vertical_offsets,
+            alloc,
+        )?;
+        let on_lines: CountedMap<LineOf, u128> = on_lines.keep(alloc)?;
         let below: (Option<T>, Borders<T>) = keep_two(default_value, class_record, alloc)?;
         let tops: Number = tops.copy();
         let bottoms: Number = bottoms.copy();
@@ -65,15 +62,10 @@ impl<T: Keep> Keep for Layers<T> {
             class_record: below.1,
             vertical_lines: lines.0,
             horizontal_lines: lines.1,
-            edges_across: edges.0,
-            edges_down: edges.1,
-            crosses,
-            ends_across: ends.0,
-            ends_down: ends.1,
-            starts_across: starts.0,
-            starts_down: starts.1,
-            on_rows: numbers.0,
-            on_cols: numbers.1,
+            cells,
+            horizontal_offsets: offsets.0,
+            vertical_offsets: offsets.1,
+            on_lines,
             tops,
             bottoms,
             lefts,

@@ -1,7 +1,7 @@
 //! When two stores are equal.
 
 ghost use Rattle.std.specs.Prelude.{◌≡◌};
-ghost use Rattle.tabled_grid.specs.Same.{same_below, same_lines, same_cells, same_offsets, same_state};
+ghost use Rattle.tabled_grid.specs.Same.{same_below, same_lines, same_cells, same_state};
 
 use super::Layers;
 
@@ -16,10 +16,7 @@ impl<T: PartialEq> PartialEq for Layers<T> {
 
     #[tactic(auto, unfolding(crate::specs::Same::same_state))]
     fn eq(&self, other: &Self) -> bool {
-        self.is_same_below(other)
-            && self.has_same_lines(other)
-            && self.has_same_cells(other)
-            && self.has_same_offsets(other)
+        self.is_same_below(other) && self.has_same_lines(other) && self.has_same_cells(other)
     }
 }
 
@@ -47,24 +44,13 @@ impl<T: PartialEq> Layers<T> {
             && self.horizontal_lines.is_same(&other.horizontal_lines)
     }
 
-    /// Whether the edges and crossings of the cells are equal.
+    /// Whether the cells and the offsets are equal.
     #[tactic(auto, unfolding(crate::specs::Same::same_cells))]
     fn has_same_cells(&self, other: &Self) -> bool
         ensures { result ≡ same_cells T.eq self.now other.now }
     {
-        self.edges_across.is_same(&other.edges_across)
-            && self.edges_down.is_same(&other.edges_down)
-            && self.crosses.is_same(&other.crosses)
-    }
-
-    /// Whether the offsets are equal.
-    #[tactic(auto, unfolding(crate::specs::Same::same_offsets))]
-    fn has_same_offsets(&self, other: &Self) -> bool
-        ensures { result ≡ same_offsets T.eq self.now other.now }
-    {
-        self.ends_across.is_same(&other.ends_across)
-            && self.ends_down.is_same(&other.ends_down)
-            && self.starts_across.is_same(&other.starts_across)
-            && self.starts_down.is_same(&other.starts_down)
+        self.cells.is_same(&other.cells)
+            && self.horizontal_offsets.is_same(&other.horizontal_offsets)
+            && self.vertical_offsets.is_same(&other.vertical_offsets)
     }
 }

@@ -1,12 +1,14 @@
 //! How a store is read.
 
-ghost use Rattle.std.specs.Prelude.{◌≡◌, ◌↔◌, IsTrue, IsFalse, ℕ, IfOk, is_some, option_copied, option_and_then};
+ghost use Rattle.std.specs.Prelude.{◌≡◌, ◌↔◌, ◌<◌, IsTrue, IsFalse, ℕ, IfOk, is_some, option_copied, option_and_then};
 ghost use Rattle.std.specs.Ordering.{nat_cmp};
 ghost use Rattle.std.specs.FinMap as map;
 ghost use Rattle.tabled_grid.specs.Table.{table};
 ghost use Rattle.tabled_grid.specs.Probing.{IsCounted, IsRaised};
-ghost use Rattle.tabled_grid.specs.Reading.{row_drawn, col_drawn};
-ghost use Rattle.tabled_grid.specs.Site.{rank, horizontal_meeting, vertical_meeting, edges, crossings, class_value, across as going_across, down as going_down};
+ghost use Rattle.tabled_grid.specs.Reading.{direction_of, row_drawn, col_drawn};
+ghost use Rattle.tabled_grid.specs.Site.{Horizontal as going_across, Vertical as going_down, rank, horizontal_meeting, vertical_meeting, edges, crossings, class_value};
+ghost use Rattle.tabled_grid.specs.Keys.{line_cmp};
+ghost use Rattle.tabled_grid.specs.Drawn.{number};
 ghost use Rattle.tabled_grid.specs.State.{class_draws as class_drawn};
 
 use super::Layers;
@@ -14,7 +16,7 @@ use crate::counted_map::CountedMap;
 use crate::keys::EdgePlace;
 use crate::number::Number;
 use crate::{
-    Borders, HorizontalLine, Keep, LineOf, OutOfMemory, Place, Position, Probes, VerticalLine,
+    Borders, HorizontalLine, Keep, LineOf, Offset, OutOfMemory, Place, Probes, Spot, VerticalLine,
 };
 use std::collections::BTreeMap;
 
@@ -22,7 +24,7 @@ impl<T> Layers<T> {
     ghost use Rattle.tabled_grid.specs.Value.{value, plain_value};
     ghost use Rattle.tabled_grid.specs.Drawn.{Drawn};
     ghost use Rattle.tabled_grid.specs.State.{state_at, HasNoOffsets};
-    ghost use Rattle.tabled_grid.specs.Reading.{under_across, under_down, under_crossing, plain_across, plain_down, plain_crossing, edge_across, edge_down};
+    ghost use Rattle.tabled_grid.specs.Reading.{main_of, offset_of, plain_edge, plain_crossing, edge_shown};
 
     /// The class record.
     pub fn get_class(&self) -> &Borders<T>
@@ -85,10 +87,10 @@ impl<T> Layers<T> {
         let (rows, cols) = shape;
         match place {
             Place::Horizontal { row, col, at } => {
-                self.at_edge_across(row, col, at, size - 1 - at, rows, probes)
+                self.at_edge((LineOf::Horizontal(row), rows), col, (at, size), probes)
             }
             Place::Vertical { row, col, at } => {
-                self.at_edge_down(row, col, at, size - 1 - at, cols, probes)
+                self.at_edge((LineOf::Vertical(col), cols), row, (at, size), probes)
             }
             Place::Cross { row, col } => self.plain_crossing(row, col, rows, cols, probes),
         }
@@ -107,9 +109,11 @@ impl<T> Layers<T> {
         let mut probes = Probes::new();
         match place {
             Place::Horizontal { row, col, .. } => {
-                self.plain_edge_across(row, col, rows, &mut probes)
+                self.plain_edge((LineOf::Horizontal(row), rows), col, &mut probes)
             }
-            Place::Vertical { row, col, .. } => self.plain_edge_down(row, col, cols, &mut probes),
+            Place::Vertical { row, col, .. } => {
+                self.plain_edge((LineOf::Vertical(col), cols), row, &mut probes)
+            }
             Place::Cross { row, col } => self.plain_crossing(row, col, rows, cols, &mut probes),
         }
     }
@@ -118,128 +122,100 @@ impl<T> Layers<T> {
     pub fn has_horizontal_offsets(&self) -> bool
         ensures { IsFalse result ↔ HasNoOffsets going_across self.now }
     {
-        !(self.starts_across.is_empty() && self.ends_across.is_empty())
+        !self.horizontal_offsets.is_empty()
     }
 
     /// Whether something is kept at an offset of an edge of a vertical line, from its start or its end.
     pub fn has_vertical_offsets(&self) -> bool
         ensures { IsFalse result ↔ HasNoOffsets going_down self.now }
     {
-        !(self.starts_down.is_empty() && self.ends_down.is_empty())
+        !self.vertical_offsets.is_empty()
     }
 
-    fn at_edge_across(
+    /// What the edge of a line, of the lines 0 to `line.1` of its direction, shows at place `at.0` of its `at.1` places.
+    fn at_edge(
         &self,
-        row: usize,
+        line: (LineOf, usize),
         col: usize,
-        number: usize,
-        back: usize,
-        rows: usize,
+        at: (usize, usize),
         probes: &mut Probes,
     ) -> Option<&T>
-        ensures value { option_copied result ≡ edge_across self.now rows row col number back }
+        requires { at.0 < at.1 }
+        ensures value { option_copied result ≡ edge_shown self.now line.0 line.1 col at.0 at.1 }
         ensures probes { IsRaised 6 probes.old probes.new }
     {
-        let start = self
-            .starts_across
-            .read(EdgePlace { row, col, number }, probes);
+        let (number, size) = at;
+        let start = self.offset_of(line.0, col, Offset::Start(number), probes);
         if start.is_some() {
             return start;
         }
-        let end = self.ends_across.read(
-            EdgePlace {
-                row,
-                col,
-                number: back,
-            },
-            probes,
-        );
+        let end = self.offset_of(line.0, col, Offset::End(size - 1 - number), probes);
         if end.is_some() {
             return end;
         }
-        self.plain_edge_across(row, col, rows, probes)
+        self.plain_edge(line, col, probes)
     }
 
-    fn at_edge_down(
-        &self,
-        row: usize,
-        col: usize,
-        number: usize,
-        back: usize,
-        cols: usize,
-        probes: &mut Probes,
-    ) -> Option<&T>
-        ensures value { option_copied result ≡ edge_down self.now cols row col number back }
-        ensures probes { IsRaised 6 probes.old probes.new }
+    /// What is kept at an offset of an edge of a line: one reading.
+    fn offset_of(&self, line: LineOf, at: usize, offset: Offset, probes: &mut Probes) -> Option<&T>
+        ensures value { option_copied result ≡ offset_of self.now line at offset }
+        ensures raised { IsRaised 1 probes.old probes.new }
     {
-        let start = self
-            .starts_down
-            .read(EdgePlace { row, col, number }, probes);
-        if start.is_some() {
-            return start;
+        match line {
+            LineOf::Horizontal(row) => self.horizontal_offsets.read(
+                EdgePlace {
+                    row,
+                    col: at,
+                    offset,
+                },
+                probes,
+            ),
+            LineOf::Vertical(col) => self.vertical_offsets.read(
+                EdgePlace {
+                    row: at,
+                    col,
+                    offset,
+                },
+                probes,
+            ),
         }
-        let end = self.ends_down.read(
-            EdgePlace {
-                row,
-                col,
-                number: back,
-            },
-            probes,
-        );
-        if end.is_some() {
-            return end;
-        }
-        self.plain_edge_down(row, col, cols, probes)
     }
 
-    fn plain_edge_across(
-        &self,
-        row: usize,
-        col: usize,
-        rows: usize,
-        probes: &mut Probes,
-    ) -> Option<&T>
-        ensures value { option_copied result ≡ plain_across self.now rows row col }
+    /// What the edge of a line, of the lines 0 to `line.1` of its direction, shows without its offsets.
+    fn plain_edge(&self, line: (LineOf, usize), at: usize, probes: &mut Probes) -> Option<&T>
+        ensures value { option_copied result ≡ plain_edge self.now line.0 line.1 at }
         ensures probes { IsRaised 4 probes.old probes.new }
     {
-        let cell = self.edges_across.read(Position { row, col }, probes);
+        let cell = self.cells.read(line.0.edge(at), probes);
         if cell.is_some() {
             return cell;
         }
-        let line = main_across(&self.horizontal_lines, row, probes);
-        if line.is_some() {
-            return line;
+        let main = self.main_of(line.0, probes);
+        if main.is_some() {
+            return main;
         }
-        let class = class_across(&self.class_record, row, rows, probes);
+        let class = class_edges(&self.class_record, line.0, line.1, probes);
         if class.is_some() {
             return class;
         }
         read_default(&self.default_value, probes)
     }
 
-    fn plain_edge_down(
-        &self,
-        row: usize,
-        col: usize,
-        cols: usize,
-        probes: &mut Probes,
-    ) -> Option<&T>
-        ensures value { option_copied result ≡ plain_down self.now cols row col }
-        ensures probes { IsRaised 4 probes.old probes.new }
+    /// What a custom line has for its edges: one reading.
+    fn main_of(&self, line: LineOf, probes: &mut Probes) -> Option<&T>
+        ensures value { option_copied result ≡ main_of self.now line }
+        ensures raised { IsRaised 1 probes.old probes.new }
     {
-        let cell = self.edges_down.read(Position { row, col }, probes);
-        if cell.is_some() {
-            return cell;
+        match line {
+            LineOf::Horizontal(row) => match self.horizontal_lines.read(row, probes) {
+                Some(custom) => custom.main.as_ref(),
+                None => None,
+            },
+            LineOf::Vertical(col) => match self.vertical_lines.read(col, probes) {
+                Some(custom) => custom.main.as_ref(),
+                None => None,
+            },
         }
-        let line = main_down(&self.vertical_lines, col, probes);
-        if line.is_some() {
-            return line;
-        }
-        let class = class_down(&self.class_record, col, cols, probes);
-        if class.is_some() {
-            return class;
-        }
-        read_default(&self.default_value, probes)
     }
 
     fn plain_crossing(
@@ -253,15 +229,15 @@ impl<T> Layers<T> {
         ensures value { option_copied result ≡ plain_crossing self.now rows cols row col }
         ensures probes { IsRaised 5 probes.old probes.new }
     {
-        let cell = self.crosses.read(Position { row, col }, probes);
+        let cell = self.cells.read(Spot::Crossing(row, col), probes);
         if cell.is_some() {
             return cell;
         }
-        let line = meeting_across(&self.horizontal_lines, row, col, cols, probes);
+        let line = meeting_horizontal(&self.horizontal_lines, row, col, cols, probes);
         if line.is_some() {
             return line;
         }
-        let line = meeting_down(&self.vertical_lines, row, col, rows, probes);
+        let line = meeting_vertical(&self.vertical_lines, row, col, rows, probes);
         if line.is_some() {
             return line;
         }
@@ -291,7 +267,7 @@ impl<T> Layers<T> {
             LineOf::Horizontal(row) => row_is_drawn(
                 &self.horizontal_lines,
                 (&self.tops, &self.bottoms),
-                &self.on_rows,
+                &self.on_lines,
                 row,
                 count,
                 probes,
@@ -299,7 +275,7 @@ impl<T> Layers<T> {
             LineOf::Vertical(col) => col_is_drawn(
                 &self.vertical_lines,
                 (&self.lefts, &self.rights, &self.betweens),
-                &self.on_cols,
+                &self.on_lines,
                 col,
                 count,
                 probes,
@@ -318,40 +294,8 @@ fn read_default<'a, T>(default_value: &'a Option<T>, probes: &mut Probes) -> Opt
     default_value.as_ref()
 }
 
-/// What a custom horizontal line has for its edges: one reading.
-fn main_across<'a, T>(
-    lines: &'a CountedMap<usize, HorizontalLine<T>>,
-    row: usize,
-    probes: &mut Probes,
-) -> Option<&'a T>
-    ensures value { option_copied result ≡ option_and_then (λ line. line.main) (map.get (table nat_cmp lines.now) row) }
-    ensures counted { IsCounted probes.old probes.new }
-    ensures raised { IsRaised 1 probes.old probes.new }
-{
-    match lines.read(row, probes) {
-        Some(line) => line.main.as_ref(),
-        None => None,
-    }
-}
-
-/// What a custom vertical line has for its edges: one reading.
-fn main_down<'a, T>(
-    lines: &'a CountedMap<usize, VerticalLine<T>>,
-    col: usize,
-    probes: &mut Probes,
-) -> Option<&'a T>
-    ensures value { option_copied result ≡ option_and_then (λ line. line.main) (map.get (table nat_cmp lines.now) col) }
-    ensures counted { IsCounted probes.old probes.new }
-    ensures raised { IsRaised 1 probes.old probes.new }
-{
-    match lines.read(col, probes) {
-        Some(line) => line.main.as_ref(),
-        None => None,
-    }
-}
-
 /// What a custom horizontal line has for its crossing with a vertical line: one reading.
-fn meeting_across<'a, T>(
+fn meeting_horizontal<'a, T>(
     lines: &'a CountedMap<usize, HorizontalLine<T>>,
     row: usize,
     col: usize,
@@ -369,7 +313,7 @@ fn meeting_across<'a, T>(
 }
 
 /// What a custom vertical line has for its crossing with a horizontal line: one reading.
-fn meeting_down<'a, T>(
+fn meeting_vertical<'a, T>(
     lines: &'a CountedMap<usize, VerticalLine<T>>,
     row: usize,
     col: usize,
@@ -386,34 +330,22 @@ fn meeting_down<'a, T>(
     }
 }
 
-/// What the class record has for the edges of a horizontal line: one reading.
-fn class_across<'a, T>(
+/// What the class record has for the edges of a line, of the lines 0 to `count` of its direction: one reading.
+fn class_edges<'a, T>(
     class: &'a Borders<T>,
-    row: usize,
-    rows: usize,
+    line: LineOf,
+    count: usize,
     probes: &mut Probes,
 ) -> Option<&'a T>
-    ensures value { option_copied result ≡ class_value (edges going_across (rank rows row)) class.now }
+    ensures value { option_copied result ≡ class_value (edges (direction_of line) (rank count (number line))) class.now }
     ensures counted { IsCounted probes.old probes.new }
     ensures raised { IsRaised 1 probes.old probes.new }
 {
     probes.raise();
-    class.at_horizontal(row, rows)
-}
-
-/// What the class record has for the edges of a vertical line: one reading.
-fn class_down<'a, T>(
-    class: &'a Borders<T>,
-    col: usize,
-    cols: usize,
-    probes: &mut Probes,
-) -> Option<&'a T>
-    ensures value { option_copied result ≡ class_value (edges going_down (rank cols col)) class.now }
-    ensures counted { IsCounted probes.old probes.new }
-    ensures raised { IsRaised 1 probes.old probes.new }
-{
-    probes.raise();
-    class.at_vertical(col, cols)
+    match line {
+        LineOf::Horizontal(row) => class.at_horizontal(row, count),
+        LineOf::Vertical(col) => class.at_vertical(col, count),
+    }
 }
 
 /// What the class record has for a crossing: one reading.
@@ -457,31 +389,35 @@ fn class_draws<T>(class: &Borders<T>, line: LineOf, count: usize, probes: &mut P
 fn row_is_drawn<T>(
     lines: &CountedMap<usize, HorizontalLine<T>>,
     ends: (&Number, &Number),
-    numbers: &CountedMap<usize, u128>,
+    numbers: &CountedMap<LineOf, u128>,
     row: usize,
     count: usize,
     probes: &mut Probes,
 ) -> bool
-    ensures drawn { result ≡ row_drawn (table nat_cmp lines.now) ends.entry.0.now ends.entry.1.now (table nat_cmp numbers.now) count row }
+    ensures drawn { result ≡ row_drawn (table nat_cmp lines.now) ends.entry.0.now ends.entry.1.now (table line_cmp numbers.now) count row }
     ensures probes { IsRaised 4 probes.old probes.new }
 {
     let (tops, bottoms) = ends;
     lines.read(row, probes).is_some()
         || (row == 0 && tops.read(probes) > 0)
         || (row == count && bottoms.read(probes) > 0)
-        || numbers.read(row, probes).copied().unwrap_or(0) > 0
+        || numbers
+            .read(LineOf::Horizontal(row), probes)
+            .copied()
+            .unwrap_or(0)
+            > 0
 }
 
 /// Whether a vertical line is drawn by a custom line, or by the cells on it: at most four readings.
 fn col_is_drawn<T>(
     lines: &CountedMap<usize, VerticalLine<T>>,
     meetings: (&Number, &Number, &Number),
-    numbers: &CountedMap<usize, u128>,
+    numbers: &CountedMap<LineOf, u128>,
     col: usize,
     count: usize,
     probes: &mut Probes,
 ) -> bool
-    ensures drawn { result ≡ col_drawn (table nat_cmp lines.now) meetings.entry.0.now meetings.entry.1.now meetings.entry.2.now (table nat_cmp numbers.now) count col }
+    ensures drawn { result ≡ col_drawn (table nat_cmp lines.now) meetings.entry.0.now meetings.entry.1.now meetings.entry.2.now (table line_cmp numbers.now) count col }
     ensures probes { IsRaised 4 probes.old probes.new }
 {
     let (lefts, rights, betweens) = meetings;
@@ -489,5 +425,9 @@ fn col_is_drawn<T>(
         || (col == 0 && lefts.read(probes) > 0)
         || (col == count && rights.read(probes) > 0)
         || (0 < col && col < count && betweens.read(probes) > 0)
-        || numbers.read(col, probes).copied().unwrap_or(0) > 0
+        || numbers
+            .read(LineOf::Vertical(col), probes)
+            .copied()
+            .unwrap_or(0)
+            > 0
 }

@@ -3,11 +3,13 @@
 //! A list of writes is its own way back: once a write is made, its entry has what stood there before. So a refusal
 //! walks back over the list, which takes no memory.
 
+ghost use Rattle.tabled_grid.specs.State.{edge_place};
 ghost use Rattle.std.specs.Prelude.{◌≡◌, [], ◌∷◌, OnOk, OnErr, IfOk, IsTrue, option_map};
 
 use super::Layers;
+use crate::cells::{put_cell, take_cell};
 use crate::keys::EdgePlace;
-use crate::{Offset, OutOfMemory, Position, Target, Write};
+use crate::{Offset, OutOfMemory, Position, Spot, Target, Write};
 
 /// Writes that are made together, whole or not at all, and what then puts them back.
 pub(super) trait Group<T> {
@@ -145,9 +147,9 @@ impl<T: Drop> Group<T> for Vec<Write<T>> {
 
 impl<T> Layers<T> {
     ghost use Rattle.tabled_grid.specs.Event.{sign, write, erase, these_sites, Changes};
-    ghost use Rattle.tabled_grid.specs.Site.{across, down};
+    ghost use Rattle.tabled_grid.specs.Site.{at_spot};
     ghost use Rattle.tabled_grid.specs.State.{State, state_at};
-    ghost use Rattle.tabled_grid.specs.Calls.{edge_site, edge_offset, writes_anew};
+    ghost use Rattle.tabled_grid.specs.Calls.{writes_anew};
     ghost use Rattle.tabled_grid.specs.Writes.{site_of, writes_made, PutsBackAt, PutsBack, PutsBackAll, Stays};
 
     /// Makes the writes of a list, in its order: of two at one site the later one counts. Where memory is refused
@@ -189,8 +191,8 @@ impl<T> Layers<T> {
         Ok(())
     }
 
-    /// The same, and answers what was there before.
-    fn replace(&mut self, target: Target, value: T) -> Result<Option<T>, OutOfMemory>
+    /// Writes at a target, and answers what was there before. Only where nothing was there can memory be refused.
+    pub(super) fn replace(&mut self, target: Target, value: T) -> Result<Option<T>, OutOfMemory>
     where
         T: Drop,
         ensures before { IfOk result (λ before. option_map sign before ≡ state_at self.old (site_of target)) }
@@ -199,57 +201,15 @@ impl<T> Layers<T> {
         ensures absent { OnErr result (state_at self.old (site_of target) ≡ None) }
     {
         match target {
-            Target::Cell(place) => self.replace_cell(place, value),
-            Target::Horizontal(pos, offset) => self.replace_horizontal(pos, offset, value),
-            Target::Vertical(pos, offset) => self.replace_vertical(pos, offset, value),
-        }
-    }
-
-    /// Writes at a numbered place of an edge of a horizontal line, and answers what was there before.
-    pub(super) fn replace_horizontal(
-        &mut self,
-        pos: Position,
-        offset: Offset,
-        value: T,
-    ) -> Result<Option<T>, OutOfMemory>
-    where
-        T: Drop,
-        ensures before { IfOk result (λ before. option_map sign before ≡ state_at self.old (edge_site across pos.row pos.col offset)) }
-        ensures ok { OnOk result (Changes (edge_offset across pos.row pos.col offset value) (state_at self.old) (state_at self.new)) }
-        ensures err { OnErr result (self.new ≡ self.old) }
-        ensures absent { OnErr result (state_at self.old (edge_site across pos.row pos.col offset) ≡ None) }
-    {
-        let Position { row, col } = pos;
-        match offset {
-            Offset::Start(number) => self
-                .starts_across
-                .insert(EdgePlace { row, col, number }, value),
-            Offset::End(number) => self
-                .ends_across
-                .insert(EdgePlace { row, col, number }, value),
-        }
-    }
-
-    /// The same of an edge of a vertical line.
-    pub(super) fn replace_vertical(
-        &mut self,
-        pos: Position,
-        offset: Offset,
-        value: T,
-    ) -> Result<Option<T>, OutOfMemory>
-    where
-        T: Drop,
-        ensures before { IfOk result (λ before. option_map sign before ≡ state_at self.old (edge_site down pos.row pos.col offset)) }
-        ensures ok { OnOk result (Changes (edge_offset down pos.row pos.col offset value) (state_at self.old) (state_at self.new)) }
-        ensures err { OnErr result (self.new ≡ self.old) }
-        ensures absent { OnErr result (state_at self.old (edge_site down pos.row pos.col offset) ≡ None) }
-    {
-        let Position { row, col } = pos;
-        match offset {
-            Offset::Start(number) => self
-                .starts_down
-                .insert(EdgePlace { row, col, number }, value),
-            Offset::End(number) => self.ends_down.insert(EdgePlace { row, col, number }, value),
+            Target::Cell(place) => {
+                put_cell(&mut self.cells, &mut self.on_lines, place.spot(), value)
+            }
+            Target::Horizontal(pos, offset) => self
+                .horizontal_offsets
+                .insert(edge_place(pos, offset), value),
+            Target::Vertical(pos, offset) => self
+                .vertical_offsets
+                .insert(edge_place(pos, offset), value),
         }
     }
 
@@ -260,37 +220,30 @@ impl<T> Layers<T> {
         ensures { Changes (erase (these_sites (site_of target ∷ [])) ∷ []) (state_at self.old) (state_at self.new) }
     {
         match target {
-            Target::Cell(place) => self.erase_cell(place),
-            Target::Horizontal(pos, offset) => self.erase_horizontal(pos, offset),
-            Target::Vertical(pos, offset) => self.erase_vertical(pos, offset),
+            Target::Cell(place) => self.erase_spot(place.spot()),
+            Target::Horizontal(pos, offset) => {
+                self.horizontal_offsets.take(edge_place(pos, offset))
+            }
+            Target::Vertical(pos, offset) => self.vertical_offsets.take(edge_place(pos, offset)),
         }
     }
 
-    /// Erases a numbered place of an edge of a horizontal line.
-    fn erase_horizontal(&mut self, pos: Position, offset: Offset)
+    /// Erases the cell level of an edge or a crossing.
+    pub(super) fn erase_spot(&mut self, spot: Spot)
     where
         T: Drop,
-        ensures { Changes (erase (these_sites (edge_site across pos.row pos.col offset ∷ [])) ∷ []) (state_at self.old) (state_at self.new) }
+        ensures { Changes (erase (these_sites (at_spot spot ∷ [])) ∷ []) (state_at self.old) (state_at self.new) }
     {
-        let Position { row, col } = pos;
-        match offset {
-            Offset::Start(number) => self.starts_across.take(EdgePlace { row, col, number }),
-            Offset::End(number) => self.ends_across.take(EdgePlace { row, col, number }),
-        }
+        take_cell(&mut self.cells, &mut self.on_lines, spot);
     }
+}
 
-    /// The same of an edge of a vertical line.
-    fn erase_vertical(&mut self, pos: Position, offset: Offset)
-    where
-        T: Drop,
-        ensures { Changes (erase (these_sites (edge_site down pos.row pos.col offset ∷ [])) ∷ []) (state_at self.old) (state_at self.new) }
-    {
-        let Position { row, col } = pos;
-        match offset {
-            Offset::Start(number) => self.starts_down.take(EdgePlace { row, col, number }),
-            Offset::End(number) => self.ends_down.take(EdgePlace { row, col, number }),
-        }
-    }
+/// The key of a numbered place of an edge.
+fn edge_place(pos: Position, offset: Offset) -> EdgePlace
+    ensures { result ≡ edge_place pos.row pos.col offset }
+{
+    let Position { row, col } = pos;
+    EdgePlace { row, col, offset }
 }
 
 impl<A: Drop> Layers<A> {

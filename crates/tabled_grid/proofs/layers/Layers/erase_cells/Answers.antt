@@ -4,7 +4,7 @@ use Rattle.tabled_grid.proofs.Seen.{seen, changed, with_cells}
 use Rattle.tabled_grid.proofs.layers.Layers.erase_cells.Goals as goal
 
 pub invariant_of-self : goal.invariant_of-self
-invariant_of-self g c = (no_cells_counted _ _ _ _ _ c.clear-4.ensures c.clear-5.ensures c.clear.ensures c.clear-2.ensures c.clear-3.ensures, c.self.invariant.1, c.self.invariant.2)
+invariant_of-self g c = (no_cells_counted _ _ c.clear-2.ensures c.clear.ensures, c.self.invariant.1, c.self.invariant.2)
 
 pub returns : goal.returns
-returns g c = changed _ (seen c.self.inside) c.args.self.now _ _ c.self.view_is (with_cells (seen c.self.inside) _ _ _ _ _ _ c.clear.ensures c.clear-2.ensures c.clear-3.ensures) (cells_erased (seen c.self.inside))
+returns g c = changed _ (seen c.self.inside) c.args.self.now _ _ c.self.view_is (with_cells (seen c.self.inside) _ _ c.clear.ensures) (cells_erased (seen c.self.inside))

@@ -12,4 +12,4 @@ returns-then-rows-eq0 g c = no_frame c.args.shape.0 c.args.shape.1 c.args.self.n
 pub returns : goal.returns
 returns g c =
     frame_there c.args.shape.0 c.args.shape.1 _ _ _ _ _ (omega arith) (omega arith)
-    c.erase_across.ensures c.erase_across-2.ensures c.erase_down.ensures c.erase_down-2.ensures
+    c.erase_line.ensures c.erase_line-2.ensures c.erase_line-3.ensures c.erase_line-4.ensures

@@ -6,10 +6,10 @@ use Rattle.tabled_grid.proofs.layers.Layers.new.Goals as goal
 
 pub invariant_of-result : goal.invariant_of-result
 invariant_of-result g c = (
-  no_cells_counted _ _ _ _ _ c.new-10.ensures c.new-11.ensures c.new-3.ensures c.new-4.ensures c.new-5.ensures,
-  no_vertical_counted _ _ _ c.new-12.ensures c.new-13.ensures c.new.ensures,
-  no_horizontal_counted _ _ _ _ c.new-14.ensures c.new-15.ensures c.new-16.ensures c.new-2.ensures,
+  no_cells_counted _ _ c.new-6.ensures c.new-3.ensures,
+  no_vertical_counted _ _ _ c.new-7.ensures c.new-8.ensures c.new.ensures,
+  no_horizontal_counted _ _ _ _ c.new-9.ensures c.new-10.ensures c.new-11.ensures c.new-2.ensures,
 )
 
 pub returns : goal.returns
-returns g c = nothing_shown _ refl (nothing_in c.empty.result c.empty.ensures) c.new.ensures c.new-2.ensures c.new-3.ensures c.new-4.ensures c.new-5.ensures c.new-6.ensures c.new-7.ensures c.new-8.ensures c.new-9.ensures
+returns g c = nothing_shown _ refl (nothing_in c.empty.result c.empty.ensures) c.new.ensures c.new-2.ensures c.new-3.ensures c.new-4.ensures c.new-5.ensures

@@ -1,5 +1,6 @@
 use Rattle.std.proofs.Common.{sym, ◌∙◌}
-use Rattle.tabled_grid.proofs.LookUps.{plain_outside, plain_at_across, plain_at_down, plain_at_crossing}
+use Rattle.tabled_grid.specs.declared.place.LineOf.{LineOf}
+use Rattle.tabled_grid.proofs.LookUps.{plain_outside, plain_at_edge, plain_at_crossing}
 use Rattle.tabled_grid.proofs.layers.Layers.plain_at.Goals as goal
 
 pub returns-then-not-has_spot : goal.returns-then-not-has_spot
@@ -7,11 +8,11 @@ returns-then-not-has_spot g c = sym (plain_outside c.args.self.now c.args.shape 
 
 pub returns-in-Horizontal : goal.returns-in-Horizontal
 returns-in-Horizontal g c =
-    plain_at_across c.args.self.now c.args.shape c.args.place c.in-Horizontal.row c.in-Horizontal.col c.in-Horizontal.at _ c.in-Horizontal.is (sym c.has_spot.ensures ∙ c.if-not-has_spot.false) c.plain_edge_across.ensures.value
+    plain_at_edge c.args.self.now c.args.shape c.args.place (LineOf.Horizontal c.in-Horizontal.row) c.in-Horizontal.col c.in-Horizontal.at _ c.in-Horizontal.is (sym c.has_spot.ensures ∙ c.if-not-has_spot.false) c.plain_edge.ensures.value
 
 pub returns-in-Vertical : goal.returns-in-Vertical
 returns-in-Vertical g c =
-    plain_at_down c.args.self.now c.args.shape c.args.place c.in-Vertical.row c.in-Vertical.col c.in-Vertical.at _ c.in-Vertical.is (sym c.has_spot.ensures ∙ c.if-not-has_spot.false) c.plain_edge_down.ensures.value
+    plain_at_edge c.args.self.now c.args.shape c.args.place (LineOf.Vertical c.in-Vertical.col) c.in-Vertical.row c.in-Vertical.at _ c.in-Vertical.is (sym c.has_spot.ensures ∙ c.if-not-has_spot.false) c.plain_edge-in-Vertical.ensures.value
 
 pub returns-in-Cross : goal.returns-in-Cross
 returns-in-Cross g c =

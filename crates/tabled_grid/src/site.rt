@@ -1,0 +1,89 @@
+//! Where cells keep something: at an edge, with all its places, or at a crossing.
+
+ghost use Rattle.std.specs.Prelude.{◌≡◌};
+
+use crate::{LineOf, Place};
+
+/// Which way an edge runs.
+#[derive(Clone, Copy, Debug, PartialEq, Eq, PartialOrd, Ord)]
+pub enum Direction {
+    /// As part of a horizontal line.
+    Horizontal,
+    /// As part of a vertical line.
+    Vertical,
+}
+
+/// An edge or a crossing.
+#[derive(Clone, Copy, Debug, PartialEq, Eq, PartialOrd, Ord)]
+pub enum Spot {
+    /// The edge of a horizontal line over a column, or of a vertical line beside a row: the number of the row or of the
+    /// horizontal line, and that of the column or of the vertical line.
+    Edge(Direction, usize, usize),
+    /// The crossing of a horizontal line and a vertical line.
+    Crossing(usize, usize),
+}
+
+impl Place {
+    ghost use Rattle.tabled_grid.specs.Calls.{spot_of};
+
+    /// The edge or the crossing of a place.
+    pub fn spot(self) -> Spot
+        ensures { result ≡ spot_of self }
+    {
+        match self {
+            Place::Horizontal { row, col, .. } => Spot::Edge(Direction::Horizontal, row, col),
+            Place::Vertical { row, col, .. } => Spot::Edge(Direction::Vertical, row, col),
+            Place::Cross { row, col } => Spot::Crossing(row, col),
+        }
+    }
+}
+
+impl LineOf {
+    ghost use Rattle.tabled_grid.specs.Calls.{edge_of, crossing_of};
+
+    /// The line's edge over a column, or beside a row.
+    pub(crate) fn edge(self, at: usize) -> Spot
+        ensures { result ≡ edge_of self at }
+    {
+        match self {
+            LineOf::Horizontal(row) => Spot::Edge(Direction::Horizontal, row, at),
+            LineOf::Vertical(col) => Spot::Edge(Direction::Vertical, at, col),
+        }
+    }
+
+    /// The line's crossing with a line of the other direction.
+    pub(crate) fn crossing(self, at: usize) -> Spot
+        ensures { result ≡ crossing_of self at }
+    {
+        match self {
+            LineOf::Horizontal(row) => Spot::Crossing(row, at),
+            LineOf::Vertical(col) => Spot::Crossing(at, col),
+        }
+    }
+}
+
+impl Spot {
+    ghost use Rattle.tabled_grid.specs.Counted.{first_line, second_line};
+
+    /// The line on which an edge lies, or the horizontal one of a crossing.
+    pub(crate) fn first_line(self) -> LineOf
+        ensures { result ≡ first_line self }
+    {
+        match self {
+            Spot::Edge(Direction::Vertical, _, col) => LineOf::Vertical(col),
+            Spot::Edge(Direction::Horizontal, row, _) | Spot::Crossing(row, _) => {
+                LineOf::Horizontal(row)
+            }
+        }
+    }
+
+    /// The vertical line of a crossing.
+    pub(crate) fn second_line(self) -> Option<LineOf>
+        ensures { result ≡ second_line self }
+    {
+        match self {
+            Spot::Edge(..) => None,
+            Spot::Crossing(_, col) => Some(LineOf::Vertical(col)),
+        }
+    }
+}
