@@ -4,9 +4,9 @@ use crate::dice::Dice;
 use std::process::Abort;
 use std::test::Fail;
 use tabled_grid::{
-    Borders, HorizontalLine, Layers, LineOf, Offset, OutOfMemory, Place, Probes, VerticalLine,
+    Borders, Direction, HorizontalLine, Layers, LineOf, Offset, OutOfMemory, Place, Probes, VerticalLine,
 };
-use tabled_replay::{Direction, Event, Rank, Region, Site, Written, drawn, value};
+use tabled_replay::{Event, Rank, Region, Site, Written, drawn, value};
 
 /// The numbers of the lines, rows, columns and offsets that the calls name.
 const NUMBERS: [usize; 11] = [0, 1, 2, 3, 4, 5, 254, 255, 256, 257, 258];
@@ -43,15 +43,15 @@ impl Both {
     fn set_class(&mut self, class: Borders<char>) -> Result<(), OutOfMemory> {
         self.store.set_class(class);
         self.erase(Region::Level(1))?;
-        self.write(Site::Edges(Direction::Across, Rank::First), class.top)?;
+        self.write(Site::Edges(Direction::Horizontal, Rank::First), class.top)?;
         self.write(
-            Site::Edges(Direction::Across, Rank::Inner),
+            Site::Edges(Direction::Horizontal, Rank::Inner),
             class.horizontal,
         )?;
-        self.write(Site::Edges(Direction::Across, Rank::Closing), class.bottom)?;
-        self.write(Site::Edges(Direction::Down, Rank::First), class.left)?;
-        self.write(Site::Edges(Direction::Down, Rank::Inner), class.vertical)?;
-        self.write(Site::Edges(Direction::Down, Rank::Closing), class.right)?;
+        self.write(Site::Edges(Direction::Horizontal, Rank::Closing), class.bottom)?;
+        self.write(Site::Edges(Direction::Vertical, Rank::First), class.left)?;
+        self.write(Site::Edges(Direction::Vertical, Rank::Inner), class.vertical)?;
+        self.write(Site::Edges(Direction::Vertical, Rank::Closing), class.right)?;
         self.write(Site::Crossings(Rank::First, Rank::First), class.top_left)?;
         self.write(
             Site::Crossings(Rank::First, Rank::Inner),
@@ -135,15 +135,11 @@ impl Both {
         let value = dice.sign();
         self.store.set_offset(place, offset, value)?;
         let (way, row, col) = match place {
-            Place::Horizontal { row, col, .. } => (Direction::Across, row, col),
-            Place::Vertical { row, col, .. } => (Direction::Down, row, col),
+            Place::Horizontal { row, col, .. } => (Direction::Horizontal, row, col),
+            Place::Vertical { row, col, .. } => (Direction::Vertical, row, col),
             Place::Cross { .. } => return Ok(()),
         };
-        let site = match offset {
-            Offset::Start(number) => Site::FromStart(way, row, col, number),
-            Offset::End(number) => Site::FromEnd(way, row, col, number),
-        };
-        self.write(site, Some(value))
+        self.write(Site::Offset(way, row, col, offset), Some(value))
     }
 
     /// Makes one call, and notes its events.
@@ -177,22 +173,22 @@ impl Both {
             14..=18 => {
                 let place = dice.place();
                 self.store.erase_cell(place);
-                self.erase(Region::One(spot(place)))
+                self.erase(Region::One(Site::Cell(place.spot())))
             }
             19..=23 => self.set_offset(dice),
             24 => {
                 self.store.erase_horizontal_offsets();
-                self.erase(Region::Offsets(Direction::Across))
+                self.erase(Region::Offsets(Direction::Horizontal))
             }
             25 => {
                 self.store.erase_vertical_offsets();
-                self.erase(Region::Offsets(Direction::Down))
+                self.erase(Region::Offsets(Direction::Vertical))
             }
             _ => {
                 let place = dice.place();
                 let value = dice.sign();
                 self.store.set_cell(place, value)?;
-                self.write(spot(place), Some(value))
+                self.write(Site::Cell(place.spot()), Some(value))
             }
         }
     }
@@ -255,15 +251,6 @@ impl Both {
                 }
             }
         }
-    }
-}
-
-/// The site of a cell's edge or crossing.
-fn spot(place: Place) -> Site {
-    match place {
-        Place::Horizontal { row, col, .. } => Site::Edge(Direction::Across, row, col),
-        Place::Vertical { row, col, .. } => Site::Edge(Direction::Down, row, col),
-        Place::Cross { row, col } => Site::Crossing(row, col),
     }
 }
 

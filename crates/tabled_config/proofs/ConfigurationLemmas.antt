@@ -3,7 +3,8 @@ use Rattle.std.proofs.Common.{◌≡◌, ℕ, None, List, [], ◌∷◌, ◌++�
 use Rattle.std.proofs.lemmas.List.{append-nil}
 use Rattle.std.proofs.lemmas.List.Elements.{filter_map-append}
 use Rattle.tabled_grid.specs.declared.offset.Offset.{Offset}
-use Rattle.tabled_grid.specs.Site.{Horizontal, Vertical, Site, the_default, of_class, of_line, at_spot, at_offset}
+use Rattle.tabled_grid.specs.declared.site.Direction.TheVariants.{Horizontal, Vertical}
+use Rattle.tabled_grid.specs.Site.{Site, the_default, of_class, of_line, at_spot, at_offset}
 use Rattle.tabled_grid.specs.declared.borders.Borders.{Borders}
 use Rattle.tabled_grid.specs.declared.place.LineOf.{LineOf}
 use Rattle.tabled_grid.specs.declared.writes.Write.{Write}

@@ -6,7 +6,8 @@ use Rattle.std.proofs.lemmas.List.FromFn.{length-map-range_with_len, get_or-map-
 use Rattle.tabled_grid.specs.declared.place.Place.{Place}
 use Rattle.tabled_grid.specs.declared.place.LineOf.{LineOf}
 use Rattle.tabled_grid.specs.declared.offset.Offset.{Offset}
-use Rattle.tabled_grid.specs.Site.{Horizontal, Site, at_offset}
+use Rattle.tabled_grid.specs.declared.site.Direction.TheVariants.{Horizontal}
+use Rattle.tabled_grid.specs.Site.{Site, at_offset}
 use Rattle.tabled_grid.specs.Event.{Written, sign, replay}
 use Rattle.tabled_grid.specs.Value.{has_spot, plain_sites, sign_or, first_sign, value, plain_value}
 use Rattle.tabled_grid.specs.Drawn.{drawn, Drawn}
@@ -48,9 +49,9 @@ plain_edge {T} state shape size r c n none within =
     let below_offsets : Option T = first_sign (state_at state) (plain_sites shape (Place.Horizontal r c 0)) in
     ap (λ b. if b then sign_or from_start (sign_or from_end below_offsets) else None) (ap (λ b. spot && b) (lt-ltb n size within) ∙ and_true spot)
     ∙ ap (λ found. if spot then sign_or (option_map sign found) (sign_or from_end below_offsets) else None)
-    (ap (λ m. get m (edge_place r c n)) none.0 ∙ get-empty edge_place_cmp (edge_place r c n))
+    (ap (λ m. get m (edge_place r c (Offset.Start n))) none ∙ get-empty edge_place_cmp (edge_place r c (Offset.Start n)))
     ∙ ap (λ found. if spot then sign_or (option_map sign found) below_offsets else None)
-    (ap (λ m. get m (edge_place r c (size - 1 - n))) none.1 ∙ get-empty edge_place_cmp (edge_place r c (size - 1 - n)))
+    (ap (λ m. get m (edge_place r c (Offset.End (size - 1 - n)))) none ∙ get-empty edge_place_cmp (edge_place r c (Offset.End (size - 1 - n))))
 
 pub own_plain : (cfg : Configuration) (shape : ℕ × ℕ) (widths heights : ℕ → ℕ) (r c n : ℕ) (found : Option ℕ) → HasNoOffsets Horizontal cfg.characters
     → found ≡ plain_value (state_at cfg.characters) shape (Place.Horizontal r c 0) → n < widths c → found ≡ (look (all_writes cfg) shape widths heights).shown (Place.Horizontal r c n)
@@ -85,7 +86,7 @@ same_look cfg es fs shape widths heights by with =
       shape = shape;
       widths = widths;
       heights = heights;
-      Horizontal = λ r. same_drawn shape.0 (LineOf.Horizontal r) i;
+      across = λ r. same_drawn shape.0 (LineOf.Horizontal r) i;
       down = λ c. same_drawn shape.1 (LineOf.Vertical c) i;
       shown = λ place. value (same_kept i) shape (edge_size widths heights place) place;
     }

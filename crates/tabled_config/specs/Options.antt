@@ -5,7 +5,8 @@ use Rattle.tabled_grid.specs.declared.borders.Borders.{Borders}
 use Rattle.tabled_object.specs.declared.entity.Entity.{Entity}
 use Rattle.tabled_grid.specs.CustomLines.{no_borders}
 use Rattle.tabled_grid.specs.Calls.{entity_border_set, entity_border_erased, frame_erased}
-use Rattle.tabled_grid.specs.Site.{Horizontal, Vertical, inner}
+use Rattle.tabled_grid.specs.declared.site.Direction.TheVariants.{Horizontal, Vertical}
+use Rattle.tabled_grid.specs.Site.{inner}
 use Rattle.tabled_grid.specs.State.{line_classes, has_class, class_record_set}
 use Rattle.tabled_config.specs.Configuration.{ConfigEvent, by_characters, borders_set}
 

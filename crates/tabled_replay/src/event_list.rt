@@ -11,16 +11,7 @@ ghost use Rattle.tabled_grid.specs.Drawn.{draws as is_drawing, drawn as is_drawn
 ghost use Rattle.tabled_replay.specs.EventList.{rank_of, site_of, region_of, written_of, event_of};
 ghost use Rattle.tabled_grid.specs.declared.place.LineOf.{LineOf as Line};
 
-use tabled_grid::{LineOf, Place};
-
-/// Which way an edge runs: as part of a horizontal line, or of a vertical one.
-#[derive(Clone, Copy, Debug, PartialEq, Eq)]
-pub enum Direction {
-    /// Part of a horizontal line.
-    Across,
-    /// Part of a vertical line.
-    Down,
-}
+use tabled_grid::{Direction, LineOf, Offset, Place, Spot};
 
 /// Where a line stands among those of its direction.
 #[derive(Clone, Copy, Debug, PartialEq, Eq)]
@@ -48,14 +39,10 @@ pub enum Site {
     Main(LineOf),
     /// The crossings of a custom line with the lines of one rank.
     Meeting(LineOf, Rank),
-    /// A cell's edge.
-    Edge(Direction, usize, usize),
-    /// A cell's crossing.
-    Crossing(usize, usize),
-    /// A numbered place of an edge, counted back from its end.
-    FromEnd(Direction, usize, usize, usize),
-    /// A numbered place of an edge, counted from its start.
-    FromStart(Direction, usize, usize, usize),
+    /// A cell's edge or crossing.
+    Cell(Spot),
+    /// A numbered place of an edge.
+    Offset(Direction, usize, usize, Offset),
 }
 
 /// The sites that an erasure clears.
@@ -118,22 +105,22 @@ pub fn value(events: &[Event], shape: (usize, usize), size: usize, place: Place)
         Place::Horizontal { row, col, at } => first_sign(
             events,
             &[
-                Site::FromStart(Direction::Across, row, col, at),
-                Site::FromEnd(Direction::Across, row, col, size - 1 - at),
-                Site::Edge(Direction::Across, row, col),
+                Site::Offset(Direction::Horizontal, row, col, Offset::Start(at)),
+                Site::Offset(Direction::Horizontal, row, col, Offset::End(size - 1 - at)),
+                Site::Cell(Spot::Edge(Direction::Horizontal, row, col)),
                 Site::Main(LineOf::Horizontal(row)),
-                Site::Edges(Direction::Across, line_rank(rows, row)),
+                Site::Edges(Direction::Horizontal, line_rank(rows, row)),
                 Site::Default,
             ],
         ),
         Place::Vertical { row, col, at } => first_sign(
             events,
             &[
-                Site::FromStart(Direction::Down, row, col, at),
-                Site::FromEnd(Direction::Down, row, col, size - 1 - at),
-                Site::Edge(Direction::Down, row, col),
+                Site::Offset(Direction::Vertical, row, col, Offset::Start(at)),
+                Site::Offset(Direction::Vertical, row, col, Offset::End(size - 1 - at)),
+                Site::Cell(Spot::Edge(Direction::Vertical, row, col)),
                 Site::Main(LineOf::Vertical(col)),
-                Site::Edges(Direction::Down, line_rank(cols, col)),
+                Site::Edges(Direction::Vertical, line_rank(cols, col)),
                 Site::Default,
             ],
         ),
@@ -143,7 +130,7 @@ pub fn value(events: &[Event], shape: (usize, usize), size: usize, place: Place)
             first_sign(
                 events,
                 &[
-                    Site::Crossing(row, col),
+                    Site::Cell(Spot::Crossing(row, col)),
                     Site::Meeting(LineOf::Horizontal(row), col_rank),
                     Site::Meeting(LineOf::Vertical(col), row_rank),
                     Site::Crossings(row_rank, col_rank),
@@ -199,7 +186,7 @@ fn within(region: Region, site: Site) -> bool
     match region {
         Region::Level(number) => level(site) == number,
         Region::Offsets(direction) => match site {
-            Site::FromEnd(way, ..) | Site::FromStart(way, ..) => direction == way,
+            Site::Offset(way, ..) => direction == way,
             _ => false,
         },
         Region::Line(line) => match site {
@@ -226,20 +213,11 @@ fn same(site: Site, other: Site) -> bool
         (Site::Meeting(line, rank), Site::Meeting(other_line, other_rank)) => {
             line == other_line && rank == other_rank
         }
-        (Site::Edge(way, row, col), Site::Edge(other_way, other_row, other_col)) => {
-            way == other_way && row == other_row && col == other_col
-        }
-        (Site::Crossing(row, col), Site::Crossing(other_row, other_col)) => {
-            row == other_row && col == other_col
-        }
+        (Site::Cell(spot), Site::Cell(other_spot)) => spot == other_spot,
         (
-            Site::FromEnd(way, row, col, number),
-            Site::FromEnd(other_way, other_row, other_col, other_number),
-        ) => { way == other_way && row == other_row && col == other_col && number == other_number }
-        (
-            Site::FromStart(way, row, col, number),
-            Site::FromStart(other_way, other_row, other_col, other_number),
-        ) => { way == other_way && row == other_row && col == other_col && number == other_number }
+            Site::Offset(way, row, col, offset),
+            Site::Offset(other_way, other_row, other_col, other_offset),
+        ) => { way == other_way && row == other_row && col == other_col && offset == other_offset }
         _ => false,
     }
 }
@@ -255,9 +233,9 @@ fn level(site: Site) -> usize
             LineOf::Vertical(_) => 2,
             LineOf::Horizontal(_) => 3,
         },
-        Site::Edge(..) | Site::Crossing(..) => 4,
-        Site::FromEnd(..) => 5,
-        Site::FromStart(..) => 6,
+        Site::Cell(_) => 4,
+        Site::Offset(_, _, _, Offset::End(_)) => 5,
+        Site::Offset(_, _, _, Offset::Start(_)) => 6,
     }
 }
 
@@ -300,13 +278,13 @@ fn draws_row(count: usize, line: usize, site: Site) -> bool
 {
     match site {
         Site::Default => true,
-        Site::Edges(Direction::Across, rank) | Site::Crossings(rank, _) => {
+        Site::Edges(Direction::Horizontal, rank) | Site::Crossings(rank, _) => {
             stands(rank, count, line)
         }
         Site::Mark(LineOf::Horizontal(row)) => row == line,
         Site::Meeting(LineOf::Vertical(_), Rank::First) => line == 0,
         Site::Meeting(LineOf::Vertical(_), Rank::Closing) => line == count,
-        Site::Edge(Direction::Across, row, _) | Site::Crossing(row, _) => row == line,
+        Site::Cell(Spot::Edge(Direction::Horizontal, row, _) | Spot::Crossing(row, _)) => row == line,
         _ => false,
     }
 }
@@ -316,11 +294,11 @@ fn draws_col(count: usize, line: usize, site: Site) -> bool
 {
     match site {
         Site::Default => true,
-        Site::Edges(Direction::Down, rank)
+        Site::Edges(Direction::Vertical, rank)
         | Site::Crossings(_, rank)
         | Site::Meeting(LineOf::Horizontal(_), rank) => stands(rank, count, line),
         Site::Mark(LineOf::Vertical(col)) => col == line,
-        Site::Edge(Direction::Down, _, col) | Site::Crossing(_, col) => col == line,
+        Site::Cell(Spot::Edge(Direction::Vertical, _, col) | Spot::Crossing(_, col)) => col == line,
         _ => false,
     }
 }

@@ -4,7 +4,8 @@ use Rattle.tabled_border.specs.declared.border.Border.{Border}
 use Rattle.tabled_grid.specs.declared.borders.Borders.{Borders}
 use Rattle.tabled_grid.specs.declared.lines.HorizontalLine.{HorizontalLine}
 use Rattle.tabled_grid.specs.declared.lines.VerticalLine.{VerticalLine}
-use Rattle.tabled_grid.specs.Site.{Horizontal, Vertical, first, inner, closing}
+use Rattle.tabled_grid.specs.declared.site.Direction.TheVariants.{Horizontal, Vertical}
+use Rattle.tabled_grid.specs.Site.{first, inner, closing}
 use Rattle.tabled_grid.specs.State.{line_classes, has_class}
 
 -- the class record, and the custom lines in their order, each with the index of the line that it stands for

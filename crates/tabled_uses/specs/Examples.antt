@@ -7,7 +7,9 @@ use Rattle.tabled_grid.specs.declared.lines.VerticalLine.{VerticalLine}
 use Rattle.tabled_grid.specs.declared.place.LineOf.{LineOf}
 use Rattle.tabled_grid.specs.declared.place.Place.{Place}
 use Rattle.tabled_grid.specs.declared.offset.Offset.{Offset}
-use Rattle.tabled_grid.specs.Site.{Horizontal, Vertical, Edge, Crossing, Site, the_default, at_spot, at_offset}
+use Rattle.tabled_grid.specs.declared.site.Direction.TheVariants.{Horizontal, Vertical}
+use Rattle.tabled_grid.specs.declared.site.Spot.TheVariants.{Edge, Crossing}
+use Rattle.tabled_grid.specs.Site.{Site, the_default, at_spot, at_offset}
 use Rattle.tabled_grid.specs.Event.{sign, write, erase, these_sites}
 use Rattle.tabled_grid.specs.Lines as lines
 use Rattle.tabled_config.specs.Configuration.{ConfigEvent, of_characters, borders_set, borders_replaced}

@@ -1,8 +1,9 @@
 //! Characters and colors at numbered places of an edge.
 
 ghost use Rattle.std.specs.Prelude.{◌≡◌, None, OnOk, OnErr};
-ghost use Rattle.tabled_grid.specs.Site.{Horizontal, Vertical};
+ghost use Rattle.tabled_grid.specs.declared.site.Direction.TheVariants.{Horizontal, Vertical};
 ghost use Rattle.tabled_grid.specs.Calls.{edge_offset, offsets_erased};
+ghost use Rattle.tabled_grid.specs.Site.{at_offset};
 ghost use Rattle.tabled_grid.specs.State.{state_at};
 ghost use Rattle.tabled_grid.specs.declared.place.Place.{Place as Spot};
 ghost use Rattle.tabled_config.specs.Configuration.{Changes, by_characters, by_colors};

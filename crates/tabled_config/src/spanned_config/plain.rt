@@ -1,7 +1,7 @@
 //! What the printer asks of the characters besides single places.
 
 ghost use Rattle.std.specs.Prelude.{◌≡◌, ◌↔◌, IsFalse};
-ghost use Rattle.tabled_grid.specs.Site.{Horizontal};
+ghost use Rattle.tabled_grid.specs.declared.site.Direction.TheVariants.{Horizontal};
 ghost use Rattle.tabled_grid.specs.Value.{plain_value};
 ghost use Rattle.tabled_grid.specs.State.{state_at, HasNoOffsets};
 

@@ -1,7 +1,9 @@
 use Rattle.std.proofs.Common.{[], ◌∷◌, ◌-◌, sym, ap, ◌∙◌}
 use Rattle.tabled_grid.specs.declared.place.LineOf.{LineOf}
 use Rattle.tabled_grid.specs.declared.offset.Offset.{Offset}
-use Rattle.tabled_grid.specs.Site.{Horizontal, Vertical, rank, edges, crossings, main_edges, meeting, Edge, Crossing, the_default, of_class, of_line, at_spot, at_offset}
+use Rattle.tabled_grid.specs.declared.site.Direction.TheVariants.{Horizontal, Vertical}
+use Rattle.tabled_grid.specs.declared.site.Spot.TheVariants.{Edge, Crossing}
+use Rattle.tabled_grid.specs.Site.{rank, edges, crossings, main_edges, meeting, the_default, of_class, of_line, at_spot, at_offset}
 use Rattle.tabled_replay.specs.EventList.{rank_of}
 use Rattle.tabled_replay.proofs.EventListLemmas.{value_is, value_outside}
 use Rattle.tabled_replay.proofs.event_list.value.Goals as goal
