@@ -9,7 +9,7 @@ use Rattle.tabled_grid.specs.declared.lines.HorizontalLine.{HorizontalLine}
 use Rattle.tabled_grid.specs.declared.lines.VerticalLine.{VerticalLine}
 use Rattle.tabled_grid.specs.declared.place.LineOf.{LineOf}
 use Rattle.tabled_grid.specs.Keys.{spots_total, exact_spots, is_same_spot, edge_places_total, exact_edge_places, is_same_edge_place}
-use Rattle.tabled_grid.specs.Site.{Horizontal, Vertical, first, inner, closing, Class, edges, crossings, class_value, Part, mark, main_edges, meeting, Site, the_default, of_class, of_line, at_spot, at_offset, same_site, same_offset}
+use Rattle.tabled_grid.specs.Site.{Horizontal, Vertical, first, inner, last, Class, edges, crossings, class_value, Part, mark, main_edges, meeting, Site, the_default, of_class, of_line, at_spot, at_offset, same_site, same_offset}
 use Rattle.tabled_grid.specs.Event.{Written, sign, standing, write, erase, replay, these_sites, Changes}
 use Rattle.tabled_grid.specs.State.{State, state_at, edge_place, horizontal_part, vertical_part}
 use Rattle.tabled_grid.specs.Calls.{spot_of}
@@ -45,7 +45,7 @@ same_horizontal (Some l) (Some m) h = λ i. Some (record {
   main = of_signs l.main m.main (h main_edges) i;
   intersection = of_signs l.intersection m.intersection (h (meeting inner)) i;
   left = of_signs l.left m.left (h (meeting first)) i;
-  right = of_signs l.right m.right (h (meeting closing)) i;
+  right = of_signs l.right m.right (h (meeting last)) i;
 })
 
 same_vertical : {T : Type 0} (o p : Option (VerticalLine T)) → ((part : Part) → option_and_then (vertical_part part) o ≡ option_and_then (vertical_part part) p) → o ≡ p
@@ -56,23 +56,23 @@ same_vertical (Some l) (Some m) h = λ i. Some (record {
   main = of_signs l.main m.main (h main_edges) i;
   intersection = of_signs l.intersection m.intersection (h (meeting inner)) i;
   top = of_signs l.top m.top (h (meeting first)) i;
-  bottom = of_signs l.bottom m.bottom (h (meeting closing)) i;
+  bottom = of_signs l.bottom m.bottom (h (meeting last)) i;
 })
 
 same_classes : {T : Type 0} (a b : Borders T) → ((class : Class) → class_value class a ≡ class_value class b) → a ≡ b
 same_classes a b h = λ i. record {
   top = h (edges Horizontal first) i;
-  bottom = h (edges Horizontal closing) i;
+  bottom = h (edges Horizontal last) i;
   left = h (edges Vertical first) i;
-  right = h (edges Vertical closing) i;
+  right = h (edges Vertical last) i;
   top_left = h (crossings first first) i;
-  top_right = h (crossings first closing) i;
-  bottom_left = h (crossings closing first) i;
-  bottom_right = h (crossings closing closing) i;
+  top_right = h (crossings first last) i;
+  bottom_left = h (crossings last first) i;
+  bottom_right = h (crossings last last) i;
   top_intersection = h (crossings first inner) i;
-  bottom_intersection = h (crossings closing inner) i;
+  bottom_intersection = h (crossings last inner) i;
   left_intersection = h (crossings inner first) i;
-  right_intersection = h (crossings inner closing) i;
+  right_intersection = h (crossings inner last) i;
   horizontal = h (edges Horizontal inner) i;
   vertical = h (edges Vertical inner) i;
   intersection = h (crossings inner inner) i;

@@ -1,7 +1,7 @@
 -- Sites that the test calls one are equal.
 use Rattle.std.proofs.Common.{◌≡◌, Bool, true, false, ◌&&◌, ◌==◌, refl}
 use Rattle.std.proofs.lemmas.Bool.{eqb-true}
-use Rattle.tabled_grid.specs.Site.{Direction, Horizontal, Vertical, Rank, first, inner, closing, Class, edges, crossings, Part, mark, main_edges, meeting, Site, the_default, of_class, of_line, at_spot, at_offset, same_direction, same_offset, same_rank, same_class, same_line, same_part, same_site}
+use Rattle.tabled_grid.specs.Site.{Direction, Horizontal, Vertical, Rank, first, inner, last, Class, edges, crossings, Part, mark, main_edges, meeting, Site, the_default, of_class, of_line, at_spot, at_offset, same_direction, same_offset, same_rank, same_class, same_line, same_part, same_site}
 use Rattle.tabled_grid.specs.Keys.{same_direction-eq, same_line-eq, same_spot-eq, same_offset-eq}
 
 -- both tests of an && hold
@@ -12,13 +12,13 @@ both false b h = absurd cc
 same_rank-eq : (n m : Rank) → same_rank n m ≡ true → n ≡ m
 same_rank-eq first first h = refl
 same_rank-eq inner inner h = refl
-same_rank-eq closing closing h = refl
+same_rank-eq last last h = refl
 same_rank-eq first inner h = cc
-same_rank-eq first closing h = cc
+same_rank-eq first last h = cc
 same_rank-eq inner first h = cc
-same_rank-eq inner closing h = cc
-same_rank-eq closing first h = cc
-same_rank-eq closing inner h = cc
+same_rank-eq inner last h = cc
+same_rank-eq last first h = cc
+same_rank-eq last inner h = cc
 
 pub same_class-eq : (a b : Class) → same_class a b ≡ true → a ≡ b
 same_class-eq (edges d n) (edges e m) h =

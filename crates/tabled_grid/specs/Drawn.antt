@@ -2,7 +2,7 @@
 use Rattle.std.specs.Prelude.{ℕ, Bool, true, false, ◌&&◌, ◌==◌, nat_le, IsTrue, is_some, IsSome, Option, List, [], ◌∷◌, ◌≤◌}
 use Rattle.std.specs.List.{list_any}
 use Rattle.tabled_grid.specs.declared.place.LineOf.{LineOf}
-use Rattle.tabled_grid.specs.Site.{Horizontal, Vertical, first, closing, stands, edges, crossings, mark, meeting, Spot, Edge, Crossing, Site, the_default, of_class, of_line, at_spot}
+use Rattle.tabled_grid.specs.Site.{Horizontal, Vertical, first, last, stands, edges, crossings, mark, meeting, Spot, Edge, Crossing, Site, the_default, of_class, of_line, at_spot}
 use Rattle.tabled_grid.specs.Event.{Written, Event, write, erase, replay}
 
 abbrev pub number : LineOf → ℕ
@@ -27,7 +27,7 @@ draws count (LineOf.Horizontal n) (of_class (edges Horizontal rank)) = stands ra
 draws count (LineOf.Horizontal n) (of_class (crossings row col)) = stands row count n
 draws count (LineOf.Horizontal n) (of_line (LineOf.Horizontal m) mark) = m == n
 draws count (LineOf.Horizontal n) (of_line (LineOf.Vertical m) (meeting first)) = stands first count n
-draws count (LineOf.Horizontal n) (of_line (LineOf.Vertical m) (meeting closing)) = stands closing count n
+draws count (LineOf.Horizontal n) (of_line (LineOf.Vertical m) (meeting last)) = stands last count n
 draws count (LineOf.Vertical n) (of_class (edges Vertical rank)) = stands rank count n
 draws count (LineOf.Vertical n) (of_class (crossings row col)) = stands col count n
 draws count (LineOf.Vertical n) (of_line (LineOf.Vertical m) mark) = m == n

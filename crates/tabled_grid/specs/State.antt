@@ -12,7 +12,7 @@ use Rattle.tabled_grid.specs.declared.keys.EdgePlace.{EdgePlace}
 pub use Rattle.tabled_object.specs.Entities.{position}
 use Rattle.tabled_grid.specs.Keys.{spot_cmp, edge_place_cmp}
 use Rattle.tabled_grid.specs.declared.offset.Offset.{Offset}
-use Rattle.tabled_grid.specs.Site.{Direction, Horizontal, Vertical, Rank, first, inner, closing, stands, Class, edges, crossings, class_value, Part, mark, main_edges, meeting, horizontal_meeting, vertical_meeting, Site, the_default, of_class, of_line, at_spot, at_offset}
+use Rattle.tabled_grid.specs.Site.{Direction, Horizontal, Vertical, Rank, first, inner, last, stands, Class, edges, crossings, class_value, Part, mark, main_edges, meeting, horizontal_meeting, vertical_meeting, Site, the_default, of_class, of_line, at_spot, at_offset}
 use Rattle.tabled_grid.specs.Event.{Written, sign, standing, Event, write, erase, level_sites}
 use Rattle.tabled_grid.specs.Lines.{horizontal_line_set, vertical_line_set}
 
@@ -60,8 +60,8 @@ state_at state (at_offset d r c offset) = option_map sign (get (offset_values d 
 
 -- the classes whose fields draw a line of that direction and rank
 abbrev pub line_classes : Direction → Rank → List Class
-line_classes Horizontal rank = edges Horizontal rank ∷ crossings rank first ∷ crossings rank inner ∷ crossings rank closing ∷ []
-line_classes Vertical rank = edges Vertical rank ∷ crossings first rank ∷ crossings inner rank ∷ crossings closing rank ∷ []
+line_classes Horizontal rank = edges Horizontal rank ∷ crossings rank first ∷ crossings rank inner ∷ crossings rank last ∷ []
+line_classes Vertical rank = edges Vertical rank ∷ crossings first rank ∷ crossings inner rank ∷ crossings last rank ∷ []
 
 -- whether a class record has a field of one of the classes
 abbrev pub has_class : {T : Type 0} → Borders T → List Class → Bool
@@ -70,7 +70,7 @@ has_class borders cs = list_any (λ c. is_some (class_value c borders)) cs
 abbrev pub rank_draws : {T : Type 0} → Borders T → ℕ → Direction → ℕ → Bool
 rank_draws borders count d n =
     (stands first count n && has_class borders (line_classes d first))
-    || (stands closing count n && has_class borders (line_classes d closing))
+    || (stands last count n && has_class borders (line_classes d last))
     || (stands inner count n && has_class borders (line_classes d inner))
 
 -- whether a class record draws a line, of the lines 0 to count of its direction
@@ -85,10 +85,10 @@ HasNothing borders = (class : Class) → class_value class borders ≡ None
 -- all fifteen classes
 unfoldable pub classes : List Class
 classes =
-    edges Horizontal first ∷ edges Horizontal inner ∷ edges Horizontal closing ∷ edges Vertical first ∷ edges Vertical inner ∷ edges Vertical closing
-    ∷ crossings first first ∷ crossings first inner ∷ crossings first closing
-    ∷ crossings inner first ∷ crossings inner inner ∷ crossings inner closing
-    ∷ crossings closing first ∷ crossings closing inner ∷ crossings closing closing ∷ []
+    edges Horizontal first ∷ edges Horizontal inner ∷ edges Horizontal last ∷ edges Vertical first ∷ edges Vertical inner ∷ edges Vertical last
+    ∷ crossings first first ∷ crossings first inner ∷ crossings first last
+    ∷ crossings inner first ∷ crossings inner inner ∷ crossings inner last
+    ∷ crossings last first ∷ crossings last inner ∷ crossings last last ∷ []
 
 -- the writes of the given fields of a class record, for these classes
 unfoldable pub class_writes : {T : Type 0} → Borders T → List Class → List (Event T)

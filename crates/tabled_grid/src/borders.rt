@@ -51,7 +51,7 @@ impl<T: Copy> Clone for Borders<T> {
 }
 
 impl<T> Borders<T> {
-    ghost use Rattle.tabled_grid.specs.Site.{Horizontal, Vertical, first, inner, closing, edges, crossings, rank, class_value};
+    ghost use Rattle.tabled_grid.specs.Site.{Horizontal, Vertical, first, inner, last, edges, crossings, rank, class_value};
     ghost use Rattle.tabled_grid.specs.State.{line_classes, has_class, HasNothing};
     ghost use Rattle.tabled_grid.specs.CustomLines.{no_borders};
 
@@ -90,7 +90,7 @@ impl<T> Borders<T> {
 
     /// Whether the closing horizontal line has something: its edges or one of its crossings.
     pub fn has_bottom(&self) -> bool
-        ensures { result ≡ has_class self.now (line_classes Horizontal closing) }
+        ensures { result ≡ has_class self.now (line_classes Horizontal last) }
     {
         self.bottom.is_some()
             || self.bottom_left.is_some()
@@ -110,7 +110,7 @@ impl<T> Borders<T> {
 
     /// Whether the closing vertical line has something: its edges or one of its crossings.
     pub fn has_right(&self) -> bool
-        ensures { result ≡ has_class self.now (line_classes Vertical closing) }
+        ensures { result ≡ has_class self.now (line_classes Vertical last) }
     {
         self.right.is_some()
             || self.top_right.is_some()

@@ -5,13 +5,13 @@ use Rattle.tabled_replay.specs.declared.event_list.Site.{Site as PlainSite}
 use Rattle.tabled_replay.specs.declared.event_list.Region.{Region as PlainRegion}
 use Rattle.tabled_replay.specs.declared.event_list.Written.{Written as PlainWritten}
 use Rattle.tabled_replay.specs.declared.event_list.Event.{Event as PlainEvent}
-use Rattle.tabled_grid.specs.Site.{Rank, first, inner, closing, edges, crossings, mark, main_edges, meeting, Site, the_default, of_class, of_line, at_spot, at_offset}
+use Rattle.tabled_grid.specs.Site.{Rank, first, inner, last, edges, crossings, mark, main_edges, meeting, Site, the_default, of_class, of_line, at_spot, at_offset}
 use Rattle.tabled_grid.specs.Event.{Written, sign, standing, Region, level_sites, offset_sites, line_sites, these_sites, Event, write, erase}
 
 abbrev pub rank_of : PlainRank → Rank
 rank_of PlainRank.First = first
 rank_of PlainRank.Inner = inner
-rank_of PlainRank.Closing = closing
+rank_of PlainRank.Closing = last
 
 abbrev pub site_of : PlainSite → Site
 site_of PlainSite.Default = the_default

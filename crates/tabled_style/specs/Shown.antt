@@ -5,7 +5,7 @@ use Rattle.tabled_grid.specs.declared.borders.Borders.{Borders}
 use Rattle.tabled_grid.specs.declared.lines.HorizontalLine.{HorizontalLine}
 use Rattle.tabled_grid.specs.declared.lines.VerticalLine.{VerticalLine}
 use Rattle.tabled_grid.specs.declared.site.Direction.TheVariants.{Horizontal, Vertical}
-use Rattle.tabled_grid.specs.Site.{first, inner, closing}
+use Rattle.tabled_grid.specs.Site.{first, inner, last}
 use Rattle.tabled_grid.specs.State.{line_classes, has_class}
 
 -- the class record, and the custom lines in their order, each with the index of the line that it stands for
@@ -19,13 +19,13 @@ abbrev pub has_top : Borders ℕ → Bool
 has_top borders = has_class borders (line_classes Horizontal first)
 
 abbrev pub has_bottom : Borders ℕ → Bool
-has_bottom borders = has_class borders (line_classes Horizontal closing)
+has_bottom borders = has_class borders (line_classes Horizontal last)
 
 abbrev pub has_left : Borders ℕ → Bool
 has_left borders = has_class borders (line_classes Vertical first)
 
 abbrev pub has_right : Borders ℕ → Bool
-has_right borders = has_class borders (line_classes Vertical closing)
+has_right borders = has_class borders (line_classes Vertical last)
 
 abbrev pub has_horizontal : Borders ℕ → Bool
 has_horizontal borders = has_class borders (line_classes Horizontal inner)
