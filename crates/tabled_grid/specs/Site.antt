@@ -5,17 +5,14 @@ use Rattle.tabled_grid.specs.declared.borders.Borders.{Borders}
 use Rattle.tabled_grid.specs.declared.lines.HorizontalLine.{HorizontalLine}
 use Rattle.tabled_grid.specs.declared.lines.VerticalLine.{VerticalLine}
 use Rattle.tabled_grid.specs.declared.place.LineOf.{LineOf}
+-- where a line stands among those of its direction: the first, the closing one, or one between
+pub use Rattle.tabled_grid.specs.declared.place.Rank.{Rank}
+pub use Rattle.tabled_grid.specs.declared.place.Rank.TheVariants.{First as first, Inner as inner, Last as closing}
 
 -- which way an edge runs: across, as part of a horizontal line, or down, as part of a vertical one
 pub data Direction : Type 0 where
   across : Direction
   down : Direction
-
--- where a line stands among those of its direction: the first, the closing one, or one between
-pub data Rank : Type 0 where
-  first : Rank
-  inner : Rank
-  closing : Rank
 
 -- whether line n, of the lines 0 to count, stands there
 abbrev pub stands : Rank → ℕ → ℕ → Bool

@@ -6,7 +6,9 @@ use Rattle.tabled_replay.specs.declared.event_list.Site.{Site as PlainSite}
 use Rattle.tabled_replay.specs.declared.event_list.Region.{Region as PlainRegion}
 use Rattle.tabled_replay.specs.declared.event_list.Written.{Written as PlainWritten}
 use Rattle.tabled_replay.specs.declared.event_list.Event.{Event as PlainEvent}
-use Rattle.tabled_grid.specs.Site.{Direction, across, down, Rank, first, inner, closing, edges, crossings, mark, main_edges, meeting, edge, crossing, Site, the_default, of_class, of_line, at_spot, from_end, from_start}
+use Rattle.tabled_grid.specs.declared.place.Rank.{Rank}
+use Rattle.tabled_grid.specs.declared.place.Rank.TheVariants.{First as first, Inner as inner, Last as closing}
+use Rattle.tabled_grid.specs.Site.{Direction, across, down, edges, crossings, mark, main_edges, meeting, edge, crossing, Site, the_default, of_class, of_line, at_spot, from_end, from_start}
 use Rattle.tabled_grid.specs.Event.{Written, sign, standing, Region, level_sites, offset_sites, line_sites, these_sites, Event, write, erase}
 
 abbrev pub direction_of : PlainDirection → Direction

@@ -1,13 +1,13 @@
 //! The ready styles.
 
 ghost use Rattle.std.specs.Prelude.{◌≡◌, Option};
-ghost use Rattle.tabled_style.specs.Ready.{open_line, class_record, framed, unframed};
+ghost use Rattle.tabled_style.specs.Ready.{open_line, class_record, framed, unframed, plain, ruled};
 ghost use Rattle.tabled_style.specs.Lines.{full_horizontal};
 
 use super::Style;
-use super::custom::{Horizontals, Verticals};
+use super::custom::Lines;
 use crate::On;
-use tabled_grid::{Borders, HorizontalLine as HLine};
+use tabled_grid::{Borders, HorizontalLine as HLine, Rank};
 
 /// Along the edges, at the crossings between, and at the two ends.
 fn full_line(main: char, intersection: char, left: char, right: char) -> HLine<char>
@@ -34,23 +34,16 @@ fn class_record(
 ) -> Borders<char>
     ensures { result ≡ class_record top bottom between left right vertical }
 {
-    Borders {
-        top: top.main,
-        bottom: bottom.main,
+    let verticals = Borders {
         left,
         right,
-        top_left: top.left,
-        top_right: top.right,
-        bottom_left: bottom.left,
-        bottom_right: bottom.right,
-        top_intersection: top.intersection,
-        bottom_intersection: bottom.intersection,
-        left_intersection: between.left,
-        right_intersection: between.right,
-        horizontal: between.main,
         vertical,
-        intersection: between.intersection,
-    }
+        ..Borders::empty()
+    };
+    verticals
+        .with_horizontal_line(Rank::Inner, between)
+        .with_horizontal_line(Rank::Last, bottom)
+        .with_horizontal_line(Rank::First, top)
 }
 
 /// The record with one character for the edges of all vertical lines.
@@ -67,6 +60,24 @@ fn unframed(line: HLine<char>, vertical: char) -> Borders<char>
     class_record(line, line, HLine::empty(), None, None, Some(vertical))
 }
 
+/// A style without custom lines.
+fn plain<T, B, L, R, H, V>(borders: Borders<char>) -> Style<T, B, L, R, H, V, 0, 0>
+    ensures { result ≡ plain borders }
+{
+    Style::new(borders, Lines { lines: [] }, Lines { lines: [] })
+}
+
+/// A style with one custom line, under the first row.
+fn ruled<T, B, L, R, H, V>(
+    borders: Borders<char>,
+    rule: HLine<char>,
+) -> Style<T, B, L, R, H, V, 1, 0>
+    ensures { result ≡ ruled borders rule }
+{
+    let rules = [(1, rule)];
+    Style::new(borders, Lines { lines: rules }, Lines { lines: [] })
+}
+
 impl Style<(), (), (), (), (), (), 0, 0> {
     ghost use Rattle.tabled_style.specs.Ready.{empty, blank, ascii, psql, markdown, modern, sharp, rounded, modern_rounded, extended, dots, re_structured_text, ascii_rounded};
 
@@ -81,9 +92,7 @@ impl Style<(), (), (), (), (), (), 0, 0> {
     pub fn empty() -> Style<(), (), (), (), (), (), 0, 0>
         ensures { result ≡ empty }
     {
-        let borders = Borders::empty();
-        let horizontals = Horizontals { lines: [] };
-        Style::new(borders, horizontals, Verticals { lines: [] })
+        plain(Borders::empty())
     }
 
     /// A space between columns, and nothing else.
@@ -97,9 +106,7 @@ impl Style<(), (), (), (), (), (), 0, 0> {
     pub fn blank() -> Style<(), (), (), (), (), On, 0, 0>
         ensures { result ≡ blank }
     {
-        let borders = unframed(HLine::empty(), ' ');
-        let horizontals = Horizontals { lines: [] };
-        Style::new(borders, horizontals, Verticals { lines: [] })
+        plain(unframed(HLine::empty(), ' '))
     }
 
     /// Dashes, bars and plus signs on every line.
@@ -123,8 +130,7 @@ impl Style<(), (), (), (), (), (), 0, 0> {
             full_line('-', '+', '+', '+'),
             '|',
         );
-        let horizontals = Horizontals { lines: [] };
-        Style::new(borders, horizontals, Verticals { lines: [] })
+        plain(borders)
     }
 
     /// Bars between columns, and one line under the first row, without a frame.
@@ -140,10 +146,7 @@ impl Style<(), (), (), (), (), (), 0, 0> {
         ensures { result ≡ psql }
     {
         let borders = unframed(HLine::empty(), '|');
-        let horizontals = Horizontals {
-            lines: [(1, open_line('-', '+'))],
-        };
-        Style::new(borders, horizontals, Verticals { lines: [] })
+        ruled(borders, open_line('-', '+'))
     }
 
     /// Bars on both sides and between columns, and one line under the first row.
@@ -159,10 +162,7 @@ impl Style<(), (), (), (), (), (), 0, 0> {
         ensures { result ≡ markdown }
     {
         let borders = framed(HLine::empty(), HLine::empty(), HLine::empty(), '|');
-        let horizontals = Horizontals {
-            lines: [(1, full_line('-', '|', '|', '|'))],
-        };
-        Style::new(borders, horizontals, Verticals { lines: [] })
+        ruled(borders, full_line('-', '|', '|', '|'))
     }
 
     /// Thin lines of the box drawing characters, everywhere.
@@ -186,8 +186,7 @@ impl Style<(), (), (), (), (), (), 0, 0> {
             full_line('─', '┼', '├', '┤'),
             '│',
         );
-        let horizontals = Horizontals { lines: [] };
-        Style::new(borders, horizontals, Verticals { lines: [] })
+        plain(borders)
     }
 
     /// Thin lines, with no line between rows but the one under the first row.
@@ -210,10 +209,7 @@ impl Style<(), (), (), (), (), (), 0, 0> {
             HLine::empty(),
             '│',
         );
-        let horizontals = Horizontals {
-            lines: [(1, full_line('─', '┼', '├', '┤'))],
-        };
-        Style::new(borders, horizontals, Verticals { lines: [] })
+        ruled(borders, full_line('─', '┼', '├', '┤'))
     }
 
     /// As `sharp`, with round corners.
@@ -236,10 +232,7 @@ impl Style<(), (), (), (), (), (), 0, 0> {
             HLine::empty(),
             '│',
         );
-        let horizontals = Horizontals {
-            lines: [(1, full_line('─', '┼', '├', '┤'))],
-        };
-        Style::new(borders, horizontals, Verticals { lines: [] })
+        ruled(borders, full_line('─', '┼', '├', '┤'))
     }
 
     /// As `modern`, with round corners.
@@ -263,8 +256,7 @@ impl Style<(), (), (), (), (), (), 0, 0> {
             full_line('─', '┼', '├', '┤'),
             '│',
         );
-        let horizontals = Horizontals { lines: [] };
-        Style::new(borders, horizontals, Verticals { lines: [] })
+        plain(borders)
     }
 
     /// Double lines of the box drawing characters, everywhere.
@@ -288,8 +280,7 @@ impl Style<(), (), (), (), (), (), 0, 0> {
             full_line('═', '╬', '╠', '╣'),
             '║',
         );
-        let horizontals = Horizontals { lines: [] };
-        Style::new(borders, horizontals, Verticals { lines: [] })
+        plain(borders)
     }
 
     /// Full stops along the top, and full stops and colons elsewhere.
@@ -313,8 +304,7 @@ impl Style<(), (), (), (), (), (), 0, 0> {
             full_line('.', ':', ':', ':'),
             ':',
         );
-        let horizontals = Horizontals { lines: [] };
-        Style::new(borders, horizontals, Verticals { lines: [] })
+        plain(borders)
     }
 
     /// Three lines of equals signs, broken between columns, as in the simple tables of reStructuredText.
@@ -332,10 +322,7 @@ impl Style<(), (), (), (), (), (), 0, 0> {
         ensures { result ≡ re_structured_text }
     {
         let borders = unframed(open_line('=', ' '), ' ');
-        let horizontals = Horizontals {
-            lines: [(1, open_line('=', ' '))],
-        };
-        Style::new(borders, horizontals, Verticals { lines: [] })
+        ruled(borders, open_line('=', ' '))
     }
 
     /// A frame of dashes and bars with dots and apostrophes as corners, and bars between columns.
@@ -357,7 +344,6 @@ impl Style<(), (), (), (), (), (), 0, 0> {
             HLine::empty(),
             '|',
         );
-        let horizontals = Horizontals { lines: [] };
-        Style::new(borders, horizontals, Verticals { lines: [] })
+        plain(borders)
     }
 }
