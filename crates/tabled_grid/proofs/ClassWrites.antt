@@ -3,7 +3,7 @@ use Rattle.std.proofs.Common.{◌≡◌, Bool, true, false, cond, ◌&&◌, ◌|
 use Rattle.std.specs.Option.{option_map}
 use Rattle.std.specs.List.{list_any, cons_option}
 use Rattle.tabled_grid.specs.declared.borders.Borders.{Borders}
-use Rattle.tabled_grid.specs.Site.{across, down, first, inner, closing, Class, edges, crossings, Site, of_class, class_value, same_class, same_site}
+use Rattle.tabled_grid.specs.Site.{across, down, first, inner, last, Class, edges, crossings, Site, of_class, class_value, same_class, same_site}
 use Rattle.tabled_grid.specs.Event.{Written, sign, Event, write, covered, replay}
 use Rattle.tabled_grid.specs.State.{classes, class_writes, HasNothing}
 use Rattle.tabled_grid.proofs.SameSite.{same_class-eq}
@@ -66,19 +66,19 @@ among_classes : (c : Class) → list_any (same_class c) classes ≡ true
 unfolding classes
 among_classes (edges across first) = refl
 among_classes (edges across inner) = refl
-among_classes (edges across closing) = refl
+among_classes (edges across last) = refl
 among_classes (edges down first) = refl
 among_classes (edges down inner) = refl
-among_classes (edges down closing) = refl
+among_classes (edges down last) = refl
 among_classes (crossings first first) = refl
 among_classes (crossings first inner) = refl
-among_classes (crossings first closing) = refl
+among_classes (crossings first last) = refl
 among_classes (crossings inner first) = refl
 among_classes (crossings inner inner) = refl
-among_classes (crossings inner closing) = refl
-among_classes (crossings closing first) = refl
-among_classes (crossings closing inner) = refl
-among_classes (crossings closing closing) = refl
+among_classes (crossings inner last) = refl
+among_classes (crossings last first) = refl
+among_classes (crossings last inner) = refl
+among_classes (crossings last last) = refl
 
 given_or_none : {T : Type 0} (o : Option T) → cond (is_some o) (option_map sign o) None ≡ option_map sign o
 given_or_none None = refl
@@ -122,16 +122,16 @@ pub nothing_in : {T : Type 0} (borders : Borders T) → borders ≡ record {
 } → HasNothing borders
 nothing_in borders e (edges across first) = ap (λ b. b.top) e
 nothing_in borders e (edges across inner) = ap (λ b. b.horizontal) e
-nothing_in borders e (edges across closing) = ap (λ b. b.bottom) e
+nothing_in borders e (edges across last) = ap (λ b. b.bottom) e
 nothing_in borders e (edges down first) = ap (λ b. b.left) e
 nothing_in borders e (edges down inner) = ap (λ b. b.vertical) e
-nothing_in borders e (edges down closing) = ap (λ b. b.right) e
+nothing_in borders e (edges down last) = ap (λ b. b.right) e
 nothing_in borders e (crossings first first) = ap (λ b. b.top_left) e
 nothing_in borders e (crossings first inner) = ap (λ b. b.top_intersection) e
-nothing_in borders e (crossings first closing) = ap (λ b. b.top_right) e
+nothing_in borders e (crossings first last) = ap (λ b. b.top_right) e
 nothing_in borders e (crossings inner first) = ap (λ b. b.left_intersection) e
 nothing_in borders e (crossings inner inner) = ap (λ b. b.intersection) e
-nothing_in borders e (crossings inner closing) = ap (λ b. b.right_intersection) e
-nothing_in borders e (crossings closing first) = ap (λ b. b.bottom_left) e
-nothing_in borders e (crossings closing inner) = ap (λ b. b.bottom_intersection) e
-nothing_in borders e (crossings closing closing) = ap (λ b. b.bottom_right) e
+nothing_in borders e (crossings inner last) = ap (λ b. b.right_intersection) e
+nothing_in borders e (crossings last first) = ap (λ b. b.bottom_left) e
+nothing_in borders e (crossings last inner) = ap (λ b. b.bottom_intersection) e
+nothing_in borders e (crossings last last) = ap (λ b. b.bottom_right) e

@@ -8,7 +8,7 @@ use Rattle.std.proofs.lemmas.Bool.{eqb-true, ltb-true, lt-ltb}
 use Rattle.tabled_grid.specs.declared.place.LineOf.{LineOf}
 use Rattle.tabled_grid.specs.declared.lines.HorizontalLine.{HorizontalLine}
 use Rattle.tabled_grid.specs.declared.lines.VerticalLine.{VerticalLine}
-use Rattle.tabled_grid.specs.Site.{Direction, across, down, Rank, first, inner, closing, class_value, mark, main_edges, meeting, edge, crossing, Site, the_default, of_class, of_line, at_spot, from_end, from_start}
+use Rattle.tabled_grid.specs.Site.{Direction, across, down, Rank, first, inner, last, class_value, mark, main_edges, meeting, edge, crossing, Site, the_default, of_class, of_line, at_spot, from_end, from_start}
 use Rattle.tabled_grid.specs.Event.{sign}
 use Rattle.tabled_grid.specs.Table.{count, passes}
 use Rattle.tabled_grid.specs.Counted.{number_at, CellsCounted, VerticalCounted, HorizontalCounted}
@@ -71,7 +71,7 @@ module _ {T : Type 0} (k : State T) (rows cols : map.FinMap nat_cmp ℕ) (t b l 
   row_by_site (of_line (LineOf.Vertical m) (meeting first)) e f =
       let some : 0 < count (λ _ x. is_some x.top) k.vertical_lines = count_positive nat_cmp_total map.nat_cmp-IsAntisymmetric (λ _ x. is_some x.top) k.vertical_lines m (sym (meets (λ x. x.top) (map.get k.vertical_lines m)) ∙ f) in
       in_rows (or_left _ _ (or_left _ _ (or_right (is_some (map.get k.horizontal_lines n)) _ (and_both (n == 0) (ltb 0 t) e (lt-ltb 0 t (omega (arith, upright.tops_are)))))))
-  row_by_site (of_line (LineOf.Vertical m) (meeting closing)) e f =
+  row_by_site (of_line (LineOf.Vertical m) (meeting last)) e f =
       let some : 0 < count (λ _ x. is_some x.bottom) k.vertical_lines = count_positive nat_cmp_total map.nat_cmp-IsAntisymmetric (λ _ x. is_some x.bottom) k.vertical_lines m (sym (meets (λ x. x.bottom) (map.get k.vertical_lines m)) ∙ f) in
       in_rows (or_left _ _ (or_right (is_some (map.get k.horizontal_lines n) || ((n == 0) && ltb 0 t)) _ (and_both (n == count') (ltb 0 b) e (lt-ltb 0 b (omega (arith, upright.bottoms_are))))))
   row_by_site (at_spot (edge across i c)) e f =
@@ -96,7 +96,7 @@ module _ {T : Type 0} (k : State T) (rows cols : map.FinMap nat_cmp ℕ) (t b l 
   col_by_site (of_line (LineOf.Horizontal m) (meeting first)) e f =
       let some : 0 < count (λ _ x. is_some x.left) k.horizontal_lines = count_positive nat_cmp_total map.nat_cmp-IsAntisymmetric (λ _ x. is_some x.left) k.horizontal_lines m (sym (meets (λ x. x.left) (map.get k.horizontal_lines m)) ∙ f) in
       in_cols (or_left _ _ (or_left _ _ (or_left _ _ (or_right (is_some (map.get k.vertical_lines n)) _ (and_both (n == 0) (ltb 0 l) e (lt-ltb 0 l (omega (arith, level_ones.lefts_are))))))))
-  col_by_site (of_line (LineOf.Horizontal m) (meeting closing)) e f =
+  col_by_site (of_line (LineOf.Horizontal m) (meeting last)) e f =
       let some : 0 < count (λ _ x. is_some x.right) k.horizontal_lines = count_positive nat_cmp_total map.nat_cmp-IsAntisymmetric (λ _ x. is_some x.right) k.horizontal_lines m (sym (meets (λ x. x.right) (map.get k.horizontal_lines m)) ∙ f) in
       in_cols (or_left _ _ (or_left _ _ (or_right (is_some (map.get k.vertical_lines n) || ((n == 0) && ltb 0 l)) _ (and_both (n == count') (ltb 0 r) e (lt-ltb 0 r (omega (arith, level_ones.rights_are)))))))
   col_by_site (of_line (LineOf.Horizontal m) (meeting inner)) e f =
@@ -158,7 +158,7 @@ module _ {T : Type 0} (k : State T) (rows cols : map.FinMap nat_cmp ℕ) (t b l 
     | inr some ↦ row_number_ground (ltb-true 0 (number_at rows n) some)
     | inl line ↦ elim (or_parts (is_some (map.get k.horizontal_lines n) || ((n == 0) && ltb 0 t)) ((n == count') && ltb 0 b) line) [
       | inr closing_one ↦ let parts = and_parts (n == count') (ltb 0 b) closing_one in
-          top_ground (λ x. x.bottom) closing (λ m. meets (λ x. x.bottom) (map.get k.vertical_lines m)) (λ m. parts.0) (omega (arith, upright.bottoms_are, ltb-true 0 b parts.1))
+          top_ground (λ x. x.bottom) last (λ m. meets (λ x. x.bottom) (map.get k.vertical_lines m)) (λ m. parts.0) (omega (arith, upright.bottoms_are, ltb-true 0 b parts.1))
       | inl upper ↦ elim (or_parts (is_some (map.get k.horizontal_lines n)) ((n == 0) && ltb 0 t) upper) [
         | inr first_one ↦ let parts = and_parts (n == 0) (ltb 0 t) first_one in
             top_ground (λ x. x.top) first (λ m. meets (λ x. x.top) (map.get k.vertical_lines m)) (λ m. parts.0) (omega (arith, upright.tops_are, ltb-true 0 t parts.1))
@@ -176,7 +176,7 @@ module _ {T : Type 0} (k : State T) (rows cols : map.FinMap nat_cmp ℕ) (t b l 
           left_ground (λ x. x.intersection) inner (λ m. meets (λ x. x.intersection) (map.get k.horizontal_lines m)) (λ m. parts.0) (omega (arith, level_ones.betweens_are, ltb-true 0 w parts.1))
       | inl outer ↦ elim (or_parts (is_some (map.get k.vertical_lines n) || ((n == 0) && ltb 0 l)) ((n == count') && ltb 0 r) outer) [
         | inr closing_one ↦ let parts = and_parts (n == count') (ltb 0 r) closing_one in
-            left_ground (λ x. x.right) closing (λ m. meets (λ x. x.right) (map.get k.horizontal_lines m)) (λ m. parts.0) (omega (arith, level_ones.rights_are, ltb-true 0 r parts.1))
+            left_ground (λ x. x.right) last (λ m. meets (λ x. x.right) (map.get k.horizontal_lines m)) (λ m. parts.0) (omega (arith, level_ones.rights_are, ltb-true 0 r parts.1))
         | inl upper ↦ elim (or_parts (is_some (map.get k.vertical_lines n)) ((n == 0) && ltb 0 l) upper) [
           | inr first_one ↦ let parts = and_parts (n == 0) (ltb 0 l) first_one in
               left_ground (λ x. x.left) first (λ m. meets (λ x. x.left) (map.get k.horizontal_lines m)) (λ m. parts.0) (omega (arith, level_ones.lefts_are, ltb-true 0 l parts.1))

@@ -5,7 +5,7 @@ use Rattle.std.specs.Option.{option_map}
 use Rattle.tabled_grid.specs.declared.place.LineOf.{LineOf}
 use Rattle.tabled_grid.specs.declared.lines.HorizontalLine.{HorizontalLine}
 use Rattle.tabled_grid.specs.declared.lines.VerticalLine.{VerticalLine}
-use Rattle.tabled_grid.specs.Site.{Rank, first, inner, closing, Part, mark, main_edges, meeting, Site, the_default, of_class, of_line, at_spot, from_end, from_start, same_rank, same_part, same_line, same_site}
+use Rattle.tabled_grid.specs.Site.{Rank, first, inner, last, Part, mark, main_edges, meeting, Site, the_default, of_class, of_line, at_spot, from_end, from_start, same_rank, same_part, same_line, same_site}
 use Rattle.tabled_grid.specs.Event.{sign, standing, Event, write, erase, line_sites, within, covered, replay}
 use Rattle.tabled_grid.specs.Lines.{part_write, horizontal_line_set, vertical_line_set}
 use Rattle.tabled_grid.specs.State.{horizontal_part, vertical_part}
@@ -22,7 +22,7 @@ same_line-refl (LineOf.Vertical n) = same_number n
 same_rank-refl : (r : Rank) → same_rank r r ≡ true
 same_rank-refl first = refl
 same_rank-refl inner = refl
-same_rank-refl closing = refl
+same_rank-refl last = refl
 
 same_part-refl : (p : Part) → same_part p p ≡ true
 same_part-refl mark = refl
@@ -41,7 +41,7 @@ or-false false = refl
 abbrev line_set : {T : Type 0} → LineOf → Option T → Option T → Option T → Option T → List (Event T)
 line_set l main between start end =
     erase (line_sites l) ∷ write (of_line l mark) standing
-    ∷ part_write l main_edges main ++ part_write l (meeting inner) between ++ part_write l (meeting first) start ++ part_write l (meeting closing) end
+    ∷ part_write l main_edges main ++ part_write l (meeting inner) between ++ part_write l (meeting first) start ++ part_write l (meeting last) end
 
 other_part : (l : LineOf) (p r : Part) → same_part p r ≡ false → same_site (of_line l p) (of_line l r) ≡ false
 other_part l p r h = ap (λ b. same_line l l && b) h ∙ and-false (same_line l l)
@@ -72,7 +72,7 @@ module _ {T : Type 0} (l : LineOf) where
   module _ (main between start end : Option T) where
     at_mark : replay (line_set l main between start end) (of_line l mark) ≡ Some standing
     at_mark =
-        replay_rest (of_line l mark) _ (part_write l (meeting closing) end) (part_elsewhere (of_line l mark) (meeting closing) end (other_part l mark (meeting closing) refl))
+        replay_rest (of_line l mark) _ (part_write l (meeting last) end) (part_elsewhere (of_line l mark) (meeting last) end (other_part l mark (meeting last) refl))
         ∙ replay_rest (of_line l mark) _ (part_write l (meeting first) start) (part_elsewhere (of_line l mark) (meeting first) start (other_part l mark (meeting first) refl))
         ∙ replay_rest (of_line l mark) _ (part_write l (meeting inner) between) (part_elsewhere (of_line l mark) (meeting inner) between (other_part l mark (meeting inner) refl))
         ∙ replay_rest (of_line l mark) (erase (line_sites l) ∷ write (of_line l mark) standing ∷ []) (part_write l main_edges main) (part_elsewhere (of_line l mark) main_edges main (other_part l mark main_edges refl))
@@ -81,53 +81,53 @@ module _ {T : Type 0} (l : LineOf) where
 
     at_main : replay (line_set l main between start end) (of_line l main_edges) ≡ option_map sign main
     at_main =
-        replay_rest (of_line l main_edges) _ (part_write l (meeting closing) end) (part_elsewhere (of_line l main_edges) (meeting closing) end (other_part l main_edges (meeting closing) refl))
+        replay_rest (of_line l main_edges) _ (part_write l (meeting last) end) (part_elsewhere (of_line l main_edges) (meeting last) end (other_part l main_edges (meeting last) refl))
         ∙ replay_rest (of_line l main_edges) _ (part_write l (meeting first) start) (part_elsewhere (of_line l main_edges) (meeting first) start (other_part l main_edges (meeting first) refl))
         ∙ replay_rest (of_line l main_edges) _ (part_write l (meeting inner) between) (part_elsewhere (of_line l main_edges) (meeting inner) between (other_part l main_edges (meeting inner) refl))
         ∙ own_part (erase (line_sites l) ∷ write (of_line l mark) standing ∷ []) main_edges main (cleared [] main_edges refl refl)
 
     at_between : replay (line_set l main between start end) (of_line l (meeting inner)) ≡ option_map sign between
     at_between =
-        replay_rest (of_line l (meeting inner)) _ (part_write l (meeting closing) end) (part_elsewhere (of_line l (meeting inner)) (meeting closing) end (other_part l (meeting inner) (meeting closing) refl))
+        replay_rest (of_line l (meeting inner)) _ (part_write l (meeting last) end) (part_elsewhere (of_line l (meeting inner)) (meeting last) end (other_part l (meeting inner) (meeting last) refl))
         ∙ replay_rest (of_line l (meeting inner)) _ (part_write l (meeting first) start) (part_elsewhere (of_line l (meeting inner)) (meeting first) start (other_part l (meeting inner) (meeting first) refl))
         ∙ own_part (erase (line_sites l) ∷ write (of_line l mark) standing ∷ part_write l main_edges main) (meeting inner) between
         (cleared (part_write l main_edges main) (meeting inner) refl (part_elsewhere (of_line l (meeting inner)) main_edges main (other_part l (meeting inner) main_edges refl)))
 
     at_start : replay (line_set l main between start end) (of_line l (meeting first)) ≡ option_map sign start
     at_start =
-        replay_rest (of_line l (meeting first)) _ (part_write l (meeting closing) end) (part_elsewhere (of_line l (meeting first)) (meeting closing) end (other_part l (meeting first) (meeting closing) refl))
+        replay_rest (of_line l (meeting first)) _ (part_write l (meeting last) end) (part_elsewhere (of_line l (meeting first)) (meeting last) end (other_part l (meeting first) (meeting last) refl))
         ∙ own_part (erase (line_sites l) ∷ write (of_line l mark) standing ∷ part_write l main_edges main ++ part_write l (meeting inner) between) (meeting first) start
         (cleared (part_write l main_edges main ++ part_write l (meeting inner) between) (meeting first) refl
         (uncovered_both (of_line l (meeting first)) (part_write l main_edges main) (part_write l (meeting inner) between)
         (part_elsewhere (of_line l (meeting first)) main_edges main (other_part l (meeting first) main_edges refl))
         (part_elsewhere (of_line l (meeting first)) (meeting inner) between (other_part l (meeting first) (meeting inner) refl))))
 
-    at_end : replay (line_set l main between start end) (of_line l (meeting closing)) ≡ option_map sign end
+    at_end : replay (line_set l main between start end) (of_line l (meeting last)) ≡ option_map sign end
     at_end =
-        own_part (erase (line_sites l) ∷ write (of_line l mark) standing ∷ part_write l main_edges main ++ part_write l (meeting inner) between ++ part_write l (meeting first) start) (meeting closing) end
-        (cleared (part_write l main_edges main ++ part_write l (meeting inner) between ++ part_write l (meeting first) start) (meeting closing) refl
-        (uncovered_both (of_line l (meeting closing)) (part_write l main_edges main ++ part_write l (meeting inner) between) (part_write l (meeting first) start)
-        (uncovered_both (of_line l (meeting closing)) (part_write l main_edges main) (part_write l (meeting inner) between)
-        (part_elsewhere (of_line l (meeting closing)) main_edges main (other_part l (meeting closing) main_edges refl))
-        (part_elsewhere (of_line l (meeting closing)) (meeting inner) between (other_part l (meeting closing) (meeting inner) refl)))
-        (part_elsewhere (of_line l (meeting closing)) (meeting first) start (other_part l (meeting closing) (meeting first) refl))))
+        own_part (erase (line_sites l) ∷ write (of_line l mark) standing ∷ part_write l main_edges main ++ part_write l (meeting inner) between ++ part_write l (meeting first) start) (meeting last) end
+        (cleared (part_write l main_edges main ++ part_write l (meeting inner) between ++ part_write l (meeting first) start) (meeting last) refl
+        (uncovered_both (of_line l (meeting last)) (part_write l main_edges main ++ part_write l (meeting inner) between) (part_write l (meeting first) start)
+        (uncovered_both (of_line l (meeting last)) (part_write l main_edges main) (part_write l (meeting inner) between)
+        (part_elsewhere (of_line l (meeting last)) main_edges main (other_part l (meeting last) main_edges refl))
+        (part_elsewhere (of_line l (meeting last)) (meeting inner) between (other_part l (meeting last) (meeting inner) refl)))
+        (part_elsewhere (of_line l (meeting last)) (meeting first) start (other_part l (meeting last) (meeting first) refl))))
 
     -- the events cover the sites of the line and no others
     covered_line_set : (q : Site) → ((p : Part) → within (line_sites l) q ≡ false → same_site q (of_line l p) ≡ false) → covered (line_set l main between start end) q ≡ within (line_sites l) q
     covered_line_set q others = by_test (within (line_sites l) q) refl
       where
         rest : List (Event T)
-        rest = write (of_line l mark) standing ∷ part_write l main_edges main ++ part_write l (meeting inner) between ++ part_write l (meeting first) start ++ part_write l (meeting closing) end
+        rest = write (of_line l mark) standing ∷ part_write l main_edges main ++ part_write l (meeting inner) between ++ part_write l (meeting first) start ++ part_write l (meeting last) end
 
         outside : within (line_sites l) q ≡ false → covered rest q ≡ false
         outside h =
-            uncovered_both q (write (of_line l mark) standing ∷ part_write l main_edges main ++ part_write l (meeting inner) between ++ part_write l (meeting first) start) (part_write l (meeting closing) end)
+            uncovered_both q (write (of_line l mark) standing ∷ part_write l main_edges main ++ part_write l (meeting inner) between ++ part_write l (meeting first) start) (part_write l (meeting last) end)
             (uncovered_both q (write (of_line l mark) standing ∷ part_write l main_edges main ++ part_write l (meeting inner) between) (part_write l (meeting first) start)
             (uncovered_both q (write (of_line l mark) standing ∷ part_write l main_edges main) (part_write l (meeting inner) between)
             (ap (λ b. b || covered (part_write l main_edges main) q) (others mark h) ∙ part_elsewhere q main_edges main (others main_edges h))
             (part_elsewhere q (meeting inner) between (others (meeting inner) h)))
             (part_elsewhere q (meeting first) start (others (meeting first) h)))
-            (part_elsewhere q (meeting closing) end (others (meeting closing) h))
+            (part_elsewhere q (meeting last) end (others (meeting last) h))
 
         by_test : (b : Bool) → within (line_sites l) q ≡ b → (within (line_sites l) q || covered rest q) ≡ within (line_sites l) q
         by_test true h = ap (λ b. b || covered rest q) h ∙ sym h
@@ -163,7 +163,7 @@ replay-horizontal_line_set n line mark = at_mark (LineOf.Horizontal n) line.main
 replay-horizontal_line_set n line main_edges = at_main (LineOf.Horizontal n) line.main line.intersection line.left line.right
 replay-horizontal_line_set n line (meeting inner) = at_between (LineOf.Horizontal n) line.main line.intersection line.left line.right
 replay-horizontal_line_set n line (meeting first) = at_start (LineOf.Horizontal n) line.main line.intersection line.left line.right
-replay-horizontal_line_set n line (meeting closing) = at_end (LineOf.Horizontal n) line.main line.intersection line.left line.right
+replay-horizontal_line_set n line (meeting last) = at_end (LineOf.Horizontal n) line.main line.intersection line.left line.right
 
 pub replay-vertical_line_set : {T : Type 0} (n : ℕ) (line : VerticalLine T) (p : Part) → replay (vertical_line_set n line) (of_line (LineOf.Vertical n) p) ≡ vertical_part p line
 unfolding vertical_line_set
@@ -171,7 +171,7 @@ replay-vertical_line_set n line mark = at_mark (LineOf.Vertical n) line.main lin
 replay-vertical_line_set n line main_edges = at_main (LineOf.Vertical n) line.main line.intersection line.top line.bottom
 replay-vertical_line_set n line (meeting inner) = at_between (LineOf.Vertical n) line.main line.intersection line.top line.bottom
 replay-vertical_line_set n line (meeting first) = at_start (LineOf.Vertical n) line.main line.intersection line.top line.bottom
-replay-vertical_line_set n line (meeting closing) = at_end (LineOf.Vertical n) line.main line.intersection line.top line.bottom
+replay-vertical_line_set n line (meeting last) = at_end (LineOf.Vertical n) line.main line.intersection line.top line.bottom
 
 -- it covers the line's sites
 pub covered-horizontal_line_set : {T : Type 0} (n : ℕ) (line : HorizontalLine T) (q : Site) → covered (horizontal_line_set n line) q ≡ within (line_sites (LineOf.Horizontal n)) q

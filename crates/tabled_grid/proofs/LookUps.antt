@@ -4,7 +4,7 @@ use Rattle.std.specs.Option.{option_map}
 use Rattle.tabled_grid.specs.declared.borders.Borders.{Borders}
 use Rattle.tabled_grid.specs.declared.place.Place.{Place}
 use Rattle.tabled_grid.specs.declared.place.LineOf.{LineOf}
-use Rattle.tabled_grid.specs.Site.{Direction, across, down, Rank, first, inner, closing, stands, Class, edges, crossings, main_edges, meeting, horizontal_meeting, vertical_meeting, rank, of_class, class_value}
+use Rattle.tabled_grid.specs.Site.{Direction, across, down, Rank, first, inner, last, stands, Class, edges, crossings, main_edges, meeting, horizontal_meeting, vertical_meeting, rank, of_class, class_value}
 use Rattle.tabled_grid.specs.Event.{sign}
 use Rattle.tabled_grid.specs.Value.{has_spot, inside, class_at, plain_sites, sites, sign_or, first_sign, value, plain_value}
 use Rattle.tabled_grid.specs.Drawn.{draws}
@@ -140,18 +140,18 @@ module _ {T : Type 0} (borders : Borders T) where
 
   pub some_rank : (d : Direction) (count n : ℕ) → rank_draws borders count d n ≡ true → (rank : Rank) × (stands rank count n ≡ true) × (has_class borders (line_classes d rank) ≡ true)
   some_rank d count n h =
-      elim (or_parts ((stands first count n && has_class borders (line_classes d first)) || (stands closing count n && has_class borders (line_classes d closing))) (stands inner count n && has_class borders (line_classes d inner)) h) [
-        | inl outer ↦ elim (or_parts (stands first count n && has_class borders (line_classes d first)) (stands closing count n && has_class borders (line_classes d closing)) outer) [
+      elim (or_parts ((stands first count n && has_class borders (line_classes d first)) || (stands last count n && has_class borders (line_classes d last))) (stands inner count n && has_class borders (line_classes d inner)) h) [
+        | inl outer ↦ elim (or_parts (stands first count n && has_class borders (line_classes d first)) (stands last count n && has_class borders (line_classes d last)) outer) [
           | inl e ↦ ranked d count n first e
-          | inr e ↦ ranked d count n closing e
+          | inr e ↦ ranked d count n last e
         ]
         | inr e ↦ ranked d count n inner e
       ]
 
   by_rank : (d : Direction) (rank : Rank) (count n : ℕ) → stands rank count n ≡ true → has_class borders (line_classes d rank) ≡ true → rank_draws borders count d n ≡ true
   by_rank d first count n e f = or_left _ _ (or_left _ _ (and_both (stands first count n) _ e f))
-  by_rank d closing count n e f = or_left _ _ (or_right (stands first count n && has_class borders (line_classes d first)) _ (and_both (stands closing count n) _ e f))
-  by_rank d inner count n e f = or_right ((stands first count n && has_class borders (line_classes d first)) || (stands closing count n && has_class borders (line_classes d closing))) _ (and_both (stands inner count n) _ e f)
+  by_rank d last count n e f = or_left _ _ (or_right (stands first count n && has_class borders (line_classes d first)) _ (and_both (stands last count n) _ e f))
+  by_rank d inner count n e f = or_right ((stands first count n && has_class borders (line_classes d first)) || (stands last count n && has_class borders (line_classes d last))) _ (and_both (stands inner count n) _ e f)
 
   -- the classes of the lines of a rank draw each of them
   pub all_draw : (d : Direction) (rank : Rank) (count n : ℕ) → stands rank count n ≡ true → AllDraw count (line_of d n) (line_classes d rank)
@@ -166,12 +166,12 @@ module _ {T : Type 0} (borders : Borders T) where
   given_across : (row col : Rank) → is_some (class_value (crossings row col) borders) ≡ true → has_class borders (line_classes across row) ≡ true
   given_across row first e = or_right (is_some (class_value (edges across row) borders)) _ (or_left _ _ e)
   given_across row inner e = or_right (is_some (class_value (edges across row) borders)) _ (or_right (is_some (class_value (crossings row first) borders)) _ (or_left _ _ e))
-  given_across row closing e = or_right (is_some (class_value (edges across row) borders)) _ (or_right (is_some (class_value (crossings row first) borders)) _ (or_right (is_some (class_value (crossings row inner) borders)) _ (or_left _ _ e)))
+  given_across row last e = or_right (is_some (class_value (edges across row) borders)) _ (or_right (is_some (class_value (crossings row first) borders)) _ (or_right (is_some (class_value (crossings row inner) borders)) _ (or_left _ _ e)))
 
   given_down : (row col : Rank) → is_some (class_value (crossings row col) borders) ≡ true → has_class borders (line_classes down col) ≡ true
   given_down first col e = or_right (is_some (class_value (edges down col) borders)) _ (or_left _ _ e)
   given_down inner col e = or_right (is_some (class_value (edges down col) borders)) _ (or_right (is_some (class_value (crossings first col) borders)) _ (or_left _ _ e))
-  given_down closing col e = or_right (is_some (class_value (edges down col) borders)) _ (or_right (is_some (class_value (crossings first col) borders)) _ (or_right (is_some (class_value (crossings inner col) borders)) _ (or_left _ _ e)))
+  given_down last col e = or_right (is_some (class_value (edges down col) borders)) _ (or_right (is_some (class_value (crossings first col) borders)) _ (or_right (is_some (class_value (crossings inner col) borders)) _ (or_left _ _ e)))
 
   -- a class that draws a line and has a field is one of those of the line's rank
   pub class_draws_it : (d : Direction) (count n : ℕ) (c : Class) → draws count (line_of d n) (of_class c) ≡ true → is_some (class_value c borders) ≡ true → rank_draws borders count d n ≡ true

@@ -12,7 +12,7 @@ use Rattle.tabled_grid.specs.declared.place.LineOf.{LineOf}
 use Rattle.tabled_grid.specs.declared.place.Place.{Place}
 use Rattle.tabled_object.specs.declared.position.Position.{Position}
 use Rattle.tabled_grid.specs.Keys.{position_cmp, edge_place_cmp, positions_total, exact_positions, edge_places_total, exact_edge_places}
-use Rattle.tabled_grid.specs.Site.{across, down, first, inner, closing, Class, edges, crossings, class_value, Part, mark, main_edges, meeting, Spot, edge, crossing, Site, the_default, of_class, of_line, at_spot, from_end, from_start, same_site}
+use Rattle.tabled_grid.specs.Site.{across, down, first, inner, last, Class, edges, crossings, class_value, Part, mark, main_edges, meeting, Spot, edge, crossing, Site, the_default, of_class, of_line, at_spot, from_end, from_start, same_site}
 use Rattle.tabled_grid.specs.Event.{Written, sign, standing, Event, write, erase, replay, these_sites, Changes}
 use Rattle.tabled_grid.specs.State.{State, state_at, position, edge_place, horizontal_part, vertical_part}
 use Rattle.tabled_grid.specs.CellBorder.{border_places, border_fields}
@@ -54,7 +54,7 @@ same_horizontal (Some l) (Some m) h = λ i. Some (record {
   main = of_signs l.main m.main (h main_edges) i;
   intersection = of_signs l.intersection m.intersection (h (meeting inner)) i;
   left = of_signs l.left m.left (h (meeting first)) i;
-  right = of_signs l.right m.right (h (meeting closing)) i;
+  right = of_signs l.right m.right (h (meeting last)) i;
 })
 
 same_vertical : {T : Type 0} (o p : Option (VerticalLine T)) → ((part : Part) → option_and_then (vertical_part part) o ≡ option_and_then (vertical_part part) p) → o ≡ p
@@ -65,23 +65,23 @@ same_vertical (Some l) (Some m) h = λ i. Some (record {
   main = of_signs l.main m.main (h main_edges) i;
   intersection = of_signs l.intersection m.intersection (h (meeting inner)) i;
   top = of_signs l.top m.top (h (meeting first)) i;
-  bottom = of_signs l.bottom m.bottom (h (meeting closing)) i;
+  bottom = of_signs l.bottom m.bottom (h (meeting last)) i;
 })
 
 same_classes : {T : Type 0} (a b : Borders T) → ((class : Class) → class_value class a ≡ class_value class b) → a ≡ b
 same_classes a b h = λ i. record {
   top = h (edges across first) i;
-  bottom = h (edges across closing) i;
+  bottom = h (edges across last) i;
   left = h (edges down first) i;
-  right = h (edges down closing) i;
+  right = h (edges down last) i;
   top_left = h (crossings first first) i;
-  top_right = h (crossings first closing) i;
-  bottom_left = h (crossings closing first) i;
-  bottom_right = h (crossings closing closing) i;
+  top_right = h (crossings first last) i;
+  bottom_left = h (crossings last first) i;
+  bottom_right = h (crossings last last) i;
   top_intersection = h (crossings first inner) i;
-  bottom_intersection = h (crossings closing inner) i;
+  bottom_intersection = h (crossings last inner) i;
   left_intersection = h (crossings inner first) i;
-  right_intersection = h (crossings inner closing) i;
+  right_intersection = h (crossings inner last) i;
   horizontal = h (edges across inner) i;
   vertical = h (edges down inner) i;
   intersection = h (crossings inner inner) i;

@@ -2,7 +2,7 @@
 use Rattle.std.proofs.Common.{◌≡◌, ℕ, Bool, true, false, ◌&&◌, ◌==◌, refl}
 use Rattle.std.proofs.lemmas.Bool.{eqb-true}
 use Rattle.tabled_grid.specs.declared.place.LineOf.{LineOf}
-use Rattle.tabled_grid.specs.Site.{Direction, across, down, Rank, first, inner, closing, Class, edges, crossings, Part, mark, main_edges, meeting, Spot, edge, crossing, Site, the_default, of_class, of_line, at_spot, from_end, from_start, same_direction, same_rank, same_class, same_line, same_part, same_spot, same_site}
+use Rattle.tabled_grid.specs.Site.{Direction, across, down, Rank, first, inner, last, Class, edges, crossings, Part, mark, main_edges, meeting, Spot, edge, crossing, Site, the_default, of_class, of_line, at_spot, from_end, from_start, same_direction, same_rank, same_class, same_line, same_part, same_spot, same_site}
 
 -- both tests of an && hold
 both : (a b : Bool) → (a && b) ≡ true → (a ≡ true) × (b ≡ true)
@@ -18,13 +18,13 @@ same_direction-eq down across h = cc
 same_rank-eq : (n m : Rank) → same_rank n m ≡ true → n ≡ m
 same_rank-eq first first h = refl
 same_rank-eq inner inner h = refl
-same_rank-eq closing closing h = refl
+same_rank-eq last last h = refl
 same_rank-eq first inner h = cc
-same_rank-eq first closing h = cc
+same_rank-eq first last h = cc
 same_rank-eq inner first h = cc
-same_rank-eq inner closing h = cc
-same_rank-eq closing first h = cc
-same_rank-eq closing inner h = cc
+same_rank-eq inner last h = cc
+same_rank-eq last first h = cc
+same_rank-eq last inner h = cc
 
 pub same_class-eq : (a b : Class) → same_class a b ≡ true → a ≡ b
 same_class-eq (edges d n) (edges e m) h =
@@ -76,10 +76,10 @@ same_spot-eq (crossing r c) (edge e s k) h = cc
 -- the four numbers of an offset site, where its test holds
 same_offset : (d e : Direction) (r s c k n m : ℕ) → (same_direction d e && (r == s) && (c == k) && (n == m)) ≡ true → (d ≡ e) × (r ≡ s) × (c ≡ k) × (n ≡ m)
 same_offset d e r s c k n m h =
-    let last = both (same_direction d e && (r == s) && (c == k)) (n == m) h in
-    let third = both (same_direction d e && (r == s)) (c == k) last.0 in
+    let fourth = both (same_direction d e && (r == s) && (c == k)) (n == m) h in
+    let third = both (same_direction d e && (r == s)) (c == k) fourth.0 in
     let front = both (same_direction d e) (r == s) third.0 in
-    (same_direction-eq d e front.0, eqb-true r s front.1, eqb-true c k third.1, eqb-true n m last.1)
+    (same_direction-eq d e front.0, eqb-true r s front.1, eqb-true c k third.1, eqb-true n m fourth.1)
 
 pub same_site-eq : (p q : Site) → same_site p q ≡ true → p ≡ q
 same_site-eq the_default the_default h = refl

@@ -14,7 +14,7 @@ use Rattle.tabled_grid.specs.declared.lines.HorizontalLine.{HorizontalLine}
 use Rattle.tabled_grid.specs.declared.lines.VerticalLine.{VerticalLine}
 use Rattle.tabled_grid.specs.declared.place.LineOf.{LineOf}
 use Rattle.tabled_grid.specs.Keys.{positions_total, edge_places_total}
-use Rattle.tabled_grid.specs.Site.{across, down, first, inner, closing, Class, edges, crossings, class_value, Part, mark, main_edges, meeting, edge, crossing, Site, the_default, of_class, of_line, at_spot, from_end, from_start}
+use Rattle.tabled_grid.specs.Site.{across, down, first, inner, last, Class, edges, crossings, class_value, Part, mark, main_edges, meeting, edge, crossing, Site, the_default, of_class, of_line, at_spot, from_end, from_start}
 use Rattle.tabled_grid.specs.Event.{Written, sign}
 use Rattle.tabled_grid.specs.State.{State, state_at, position, edge_place, horizontal_part, vertical_part}
 use Rattle.tabled_grid.proofs.SameLemmas.{both}
@@ -153,7 +153,7 @@ module _ {V : Type 0} (E : V → V → Bool) where
   horizontal_parts (Some x) (Some y) h main_edges = as_signs x.main y.main (horizontal_fields x y h).0
   horizontal_parts (Some x) (Some y) h (meeting inner) = as_signs x.intersection y.intersection (horizontal_fields x y h).1.0
   horizontal_parts (Some x) (Some y) h (meeting first) = as_signs x.left y.left (horizontal_fields x y h).1.1.0
-  horizontal_parts (Some x) (Some y) h (meeting closing) = as_signs x.right y.right (horizontal_fields x y h).1.1.1
+  horizontal_parts (Some x) (Some y) h (meeting last) = as_signs x.right y.right (horizontal_fields x y h).1.1.1
 
   vertical_fields : (x y : VerticalLine V) → same_vertical E x y ≡ true → SameValues E x.main y.main × (SameValues E x.intersection y.intersection × (SameValues E x.top y.top × SameValues E x.bottom y.bottom))
   vertical_fields x y h =
@@ -169,27 +169,27 @@ module _ {V : Type 0} (E : V → V → Bool) where
   vertical_parts (Some x) (Some y) h main_edges = as_signs x.main y.main (vertical_fields x y h).0
   vertical_parts (Some x) (Some y) h (meeting inner) = as_signs x.intersection y.intersection (vertical_fields x y h).1.0
   vertical_parts (Some x) (Some y) h (meeting first) = as_signs x.top y.top (vertical_fields x y h).1.1.0
-  vertical_parts (Some x) (Some y) h (meeting closing) = as_signs x.bottom y.bottom (vertical_fields x y h).1.1.1
+  vertical_parts (Some x) (Some y) h (meeting last) = as_signs x.bottom y.bottom (vertical_fields x y h).1.1.1
 
   whole_horizontal : (a b : Option (HorizontalLine V)) → ((part : Part) → SameKept E (option_and_then (horizontal_part part) a) (option_and_then (horizontal_part part) b)) → option_eq (same_horizontal E) a b ≡ true
   whole_horizontal None None h = refl
   whole_horizontal None (Some y) h = h mark
   whole_horizontal (Some x) None h = h mark
   whole_horizontal (Some x) (Some y) h =
-      all_of (of_signs x.main y.main (h main_edges)) (all_of (of_signs x.intersection y.intersection (h (meeting inner))) (all_of (of_signs x.left y.left (h (meeting first))) (of_signs x.right y.right (h (meeting closing)))))
+      all_of (of_signs x.main y.main (h main_edges)) (all_of (of_signs x.intersection y.intersection (h (meeting inner))) (all_of (of_signs x.left y.left (h (meeting first))) (of_signs x.right y.right (h (meeting last)))))
 
   whole_vertical : (a b : Option (VerticalLine V)) → ((part : Part) → SameKept E (option_and_then (vertical_part part) a) (option_and_then (vertical_part part) b)) → option_eq (same_vertical E) a b ≡ true
   whole_vertical None None h = refl
   whole_vertical None (Some y) h = h mark
   whole_vertical (Some x) None h = h mark
   whole_vertical (Some x) (Some y) h =
-      all_of (of_signs x.main y.main (h main_edges)) (all_of (of_signs x.intersection y.intersection (h (meeting inner))) (all_of (of_signs x.top y.top (h (meeting first))) (of_signs x.bottom y.bottom (h (meeting closing)))))
+      all_of (of_signs x.main y.main (h main_edges)) (all_of (of_signs x.intersection y.intersection (h (meeting inner))) (all_of (of_signs x.top y.top (h (meeting first))) (of_signs x.bottom y.bottom (h (meeting last)))))
 
   whole_borders : (a b : Borders V) → ((class : Class) → SameValues E (class_value class a) (class_value class b)) → same_borders E a b ≡ true
   whole_borders a b h =
-      all_of (h (edges across first)) (all_of (h (edges across closing)) (all_of (h (edges down first)) (all_of (h (edges down closing))
-      (all_of (h (crossings first first)) (all_of (h (crossings first closing)) (all_of (h (crossings closing first)) (all_of (h (crossings closing closing))
-      (all_of (h (crossings first inner)) (all_of (h (crossings closing inner)) (all_of (h (crossings inner first)) (all_of (h (crossings inner closing))
+      all_of (h (edges across first)) (all_of (h (edges across last)) (all_of (h (edges down first)) (all_of (h (edges down last))
+      (all_of (h (crossings first first)) (all_of (h (crossings first last)) (all_of (h (crossings last first)) (all_of (h (crossings last last))
+      (all_of (h (crossings first inner)) (all_of (h (crossings last inner)) (all_of (h (crossings inner first)) (all_of (h (crossings inner last))
       (all_of (h (edges across inner)) (all_of (h (edges down inner)) (h (crossings inner inner)))))))))))))))
 
   borders_parts : (a b : Borders V) → same_borders E a b ≡ true → (class : Class) → SameValues E (class_value class a) (class_value class b)
@@ -213,19 +213,19 @@ module _ {V : Type 0} (E : V → V → Bool) where
       of_fields : (class : Class) → SameValues E a.top b.top → SameValues E a.bottom b.bottom → SameValues E a.left b.left → SameValues E a.right b.right → SameValues E a.top_left b.top_left → SameValues E a.top_right b.top_right → SameValues E a.bottom_left b.bottom_left → SameValues E a.bottom_right b.bottom_right → SameValues E a.top_intersection b.top_intersection → SameValues E a.bottom_intersection b.bottom_intersection → SameValues E a.left_intersection b.left_intersection → SameValues E a.right_intersection b.right_intersection → SameValues E a.horizontal b.horizontal → SameValues E a.vertical b.vertical → SameValues E a.intersection b.intersection → SameValues E (class_value class a) (class_value class b)
       of_fields (edges across first) t b' l r tl tr bl br ti bi li ri h v i = t
       of_fields (edges across inner) t b' l r tl tr bl br ti bi li ri h v i = h
-      of_fields (edges across closing) t b' l r tl tr bl br ti bi li ri h v i = b'
+      of_fields (edges across last) t b' l r tl tr bl br ti bi li ri h v i = b'
       of_fields (edges down first) t b' l r tl tr bl br ti bi li ri h v i = l
       of_fields (edges down inner) t b' l r tl tr bl br ti bi li ri h v i = v
-      of_fields (edges down closing) t b' l r tl tr bl br ti bi li ri h v i = r
+      of_fields (edges down last) t b' l r tl tr bl br ti bi li ri h v i = r
       of_fields (crossings first first) t b' l r tl tr bl br ti bi li ri h v i = tl
       of_fields (crossings first inner) t b' l r tl tr bl br ti bi li ri h v i = ti
-      of_fields (crossings first closing) t b' l r tl tr bl br ti bi li ri h v i = tr
+      of_fields (crossings first last) t b' l r tl tr bl br ti bi li ri h v i = tr
       of_fields (crossings inner first) t b' l r tl tr bl br ti bi li ri h v i = li
       of_fields (crossings inner inner) t b' l r tl tr bl br ti bi li ri h v i = i
-      of_fields (crossings inner closing) t b' l r tl tr bl br ti bi li ri h v i = ri
-      of_fields (crossings closing first) t b' l r tl tr bl br ti bi li ri h v i = bl
-      of_fields (crossings closing inner) t b' l r tl tr bl br ti bi li ri h v i = bi
-      of_fields (crossings closing closing) t b' l r tl tr bl br ti bi li ri h v i = br
+      of_fields (crossings inner last) t b' l r tl tr bl br ti bi li ri h v i = ri
+      of_fields (crossings last first) t b' l r tl tr bl br ti bi li ri h v i = bl
+      of_fields (crossings last inner) t b' l r tl tr bl br ti bi li ri h v i = bi
+      of_fields (crossings last last) t b' l r tl tr bl br ti bi li ri h v i = br
 
 -- two stores that are the same by that equality keep the same at every site
 pub same_at_sites : {V : Type 0} (E : V → V → Bool) (a b : State V) → same_state E a b ≡ true → (site : Site) → option_eq (same_written E) (state_at a site) (state_at b site) ≡ true

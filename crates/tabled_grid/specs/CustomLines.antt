@@ -3,7 +3,7 @@ use Rattle.std.specs.Prelude.{Option, None}
 use Rattle.tabled_grid.specs.declared.borders.Borders.{Borders}
 use Rattle.tabled_grid.specs.declared.lines.HorizontalLine.{HorizontalLine}
 use Rattle.tabled_grid.specs.declared.lines.VerticalLine.{VerticalLine}
-use Rattle.tabled_grid.specs.Site.{Rank, first, inner, closing}
+use Rattle.tabled_grid.specs.Site.{Rank, first, inner, last}
 
 abbrev pub no_borders : {T : Type 0} → Borders T
 no_borders = record {
@@ -34,9 +34,9 @@ no_vertical = record { main = None; intersection = None; top = None; bottom = No
 abbrev pub put_horizontal_meeting : {T : Type 0} → Rank → Option T → HorizontalLine T → HorizontalLine T
 put_horizontal_meeting first x line = record line { left = x }
 put_horizontal_meeting inner x line = record line { intersection = x }
-put_horizontal_meeting closing x line = record line { right = x }
+put_horizontal_meeting last x line = record line { right = x }
 
 abbrev pub put_vertical_meeting : {T : Type 0} → Rank → Option T → VerticalLine T → VerticalLine T
 put_vertical_meeting first x line = record line { top = x }
 put_vertical_meeting inner x line = record line { intersection = x }
-put_vertical_meeting closing x line = record line { bottom = x }
+put_vertical_meeting last x line = record line { bottom = x }

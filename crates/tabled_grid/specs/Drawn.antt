@@ -2,7 +2,7 @@
 use Rattle.std.specs.Prelude.{ℕ, Bool, true, false, ◌&&◌, ◌==◌, nat_le, IsTrue, is_some, IsSome, Option, List, [], ◌∷◌, ◌≤◌}
 use Rattle.std.specs.List.{list_any}
 use Rattle.tabled_grid.specs.declared.place.LineOf.{LineOf}
-use Rattle.tabled_grid.specs.Site.{across, down, first, closing, stands, edges, crossings, mark, meeting, edge, crossing, Site, the_default, of_class, of_line, at_spot}
+use Rattle.tabled_grid.specs.Site.{across, down, first, last, stands, edges, crossings, mark, meeting, edge, crossing, Site, the_default, of_class, of_line, at_spot}
 use Rattle.tabled_grid.specs.Event.{Written, Event, write, erase, replay}
 
 abbrev pub number : LineOf → ℕ
@@ -19,7 +19,7 @@ draws count (LineOf.Horizontal n) (of_class (edges across rank)) = stands rank c
 draws count (LineOf.Horizontal n) (of_class (crossings row col)) = stands row count n
 draws count (LineOf.Horizontal n) (of_line (LineOf.Horizontal m) mark) = m == n
 draws count (LineOf.Horizontal n) (of_line (LineOf.Vertical m) (meeting first)) = stands first count n
-draws count (LineOf.Horizontal n) (of_line (LineOf.Vertical m) (meeting closing)) = stands closing count n
+draws count (LineOf.Horizontal n) (of_line (LineOf.Vertical m) (meeting last)) = stands last count n
 draws count (LineOf.Horizontal n) (at_spot (edge across r c)) = r == n
 draws count (LineOf.Horizontal n) (at_spot (crossing r c)) = r == n
 draws count (LineOf.Vertical n) (of_class (edges down rank)) = stands rank count n

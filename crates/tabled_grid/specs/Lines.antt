@@ -3,7 +3,7 @@ use Rattle.std.specs.Prelude.{ℕ, Option, List, ◌∷◌, ◌++◌, option_map
 use Rattle.tabled_grid.specs.declared.lines.HorizontalLine.{HorizontalLine}
 use Rattle.tabled_grid.specs.declared.lines.VerticalLine.{VerticalLine}
 use Rattle.tabled_grid.specs.declared.place.LineOf.{LineOf}
-use Rattle.tabled_grid.specs.Site.{first, inner, closing, Part, mark, main_edges, meeting, of_line}
+use Rattle.tabled_grid.specs.Site.{first, inner, last, Part, mark, main_edges, meeting, of_line}
 use Rattle.tabled_grid.specs.Event.{sign, standing, Event, write, erase, line_sites}
 
 -- the write of a field of a line, if it is given
@@ -16,10 +16,10 @@ unfoldable pub horizontal_line_set : {T : Type 0} → ℕ → HorizontalLine T �
 horizontal_line_set n line =
     erase (line_sites (LineOf.Horizontal n)) ∷ write (of_line (LineOf.Horizontal n) mark) standing
     ∷ part_write (LineOf.Horizontal n) main_edges line.main ++ part_write (LineOf.Horizontal n) (meeting inner) line.intersection
-    ++ part_write (LineOf.Horizontal n) (meeting first) line.left ++ part_write (LineOf.Horizontal n) (meeting closing) line.right
+    ++ part_write (LineOf.Horizontal n) (meeting first) line.left ++ part_write (LineOf.Horizontal n) (meeting last) line.right
 
 unfoldable pub vertical_line_set : {T : Type 0} → ℕ → VerticalLine T → List (Event T)
 vertical_line_set n line =
     erase (line_sites (LineOf.Vertical n)) ∷ write (of_line (LineOf.Vertical n) mark) standing
     ∷ part_write (LineOf.Vertical n) main_edges line.main ++ part_write (LineOf.Vertical n) (meeting inner) line.intersection
-    ++ part_write (LineOf.Vertical n) (meeting first) line.top ++ part_write (LineOf.Vertical n) (meeting closing) line.bottom
+    ++ part_write (LineOf.Vertical n) (meeting first) line.top ++ part_write (LineOf.Vertical n) (meeting last) line.bottom

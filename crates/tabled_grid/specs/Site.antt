@@ -5,9 +5,9 @@ use Rattle.tabled_grid.specs.declared.borders.Borders.{Borders}
 use Rattle.tabled_grid.specs.declared.lines.HorizontalLine.{HorizontalLine}
 use Rattle.tabled_grid.specs.declared.lines.VerticalLine.{VerticalLine}
 use Rattle.tabled_grid.specs.declared.place.LineOf.{LineOf}
--- where a line stands among those of its direction: the first, the closing one, or one between
+-- where a line stands among those of its direction: the first, the last, which closes the table, or one between
 pub use Rattle.tabled_grid.specs.declared.place.Rank.{Rank}
-pub use Rattle.tabled_grid.specs.declared.place.Rank.TheVariants.{First as first, Inner as inner, Last as closing}
+pub use Rattle.tabled_grid.specs.declared.place.Rank.TheVariants.{First as first, Inner as inner, Last as last}
 
 -- which way an edge runs: across, as part of a horizontal line, or down, as part of a vertical one
 pub data Direction : Type 0 where
@@ -18,11 +18,11 @@ pub data Direction : Type 0 where
 abbrev pub stands : Rank → ℕ → ℕ → Bool
 stands first count n = n == 0
 stands inner count n = nat_lt 0 n && nat_lt n count
-stands closing count n = n == count
+stands last count n = n == count
 
 -- where line n stands, of the lines 0 to count
 abbrev pub rank : ℕ → ℕ → Rank
-rank count n = if n == 0 then first else (if n == count then closing else inner)
+rank count n = if n == 0 then first else (if n == count then last else inner)
 
 -- the fifteen classes: the edges of one direction on the lines of one rank, and the crossings of a horizontal line
 -- of one rank with a vertical line of another
@@ -65,31 +65,31 @@ level (from_start _ _ _ _) = 6
 abbrev pub class_value : {T : Type 0} → Class → Borders T → Option T
 class_value (edges across first) borders = borders.top
 class_value (edges across inner) borders = borders.horizontal
-class_value (edges across closing) borders = borders.bottom
+class_value (edges across last) borders = borders.bottom
 class_value (edges down first) borders = borders.left
 class_value (edges down inner) borders = borders.vertical
-class_value (edges down closing) borders = borders.right
+class_value (edges down last) borders = borders.right
 class_value (crossings first first) borders = borders.top_left
 class_value (crossings first inner) borders = borders.top_intersection
-class_value (crossings first closing) borders = borders.top_right
+class_value (crossings first last) borders = borders.top_right
 class_value (crossings inner first) borders = borders.left_intersection
 class_value (crossings inner inner) borders = borders.intersection
-class_value (crossings inner closing) borders = borders.right_intersection
-class_value (crossings closing first) borders = borders.bottom_left
-class_value (crossings closing inner) borders = borders.bottom_intersection
-class_value (crossings closing closing) borders = borders.bottom_right
+class_value (crossings inner last) borders = borders.right_intersection
+class_value (crossings last first) borders = borders.bottom_left
+class_value (crossings last inner) borders = borders.bottom_intersection
+class_value (crossings last last) borders = borders.bottom_right
 
 -- what a custom horizontal line has for its crossings with the vertical lines of a rank
 abbrev pub horizontal_meeting : {T : Type 0} → Rank → HorizontalLine T → Option T
 horizontal_meeting first line = line.left
 horizontal_meeting inner line = line.intersection
-horizontal_meeting closing line = line.right
+horizontal_meeting last line = line.right
 
 -- what a custom vertical line has for its crossings with the horizontal lines of a rank
 abbrev pub vertical_meeting : {T : Type 0} → Rank → VerticalLine T → Option T
 vertical_meeting first line = line.top
 vertical_meeting inner line = line.intersection
-vertical_meeting closing line = line.bottom
+vertical_meeting last line = line.bottom
 
 abbrev pub same_direction : Direction → Direction → Bool
 same_direction across across = true
@@ -99,7 +99,7 @@ same_direction _ _ = false
 abbrev pub same_rank : Rank → Rank → Bool
 same_rank first first = true
 same_rank inner inner = true
-same_rank closing closing = true
+same_rank last last = true
 same_rank _ _ = false
 
 abbrev pub same_class : Class → Class → Bool

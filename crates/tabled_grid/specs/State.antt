@@ -11,7 +11,7 @@ use Rattle.tabled_object.specs.declared.position.Position.{Position}
 use Rattle.tabled_grid.specs.declared.keys.EdgePlace.{EdgePlace}
 pub use Rattle.tabled_object.specs.Entities.{position}
 use Rattle.tabled_grid.specs.Keys.{position_cmp, edge_place_cmp}
-use Rattle.tabled_grid.specs.Site.{Direction, across, down, Rank, first, inner, closing, stands, Class, edges, crossings, class_value, Part, mark, main_edges, meeting, horizontal_meeting, vertical_meeting, edge, crossing, Site, the_default, of_class, of_line, at_spot, from_end, from_start}
+use Rattle.tabled_grid.specs.Site.{Direction, across, down, Rank, first, inner, last, stands, Class, edges, crossings, class_value, Part, mark, main_edges, meeting, horizontal_meeting, vertical_meeting, edge, crossing, Site, the_default, of_class, of_line, at_spot, from_end, from_start}
 use Rattle.tabled_grid.specs.Event.{Written, sign, standing, Event, write, erase, level_sites}
 use Rattle.tabled_grid.specs.Lines.{horizontal_line_set, vertical_line_set}
 
@@ -73,8 +73,8 @@ state_at state (from_start d r c n) = option_map sign (get (start_values d state
 
 -- the classes whose fields draw a line of that direction and rank
 abbrev pub line_classes : Direction → Rank → List Class
-line_classes across rank = edges across rank ∷ crossings rank first ∷ crossings rank inner ∷ crossings rank closing ∷ []
-line_classes down rank = edges down rank ∷ crossings first rank ∷ crossings inner rank ∷ crossings closing rank ∷ []
+line_classes across rank = edges across rank ∷ crossings rank first ∷ crossings rank inner ∷ crossings rank last ∷ []
+line_classes down rank = edges down rank ∷ crossings first rank ∷ crossings inner rank ∷ crossings last rank ∷ []
 
 -- whether a class record has a field of one of the classes
 abbrev pub has_class : {T : Type 0} → Borders T → List Class → Bool
@@ -83,7 +83,7 @@ has_class borders cs = list_any (λ c. is_some (class_value c borders)) cs
 abbrev pub rank_draws : {T : Type 0} → Borders T → ℕ → Direction → ℕ → Bool
 rank_draws borders count d n =
     (stands first count n && has_class borders (line_classes d first))
-    || (stands closing count n && has_class borders (line_classes d closing))
+    || (stands last count n && has_class borders (line_classes d last))
     || (stands inner count n && has_class borders (line_classes d inner))
 
 -- whether a class record draws a line, of the lines 0 to count of its direction
@@ -98,10 +98,10 @@ HasNothing borders = (class : Class) → class_value class borders ≡ None
 -- all fifteen classes
 unfoldable pub classes : List Class
 classes =
-    edges across first ∷ edges across inner ∷ edges across closing ∷ edges down first ∷ edges down inner ∷ edges down closing
-    ∷ crossings first first ∷ crossings first inner ∷ crossings first closing
-    ∷ crossings inner first ∷ crossings inner inner ∷ crossings inner closing
-    ∷ crossings closing first ∷ crossings closing inner ∷ crossings closing closing ∷ []
+    edges across first ∷ edges across inner ∷ edges across last ∷ edges down first ∷ edges down inner ∷ edges down last
+    ∷ crossings first first ∷ crossings first inner ∷ crossings first last
+    ∷ crossings inner first ∷ crossings inner inner ∷ crossings inner last
+    ∷ crossings last first ∷ crossings last inner ∷ crossings last last ∷ []
 
 -- the writes of the given fields of a class record, for these classes
 unfoldable pub class_writes : {T : Type 0} → Borders T → List Class → List (Event T)

@@ -7,7 +7,7 @@ use Rattle.tabled_replay.specs.declared.event_list.Region.{Region as PlainRegion
 use Rattle.tabled_replay.specs.declared.event_list.Written.{Written as PlainWritten}
 use Rattle.tabled_replay.specs.declared.event_list.Event.{Event as PlainEvent}
 use Rattle.tabled_grid.specs.declared.place.Rank.{Rank}
-use Rattle.tabled_grid.specs.declared.place.Rank.TheVariants.{First as first, Inner as inner, Last as closing}
+use Rattle.tabled_grid.specs.declared.place.Rank.TheVariants.{First as first, Inner as inner, Last as last}
 use Rattle.tabled_grid.specs.Site.{Direction, across, down, edges, crossings, mark, main_edges, meeting, edge, crossing, Site, the_default, of_class, of_line, at_spot, from_end, from_start}
 use Rattle.tabled_grid.specs.Event.{Written, sign, standing, Region, level_sites, offset_sites, line_sites, these_sites, Event, write, erase}
 
@@ -18,7 +18,7 @@ direction_of PlainDirection.Down = down
 abbrev pub rank_of : PlainRank → Rank
 rank_of PlainRank.First = first
 rank_of PlainRank.Inner = inner
-rank_of PlainRank.Closing = closing
+rank_of PlainRank.Closing = last
 
 abbrev pub site_of : PlainSite → Site
 site_of PlainSite.Default = the_default

@@ -10,7 +10,7 @@ use Rattle.tabled_grid.specs.Borders.{horizontal_of, vertical_of, put_horizontal
 use Rattle.tabled_grid.specs.CustomLines.{no_horizontal, no_vertical, put_horizontal_meeting, put_vertical_meeting}
 use Rattle.tabled_grid.proofs.SixLines.{horizontal_of-put, vertical_of-put, horizontal_of-put_vertical, vertical_of-put_horizontal, put_horizontal_meeting-same, put_vertical_meeting-same}
 use Rattle.tabled_style.specs.Shown.{Shown}
-use Rattle.tabled_style.specs.LineCalls.{space_where, spaced_down, spaced_across, crossed_down, crossed_across, ended_down, ended_across, settled_across, settled_down, with_line_across, with_line_down}
+use Rattle.tabled_style.specs.LineCalls.{space_where, spaced_down, spaced_across, followed_down, followed_across, settled_across, settled_down, with_line_across, with_line_down}
 
 -- a line stays as it is where one is put across it that has the same at their crossing
 alike_across : (rank column : Rank) (x : Option ℕ) (put : VerticalLine ℕ) (borders : Borders ℕ) → horizontal_meeting column (horizontal_of rank borders) ≡ x → vertical_meeting rank put ≡ x
@@ -27,7 +27,7 @@ alike_down rank row x put borders has gets =
     ∙ ap (λ (y : Option ℕ). put_vertical_meeting row y (vertical_of rank borders)) gets
     ∙ put_vertical_meeting-same row x (vertical_of rank borders) has
 
--- so it stays through each part of the second step, where it has the end or the crossing that the part asks for
+-- so it stays through each part of the second step, which asks for what it has itself at a crossing
 dropped_down : (rank column : Rank) (borders : Borders ℕ) → horizontal_meeting column (horizontal_of rank borders) ≡ None → horizontal_of rank (put_vertical column no_vertical borders) ≡ horizontal_of rank borders
 dropped_down first column borders has = alike_across first column None no_vertical borders has refl
 dropped_down inner column borders has = alike_across inner column None no_vertical borders has refl
@@ -38,48 +38,42 @@ dropped_across first row borders has = alike_down first row None no_horizontal b
 dropped_across inner row borders has = alike_down inner row None no_horizontal borders has refl
 dropped_across last row borders has = alike_down last row None no_horizontal borders has refl
 
-ended_still : (rank column : Rank) (end : Option ℕ) (borders : Borders ℕ) → horizontal_meeting column (horizontal_of rank borders) ≡ end → horizontal_of rank (ended_down column end borders) ≡ horizontal_of rank borders
-unfolding ended_down
-ended_still rank column None borders has = dropped_down rank column borders has
-ended_still rank column (Some c) borders has = refl
+followed_still : (rank column : Rank) (crossing : Option ℕ) (borders : Borders ℕ) → horizontal_meeting column (horizontal_of rank borders) ≡ crossing → horizontal_of rank (followed_down column crossing borders) ≡ horizontal_of rank borders
+unfolding followed_down spaced_down
+followed_still rank column None borders has = dropped_down rank column borders has
+followed_still rank first (Some c) borders has = refl
+followed_still first inner (Some c) borders has = alike_across first inner (Some c) (spaced_down borders) borders has (ap (space_where _) has)
+followed_still inner inner (Some c) borders has = alike_across inner inner (Some c) (spaced_down borders) borders has has
+followed_still last inner (Some c) borders has = alike_across last inner (Some c) (spaced_down borders) borders has (ap (space_where _) has)
+followed_still rank last (Some c) borders has = refl
 
-still_ended : (rank row : Rank) (end : Option ℕ) (borders : Borders ℕ) → vertical_meeting row (vertical_of rank borders) ≡ end → vertical_of rank (ended_across row end borders) ≡ vertical_of rank borders
-unfolding ended_across
-still_ended rank row None borders has = dropped_across rank row borders has
-still_ended rank row (Some c) borders has = refl
-
-crossed_still : (rank : Rank) (crossing : Option ℕ) (borders : Borders ℕ) → (horizontal_of rank borders).intersection ≡ crossing → horizontal_of rank (crossed_down crossing borders) ≡ horizontal_of rank borders
-unfolding crossed_down spaced_down
-crossed_still rank None borders has = dropped_down rank inner borders has
-crossed_still first (Some c) borders has = alike_across first inner (Some c) (spaced_down borders) borders has (ap (space_where _) has)
-crossed_still inner (Some c) borders has = alike_across inner inner (Some c) (spaced_down borders) borders has has
-crossed_still last (Some c) borders has = alike_across last inner (Some c) (spaced_down borders) borders has (ap (space_where _) has)
-
-still_crossed : (rank : Rank) (crossing : Option ℕ) (borders : Borders ℕ) → (vertical_of rank borders).intersection ≡ crossing → vertical_of rank (crossed_across crossing borders) ≡ vertical_of rank borders
-unfolding crossed_across spaced_across
-still_crossed rank None borders has = dropped_across rank inner borders has
-still_crossed first (Some c) borders has = alike_down first inner (Some c) (spaced_across borders) borders has (ap (space_where _) has)
-still_crossed inner (Some c) borders has = alike_down inner inner (Some c) (spaced_across borders) borders has has
-still_crossed last (Some c) borders has = alike_down last inner (Some c) (spaced_across borders) borders has (ap (space_where _) has)
+still_followed : (rank row : Rank) (crossing : Option ℕ) (borders : Borders ℕ) → vertical_meeting row (vertical_of rank borders) ≡ crossing → vertical_of rank (followed_across row crossing borders) ≡ vertical_of rank borders
+unfolding followed_across spaced_across
+still_followed rank row None borders has = dropped_across rank row borders has
+still_followed rank first (Some c) borders has = refl
+still_followed first inner (Some c) borders has = alike_down first inner (Some c) (spaced_across borders) borders has (ap (space_where _) has)
+still_followed inner inner (Some c) borders has = alike_down inner inner (Some c) (spaced_across borders) borders has has
+still_followed last inner (Some c) borders has = alike_down last inner (Some c) (spaced_across borders) borders has (ap (space_where _) has)
+still_followed rank last (Some c) borders has = refl
 
 pub across_again : (rank : Rank) (line : HorizontalLine ℕ) (style : Shown) → horizontal_of rank (with_line_across rank line style).borders ≡ line
 unfolding with_line_across settled_across
 across_again rank line style =
     let put : Borders ℕ = put_horizontal rank line style.borders in
-    let crossed : Borders ℕ = crossed_down line.intersection put in
-    let ended : Borders ℕ = ended_down first line.left crossed in
+    let crossed : Borders ℕ = followed_down inner line.intersection put in
+    let ended : Borders ℕ = followed_down first line.left crossed in
     let is : horizontal_of rank put ≡ line = horizontal_of-put rank line style.borders in
-    let still : horizontal_of rank crossed ≡ line = crossed_still rank line.intersection put (ap (λ (l : HorizontalLine ℕ). l.intersection) is) ∙ is in
-    let again : horizontal_of rank ended ≡ line = ended_still rank first line.left crossed (ap (λ (l : HorizontalLine ℕ). l.left) still) ∙ still in
-    ended_still rank last line.right ended (ap (λ (l : HorizontalLine ℕ). l.right) again) ∙ again
+    let still : horizontal_of rank crossed ≡ line = followed_still rank inner line.intersection put (ap (λ (l : HorizontalLine ℕ). l.intersection) is) ∙ is in
+    let again : horizontal_of rank ended ≡ line = followed_still rank first line.left crossed (ap (λ (l : HorizontalLine ℕ). l.left) still) ∙ still in
+    followed_still rank last line.right ended (ap (λ (l : HorizontalLine ℕ). l.right) again) ∙ again
 
 pub down_again : (rank : Rank) (line : VerticalLine ℕ) (style : Shown) → vertical_of rank (with_line_down rank line style).borders ≡ line
 unfolding with_line_down settled_down
 down_again rank line style =
     let put : Borders ℕ = put_vertical rank line style.borders in
-    let crossed : Borders ℕ = crossed_across line.intersection put in
-    let ended : Borders ℕ = ended_across first line.top crossed in
+    let crossed : Borders ℕ = followed_across inner line.intersection put in
+    let ended : Borders ℕ = followed_across first line.top crossed in
     let is : vertical_of rank put ≡ line = vertical_of-put rank line style.borders in
-    let still : vertical_of rank crossed ≡ line = still_crossed rank line.intersection put (ap (λ (l : VerticalLine ℕ). l.intersection) is) ∙ is in
-    let again : vertical_of rank ended ≡ line = still_ended rank first line.top crossed (ap (λ (l : VerticalLine ℕ). l.top) still) ∙ still in
-    still_ended rank last line.bottom ended (ap (λ (l : VerticalLine ℕ). l.bottom) again) ∙ again
+    let still : vertical_of rank crossed ≡ line = still_followed rank inner line.intersection put (ap (λ (l : VerticalLine ℕ). l.intersection) is) ∙ is in
+    let again : vertical_of rank ended ≡ line = still_followed rank first line.top crossed (ap (λ (l : VerticalLine ℕ). l.top) still) ∙ still in
+    still_followed rank last line.bottom ended (ap (λ (l : VerticalLine ℕ). l.bottom) again) ∙ again

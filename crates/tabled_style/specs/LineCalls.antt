@@ -39,30 +39,25 @@ spaced_across borders =
       right = space_where (has_vertical last borders) line.right;
     }
 
--- a line with a crossing asks for lines of the other direction, one without takes them away
-unfoldable pub crossed_down : Option ℕ → Borders ℕ → Borders ℕ
-crossed_down None borders = vertical_dropped inner borders
-crossed_down (Some _) borders = put_vertical inner (spaced_down borders) borders
+-- a line that has nothing where it crosses the lines of a rank takes these away, and one that has a crossing asks for inner ones
+unfoldable pub followed_down : Rank → Option ℕ → Borders ℕ → Borders ℕ
+followed_down rank None borders = vertical_dropped rank borders
+followed_down inner (Some _) borders = put_vertical inner (spaced_down borders) borders
+followed_down _ (Some _) borders = borders
 
-unfoldable pub crossed_across : Option ℕ → Borders ℕ → Borders ℕ
-crossed_across None borders = horizontal_dropped inner borders
-crossed_across (Some _) borders = put_horizontal inner (spaced_across borders) borders
-
--- a line without one of its ends takes away the outer line at that end
-unfoldable pub ended_down : Rank → Option ℕ → Borders ℕ → Borders ℕ
-ended_down rank None borders = vertical_dropped rank borders
-ended_down rank (Some _) borders = borders
-
-unfoldable pub ended_across : Rank → Option ℕ → Borders ℕ → Borders ℕ
-ended_across rank None borders = horizontal_dropped rank borders
-ended_across rank (Some _) borders = borders
+unfoldable pub followed_across : Rank → Option ℕ → Borders ℕ → Borders ℕ
+followed_across rank None borders = horizontal_dropped rank borders
+followed_across inner (Some _) borders = put_horizontal inner (spaced_across borders) borders
+followed_across _ (Some _) borders = borders
 
 -- the second step
 unfoldable pub settled_across : HorizontalLine ℕ → Borders ℕ → Borders ℕ
-settled_across line between = ended_down last line.right (ended_down first line.left (crossed_down line.intersection between))
+settled_across line between =
+    followed_down last line.right (followed_down first line.left (followed_down inner line.intersection between))
 
 unfoldable pub settled_down : VerticalLine ℕ → Borders ℕ → Borders ℕ
-settled_down line between = ended_across last line.bottom (ended_across first line.top (crossed_across line.intersection between))
+settled_down line between =
+    followed_across last line.bottom (followed_across first line.top (followed_across inner line.intersection between))
 
 -- a style after a call with a line for a rank: custom lines of its direction take its crossing and its ends, those of the
 -- other one its crossing, where they are given

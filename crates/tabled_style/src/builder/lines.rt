@@ -1,7 +1,7 @@
 //! The calls that take lines: custom ones, and those that replace a line of the style.
 
 ghost use Rattle.std.specs.Prelude.{◌≡◌, []};
-ghost use Rattle.tabled_style.specs.LineCalls.{space_where, spaced_down, spaced_across, crossed_down, crossed_across, ended_down, ended_across, settled_across, settled_down};
+ghost use Rattle.tabled_style.specs.LineCalls.{space_where, spaced_down, spaced_across, followed_down, followed_across, settled_across, settled_down};
 
 use super::Style;
 use super::custom::Lines;
@@ -48,47 +48,27 @@ fn spaced_across(borders: Borders<char>) -> HLine<char>
     }
 }
 
-/// The record with lines between columns where a horizontal line has crossings, else without them.
-#[tactic(auto, unfolding(crate::specs::LineCalls::crossed_down))]
-fn crossed_down(crossing: Option<char>, borders: Borders<char>) -> Borders<char>
-    ensures { result ≡ crossed_down crossing borders }
+/// The record with its vertical lines of a rank as a horizontal line asks that has this where it crosses them.
+#[tactic(auto, unfolding(crate::specs::LineCalls::followed_down))]
+fn followed_down(rank: Rank, crossing: Option<char>, borders: Borders<char>) -> Borders<char>
+    ensures { result ≡ followed_down rank crossing borders }
 {
-    match crossing {
-        Some(_) => borders.with_vertical_line(Rank::Inner, spaced_down(borders)),
-        None => vertical_dropped(Rank::Inner, borders),
+    match (crossing, rank) {
+        (None, _) => vertical_dropped(rank, borders),
+        (Some(_), Rank::Inner) => borders.with_vertical_line(rank, spaced_down(borders)),
+        (Some(_), _) => borders,
     }
 }
 
-/// The record with lines between rows where a vertical line has crossings, else without them.
-#[tactic(auto, unfolding(crate::specs::LineCalls::crossed_across))]
-fn crossed_across(crossing: Option<char>, borders: Borders<char>) -> Borders<char>
-    ensures { result ≡ crossed_across crossing borders }
+/// The record with its horizontal lines of a rank as a vertical line asks that has this where it crosses them.
+#[tactic(auto, unfolding(crate::specs::LineCalls::followed_across))]
+fn followed_across(rank: Rank, crossing: Option<char>, borders: Borders<char>) -> Borders<char>
+    ensures { result ≡ followed_across rank crossing borders }
 {
-    match crossing {
-        Some(_) => borders.with_horizontal_line(Rank::Inner, spaced_across(borders)),
-        None => horizontal_dropped(Rank::Inner, borders),
-    }
-}
-
-/// The record with its vertical line of a rank where a line has this end there, else without it.
-#[tactic(auto, unfolding(crate::specs::LineCalls::ended_down))]
-fn ended_down(rank: Rank, end: Option<char>, borders: Borders<char>) -> Borders<char>
-    ensures { result ≡ ended_down rank end borders }
-{
-    match end {
-        Some(_) => borders,
-        None => vertical_dropped(rank, borders),
-    }
-}
-
-/// The record with its horizontal line of a rank where a line has this end there, else without it.
-#[tactic(auto, unfolding(crate::specs::LineCalls::ended_across))]
-fn ended_across(rank: Rank, end: Option<char>, borders: Borders<char>) -> Borders<char>
-    ensures { result ≡ ended_across rank end borders }
-{
-    match end {
-        Some(_) => borders,
-        None => horizontal_dropped(rank, borders),
+    match (crossing, rank) {
+        (None, _) => horizontal_dropped(rank, borders),
+        (Some(_), Rank::Inner) => borders.with_horizontal_line(rank, spaced_across(borders)),
+        (Some(_), _) => borders,
     }
 }
 
@@ -97,12 +77,9 @@ fn ended_across(rank: Rank, end: Option<char>, borders: Borders<char>) -> Border
 fn settled_across(line: HLine<char>, between: Borders<char>) -> Borders<char>
     ensures { result ≡ settled_across line between }
 {
-    let crossed = crossed_down(line.intersection, between);
-    ended_down(
-        Rank::Last,
-        line.right,
-        ended_down(Rank::First, line.left, crossed),
-    )
+    let inner = followed_down(Rank::Inner, line.intersection, between);
+    let left = followed_down(Rank::First, line.left, inner);
+    followed_down(Rank::Last, line.right, left)
 }
 
 /// The second step of a call that takes a vertical line.
@@ -110,12 +87,9 @@ fn settled_across(line: HLine<char>, between: Borders<char>) -> Borders<char>
 fn settled_down(line: VLine<char>, between: Borders<char>) -> Borders<char>
     ensures { result ≡ settled_down line between }
 {
-    let crossed = crossed_across(line.intersection, between);
-    ended_across(
-        Rank::Last,
-        line.bottom,
-        ended_across(Rank::First, line.top, crossed),
-    )
+    let inner = followed_across(Rank::Inner, line.intersection, between);
+    let top = followed_across(Rank::First, line.top, inner);
+    followed_across(Rank::Last, line.bottom, top)
 }
 
 impl<T, B, L, R, H, V, const HN: usize, const VN: usize> Style<T, B, L, R, H, V, HN, VN> {

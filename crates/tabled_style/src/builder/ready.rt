@@ -78,6 +78,7 @@ fn ruled<T, B, L, R, H, V>(
     Style::new(borders, Lines { lines: rules }, Lines { lines: [] })
 }
 
+#[tactic(auto, unfolding(crate::specs::Ready::empty, crate::specs::Ready::blank, crate::specs::Ready::ascii, crate::specs::Ready::psql, crate::specs::Ready::markdown, crate::specs::Ready::modern, crate::specs::Ready::sharp, crate::specs::Ready::rounded, crate::specs::Ready::modern_rounded, crate::specs::Ready::extended, crate::specs::Ready::dots, crate::specs::Ready::re_structured_text, crate::specs::Ready::ascii_rounded))]
 impl Style<(), (), (), (), (), (), 0, 0> {
     ghost use Rattle.tabled_style.specs.Ready.{empty, blank, ascii, psql, markdown, modern, sharp, rounded, modern_rounded, extended, dots, re_structured_text, ascii_rounded};
 
@@ -88,7 +89,6 @@ impl Style<(), (), (), (), (), (), 0, 0> {
     ///  Larch  45 m    yes
     ///  Beech  40 m    no
     /// ```
-    #[tactic(auto, unfolding(crate::specs::Ready::empty))]
     pub fn empty() -> Style<(), (), (), (), (), (), 0, 0>
         ensures { result ≡ empty }
     {
@@ -102,7 +102,6 @@ impl Style<(), (), (), (), (), (), 0, 0> {
     ///  Larch   45 m     yes
     ///  Beech   40 m     no
     /// ```
-    #[tactic(auto, unfolding(crate::specs::Ready::blank))]
     pub fn blank() -> Style<(), (), (), (), (), On, 0, 0>
         ensures { result ≡ blank }
     {
@@ -120,17 +119,15 @@ impl Style<(), (), (), (), (), (), 0, 0> {
     /// | Beech | 40 m   | no    |
     /// +-------+--------+-------+
     /// ```
-    #[tactic(auto, unfolding(crate::specs::Ready::ascii))]
     pub fn ascii() -> Style<On, On, On, On, On, On, 0, 0>
         ensures { result ≡ ascii }
     {
-        let borders = framed(
+        plain(framed(
             full_line('-', '+', '+', '+'),
             full_line('-', '+', '+', '+'),
             full_line('-', '+', '+', '+'),
             '|',
-        );
-        plain(borders)
+        ))
     }
 
     /// Bars between columns, and one line under the first row, without a frame.
@@ -141,7 +138,6 @@ impl Style<(), (), (), (), (), (), 0, 0> {
     ///  Larch | 45 m   | yes
     ///  Beech | 40 m   | no
     /// ```
-    #[tactic(auto, unfolding(crate::specs::Ready::psql))]
     pub fn psql() -> Style<(), (), (), (), (), On, 1, 0>
         ensures { result ≡ psql }
     {
@@ -157,7 +153,6 @@ impl Style<(), (), (), (), (), (), 0, 0> {
     /// | Larch | 45 m   | yes   |
     /// | Beech | 40 m   | no    |
     /// ```
-    #[tactic(auto, unfolding(crate::specs::Ready::markdown))]
     pub fn markdown() -> Style<(), (), On, On, (), On, 1, 0>
         ensures { result ≡ markdown }
     {
@@ -176,17 +171,15 @@ impl Style<(), (), (), (), (), (), 0, 0> {
     /// │ Beech │ 40 m   │ no    │
     /// └───────┴────────┴───────┘
     /// ```
-    #[tactic(auto, unfolding(crate::specs::Ready::modern))]
     pub fn modern() -> Style<On, On, On, On, On, On, 0, 0>
         ensures { result ≡ modern }
     {
-        let borders = framed(
+        plain(framed(
             full_line('─', '┬', '┌', '┐'),
             full_line('─', '┴', '└', '┘'),
             full_line('─', '┼', '├', '┤'),
             '│',
-        );
-        plain(borders)
+        ))
     }
 
     /// Thin lines, with no line between rows but the one under the first row.
@@ -199,7 +192,6 @@ impl Style<(), (), (), (), (), (), 0, 0> {
     /// │ Beech │ 40 m   │ no    │
     /// └───────┴────────┴───────┘
     /// ```
-    #[tactic(auto, unfolding(crate::specs::Ready::sharp))]
     pub fn sharp() -> Style<On, On, On, On, (), On, 1, 0>
         ensures { result ≡ sharp }
     {
@@ -222,7 +214,6 @@ impl Style<(), (), (), (), (), (), 0, 0> {
     /// │ Beech │ 40 m   │ no    │
     /// ╰───────┴────────┴───────╯
     /// ```
-    #[tactic(auto, unfolding(crate::specs::Ready::rounded))]
     pub fn rounded() -> Style<On, On, On, On, (), On, 1, 0>
         ensures { result ≡ rounded }
     {
@@ -246,17 +237,15 @@ impl Style<(), (), (), (), (), (), 0, 0> {
     /// │ Beech │ 40 m   │ no    │
     /// ╰───────┴────────┴───────╯
     /// ```
-    #[tactic(auto, unfolding(crate::specs::Ready::modern_rounded))]
     pub fn modern_rounded() -> Style<On, On, On, On, On, On, 0, 0>
         ensures { result ≡ modern_rounded }
     {
-        let borders = framed(
+        plain(framed(
             full_line('─', '┬', '╭', '╮'),
             full_line('─', '┴', '╰', '╯'),
             full_line('─', '┼', '├', '┤'),
             '│',
-        );
-        plain(borders)
+        ))
     }
 
     /// Double lines of the box drawing characters, everywhere.
@@ -270,17 +259,15 @@ impl Style<(), (), (), (), (), (), 0, 0> {
     /// ║ Beech ║ 40 m   ║ no    ║
     /// ╚═══════╩════════╩═══════╝
     /// ```
-    #[tactic(auto, unfolding(crate::specs::Ready::extended))]
     pub fn extended() -> Style<On, On, On, On, On, On, 0, 0>
         ensures { result ≡ extended }
     {
-        let borders = framed(
+        plain(framed(
             full_line('═', '╦', '╔', '╗'),
             full_line('═', '╩', '╚', '╝'),
             full_line('═', '╬', '╠', '╣'),
             '║',
-        );
-        plain(borders)
+        ))
     }
 
     /// Full stops along the top, and full stops and colons elsewhere.
@@ -294,17 +281,15 @@ impl Style<(), (), (), (), (), (), 0, 0> {
     /// : Beech : 40 m   : no    :
     /// :.......:........:.......:
     /// ```
-    #[tactic(auto, unfolding(crate::specs::Ready::dots))]
     pub fn dots() -> Style<On, On, On, On, On, On, 0, 0>
         ensures { result ≡ dots }
     {
-        let borders = framed(
+        plain(framed(
             full_line('.', '.', '.', '.'),
             full_line('.', ':', ':', ':'),
             full_line('.', ':', ':', ':'),
             ':',
-        );
-        plain(borders)
+        ))
     }
 
     /// Three lines of equals signs, broken between columns, as in the simple tables of reStructuredText.
@@ -317,7 +302,6 @@ impl Style<(), (), (), (), (), (), 0, 0> {
     ///  Beech   40 m     no
     /// ======= ======== =======
     /// ```
-    #[tactic(auto, unfolding(crate::specs::Ready::re_structured_text))]
     pub fn re_structured_text() -> Style<On, On, (), (), (), On, 1, 0>
         ensures { result ≡ re_structured_text }
     {
@@ -334,16 +318,14 @@ impl Style<(), (), (), (), (), (), 0, 0> {
     /// | Beech | 40 m   | no    |
     /// '------------------------'
     /// ```
-    #[tactic(auto, unfolding(crate::specs::Ready::ascii_rounded))]
     pub fn ascii_rounded() -> Style<On, On, On, On, (), On, 0, 0>
         ensures { result ≡ ascii_rounded }
     {
-        let borders = framed(
+        plain(framed(
             full_line('-', '-', '.', '.'),
             full_line('-', '-', '\'', '\''),
             HLine::empty(),
             '|',
-        );
-        plain(borders)
+        ))
     }
 }
