@@ -2,7 +2,9 @@
 use Rattle.std.proofs.Common.{◌≡◌, ℕ, None, List, [], ◌∷◌, ◌++◌, map, refl, sym, ap, subst, ◌∙◌, Result, Ok, Err, OnOk}
 use Rattle.std.proofs.lemmas.List.{append-nil}
 use Rattle.std.proofs.lemmas.List.Elements.{filter_map-append}
-use Rattle.tabled_grid.specs.Site.{across, down, Site, the_default, of_class, of_line, at_spot, from_end, from_start}
+use Rattle.tabled_grid.specs.declared.offset.Offset.{Offset}
+use Rattle.tabled_grid.specs.declared.site.Direction.TheVariants.{Horizontal, Vertical}
+use Rattle.tabled_grid.specs.Site.{Site, the_default, of_class, of_line, at_spot, at_offset}
 use Rattle.tabled_grid.specs.declared.borders.Borders.{Borders}
 use Rattle.tabled_grid.specs.declared.place.LineOf.{LineOf}
 use Rattle.tabled_grid.specs.declared.writes.Write.{Write}
@@ -75,12 +77,12 @@ Changes-borders_set borders before after colors old is changes = Changes_by_char
 
 -- the regions of every level
 all_regions : List grid.Region
-all_regions = grid.level_sites 0 ∷ grid.level_sites 1 ∷ grid.level_sites 2 ∷ grid.level_sites 3 ∷ grid.level_sites 4 ∷ grid.offset_sites across ∷ grid.offset_sites down ∷ []
+all_regions = grid.level_sites 0 ∷ grid.level_sites 1 ∷ grid.level_sites 2 ∷ grid.level_sites 3 ∷ grid.level_sites 4 ∷ grid.offset_sites Horizontal ∷ grid.offset_sites Vertical ∷ []
 
 module _ {T : Type 0} where
   -- the erasures of every level
   all_erasures : List (grid.Event T)
-  all_erasures = all_but_offsets ++ (grid.erase (grid.offset_sites across) ∷ []) ++ (grid.erase (grid.offset_sites down) ∷ [])
+  all_erasures = all_but_offsets ++ (grid.erase (grid.offset_sites Horizontal) ∷ []) ++ (grid.erase (grid.offset_sites Vertical) ∷ [])
 
   -- one erasure after the other
   pub in_turn : (a b c d e : State T) → grid.Changes (grid.erase (grid.level_sites 0) ∷ []) (state_at a) (state_at b) → grid.Changes (grid.erase (grid.level_sites 1) ∷ []) (state_at b) (state_at c) → grid.Changes lines_erased (state_at c) (state_at d) → grid.Changes (grid.erase (grid.level_sites 4) ∷ []) (state_at d) (state_at e) → grid.Changes all_but_offsets (state_at a) (state_at e)
@@ -90,11 +92,11 @@ module _ {T : Type 0} where
       (Changes-append lines_erased (grid.erase (grid.level_sites 4) ∷ []) (state_at c) (state_at d) (state_at e) third fourth))
 
   -- and of the offsets at last
-  all_in_turn : (a b c d : State T) → grid.Changes all_but_offsets (state_at a) (state_at b) → grid.Changes (offsets_erased across) (state_at b) (state_at c) → grid.Changes (offsets_erased down) (state_at c) (state_at d) → grid.Changes all_erasures (state_at a) (state_at d)
+  all_in_turn : (a b c d : State T) → grid.Changes all_but_offsets (state_at a) (state_at b) → grid.Changes (offsets_erased Horizontal) (state_at b) (state_at c) → grid.Changes (offsets_erased Vertical) (state_at c) (state_at d) → grid.Changes all_erasures (state_at a) (state_at d)
   unfolding all_erasures
   all_in_turn a b c d first is_across is_down =
-      Changes-append all_but_offsets ((grid.erase (grid.offset_sites across) ∷ []) ++ (grid.erase (grid.offset_sites down) ∷ [])) (state_at a) (state_at b) (state_at d) first
-      (Changes-append (grid.erase (grid.offset_sites across) ∷ []) (grid.erase (grid.offset_sites down) ∷ []) (state_at b) (state_at c) (state_at d) is_across is_down)
+      Changes-append all_but_offsets ((grid.erase (grid.offset_sites Horizontal) ∷ []) ++ (grid.erase (grid.offset_sites Vertical) ∷ [])) (state_at a) (state_at b) (state_at d) first
+      (Changes-append (grid.erase (grid.offset_sites Horizontal) ∷ []) (grid.erase (grid.offset_sites Vertical) ∷ []) (state_at b) (state_at c) (state_at d) is_across is_down)
 
   -- they leave nothing, and cover every site
   cleared_in_turn : (regions : List grid.Region) (q : Site) → grid.replay {T = T} (map grid.erase regions) q ≡ None
@@ -108,13 +110,13 @@ module _ {T : Type 0} where
   nothing_left old new changes (of_line (LineOf.Horizontal n) p) = changes (of_line (LineOf.Horizontal n) p) ∙ cleared_in_turn all_regions (of_line (LineOf.Horizontal n) p)
   nothing_left old new changes (of_line (LineOf.Vertical n) p) = changes (of_line (LineOf.Vertical n) p) ∙ cleared_in_turn all_regions (of_line (LineOf.Vertical n) p)
   nothing_left old new changes (at_spot s) = changes (at_spot s) ∙ cleared_in_turn all_regions (at_spot s)
-  nothing_left old new changes (from_end across r c n) = changes (from_end across r c n) ∙ cleared_in_turn all_regions (from_end across r c n)
-  nothing_left old new changes (from_end down r c n) = changes (from_end down r c n) ∙ cleared_in_turn all_regions (from_end down r c n)
-  nothing_left old new changes (from_start across r c n) = changes (from_start across r c n) ∙ cleared_in_turn all_regions (from_start across r c n)
-  nothing_left old new changes (from_start down r c n) = changes (from_start down r c n) ∙ cleared_in_turn all_regions (from_start down r c n)
+  nothing_left old new changes (at_offset Horizontal r c (Offset.End n)) = changes (at_offset Horizontal r c (Offset.End n)) ∙ cleared_in_turn all_regions (at_offset Horizontal r c (Offset.End n))
+  nothing_left old new changes (at_offset Vertical r c (Offset.End n)) = changes (at_offset Vertical r c (Offset.End n)) ∙ cleared_in_turn all_regions (at_offset Vertical r c (Offset.End n))
+  nothing_left old new changes (at_offset Horizontal r c (Offset.Start n)) = changes (at_offset Horizontal r c (Offset.Start n)) ∙ cleared_in_turn all_regions (at_offset Horizontal r c (Offset.Start n))
+  nothing_left old new changes (at_offset Vertical r c (Offset.Start n)) = changes (at_offset Vertical r c (Offset.Start n)) ∙ cleared_in_turn all_regions (at_offset Vertical r c (Offset.Start n))
 
   -- so they erase every site
-  pub everything_erased : (a b c d : State T) → grid.Changes all_but_offsets (state_at a) (state_at b) → grid.Changes (offsets_erased across) (state_at b) (state_at c) → grid.Changes (offsets_erased down) (state_at c) (state_at d) → grid.Changes (grid.erase grid.every_site ∷ []) (state_at a) (state_at d)
+  pub everything_erased : (a b c d : State T) → grid.Changes all_but_offsets (state_at a) (state_at b) → grid.Changes (offsets_erased Horizontal) (state_at b) (state_at c) → grid.Changes (offsets_erased Vertical) (state_at c) (state_at d) → grid.Changes (grid.erase grid.every_site ∷ []) (state_at a) (state_at d)
   unfolding grid.Changes
   everything_erased a b c d first is_across is_down =
       Changes_from_nothing [] (state_at d) (state_at d) (λ q _. nothing_left a d (all_in_turn a b c d first is_across is_down) q) (Changes-nil (state_at d))

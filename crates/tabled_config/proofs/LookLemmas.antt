@@ -5,7 +5,9 @@ use Rattle.std.proofs.lemmas.Bool.{lt-ltb}
 use Rattle.std.proofs.lemmas.List.FromFn.{length-map-range_with_len, get_or-map-range_with_len, map-range_with_len_more}
 use Rattle.tabled_grid.specs.declared.place.Place.{Place}
 use Rattle.tabled_grid.specs.declared.place.LineOf.{LineOf}
-use Rattle.tabled_grid.specs.Site.{across, Site, from_start, from_end}
+use Rattle.tabled_grid.specs.declared.offset.Offset.{Offset}
+use Rattle.tabled_grid.specs.declared.site.Direction.TheVariants.{Horizontal}
+use Rattle.tabled_grid.specs.Site.{Site, at_offset}
 use Rattle.tabled_grid.specs.Event.{Written, sign, replay}
 use Rattle.tabled_grid.specs.Value.{has_spot, plain_sites, sign_or, first_sign, value, plain_value}
 use Rattle.tabled_grid.specs.Drawn.{drawn, Drawn}
@@ -37,13 +39,13 @@ and_true true = refl
 and_true false = refl
 
 -- without offsets each place of a horizontal edge has what the edge has below them
-plain_edge : {T : Type 0} (state : State T) (shape : ℕ × ℕ) (size r c n : ℕ) → HasNoOffsets across state → n < size
+plain_edge : {T : Type 0} (state : State T) (shape : ℕ × ℕ) (size r c n : ℕ) → HasNoOffsets Horizontal state → n < size
     → value (state_at state) shape size (Place.Horizontal r c n) ≡ plain_value (state_at state) shape (Place.Horizontal r c 0)
 unfolding value plain_value
 plain_edge {T} state shape size r c n none within =
     let spot : Bool = has_spot shape (Place.Horizontal r c 0) in
-    let from_start : Option (Written T) = state_at state (from_start across r c n) in
-    let from_end : Option (Written T) = state_at state (from_end across r c (size - 1 - n)) in
+    let from_start : Option (Written T) = state_at state (at_offset Horizontal r c (Offset.Start n)) in
+    let from_end : Option (Written T) = state_at state (at_offset Horizontal r c (Offset.End (size - 1 - n))) in
     let below_offsets : Option T = first_sign (state_at state) (plain_sites shape (Place.Horizontal r c 0)) in
     ap (λ b. if b then sign_or from_start (sign_or from_end below_offsets) else None) (ap (λ b. spot && b) (lt-ltb n size within) ∙ and_true spot)
     ∙ ap (λ found. if spot then sign_or (option_map sign found) (sign_or from_end below_offsets) else None)
@@ -51,7 +53,7 @@ plain_edge {T} state shape size r c n none within =
     ∙ ap (λ found. if spot then sign_or (option_map sign found) below_offsets else None)
     (ap (λ m. get m (edge_place r c (size - 1 - n))) none.1 ∙ get-empty edge_place_cmp (edge_place r c (size - 1 - n)))
 
-pub own_plain : (cfg : Configuration) (shape : ℕ × ℕ) (widths heights : ℕ → ℕ) (r c n : ℕ) (found : Option ℕ) → HasNoOffsets across cfg.characters
+pub own_plain : (cfg : Configuration) (shape : ℕ × ℕ) (widths heights : ℕ → ℕ) (r c n : ℕ) (found : Option ℕ) → HasNoOffsets Horizontal cfg.characters
     → found ≡ plain_value (state_at cfg.characters) shape (Place.Horizontal r c 0) → n < widths c → found ≡ (look (all_writes cfg) shape widths heights).shown (Place.Horizontal r c n)
 own_plain cfg shape widths heights r c n found none is within =
     own_shown cfg shape widths heights (Place.Horizontal r c n) (widths c) found refl (is ∙ sym (plain_edge cfg.characters shape (widths c) r c n none within))
@@ -84,7 +86,7 @@ same_look cfg es fs shape widths heights by with =
       shape = shape;
       widths = widths;
       heights = heights;
-      across = λ r. same_drawn shape.0 (LineOf.Horizontal r) i;
+      Horizontal = λ r. same_drawn shape.0 (LineOf.Horizontal r) i;
       down = λ c. same_drawn shape.1 (LineOf.Vertical c) i;
       shown = λ place. value (same_kept i) shape (edge_size widths heights place) place;
     }

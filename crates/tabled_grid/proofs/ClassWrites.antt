@@ -3,7 +3,7 @@ use Rattle.std.proofs.Common.{◌≡◌, Bool, true, false, cond, ◌&&◌, ◌|
 use Rattle.std.specs.Option.{option_map}
 use Rattle.std.specs.List.{list_any, cons_option}
 use Rattle.tabled_grid.specs.declared.borders.Borders.{Borders}
-use Rattle.tabled_grid.specs.Site.{across, down, first, inner, last, Class, edges, crossings, Site, of_class, class_value, same_class, same_site}
+use Rattle.tabled_grid.specs.Site.{Horizontal, Vertical, first, inner, last, Class, edges, crossings, Site, of_class, class_value, same_class, same_site}
 use Rattle.tabled_grid.specs.Event.{Written, sign, Event, write, covered, replay}
 use Rattle.tabled_grid.specs.State.{classes, class_writes, HasNothing}
 use Rattle.tabled_grid.proofs.SameSite.{same_class-eq}
@@ -64,12 +64,12 @@ module _ {T : Type 0} (borders : Borders T) (c : Class) where
 -- each class is among the fifteen
 among_classes : (c : Class) → list_any (same_class c) classes ≡ true
 unfolding classes
-among_classes (edges across first) = refl
-among_classes (edges across inner) = refl
-among_classes (edges across last) = refl
-among_classes (edges down first) = refl
-among_classes (edges down inner) = refl
-among_classes (edges down last) = refl
+among_classes (edges Horizontal first) = refl
+among_classes (edges Horizontal inner) = refl
+among_classes (edges Horizontal last) = refl
+among_classes (edges Vertical first) = refl
+among_classes (edges Vertical inner) = refl
+among_classes (edges Vertical last) = refl
 among_classes (crossings first first) = refl
 among_classes (crossings first inner) = refl
 among_classes (crossings first last) = refl
@@ -120,12 +120,12 @@ pub nothing_in : {T : Type 0} (borders : Borders T) → borders ≡ record {
   vertical = None;
   intersection = None;
 } → HasNothing borders
-nothing_in borders e (edges across first) = ap (λ b. b.top) e
-nothing_in borders e (edges across inner) = ap (λ b. b.horizontal) e
-nothing_in borders e (edges across last) = ap (λ b. b.bottom) e
-nothing_in borders e (edges down first) = ap (λ b. b.left) e
-nothing_in borders e (edges down inner) = ap (λ b. b.vertical) e
-nothing_in borders e (edges down last) = ap (λ b. b.right) e
+nothing_in borders e (edges Horizontal first) = ap (λ b. b.top) e
+nothing_in borders e (edges Horizontal inner) = ap (λ b. b.horizontal) e
+nothing_in borders e (edges Horizontal last) = ap (λ b. b.bottom) e
+nothing_in borders e (edges Vertical first) = ap (λ b. b.left) e
+nothing_in borders e (edges Vertical inner) = ap (λ b. b.vertical) e
+nothing_in borders e (edges Vertical last) = ap (λ b. b.right) e
 nothing_in borders e (crossings first first) = ap (λ b. b.top_left) e
 nothing_in borders e (crossings first inner) = ap (λ b. b.top_intersection) e
 nothing_in borders e (crossings first last) = ap (λ b. b.top_right) e

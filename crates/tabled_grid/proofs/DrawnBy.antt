@@ -8,7 +8,8 @@ use Rattle.std.proofs.lemmas.Bool.{eqb-true, ltb-true, lt-ltb}
 use Rattle.tabled_grid.specs.declared.place.LineOf.{LineOf}
 use Rattle.tabled_grid.specs.declared.lines.HorizontalLine.{HorizontalLine}
 use Rattle.tabled_grid.specs.declared.lines.VerticalLine.{VerticalLine}
-use Rattle.tabled_grid.specs.Site.{Direction, across, down, Rank, first, inner, last, class_value, mark, main_edges, meeting, edge, crossing, Site, the_default, of_class, of_line, at_spot, from_end, from_start}
+use Rattle.tabled_grid.specs.declared.offset.Offset.{Offset}
+use Rattle.tabled_grid.specs.Site.{Direction, Horizontal, Vertical, Rank, first, inner, last, class_value, mark, main_edges, meeting, Edge, Crossing, Site, the_default, of_class, of_line, at_spot, at_offset}
 use Rattle.tabled_grid.specs.Event.{sign}
 use Rattle.tabled_grid.specs.Table.{count, passes}
 use Rattle.tabled_grid.specs.Counted.{number_at, CellsCounted, VerticalCounted, HorizontalCounted}
@@ -59,7 +60,7 @@ module _ {T : Type 0} (k : State T) (rows cols : map.FinMap nat_cmp ℕ) (t b l 
   row_by_site : (q : Site) → draws count' (LineOf.Horizontal n) q ≡ true → is_some (state_at k q) ≡ true → row_test ≡ true
   unfolding row_test line_of
   row_by_site the_default e f = or_left _ _ (or_left _ _ (sym (is_some-sign k.default_value) ∙ f))
-  row_by_site (of_class c) e f = or_left _ _ (or_right (is_some k.default_value) _ (class_draws_it k.class_record across count' n c e (sym (is_some-sign (class_value c k.class_record)) ∙ f)))
+  row_by_site (of_class c) e f = or_left _ _ (or_right (is_some k.default_value) _ (class_draws_it k.class_record Horizontal count' n c e (sym (is_some-sign (class_value c k.class_record)) ∙ f)))
   row_by_site (of_line (LineOf.Horizontal m) mark) e f =
       let same : m ≡ n = eqb-true m n e in
       in_rows (or_left _ _ (or_left _ _ (or_left _ _ (subst (λ i. is_some (map.get k.horizontal_lines i) ≡ true) same (line_there (horizontal_part mark) (map.get k.horizontal_lines m) f)))))
@@ -74,18 +75,18 @@ module _ {T : Type 0} (k : State T) (rows cols : map.FinMap nat_cmp ℕ) (t b l 
   row_by_site (of_line (LineOf.Vertical m) (meeting last)) e f =
       let some : 0 < count (λ _ x. is_some x.bottom) k.vertical_lines = count_positive nat_cmp_total map.nat_cmp-IsAntisymmetric (λ _ x. is_some x.bottom) k.vertical_lines m (sym (meets (λ x. x.bottom) (map.get k.vertical_lines m)) ∙ f) in
       in_rows (or_left _ _ (or_right (is_some (map.get k.horizontal_lines n) || ((n == 0) && ltb 0 t)) _ (and_both (n == count') (ltb 0 b) e (lt-ltb 0 b (omega (arith, upright.bottoms_are))))))
-  row_by_site (at_spot (edge across i c)) e f =
+  row_by_site (at_spot (Edge Horizontal i c)) e f =
       in_rows (by_number_row (subst (λ j. 0 < number_at rows j) (eqb-true i n e) (across_counts rows cols k.edges_across k.edges_down k.crosses cells (position i c) (sym (is_some-sign (map.get k.edges_across (position i c))) ∙ f))))
-  row_by_site (at_spot (edge down i c)) e f = absurd cc
-  row_by_site (at_spot (crossing i c)) e f =
+  row_by_site (at_spot (Edge Vertical i c)) e f = absurd cc
+  row_by_site (at_spot (Crossing i c)) e f =
       in_rows (by_number_row (subst (λ j. 0 < number_at rows j) (eqb-true i n e) (crossing_counts_row rows cols k.edges_across k.edges_down k.crosses cells (position i c) (sym (is_some-sign (map.get k.crosses (position i c))) ∙ f))))
-  row_by_site (from_end d i c m) e f = absurd cc
-  row_by_site (from_start d i c m) e f = absurd cc
+  row_by_site (at_offset d i c (Offset.End m)) e f = absurd cc
+  row_by_site (at_offset d i c (Offset.Start m)) e f = absurd cc
 
   col_by_site : (q : Site) → draws count' (LineOf.Vertical n) q ≡ true → is_some (state_at k q) ≡ true → col_test ≡ true
   unfolding col_test line_of
   col_by_site the_default e f = or_left _ _ (or_left _ _ (sym (is_some-sign k.default_value) ∙ f))
-  col_by_site (of_class c) e f = or_left _ _ (or_right (is_some k.default_value) _ (class_draws_it k.class_record down count' n c e (sym (is_some-sign (class_value c k.class_record)) ∙ f)))
+  col_by_site (of_class c) e f = or_left _ _ (or_right (is_some k.default_value) _ (class_draws_it k.class_record Vertical count' n c e (sym (is_some-sign (class_value c k.class_record)) ∙ f)))
   col_by_site (of_line (LineOf.Vertical m) mark) e f =
       let same : m ≡ n = eqb-true m n e in
       in_cols (or_left _ _ (or_left _ _ (or_left _ _ (or_left _ _ (subst (λ i. is_some (map.get k.vertical_lines i) ≡ true) same (line_there (vertical_part mark) (map.get k.vertical_lines m) f))))))
@@ -102,13 +103,13 @@ module _ {T : Type 0} (k : State T) (rows cols : map.FinMap nat_cmp ℕ) (t b l 
   col_by_site (of_line (LineOf.Horizontal m) (meeting inner)) e f =
       let some : 0 < count (λ _ x. is_some x.intersection) k.horizontal_lines = count_positive nat_cmp_total map.nat_cmp-IsAntisymmetric (λ _ x. is_some x.intersection) k.horizontal_lines m (sym (meets (λ x. x.intersection) (map.get k.horizontal_lines m)) ∙ f) in
       in_cols (or_left _ _ (or_right (is_some (map.get k.vertical_lines n) || ((n == 0) && ltb 0 l) || ((n == count') && ltb 0 r)) _ (and_both (ltb 0 n && ltb n count') (ltb 0 w) e (lt-ltb 0 w (omega (arith, level_ones.betweens_are))))))
-  col_by_site (at_spot (edge down i c)) e f =
+  col_by_site (at_spot (Edge Vertical i c)) e f =
       in_cols (by_number_col (subst (λ j. 0 < number_at cols j) (eqb-true c n e) (down_counts rows cols k.edges_across k.edges_down k.crosses cells (position i c) (sym (is_some-sign (map.get k.edges_down (position i c))) ∙ f))))
-  col_by_site (at_spot (edge across i c)) e f = absurd cc
-  col_by_site (at_spot (crossing i c)) e f =
+  col_by_site (at_spot (Edge Horizontal i c)) e f = absurd cc
+  col_by_site (at_spot (Crossing i c)) e f =
       in_cols (by_number_col (subst (λ j. 0 < number_at cols j) (eqb-true c n e) (crossing_counts_col rows cols k.edges_across k.edges_down k.crosses cells (position i c) (sym (is_some-sign (map.get k.crosses (position i c))) ∙ f))))
-  col_by_site (from_end d i c m) e f = absurd cc
-  col_by_site (from_start d i c m) e f = absurd cc
+  col_by_site (at_offset d i c (Offset.End m)) e f = absurd cc
+  col_by_site (at_offset d i c (Offset.Start m)) e f = absurd cc
 
   Draws : LineOf → Type 0
   Draws line = (q : Site) × (draws count' line q ≡ true) × (is_some (state_at k q) ≡ true)
@@ -141,15 +142,15 @@ module _ {T : Type 0} (k : State T) (rows cols : map.FinMap nat_cmp ℕ) (t b l 
   row_number_ground : 0 < number_at rows n → Draws (LineOf.Horizontal n)
   unfolding Draws
   row_number_ground h = elim (some_on_row rows cols k.edges_across k.edges_down k.crosses cells n h) [
-    | inl p ↦ (at_spot (edge across (p.0).row (p.0).col), eq-eqb (p.0).row n p.1, is_some-sign (map.get k.edges_across p.0) ∙ p.2)
-    | inr p ↦ (at_spot (crossing (p.0).row (p.0).col), eq-eqb (p.0).row n p.1, is_some-sign (map.get k.crosses p.0) ∙ p.2)
+    | inl p ↦ (at_spot (Edge Horizontal (p.0).row (p.0).col), eq-eqb (p.0).row n p.1, is_some-sign (map.get k.edges_across p.0) ∙ p.2)
+    | inr p ↦ (at_spot (Crossing (p.0).row (p.0).col), eq-eqb (p.0).row n p.1, is_some-sign (map.get k.crosses p.0) ∙ p.2)
   ]
 
   col_number_ground : 0 < number_at cols n → Draws (LineOf.Vertical n)
   unfolding Draws
   col_number_ground h = elim (some_on_col rows cols k.edges_across k.edges_down k.crosses cells n h) [
-    | inl p ↦ (at_spot (edge down (p.0).row (p.0).col), eq-eqb (p.0).col n p.1, is_some-sign (map.get k.edges_down p.0) ∙ p.2)
-    | inr p ↦ (at_spot (crossing (p.0).row (p.0).col), eq-eqb (p.0).col n p.1, is_some-sign (map.get k.crosses p.0) ∙ p.2)
+    | inl p ↦ (at_spot (Edge Vertical (p.0).row (p.0).col), eq-eqb (p.0).col n p.1, is_some-sign (map.get k.edges_down p.0) ∙ p.2)
+    | inr p ↦ (at_spot (Crossing (p.0).row (p.0).col), eq-eqb (p.0).col n p.1, is_some-sign (map.get k.crosses p.0) ∙ p.2)
   ]
 
   row_ground : row_drawn k.horizontal_lines t b rows count' n ≡ true → Draws (LineOf.Horizontal n)
@@ -195,7 +196,7 @@ module _ {T : Type 0} (k : State T) (rows cols : map.FinMap nat_cmp ℕ) (t b l 
           | inr by_row ↦ row_ground by_row
           | inl weaker ↦ elim (or_parts (is_some k.default_value) (class_draws k.class_record count' (LineOf.Horizontal n)) weaker) [
             | inl by_default ↦ default_ground (LineOf.Horizontal n) by_default
-            | inr by_class ↦ class_ground across by_class
+            | inr by_class ↦ class_ground Horizontal by_class
           ]
         ] in
         record { no_further = within; by = ground.0; draws_it = ground.1; is_kept = ground.2 },
@@ -210,7 +211,7 @@ module _ {T : Type 0} (k : State T) (rows cols : map.FinMap nat_cmp ℕ) (t b l 
           | inr by_col ↦ col_ground by_col
           | inl weaker ↦ elim (or_parts (is_some k.default_value) (class_draws k.class_record count' (LineOf.Vertical n)) weaker) [
             | inl by_default ↦ default_ground (LineOf.Vertical n) by_default
-            | inr by_class ↦ class_ground down by_class
+            | inr by_class ↦ class_ground Vertical by_class
           ]
         ] in
         record { no_further = within; by = ground.0; draws_it = ground.1; is_kept = ground.2 },
@@ -234,8 +235,8 @@ class_site k count' d n within h =
 
 pub class_answer : {T : Type 0} (k : State T) (count' : ℕ) (line : LineOf) → number line ≤ count' → class_draws k.class_record count' line ≡ true → IsTrue true ↔ Drawn (state_at k) count' line
 unfolding line_of
-class_answer k count' (LineOf.Horizontal n) within h = let site = class_site k count' across n within h in (λ _. record { no_further = within; by = site.0; draws_it = site.1; is_kept = site.2 }, λ _. refl)
-class_answer k count' (LineOf.Vertical n) within h = let site = class_site k count' down n within h in (λ _. record { no_further = within; by = site.0; draws_it = site.1; is_kept = site.2 }, λ _. refl)
+class_answer k count' (LineOf.Horizontal n) within h = let site = class_site k count' Horizontal n within h in (λ _. record { no_further = within; by = site.0; draws_it = site.1; is_kept = site.2 }, λ _. refl)
+class_answer k count' (LineOf.Vertical n) within h = let site = class_site k count' Vertical n within h in (λ _. record { no_further = within; by = site.0; draws_it = site.1; is_kept = site.2 }, λ _. refl)
 
 third : (a b c x : Bool) → a ≡ false → b ≡ false → x ≡ c → x ≡ (a || b || c)
 third a b c x e f h = h ∙ sym (λ i. e i || f i || c)

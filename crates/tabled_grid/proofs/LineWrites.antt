@@ -5,7 +5,8 @@ use Rattle.std.specs.Option.{option_map}
 use Rattle.tabled_grid.specs.declared.place.LineOf.{LineOf}
 use Rattle.tabled_grid.specs.declared.lines.HorizontalLine.{HorizontalLine}
 use Rattle.tabled_grid.specs.declared.lines.VerticalLine.{VerticalLine}
-use Rattle.tabled_grid.specs.Site.{Rank, first, inner, last, Part, mark, main_edges, meeting, Site, the_default, of_class, of_line, at_spot, from_end, from_start, same_rank, same_part, same_line, same_site}
+use Rattle.tabled_grid.specs.declared.offset.Offset.{Offset}
+use Rattle.tabled_grid.specs.Site.{Rank, first, inner, last, Part, mark, main_edges, meeting, Site, the_default, of_class, of_line, at_spot, at_offset, same_rank, same_part, same_line, same_site}
 use Rattle.tabled_grid.specs.Event.{sign, standing, Event, write, erase, line_sites, within, covered, replay}
 use Rattle.tabled_grid.specs.Lines.{part_write, horizontal_line_set, vertical_line_set}
 use Rattle.tabled_grid.specs.State.{horizontal_part, vertical_part}
@@ -153,8 +154,8 @@ outside_line l (of_line m r) p h = ap (λ b. b && same_part r p) (same_line-sym 
 outside_line l the_default p h = refl
 outside_line l (of_class c) p h = refl
 outside_line l (at_spot s) p h = refl
-outside_line l (from_end d r c n) p h = refl
-outside_line l (from_start d r c n) p h = refl
+outside_line l (at_offset d r c (Offset.End n)) p h = refl
+outside_line l (at_offset d r c (Offset.Start n)) p h = refl
 
 -- a custom line put at its index leaves its fields and its mark, and nothing else there
 pub replay-horizontal_line_set : {T : Type 0} (n : ℕ) (line : HorizontalLine T) (p : Part) → replay (horizontal_line_set n line) (of_line (LineOf.Horizontal n) p) ≡ horizontal_part p line

@@ -4,7 +4,7 @@ use Rattle.std.specs.Option.{option_map}
 use Rattle.tabled_grid.specs.declared.borders.Borders.{Borders}
 use Rattle.tabled_grid.specs.declared.place.Place.{Place}
 use Rattle.tabled_grid.specs.declared.place.LineOf.{LineOf}
-use Rattle.tabled_grid.specs.Site.{Direction, across, down, Rank, first, inner, last, stands, Class, edges, crossings, main_edges, meeting, horizontal_meeting, vertical_meeting, rank, of_class, class_value}
+use Rattle.tabled_grid.specs.Site.{Direction, Horizontal, Vertical, Rank, first, inner, last, stands, Class, edges, crossings, main_edges, meeting, horizontal_meeting, vertical_meeting, rank, of_class, class_value}
 use Rattle.tabled_grid.specs.Event.{sign}
 use Rattle.tabled_grid.specs.Value.{has_spot, inside, class_at, plain_sites, sites, sign_or, first_sign, value, plain_value}
 use Rattle.tabled_grid.specs.Drawn.{draws}
@@ -120,8 +120,8 @@ is_some-sign (Some x) = refl
 
 -- the line of that direction and number
 unfoldable pub line_of : Direction → ℕ → LineOf
-line_of across n = LineOf.Horizontal n
-line_of down n = LineOf.Vertical n
+line_of Horizontal n = LineOf.Horizontal n
+line_of Vertical n = LineOf.Vertical n
 
 module _ {T : Type 0} (borders : Borders T) where
   -- one of the classes has a field, and they all draw the line
@@ -156,32 +156,32 @@ module _ {T : Type 0} (borders : Borders T) where
   -- the classes of the lines of a rank draw each of them
   pub all_draw : (d : Direction) (rank : Rank) (count n : ℕ) → stands rank count n ≡ true → AllDraw count (line_of d n) (line_classes d rank)
   unfolding line_of
-  all_draw across rank count n e = (e, (e, (e, (e, tt))))
-  all_draw down rank count n e = (e, (e, (e, (e, tt))))
+  all_draw Horizontal rank count n e = (e, (e, (e, (e, tt))))
+  all_draw Vertical rank count n e = (e, (e, (e, (e, tt))))
 
   given_edge : (d : Direction) (rank : Rank) → is_some (class_value (edges d rank) borders) ≡ true → has_class borders (line_classes d rank) ≡ true
-  given_edge across rank e = or_left (is_some (class_value (edges across rank) borders)) _ e
-  given_edge down rank e = or_left (is_some (class_value (edges down rank) borders)) _ e
+  given_edge Horizontal rank e = or_left (is_some (class_value (edges Horizontal rank) borders)) _ e
+  given_edge Vertical rank e = or_left (is_some (class_value (edges Vertical rank) borders)) _ e
 
-  given_across : (row col : Rank) → is_some (class_value (crossings row col) borders) ≡ true → has_class borders (line_classes across row) ≡ true
-  given_across row first e = or_right (is_some (class_value (edges across row) borders)) _ (or_left _ _ e)
-  given_across row inner e = or_right (is_some (class_value (edges across row) borders)) _ (or_right (is_some (class_value (crossings row first) borders)) _ (or_left _ _ e))
-  given_across row last e = or_right (is_some (class_value (edges across row) borders)) _ (or_right (is_some (class_value (crossings row first) borders)) _ (or_right (is_some (class_value (crossings row inner) borders)) _ (or_left _ _ e)))
+  given_across : (row col : Rank) → is_some (class_value (crossings row col) borders) ≡ true → has_class borders (line_classes Horizontal row) ≡ true
+  given_across row first e = or_right (is_some (class_value (edges Horizontal row) borders)) _ (or_left _ _ e)
+  given_across row inner e = or_right (is_some (class_value (edges Horizontal row) borders)) _ (or_right (is_some (class_value (crossings row first) borders)) _ (or_left _ _ e))
+  given_across row last e = or_right (is_some (class_value (edges Horizontal row) borders)) _ (or_right (is_some (class_value (crossings row first) borders)) _ (or_right (is_some (class_value (crossings row inner) borders)) _ (or_left _ _ e)))
 
-  given_down : (row col : Rank) → is_some (class_value (crossings row col) borders) ≡ true → has_class borders (line_classes down col) ≡ true
-  given_down first col e = or_right (is_some (class_value (edges down col) borders)) _ (or_left _ _ e)
-  given_down inner col e = or_right (is_some (class_value (edges down col) borders)) _ (or_right (is_some (class_value (crossings first col) borders)) _ (or_left _ _ e))
-  given_down last col e = or_right (is_some (class_value (edges down col) borders)) _ (or_right (is_some (class_value (crossings first col) borders)) _ (or_right (is_some (class_value (crossings inner col) borders)) _ (or_left _ _ e)))
+  given_down : (row col : Rank) → is_some (class_value (crossings row col) borders) ≡ true → has_class borders (line_classes Vertical col) ≡ true
+  given_down first col e = or_right (is_some (class_value (edges Vertical col) borders)) _ (or_left _ _ e)
+  given_down inner col e = or_right (is_some (class_value (edges Vertical col) borders)) _ (or_right (is_some (class_value (crossings first col) borders)) _ (or_left _ _ e))
+  given_down last col e = or_right (is_some (class_value (edges Vertical col) borders)) _ (or_right (is_some (class_value (crossings first col) borders)) _ (or_right (is_some (class_value (crossings inner col) borders)) _ (or_left _ _ e)))
 
   -- a class that draws a line and has a field is one of those of the line's rank
   pub class_draws_it : (d : Direction) (count n : ℕ) (c : Class) → draws count (line_of d n) (of_class c) ≡ true → is_some (class_value c borders) ≡ true → rank_draws borders count d n ≡ true
   unfolding line_of
-  class_draws_it across count n (edges across rank) e f = by_rank across rank count n e (given_edge across rank f)
-  class_draws_it across count n (edges down rank) e f = absurd cc
-  class_draws_it across count n (crossings row col) e f = by_rank across row count n e (given_across row col f)
-  class_draws_it down count n (edges down rank) e f = by_rank down rank count n e (given_edge down rank f)
-  class_draws_it down count n (edges across rank) e f = absurd cc
-  class_draws_it down count n (crossings row col) e f = by_rank down col count n e (given_down row col f)
+  class_draws_it Horizontal count n (edges Horizontal rank) e f = by_rank Horizontal rank count n e (given_edge Horizontal rank f)
+  class_draws_it Horizontal count n (edges Vertical rank) e f = absurd cc
+  class_draws_it Horizontal count n (crossings row col) e f = by_rank Horizontal row count n e (given_across row col f)
+  class_draws_it Vertical count n (edges Vertical rank) e f = by_rank Vertical rank count n e (given_edge Vertical rank f)
+  class_draws_it Vertical count n (edges Horizontal rank) e f = absurd cc
+  class_draws_it Vertical count n (crossings row col) e f = by_rank Vertical col count n e (given_down row col f)
 
 -- an edge or a crossing outside has no plain value
 pub plain_outside : {T : Type 0} (state : State T) (shape : ℕ × ℕ) (place : Place) → has_spot shape place ≡ false → plain_value (state_at state) shape place ≡ None

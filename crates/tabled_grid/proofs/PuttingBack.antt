@@ -12,7 +12,7 @@ use Rattle.tabled_grid.specs.declared.place.LineOf.{LineOf}
 use Rattle.tabled_grid.specs.declared.place.Place.{Place}
 use Rattle.tabled_object.specs.declared.position.Position.{Position}
 use Rattle.tabled_grid.specs.Keys.{position_cmp, edge_place_cmp, positions_total, exact_positions, edge_places_total, exact_edge_places}
-use Rattle.tabled_grid.specs.Site.{across, down, first, inner, last, Class, edges, crossings, class_value, Part, mark, main_edges, meeting, Spot, edge, crossing, Site, the_default, of_class, of_line, at_spot, from_end, from_start, same_site}
+use Rattle.tabled_grid.specs.Site.{Horizontal, Vertical, first, inner, last, Class, edges, crossings, class_value, Part, mark, main_edges, meeting, Spot, Edge, Crossing, Site, the_default, of_class, of_line, at_spot, at_offset, same_site}
 use Rattle.tabled_grid.specs.Event.{Written, sign, standing, Event, write, erase, replay, these_sites, Changes}
 use Rattle.tabled_grid.specs.State.{State, state_at, position, edge_place, horizontal_part, vertical_part}
 use Rattle.tabled_grid.specs.CellBorder.{border_places, border_fields}
@@ -70,10 +70,10 @@ same_vertical (Some l) (Some m) h = λ i. Some (record {
 
 same_classes : {T : Type 0} (a b : Borders T) → ((class : Class) → class_value class a ≡ class_value class b) → a ≡ b
 same_classes a b h = λ i. record {
-  top = h (edges across first) i;
-  bottom = h (edges across last) i;
-  left = h (edges down first) i;
-  right = h (edges down last) i;
+  top = h (edges Horizontal first) i;
+  bottom = h (edges Horizontal last) i;
+  left = h (edges Vertical first) i;
+  right = h (edges Vertical last) i;
   top_left = h (crossings first first) i;
   top_right = h (crossings first last) i;
   bottom_left = h (crossings last first) i;
@@ -82,8 +82,8 @@ same_classes a b h = λ i. record {
   bottom_intersection = h (crossings last inner) i;
   left_intersection = h (crossings inner first) i;
   right_intersection = h (crossings inner last) i;
-  horizontal = h (edges across inner) i;
-  vertical = h (edges down inner) i;
+  horizontal = h (edges Horizontal inner) i;
+  vertical = h (edges Vertical inner) i;
   intersection = h (crossings inner inner) i;
 }
 
@@ -94,13 +94,13 @@ same_state a b h = λ i. record {
   class_record = same_classes a.class_record b.class_record (λ class. of_signs (class_value class a.class_record) (class_value class b.class_record) (h (of_class class))) i;
   vertical_lines = map.same_map nat_cmp_total map.nat_cmp-IsAntisymmetric a.vertical_lines b.vertical_lines (λ n. same_vertical (map.get a.vertical_lines n) (map.get b.vertical_lines n) (λ part. h (of_line (LineOf.Vertical n) part))) i;
   horizontal_lines = map.same_map nat_cmp_total map.nat_cmp-IsAntisymmetric a.horizontal_lines b.horizontal_lines (λ n. same_horizontal (map.get a.horizontal_lines n) (map.get b.horizontal_lines n) (λ part. h (of_line (LineOf.Horizontal n) part))) i;
-  edges_across = same_spots a.edges_across b.edges_across (λ r c. h (at_spot (edge across r c))) i;
-  edges_down = same_spots a.edges_down b.edges_down (λ r c. h (at_spot (edge down r c))) i;
-  crosses = same_spots a.crosses b.crosses (λ r c. h (at_spot (crossing r c))) i;
-  ends_across = same_offsets a.ends_across b.ends_across (λ r c n. h (from_end across r c n)) i;
-  ends_down = same_offsets a.ends_down b.ends_down (λ r c n. h (from_end down r c n)) i;
-  starts_across = same_offsets a.starts_across b.starts_across (λ r c n. h (from_start across r c n)) i;
-  starts_down = same_offsets a.starts_down b.starts_down (λ r c n. h (from_start down r c n)) i;
+  edges_across = same_spots a.edges_across b.edges_across (λ r c. h (at_spot (Edge Horizontal r c))) i;
+  edges_down = same_spots a.edges_down b.edges_down (λ r c. h (at_spot (Edge Vertical r c))) i;
+  crosses = same_spots a.crosses b.crosses (λ r c. h (at_spot (Crossing r c))) i;
+  ends_across = same_offsets a.ends_across b.ends_across (λ r c n. h (at_offset Horizontal r c (Offset.End n))) i;
+  ends_down = same_offsets a.ends_down b.ends_down (λ r c n. h (at_offset Vertical r c (Offset.End n))) i;
+  starts_across = same_offsets a.starts_across b.starts_across (λ r c n. h (at_offset Horizontal r c (Offset.Start n))) i;
+  starts_down = same_offsets a.starts_down b.starts_down (λ r c n. h (at_offset Vertical r c (Offset.Start n))) i;
 }
 
 or-none : (b : Bool) → (b || false) ≡ b
@@ -122,9 +122,9 @@ two_same : (r c : ℕ) → ((r == r) && (c == c)) ≡ true
 two_same r c = ap (λ b. b && (c == c)) (same_number r) ∙ same_number c
 
 spot_itself : (spot : Spot) → same_site (at_spot spot) (at_spot spot) ≡ true
-spot_itself (edge across r c) = two_same r c
-spot_itself (edge down r c) = two_same r c
-spot_itself (crossing r c) = two_same r c
+spot_itself (Edge Horizontal r c) = two_same r c
+spot_itself (Edge Vertical r c) = two_same r c
+spot_itself (Crossing r c) = two_same r c
 
 three_same : (r c n : ℕ) → ((r == r) && (c == c) && (n == n)) ≡ true
 three_same r c n = ap (λ b. b && (n == n)) (two_same r c) ∙ same_number n

@@ -2,7 +2,8 @@
 use Rattle.std.proofs.Common.{◌≡◌, ℕ, Bool, true, false, ◌&&◌, ◌==◌, refl}
 use Rattle.std.proofs.lemmas.Bool.{eqb-true}
 use Rattle.tabled_grid.specs.declared.place.LineOf.{LineOf}
-use Rattle.tabled_grid.specs.Site.{Direction, across, down, Rank, first, inner, last, Class, edges, crossings, Part, mark, main_edges, meeting, Spot, edge, crossing, Site, the_default, of_class, of_line, at_spot, from_end, from_start, same_direction, same_rank, same_class, same_line, same_part, same_spot, same_site}
+use Rattle.tabled_grid.specs.declared.offset.Offset.{Offset}
+use Rattle.tabled_grid.specs.Site.{Direction, Horizontal, Vertical, Rank, first, inner, last, Class, edges, crossings, Part, mark, main_edges, meeting, Spot, Edge, Crossing, Site, the_default, of_class, of_line, at_spot, at_offset, same_direction, same_rank, same_class, same_line, same_part, same_spot, same_site}
 
 -- both tests of an && hold
 both : (a b : Bool) → (a && b) ≡ true → (a ≡ true) × (b ≡ true)
@@ -10,10 +11,10 @@ both true b h = (refl, h)
 both false b h = absurd cc
 
 same_direction-eq : (d e : Direction) → same_direction d e ≡ true → d ≡ e
-same_direction-eq across across h = refl
-same_direction-eq down down h = refl
-same_direction-eq across down h = cc
-same_direction-eq down across h = cc
+same_direction-eq Horizontal Horizontal h = refl
+same_direction-eq Vertical Vertical h = refl
+same_direction-eq Horizontal Vertical h = cc
+same_direction-eq Vertical Horizontal h = cc
 
 same_rank-eq : (n m : Rank) → same_rank n m ≡ true → n ≡ m
 same_rank-eq first first h = refl
@@ -58,20 +59,20 @@ same_part-eq (meeting n) mark h = cc
 same_part-eq (meeting n) main_edges h = cc
 
 pub same_spot-eq : (a b : Spot) → same_spot a b ≡ true → a ≡ b
-same_spot-eq (edge d r c) (edge e s k) h =
+same_spot-eq (Edge d r c) (Edge e s k) h =
     let parts = both (same_direction d e && (r == s)) (c == k) h in
     let front = both (same_direction d e) (r == s) parts.0 in
     let direction = same_direction-eq d e front.0 in
     let row = eqb-true r s front.1 in
     let col = eqb-true c k parts.1 in
     cc
-same_spot-eq (crossing r c) (crossing s k) h =
+same_spot-eq (Crossing r c) (Crossing s k) h =
     let parts = both (r == s) (c == k) h in
     let row = eqb-true r s parts.0 in
     let col = eqb-true c k parts.1 in
     cc
-same_spot-eq (edge d r c) (crossing s k) h = cc
-same_spot-eq (crossing r c) (edge e s k) h = cc
+same_spot-eq (Edge d r c) (Crossing s k) h = cc
+same_spot-eq (Crossing r c) (Edge e s k) h = cc
 
 -- the four numbers of an offset site, where its test holds
 same_offset : (d e : Direction) (r s c k n m : ℕ) → (same_direction d e && (r == s) && (c == k) && (n == m)) ≡ true → (d ≡ e) × (r ≡ s) × (c ≡ k) × (n ≡ m)
@@ -90,40 +91,40 @@ same_site-eq (of_line l p) (of_line m q) h =
     let part = same_part-eq p q parts.1 in
     cc
 same_site-eq (at_spot a) (at_spot b) h = let e = same_spot-eq a b h in cc
-same_site-eq (from_end d r c n) (from_end e s k m) h = let parts = same_offset d e r s c k n m h in cc
-same_site-eq (from_start d r c n) (from_start e s k m) h = let parts = same_offset d e r s c k n m h in cc
+same_site-eq (at_offset d r c (Offset.End n)) (at_offset e s k (Offset.End m)) h = let parts = same_offset d e r s c k n m h in cc
+same_site-eq (at_offset d r c (Offset.Start n)) (at_offset e s k (Offset.Start m)) h = let parts = same_offset d e r s c k n m h in cc
 same_site-eq the_default (of_class b) h = cc
 same_site-eq the_default (of_line m q) h = cc
 same_site-eq the_default (at_spot b) h = cc
-same_site-eq the_default (from_end e s k m) h = cc
-same_site-eq the_default (from_start e s k m) h = cc
+same_site-eq the_default (at_offset e s k (Offset.End m)) h = cc
+same_site-eq the_default (at_offset e s k (Offset.Start m)) h = cc
 same_site-eq (of_class a) the_default h = cc
 same_site-eq (of_class a) (of_line m q) h = cc
 same_site-eq (of_class a) (at_spot b) h = cc
-same_site-eq (of_class a) (from_end e s k m) h = cc
-same_site-eq (of_class a) (from_start e s k m) h = cc
+same_site-eq (of_class a) (at_offset e s k (Offset.End m)) h = cc
+same_site-eq (of_class a) (at_offset e s k (Offset.Start m)) h = cc
 same_site-eq (of_line l p) the_default h = cc
 same_site-eq (of_line l p) (of_class b) h = cc
 same_site-eq (of_line l p) (at_spot b) h = cc
-same_site-eq (of_line l p) (from_end e s k m) h = cc
-same_site-eq (of_line l p) (from_start e s k m) h = cc
+same_site-eq (of_line l p) (at_offset e s k (Offset.End m)) h = cc
+same_site-eq (of_line l p) (at_offset e s k (Offset.Start m)) h = cc
 same_site-eq (at_spot a) the_default h = cc
 same_site-eq (at_spot a) (of_class b) h = cc
 same_site-eq (at_spot a) (of_line m q) h = cc
-same_site-eq (at_spot a) (from_end e s k m) h = cc
-same_site-eq (at_spot a) (from_start e s k m) h = cc
-same_site-eq (from_end d r c n) the_default h = cc
-same_site-eq (from_end d r c n) (of_class b) h = cc
-same_site-eq (from_end d r c n) (of_line m q) h = cc
-same_site-eq (from_end d r c n) (at_spot b) h = cc
-same_site-eq (from_end d r c n) (from_start e s k m) h = cc
-same_site-eq (from_start d r c n) the_default h = cc
-same_site-eq (from_start d r c n) (of_class b) h = cc
-same_site-eq (from_start d r c n) (of_line m q) h = cc
-same_site-eq (from_start d r c n) (at_spot b) h = cc
-same_site-eq (from_start d r c n) (from_end e s k m) h = cc
+same_site-eq (at_spot a) (at_offset e s k (Offset.End m)) h = cc
+same_site-eq (at_spot a) (at_offset e s k (Offset.Start m)) h = cc
+same_site-eq (at_offset d r c (Offset.End n)) the_default h = cc
+same_site-eq (at_offset d r c (Offset.End n)) (of_class b) h = cc
+same_site-eq (at_offset d r c (Offset.End n)) (of_line m q) h = cc
+same_site-eq (at_offset d r c (Offset.End n)) (at_spot b) h = cc
+same_site-eq (at_offset d r c (Offset.End n)) (at_offset e s k (Offset.Start m)) h = cc
+same_site-eq (at_offset d r c (Offset.Start n)) the_default h = cc
+same_site-eq (at_offset d r c (Offset.Start n)) (of_class b) h = cc
+same_site-eq (at_offset d r c (Offset.Start n)) (of_line m q) h = cc
+same_site-eq (at_offset d r c (Offset.Start n)) (at_spot b) h = cc
+same_site-eq (at_offset d r c (Offset.Start n)) (at_offset e s k (Offset.End m)) h = cc
 
 -- a site is one with itself
 same_direction-refl : (d : Direction) → same_direction d d ≡ true
-same_direction-refl across = refl
-same_direction-refl down = refl
+same_direction-refl Horizontal = refl
+same_direction-refl Vertical = refl

@@ -14,7 +14,8 @@ use Rattle.tabled_grid.specs.declared.lines.HorizontalLine.{HorizontalLine}
 use Rattle.tabled_grid.specs.declared.lines.VerticalLine.{VerticalLine}
 use Rattle.tabled_grid.specs.declared.place.LineOf.{LineOf}
 use Rattle.tabled_grid.specs.Keys.{positions_total, edge_places_total}
-use Rattle.tabled_grid.specs.Site.{across, down, first, inner, last, Class, edges, crossings, class_value, Part, mark, main_edges, meeting, edge, crossing, Site, the_default, of_class, of_line, at_spot, from_end, from_start}
+use Rattle.tabled_grid.specs.declared.offset.Offset.{Offset}
+use Rattle.tabled_grid.specs.Site.{Horizontal, Vertical, first, inner, last, Class, edges, crossings, class_value, Part, mark, main_edges, meeting, Edge, Crossing, Site, the_default, of_class, of_line, at_spot, at_offset}
 use Rattle.tabled_grid.specs.Event.{Written, sign}
 use Rattle.tabled_grid.specs.State.{State, state_at, position, edge_place, horizontal_part, vertical_part}
 use Rattle.tabled_grid.proofs.SameLemmas.{both}
@@ -187,10 +188,10 @@ module _ {V : Type 0} (E : V → V → Bool) where
 
   whole_borders : (a b : Borders V) → ((class : Class) → SameValues E (class_value class a) (class_value class b)) → same_borders E a b ≡ true
   whole_borders a b h =
-      all_of (h (edges across first)) (all_of (h (edges across last)) (all_of (h (edges down first)) (all_of (h (edges down last))
+      all_of (h (edges Horizontal first)) (all_of (h (edges Horizontal last)) (all_of (h (edges Vertical first)) (all_of (h (edges Vertical last))
       (all_of (h (crossings first first)) (all_of (h (crossings first last)) (all_of (h (crossings last first)) (all_of (h (crossings last last))
       (all_of (h (crossings first inner)) (all_of (h (crossings last inner)) (all_of (h (crossings inner first)) (all_of (h (crossings inner last))
-      (all_of (h (edges across inner)) (all_of (h (edges down inner)) (h (crossings inner inner)))))))))))))))
+      (all_of (h (edges Horizontal inner)) (all_of (h (edges Vertical inner)) (h (crossings inner inner)))))))))))))))
 
   borders_parts : (a b : Borders V) → same_borders E a b ≡ true → (class : Class) → SameValues E (class_value class a) (class_value class b)
   borders_parts a b h class =
@@ -211,12 +212,12 @@ module _ {V : Type 0} (E : V → V → Bool) where
       of_fields class f1.0 f2.0 f3.0 f4.0 f5.0 f6.0 f7.0 f8.0 f9.0 f10.0 f11.0 f12.0 f13.0 f14.0 f14.1
     where
       of_fields : (class : Class) → SameValues E a.top b.top → SameValues E a.bottom b.bottom → SameValues E a.left b.left → SameValues E a.right b.right → SameValues E a.top_left b.top_left → SameValues E a.top_right b.top_right → SameValues E a.bottom_left b.bottom_left → SameValues E a.bottom_right b.bottom_right → SameValues E a.top_intersection b.top_intersection → SameValues E a.bottom_intersection b.bottom_intersection → SameValues E a.left_intersection b.left_intersection → SameValues E a.right_intersection b.right_intersection → SameValues E a.horizontal b.horizontal → SameValues E a.vertical b.vertical → SameValues E a.intersection b.intersection → SameValues E (class_value class a) (class_value class b)
-      of_fields (edges across first) t b' l r tl tr bl br ti bi li ri h v i = t
-      of_fields (edges across inner) t b' l r tl tr bl br ti bi li ri h v i = h
-      of_fields (edges across last) t b' l r tl tr bl br ti bi li ri h v i = b'
-      of_fields (edges down first) t b' l r tl tr bl br ti bi li ri h v i = l
-      of_fields (edges down inner) t b' l r tl tr bl br ti bi li ri h v i = v
-      of_fields (edges down last) t b' l r tl tr bl br ti bi li ri h v i = r
+      of_fields (edges Horizontal first) t b' l r tl tr bl br ti bi li ri h v i = t
+      of_fields (edges Horizontal inner) t b' l r tl tr bl br ti bi li ri h v i = h
+      of_fields (edges Horizontal last) t b' l r tl tr bl br ti bi li ri h v i = b'
+      of_fields (edges Vertical first) t b' l r tl tr bl br ti bi li ri h v i = l
+      of_fields (edges Vertical inner) t b' l r tl tr bl br ti bi li ri h v i = v
+      of_fields (edges Vertical last) t b' l r tl tr bl br ti bi li ri h v i = r
       of_fields (crossings first first) t b' l r tl tr bl br ti bi li ri h v i = tl
       of_fields (crossings first inner) t b' l r tl tr bl br ti bi li ri h v i = ti
       of_fields (crossings first last) t b' l r tl tr bl br ti bi li ri h v i = tr
@@ -248,13 +249,13 @@ same_at_sites E a b h =
     at_site d r vl hl ea ed cr na nd sa sd (of_class class) = as_signs E _ _ (borders_parts E a.class_record b.class_record r class)
     at_site d r vl hl ea ed cr na nd sa sd (of_line (LineOf.Horizontal n) part) = horizontal_parts E _ _ (get_alike nat_cmp_total (same_horizontal E) a.horizontal_lines b.horizontal_lines hl n) part
     at_site d r vl hl ea ed cr na nd sa sd (of_line (LineOf.Vertical n) part) = vertical_parts E _ _ (get_alike nat_cmp_total (same_vertical E) a.vertical_lines b.vertical_lines vl n) part
-    at_site d r vl hl ea ed cr na nd sa sd (at_spot (edge across i j)) = as_signs E _ _ (get_alike positions_total E a.edges_across b.edges_across ea (position i j))
-    at_site d r vl hl ea ed cr na nd sa sd (at_spot (edge down i j)) = as_signs E _ _ (get_alike positions_total E a.edges_down b.edges_down ed (position i j))
-    at_site d r vl hl ea ed cr na nd sa sd (at_spot (crossing i j)) = as_signs E _ _ (get_alike positions_total E a.crosses b.crosses cr (position i j))
-    at_site d r vl hl ea ed cr na nd sa sd (from_end across i j n) = as_signs E _ _ (get_alike edge_places_total E a.ends_across b.ends_across na (edge_place i j n))
-    at_site d r vl hl ea ed cr na nd sa sd (from_end down i j n) = as_signs E _ _ (get_alike edge_places_total E a.ends_down b.ends_down nd (edge_place i j n))
-    at_site d r vl hl ea ed cr na nd sa sd (from_start across i j n) = as_signs E _ _ (get_alike edge_places_total E a.starts_across b.starts_across sa (edge_place i j n))
-    at_site d r vl hl ea ed cr na nd sa sd (from_start down i j n) = as_signs E _ _ (get_alike edge_places_total E a.starts_down b.starts_down sd (edge_place i j n))
+    at_site d r vl hl ea ed cr na nd sa sd (at_spot (Edge Horizontal i j)) = as_signs E _ _ (get_alike positions_total E a.edges_across b.edges_across ea (position i j))
+    at_site d r vl hl ea ed cr na nd sa sd (at_spot (Edge Vertical i j)) = as_signs E _ _ (get_alike positions_total E a.edges_down b.edges_down ed (position i j))
+    at_site d r vl hl ea ed cr na nd sa sd (at_spot (Crossing i j)) = as_signs E _ _ (get_alike positions_total E a.crosses b.crosses cr (position i j))
+    at_site d r vl hl ea ed cr na nd sa sd (at_offset Horizontal i j (Offset.End n)) = as_signs E _ _ (get_alike edge_places_total E a.ends_across b.ends_across na (edge_place i j n))
+    at_site d r vl hl ea ed cr na nd sa sd (at_offset Vertical i j (Offset.End n)) = as_signs E _ _ (get_alike edge_places_total E a.ends_down b.ends_down nd (edge_place i j n))
+    at_site d r vl hl ea ed cr na nd sa sd (at_offset Horizontal i j (Offset.Start n)) = as_signs E _ _ (get_alike edge_places_total E a.starts_across b.starts_across sa (edge_place i j n))
+    at_site d r vl hl ea ed cr na nd sa sd (at_offset Vertical i j (Offset.Start n)) = as_signs E _ _ (get_alike edge_places_total E a.starts_down b.starts_down sd (edge_place i j n))
 
 -- and those that keep the same at every site are the same by it
 pub same_by_sites : {V : Type 0} (E : V → V → Bool) (a b : State V) → ((site : Site) → option_eq (same_written E) (state_at a site) (state_at b site) ≡ true) → same_state E a b ≡ true
@@ -264,10 +265,10 @@ same_by_sites E a b h =
     (all_of (of_signs E a.default_value b.default_value (h the_default)) (whole_borders E a.class_record b.class_record (λ class. of_signs E _ _ (h (of_class class)))))
     (all_of (alike_get nat_cmp_total (same_vertical E) a.vertical_lines b.vertical_lines (λ n. whole_vertical E _ _ (λ part. h (of_line (LineOf.Vertical n) part))))
     (alike_get nat_cmp_total (same_horizontal E) a.horizontal_lines b.horizontal_lines (λ n. whole_horizontal E _ _ (λ part. h (of_line (LineOf.Horizontal n) part))))))
-    (all_of (all_of (alike_get positions_total E a.edges_across b.edges_across (λ p. of_signs E _ _ (h (at_spot (edge across p.row p.col)))))
-    (alike_get positions_total E a.edges_down b.edges_down (λ p. of_signs E _ _ (h (at_spot (edge down p.row p.col))))))
-    (alike_get positions_total E a.crosses b.crosses (λ p. of_signs E _ _ (h (at_spot (crossing p.row p.col)))))))
-    (all_of (all_of (all_of (alike_get edge_places_total E a.ends_across b.ends_across (λ p. of_signs E _ _ (h (from_end across p.row p.col p.number))))
-    (alike_get edge_places_total E a.ends_down b.ends_down (λ p. of_signs E _ _ (h (from_end down p.row p.col p.number)))))
-    (alike_get edge_places_total E a.starts_across b.starts_across (λ p. of_signs E _ _ (h (from_start across p.row p.col p.number)))))
-    (alike_get edge_places_total E a.starts_down b.starts_down (λ p. of_signs E _ _ (h (from_start down p.row p.col p.number)))))
+    (all_of (all_of (alike_get positions_total E a.edges_across b.edges_across (λ p. of_signs E _ _ (h (at_spot (Edge Horizontal p.row p.col)))))
+    (alike_get positions_total E a.edges_down b.edges_down (λ p. of_signs E _ _ (h (at_spot (Edge Vertical p.row p.col))))))
+    (alike_get positions_total E a.crosses b.crosses (λ p. of_signs E _ _ (h (at_spot (Crossing p.row p.col)))))))
+    (all_of (all_of (all_of (alike_get edge_places_total E a.ends_across b.ends_across (λ p. of_signs E _ _ (h (at_offset Horizontal p.row p.col (Offset.End p.number)))))
+    (alike_get edge_places_total E a.ends_down b.ends_down (λ p. of_signs E _ _ (h (at_offset Vertical p.row p.col (Offset.End p.number))))))
+    (alike_get edge_places_total E a.starts_across b.starts_across (λ p. of_signs E _ _ (h (at_offset Horizontal p.row p.col (Offset.Start p.number))))))
+    (alike_get edge_places_total E a.starts_down b.starts_down (λ p. of_signs E _ _ (h (at_offset Vertical p.row p.col (Offset.Start p.number))))))

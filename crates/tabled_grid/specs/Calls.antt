@@ -11,7 +11,7 @@ use Rattle.tabled_object.specs.declared.position.Position.{Position}
 use Rattle.tabled_object.specs.declared.entity.Entity.{Entity}
 use Rattle.tabled_grid.specs.CellBorder.{border_places, border_fields}
 use Rattle.tabled_object.specs.Entities.{below, cells_of, is_inside}
-use Rattle.tabled_grid.specs.Site.{Direction, across, down, Spot, edge, crossing, Site, the_default, at_spot, from_end, from_start}
+use Rattle.tabled_grid.specs.Site.{Direction, Horizontal, Vertical, Spot, Edge, Crossing, Site, the_default, at_spot, at_offset}
 use Rattle.tabled_grid.specs.Event.{sign, Written, Event, write, erase, level_sites, offset_sites, line_sites, these_sites}
 use Rattle.tabled_grid.specs.Drawn.{written}
 use Rattle.tabled_grid.specs.Lines as lines
@@ -36,9 +36,9 @@ lines_erased = erase (level_sites 2) ∷ erase (level_sites 3) ∷ []
 
 -- the edge or the crossing of a place
 abbrev pub spot_of : Place → Spot
-spot_of (Place.Horizontal r c k) = edge across r c
-spot_of (Place.Vertical r c k) = edge down r c
-spot_of (Place.Cross r c) = crossing r c
+spot_of (Place.Horizontal r c k) = Edge Horizontal r c
+spot_of (Place.Vertical r c k) = Edge Vertical r c
+spot_of (Place.Cross r c) = Crossing r c
 
 -- a cell's value written at the spot of a place, and erased there
 abbrev pub cell_set : {T : Type 0} → Place → T → List (Event T)
@@ -94,11 +94,11 @@ spots_erased spots = erase (these_sites (map at_spot spots)) ∷ []
 
 -- the spots of a horizontal line over so many columns: its edges, and its crossings with all vertical lines
 abbrev pub line_across : ℕ → ℕ → List Spot
-line_across line cols = map (λ col. edge across line col) (below cols) ++ map (λ col. crossing line col) (below (cols + 1))
+line_across line cols = map (λ col. Edge Horizontal line col) (below cols) ++ map (λ col. Crossing line col) (below (cols + 1))
 
 -- the spots of a vertical line beside so many rows
 abbrev pub line_down : ℕ → ℕ → List Spot
-line_down line rows = map (λ row. edge down row line) (below rows) ++ map (λ row. crossing row line) (below (rows + 1))
+line_down line rows = map (λ row. Edge Vertical row line) (below rows) ++ map (λ row. Crossing row line) (below (rows + 1))
 
 -- the outer lines of a table of so many rows and columns erased; one without rows or columns has none
 abbrev pub frame_erased : {T : Type 0} → ℕ × ℕ → List (Event T)
@@ -107,12 +107,12 @@ frame_erased (rows, cols) =
 
 -- the site of a numbered place of an edge, counted from one of its ends; a crossing has none
 abbrev pub edge_site : Direction → ℕ → ℕ → Offset → Site
-edge_site d r c (Offset.Start n) = from_start d r c n
-edge_site d r c (Offset.End n) = from_end d r c n
+edge_site d r c (Offset.Start n) = at_offset d r c (Offset.Start n)
+edge_site d r c (Offset.End n) = at_offset d r c (Offset.End n)
 
 abbrev pub offset_site : Place → Offset → Option Site
-offset_site (Place.Horizontal r c k) offset = Some (edge_site across r c offset)
-offset_site (Place.Vertical r c k) offset = Some (edge_site down r c offset)
+offset_site (Place.Horizontal r c k) offset = Some (edge_site Horizontal r c offset)
+offset_site (Place.Vertical r c k) offset = Some (edge_site Vertical r c offset)
 offset_site (Place.Cross r c) offset = None
 
 -- a value written there
@@ -120,8 +120,8 @@ abbrev pub edge_offset : {T : Type 0} → Direction → ℕ → ℕ → Offset �
 edge_offset d r c offset value = write (edge_site d r c offset) (sign value) ∷ []
 
 abbrev pub offset_set : {T : Type 0} → Place → Offset → T → List (Event T)
-offset_set (Place.Horizontal r c k) offset value = edge_offset across r c offset value
-offset_set (Place.Vertical r c k) offset value = edge_offset down r c offset value
+offset_set (Place.Horizontal r c k) offset value = edge_offset Horizontal r c offset value
+offset_set (Place.Vertical r c k) offset value = edge_offset Vertical r c offset value
 offset_set (Place.Cross r c) offset value = []
 
 -- the offsets on the edges of one direction cleared

@@ -2,7 +2,7 @@
 use Rattle.std.specs.Prelude.{ℕ, Bool, true, false, ◌&&◌, ◌==◌, nat_le, IsTrue, is_some, IsSome, Option, List, [], ◌∷◌, ◌≤◌}
 use Rattle.std.specs.List.{list_any}
 use Rattle.tabled_grid.specs.declared.place.LineOf.{LineOf}
-use Rattle.tabled_grid.specs.Site.{across, down, first, last, stands, edges, crossings, mark, meeting, edge, crossing, Site, the_default, of_class, of_line, at_spot}
+use Rattle.tabled_grid.specs.Site.{Horizontal, Vertical, first, last, stands, edges, crossings, mark, meeting, Edge, Crossing, Site, the_default, of_class, of_line, at_spot}
 use Rattle.tabled_grid.specs.Event.{Written, Event, write, erase, replay}
 
 abbrev pub number : LineOf → ℕ
@@ -15,19 +15,19 @@ number (LineOf.Vertical n) = n
 -- crossing the lines that it lies on. Offsets draw nothing.
 abbrev pub draws : ℕ → LineOf → Site → Bool
 draws count line the_default = true
-draws count (LineOf.Horizontal n) (of_class (edges across rank)) = stands rank count n
+draws count (LineOf.Horizontal n) (of_class (edges Horizontal rank)) = stands rank count n
 draws count (LineOf.Horizontal n) (of_class (crossings row col)) = stands row count n
 draws count (LineOf.Horizontal n) (of_line (LineOf.Horizontal m) mark) = m == n
 draws count (LineOf.Horizontal n) (of_line (LineOf.Vertical m) (meeting first)) = stands first count n
 draws count (LineOf.Horizontal n) (of_line (LineOf.Vertical m) (meeting last)) = stands last count n
-draws count (LineOf.Horizontal n) (at_spot (edge across r c)) = r == n
-draws count (LineOf.Horizontal n) (at_spot (crossing r c)) = r == n
-draws count (LineOf.Vertical n) (of_class (edges down rank)) = stands rank count n
+draws count (LineOf.Horizontal n) (at_spot (Edge Horizontal r c)) = r == n
+draws count (LineOf.Horizontal n) (at_spot (Crossing r c)) = r == n
+draws count (LineOf.Vertical n) (of_class (edges Vertical rank)) = stands rank count n
 draws count (LineOf.Vertical n) (of_class (crossings row col)) = stands col count n
 draws count (LineOf.Vertical n) (of_line (LineOf.Vertical m) mark) = m == n
 draws count (LineOf.Vertical n) (of_line (LineOf.Horizontal m) (meeting rank)) = stands rank count n
-draws count (LineOf.Vertical n) (at_spot (edge down r c)) = c == n
-draws count (LineOf.Vertical n) (at_spot (crossing r c)) = c == n
+draws count (LineOf.Vertical n) (at_spot (Edge Vertical r c)) = c == n
+draws count (LineOf.Vertical n) (at_spot (Crossing r c)) = c == n
 draws count line _ = false
 
 -- a line is drawn where it is none past the closing one and something is kept at a site that draws it

@@ -2,7 +2,8 @@
 use Rattle.std.specs.Prelude.{◌≡◌, ℕ, Bool, true, false, ◌==◌, if◌then◌else◌, Option, Some, None, List, filter, option_and_then}
 use Rattle.std.specs.List.{list_any, last_or}
 use Rattle.tabled_grid.specs.declared.place.LineOf.{LineOf}
-use Rattle.tabled_grid.specs.Site.{Direction, Site, level, same_direction, same_line, same_site, of_line, from_end, from_start}
+use Rattle.tabled_grid.specs.declared.offset.Offset.{Offset}
+use Rattle.tabled_grid.specs.Site.{Direction, Site, level, same_direction, same_line, same_site, of_line, at_offset}
 
 -- what is written at a site: a character or a color, or the bare mark that a custom line stands
 pub data Written (T : Type 0) : Type 0 where
@@ -21,8 +22,8 @@ pub data Region : Type 0 where
 abbrev pub within : Region → Site → Bool
 within every_site q = true
 within (level_sites n) q = level q == n
-within (offset_sites d) (from_end e r c n) = same_direction d e
-within (offset_sites d) (from_start e r c n) = same_direction d e
+within (offset_sites d) (at_offset e r c (Offset.End n)) = same_direction d e
+within (offset_sites d) (at_offset e r c (Offset.Start n)) = same_direction d e
 within (offset_sites d) _ = false
 within (line_sites l) (of_line m p) = same_line l m
 within (line_sites l) _ = false

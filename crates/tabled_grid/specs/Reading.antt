@@ -5,7 +5,7 @@ use Rattle.std.specs.FinMap.{FinMap, get}
 use Rattle.tabled_grid.specs.declared.lines.HorizontalLine.{HorizontalLine}
 use Rattle.tabled_grid.specs.declared.lines.VerticalLine.{VerticalLine}
 use Rattle.tabled_grid.specs.Counted.{number_at}
-use Rattle.tabled_grid.specs.Site.{across, down, rank, edges, crossings, class_value, horizontal_meeting, vertical_meeting}
+use Rattle.tabled_grid.specs.Site.{Horizontal, Vertical, rank, edges, crossings, class_value, horizontal_meeting, vertical_meeting}
 use Rattle.tabled_grid.specs.State.{State, position, edge_place}
 
 -- the first, if there is one, and else the other
@@ -16,11 +16,11 @@ pick (Some x) other = Some x
 -- what the levels below the cells have for an edge across, an edge down and a crossing
 abbrev pub under_across : {T : Type 0} → State T → ℕ → ℕ → Option T
 under_across k rows r =
-    pick (option_and_then (λ line. line.main) (get k.horizontal_lines r)) (pick (class_value (edges across (rank rows r)) k.class_record) k.default_value)
+    pick (option_and_then (λ line. line.main) (get k.horizontal_lines r)) (pick (class_value (edges Horizontal (rank rows r)) k.class_record) k.default_value)
 
 abbrev pub under_down : {T : Type 0} → State T → ℕ → ℕ → Option T
 under_down k cols c =
-    pick (option_and_then (λ line. line.main) (get k.vertical_lines c)) (pick (class_value (edges down (rank cols c)) k.class_record) k.default_value)
+    pick (option_and_then (λ line. line.main) (get k.vertical_lines c)) (pick (class_value (edges Vertical (rank cols c)) k.class_record) k.default_value)
 
 abbrev pub under_crossing : {T : Type 0} → State T → ℕ → ℕ → ℕ → ℕ → Option T
 under_crossing k rows cols r c =

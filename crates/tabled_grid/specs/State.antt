@@ -11,7 +11,8 @@ use Rattle.tabled_object.specs.declared.position.Position.{Position}
 use Rattle.tabled_grid.specs.declared.keys.EdgePlace.{EdgePlace}
 pub use Rattle.tabled_object.specs.Entities.{position}
 use Rattle.tabled_grid.specs.Keys.{position_cmp, edge_place_cmp}
-use Rattle.tabled_grid.specs.Site.{Direction, across, down, Rank, first, inner, last, stands, Class, edges, crossings, class_value, Part, mark, main_edges, meeting, horizontal_meeting, vertical_meeting, edge, crossing, Site, the_default, of_class, of_line, at_spot, from_end, from_start}
+use Rattle.tabled_grid.specs.declared.offset.Offset.{Offset}
+use Rattle.tabled_grid.specs.Site.{Direction, Horizontal, Vertical, Rank, first, inner, last, stands, Class, edges, crossings, class_value, Part, mark, main_edges, meeting, horizontal_meeting, vertical_meeting, Edge, Crossing, Site, the_default, of_class, of_line, at_spot, at_offset}
 use Rattle.tabled_grid.specs.Event.{Written, sign, standing, Event, write, erase, level_sites}
 use Rattle.tabled_grid.specs.Lines.{horizontal_line_set, vertical_line_set}
 
@@ -31,16 +32,16 @@ pub record State (T : Type 0) : Type 0 where
 
 -- the cells' edges of one direction, and their offsets from the end and from the start
 abbrev pub edge_values : {T : Type 0} → Direction → State T → FinMap position_cmp T
-edge_values across state = state.edges_across
-edge_values down state = state.edges_down
+edge_values Horizontal state = state.edges_across
+edge_values Vertical state = state.edges_down
 
 abbrev pub end_values : {T : Type 0} → Direction → State T → FinMap edge_place_cmp T
-end_values across state = state.ends_across
-end_values down state = state.ends_down
+end_values Horizontal state = state.ends_across
+end_values Vertical state = state.ends_down
 
 abbrev pub start_values : {T : Type 0} → Direction → State T → FinMap edge_place_cmp T
-start_values across state = state.starts_across
-start_values down state = state.starts_down
+start_values Horizontal state = state.starts_across
+start_values Vertical state = state.starts_down
 
 -- nothing is kept at an offset of an edge of that direction
 abbrev pub HasNoOffsets : {T : Type 0} → Direction → State T → Type 0
@@ -66,15 +67,15 @@ state_at state the_default = option_map sign state.default_value
 state_at state (of_class class) = option_map sign (class_value class state.class_record)
 state_at state (of_line (LineOf.Horizontal n) part) = option_and_then (horizontal_part part) (get state.horizontal_lines n)
 state_at state (of_line (LineOf.Vertical n) part) = option_and_then (vertical_part part) (get state.vertical_lines n)
-state_at state (at_spot (edge d r c)) = option_map sign (get (edge_values d state) (position r c))
-state_at state (at_spot (crossing r c)) = option_map sign (get state.crosses (position r c))
-state_at state (from_end d r c n) = option_map sign (get (end_values d state) (edge_place r c n))
-state_at state (from_start d r c n) = option_map sign (get (start_values d state) (edge_place r c n))
+state_at state (at_spot (Edge d r c)) = option_map sign (get (edge_values d state) (position r c))
+state_at state (at_spot (Crossing r c)) = option_map sign (get state.crosses (position r c))
+state_at state (at_offset d r c (Offset.End n)) = option_map sign (get (end_values d state) (edge_place r c n))
+state_at state (at_offset d r c (Offset.Start n)) = option_map sign (get (start_values d state) (edge_place r c n))
 
 -- the classes whose fields draw a line of that direction and rank
 abbrev pub line_classes : Direction → Rank → List Class
-line_classes across rank = edges across rank ∷ crossings rank first ∷ crossings rank inner ∷ crossings rank last ∷ []
-line_classes down rank = edges down rank ∷ crossings first rank ∷ crossings inner rank ∷ crossings last rank ∷ []
+line_classes Horizontal rank = edges Horizontal rank ∷ crossings rank first ∷ crossings rank inner ∷ crossings rank last ∷ []
+line_classes Vertical rank = edges Vertical rank ∷ crossings first rank ∷ crossings inner rank ∷ crossings last rank ∷ []
 
 -- whether a class record has a field of one of the classes
 abbrev pub has_class : {T : Type 0} → Borders T → List Class → Bool
@@ -88,8 +89,8 @@ rank_draws borders count d n =
 
 -- whether a class record draws a line, of the lines 0 to count of its direction
 abbrev pub class_draws : {T : Type 0} → Borders T → ℕ → LineOf → Bool
-class_draws borders count (LineOf.Horizontal n) = rank_draws borders count across n
-class_draws borders count (LineOf.Vertical n) = rank_draws borders count down n
+class_draws borders count (LineOf.Horizontal n) = rank_draws borders count Horizontal n
+class_draws borders count (LineOf.Vertical n) = rank_draws borders count Vertical n
 
 -- no class has something
 abbrev pub HasNothing : {T : Type 0} → Borders T → Type 0
@@ -98,7 +99,7 @@ HasNothing borders = (class : Class) → class_value class borders ≡ None
 -- all fifteen classes
 unfoldable pub classes : List Class
 classes =
-    edges across first ∷ edges across inner ∷ edges across last ∷ edges down first ∷ edges down inner ∷ edges down last
+    edges Horizontal first ∷ edges Horizontal inner ∷ edges Horizontal last ∷ edges Vertical first ∷ edges Vertical inner ∷ edges Vertical last
     ∷ crossings first first ∷ crossings first inner ∷ crossings first last
     ∷ crossings inner first ∷ crossings inner inner ∷ crossings inner last
     ∷ crossings last first ∷ crossings last inner ∷ crossings last last ∷ []
@@ -131,7 +132,7 @@ unfoldable pub writes_of : {T : Type 0} → State T → List (Event T)
 writes_of state =
     default_writes state.default_value ++ (class_writes state.class_record classes
     ++ (entry_events vertical_line_set (entries state.vertical_lines) ++ (entry_events horizontal_line_set (entries state.horizontal_lines)
-    ++ (spot_writes (λ p. at_spot (edge across p.row p.col)) state.edges_across ++ (spot_writes (λ p. at_spot (edge down p.row p.col)) state.edges_down
-    ++ (spot_writes (λ p. at_spot (crossing p.row p.col)) state.crosses
-    ++ (offset_writes (λ p. from_end across p.row p.col p.number) state.ends_across ++ (offset_writes (λ p. from_end down p.row p.col p.number) state.ends_down
-    ++ (offset_writes (λ p. from_start across p.row p.col p.number) state.starts_across ++ offset_writes (λ p. from_start down p.row p.col p.number) state.starts_down)))))))))
+    ++ (spot_writes (λ p. at_spot (Edge Horizontal p.row p.col)) state.edges_across ++ (spot_writes (λ p. at_spot (Edge Vertical p.row p.col)) state.edges_down
+    ++ (spot_writes (λ p. at_spot (Crossing p.row p.col)) state.crosses
+    ++ (offset_writes (λ p. at_offset Horizontal p.row p.col (Offset.End p.number)) state.ends_across ++ (offset_writes (λ p. at_offset Vertical p.row p.col (Offset.End p.number)) state.ends_down
+    ++ (offset_writes (λ p. at_offset Horizontal p.row p.col (Offset.Start p.number)) state.starts_across ++ offset_writes (λ p. at_offset Vertical p.row p.col (Offset.Start p.number)) state.starts_down)))))))))

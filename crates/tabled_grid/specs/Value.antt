@@ -2,7 +2,8 @@
 use Rattle.std.specs.Prelude.{ℕ, ◌-◌, Bool, ◌&&◌, nat_lt, nat_le, if◌then◌else◌, Option, Some, None, List, [], ◌∷◌}
 use Rattle.tabled_grid.specs.declared.place.LineOf.{LineOf}
 use Rattle.tabled_grid.specs.declared.place.Place.{Place}
-use Rattle.tabled_grid.specs.Site.{across, down, rank, Class, edges, crossings, main_edges, meeting, edge, crossing, Site, the_default, of_class, of_line, at_spot, from_end, from_start}
+use Rattle.tabled_grid.specs.declared.offset.Offset.{Offset}
+use Rattle.tabled_grid.specs.Site.{Horizontal, Vertical, rank, Class, edges, crossings, main_edges, meeting, Edge, Crossing, Site, the_default, of_class, of_line, at_spot, at_offset}
 use Rattle.tabled_grid.specs.Event.{Written, sign, standing}
 
 -- whether a table of that many rows and columns has the edge of the place, or the crossing; one without rows or columns
@@ -20,26 +21,26 @@ inside shape size (Place.Cross r c) = has_spot shape (Place.Cross r c)
 
 -- the class of a place
 abbrev pub class_at : ℕ × ℕ → Place → Class
-class_at (rows, cols) (Place.Horizontal r c k) = edges across (rank rows r)
-class_at (rows, cols) (Place.Vertical r c k) = edges down (rank cols c)
+class_at (rows, cols) (Place.Horizontal r c k) = edges Horizontal (rank rows r)
+class_at (rows, cols) (Place.Vertical r c k) = edges Vertical (rank cols c)
 class_at (rows, cols) (Place.Cross r c) = crossings (rank rows r) (rank cols c)
 
 -- the sites below the offsets of a place, from the highest level down
 abbrev pub plain_sites : ℕ × ℕ → Place → List Site
 plain_sites (rows, cols) (Place.Horizontal r c k) =
-    at_spot (edge across r c) ∷ of_line (LineOf.Horizontal r) main_edges
+    at_spot (Edge Horizontal r c) ∷ of_line (LineOf.Horizontal r) main_edges
     ∷ of_class (class_at (rows, cols) (Place.Horizontal r c k)) ∷ the_default ∷ []
 plain_sites (rows, cols) (Place.Vertical r c k) =
-    at_spot (edge down r c) ∷ of_line (LineOf.Vertical c) main_edges
+    at_spot (Edge Vertical r c) ∷ of_line (LineOf.Vertical c) main_edges
     ∷ of_class (class_at (rows, cols) (Place.Vertical r c k)) ∷ the_default ∷ []
 plain_sites (rows, cols) (Place.Cross r c) =
-    at_spot (crossing r c) ∷ of_line (LineOf.Horizontal r) (meeting (rank cols c)) ∷ of_line (LineOf.Vertical c) (meeting (rank rows r))
+    at_spot (Crossing r c) ∷ of_line (LineOf.Horizontal r) (meeting (rank cols c)) ∷ of_line (LineOf.Vertical c) (meeting (rank rows r))
     ∷ of_class (class_at (rows, cols) (Place.Cross r c)) ∷ the_default ∷ []
 
 -- the sites of a place inside; the size is the length of its edge
 abbrev pub sites : ℕ × ℕ → ℕ → Place → List Site
-sites shape size (Place.Horizontal r c k) = from_start across r c k ∷ from_end across r c (size - 1 - k) ∷ plain_sites shape (Place.Horizontal r c k)
-sites shape size (Place.Vertical r c k) = from_start down r c k ∷ from_end down r c (size - 1 - k) ∷ plain_sites shape (Place.Vertical r c k)
+sites shape size (Place.Horizontal r c k) = at_offset Horizontal r c (Offset.Start k) ∷ at_offset Horizontal r c (Offset.End (size - 1 - k)) ∷ plain_sites shape (Place.Horizontal r c k)
+sites shape size (Place.Vertical r c k) = at_offset Vertical r c (Offset.Start k) ∷ at_offset Vertical r c (Offset.End (size - 1 - k)) ∷ plain_sites shape (Place.Vertical r c k)
 sites shape size (Place.Cross r c) = plain_sites shape (Place.Cross r c)
 
 -- the sign, where that is what is kept, and else the other value

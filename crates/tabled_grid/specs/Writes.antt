@@ -3,7 +3,7 @@ use Rattle.std.specs.Prelude.{◌≡◌, IsSome, if◌then◌else◌, Option, So
 use Rattle.std.specs.List.{filter_map}
 use Rattle.tabled_grid.specs.declared.writes.Target.{Target}
 use Rattle.tabled_grid.specs.declared.writes.Write.{Write}
-use Rattle.tabled_grid.specs.Site.{across, down, Site, at_spot, same_site}
+use Rattle.tabled_grid.specs.Site.{Horizontal, Vertical, Site, at_spot, same_site}
 use Rattle.tabled_grid.specs.Event.{sign, Written, Event, write}
 use Rattle.tabled_grid.specs.State.{State, state_at}
 use Rattle.tabled_grid.specs.Calls.{spot_of, edge_site}
@@ -11,8 +11,8 @@ use Rattle.tabled_grid.specs.Calls.{spot_of, edge_site}
 -- the site that a target names
 abbrev pub site_of : Target → Site
 site_of (Target.Cell place) = at_spot (spot_of place)
-site_of (Target.Horizontal pos offset) = edge_site across pos.row pos.col offset
-site_of (Target.Vertical pos offset) = edge_site down pos.row pos.col offset
+site_of (Target.Horizontal pos offset) = edge_site Horizontal pos.row pos.col offset
+site_of (Target.Vertical pos offset) = edge_site Vertical pos.row pos.col offset
 
 -- a value written at a target, where both are given
 abbrev pub given_event : {T : Type 0} → Option Target → Option T → Option (Event T)

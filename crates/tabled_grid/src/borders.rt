@@ -52,7 +52,7 @@ impl<T: Copy> Clone for Borders<T> {
 }
 
 impl<T> Borders<T> {
-    ghost use Rattle.tabled_grid.specs.Site.{across, down, edges, crossings, rank, class_value};
+    ghost use Rattle.tabled_grid.specs.Site.{Horizontal, Vertical, edges, crossings, rank, class_value};
     ghost use Rattle.tabled_grid.specs.State.{HasNothing};
     ghost use Rattle.tabled_grid.specs.Borders.{has_horizontal, has_vertical};
     ghost use Rattle.tabled_grid.specs.CustomLines.{no_borders};
@@ -159,7 +159,7 @@ impl<T> Borders<T> {
 
     /// What the edges of the horizontal lines of a rank have.
     fn edges_across(&self, rank: Rank) -> Option<&T>
-        ensures { option_copied result ≡ class_value (edges across rank) self.now }
+        ensures { option_copied result ≡ class_value (edges Horizontal rank) self.now }
     {
         match rank {
             Rank::First => self.top.as_ref(),
@@ -170,7 +170,7 @@ impl<T> Borders<T> {
 
     /// What the edges of the vertical lines of a rank have.
     fn edges_down(&self, rank: Rank) -> Option<&T>
-        ensures { option_copied result ≡ class_value (edges down rank) self.now }
+        ensures { option_copied result ≡ class_value (edges Vertical rank) self.now }
     {
         match rank {
             Rank::First => self.left.as_ref(),
@@ -198,14 +198,14 @@ impl<T> Borders<T> {
 
     /// What the edges of horizontal line `row` have, of the lines 0 to `rows`.
     pub(crate) fn at_horizontal(&self, row: usize, rows: usize) -> Option<&T>
-        ensures { option_copied result ≡ class_value (edges across (rank rows row)) self.now }
+        ensures { option_copied result ≡ class_value (edges Horizontal (rank rows row)) self.now }
     {
         self.edges_across(Rank::of(row, rows))
     }
 
     /// What the edges of vertical line `col` have, of the lines 0 to `cols`.
     pub(crate) fn at_vertical(&self, col: usize, cols: usize) -> Option<&T>
-        ensures { option_copied result ≡ class_value (edges down (rank cols col)) self.now }
+        ensures { option_copied result ≡ class_value (edges Vertical (rank cols col)) self.now }
     {
         self.edges_down(Rank::of(col, cols))
     }
@@ -221,7 +221,7 @@ impl<T> Borders<T> {
 
 /// The record as six lines: of each rank a horizontal and a vertical one.
 impl<T: Copy> Borders<T> {
-    ghost use Rattle.tabled_grid.specs.Site.{across, down, edges, crossings};
+    ghost use Rattle.tabled_grid.specs.Site.{Horizontal, Vertical, edges, crossings};
     ghost use Rattle.tabled_grid.specs.Borders.{with_class, horizontal_of, vertical_of, put_horizontal, put_vertical};
 
     /// The horizontal line of a rank.
@@ -272,7 +272,7 @@ impl<T: Copy> Borders<T> {
 
     /// Sets the edges of the horizontal lines of a rank.
     fn set_edges_across(&mut self, rank: Rank, value: Option<T>)
-        ensures { self.new ≡ with_class (edges across rank) value self.old }
+        ensures { self.new ≡ with_class (edges Horizontal rank) value self.old }
     {
         match rank {
             Rank::First => self.top = value,
@@ -283,7 +283,7 @@ impl<T: Copy> Borders<T> {
 
     /// Sets the edges of the vertical lines of a rank.
     fn set_edges_down(&mut self, rank: Rank, value: Option<T>)
-        ensures { self.new ≡ with_class (edges down rank) value self.old }
+        ensures { self.new ≡ with_class (edges Vertical rank) value self.old }
     {
         match rank {
             Rank::First => self.left = value,

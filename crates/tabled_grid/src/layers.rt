@@ -114,7 +114,7 @@ impl<T> Model for Layers<T> {
 impl<T> Layers<T> {
     ghost use Rattle.tabled_grid.specs.Event.{sign, erase, level_sites, Shows, Changes};
     ghost use Rattle.tabled_grid.specs.State.{state_at, class_record_set};
-    ghost use Rattle.tabled_grid.specs.Site.{across, down, mark, of_line, at_spot};
+    ghost use Rattle.tabled_grid.specs.Site.{Horizontal, Vertical, mark, of_line, at_spot};
     ghost use Rattle.tabled_grid.specs.Calls.{default_set, line_set_across, line_set_down, line_removed, spot_of, cell_set, cell_erased, edge_site, offset_site, offset_set, edge_offset, offsets_erased, lines_erased};
     ghost use Rattle.tabled_grid.specs.declared.place.LineOf.{LineOf as Line};
 
@@ -385,7 +385,7 @@ impl<T> Layers<T> {
     pub fn erase_horizontal_offsets(&mut self)
     where
         T: Drop,
-        ensures { Changes (offsets_erased across) (state_at self.old) (state_at self.new) }
+        ensures { Changes (offsets_erased Horizontal) (state_at self.old) (state_at self.new) }
     {
         self.ends_across.clear();
         self.starts_across.clear();
@@ -395,7 +395,7 @@ impl<T> Layers<T> {
     pub fn erase_vertical_offsets(&mut self)
     where
         T: Drop,
-        ensures { Changes (offsets_erased down) (state_at self.old) (state_at self.new) }
+        ensures { Changes (offsets_erased Vertical) (state_at self.old) (state_at self.new) }
     {
         self.ends_down.clear();
         self.starts_down.clear();

@@ -8,12 +8,16 @@ use Rattle.tabled_replay.specs.declared.event_list.Written.{Written as PlainWrit
 use Rattle.tabled_replay.specs.declared.event_list.Event.{Event as PlainEvent}
 use Rattle.tabled_grid.specs.declared.place.Rank.{Rank}
 use Rattle.tabled_grid.specs.declared.place.Rank.TheVariants.{First as first, Inner as inner, Last as last}
-use Rattle.tabled_grid.specs.Site.{Direction, across, down, edges, crossings, mark, main_edges, meeting, edge, crossing, Site, the_default, of_class, of_line, at_spot, from_end, from_start}
+use Rattle.tabled_grid.specs.declared.offset.Offset.{Offset}
+use Rattle.tabled_grid.specs.declared.site.Direction.{Direction}
+use Rattle.tabled_grid.specs.declared.site.Direction.TheVariants.{Horizontal, Vertical}
+use Rattle.tabled_grid.specs.declared.site.Spot.TheVariants.{Edge, Crossing}
+use Rattle.tabled_grid.specs.Site.{edges, crossings, mark, main_edges, meeting, Site, the_default, of_class, of_line, at_spot, at_offset}
 use Rattle.tabled_grid.specs.Event.{Written, sign, standing, Region, level_sites, offset_sites, line_sites, these_sites, Event, write, erase}
 
 abbrev pub direction_of : PlainDirection → Direction
-direction_of PlainDirection.Across = across
-direction_of PlainDirection.Down = down
+direction_of PlainDirection.Across = Horizontal
+direction_of PlainDirection.Down = Vertical
 
 abbrev pub rank_of : PlainRank → Rank
 rank_of PlainRank.First = first
@@ -27,10 +31,10 @@ site_of (PlainSite.Crossings n m) = of_class (crossings (rank_of n) (rank_of m))
 site_of (PlainSite.Mark line) = of_line line mark
 site_of (PlainSite.Main line) = of_line line main_edges
 site_of (PlainSite.Meeting line n) = of_line line (meeting (rank_of n))
-site_of (PlainSite.Edge d r c) = at_spot (edge (direction_of d) r c)
-site_of (PlainSite.Crossing r c) = at_spot (crossing r c)
-site_of (PlainSite.FromEnd d r c n) = from_end (direction_of d) r c n
-site_of (PlainSite.FromStart d r c n) = from_start (direction_of d) r c n
+site_of (PlainSite.Edge d r c) = at_spot (Edge (direction_of d) r c)
+site_of (PlainSite.Crossing r c) = at_spot (Crossing r c)
+site_of (PlainSite.FromEnd d r c n) = at_offset (direction_of d) r c (Offset.End n)
+site_of (PlainSite.FromStart d r c n) = at_offset (direction_of d) r c (Offset.Start n)
 
 abbrev pub region_of : PlainRegion → Region
 region_of (PlainRegion.Level n) = level_sites n

@@ -6,7 +6,10 @@ use Rattle.tabled_grid.specs.declared.lines.HorizontalLine.{HorizontalLine}
 use Rattle.tabled_grid.specs.declared.lines.VerticalLine.{VerticalLine}
 use Rattle.tabled_grid.specs.declared.place.LineOf.{LineOf}
 use Rattle.tabled_grid.specs.declared.place.Place.{Place}
-use Rattle.tabled_grid.specs.Site.{across, down, edge, crossing, Site, the_default, at_spot, from_end, from_start}
+use Rattle.tabled_grid.specs.declared.offset.Offset.{Offset}
+use Rattle.tabled_grid.specs.declared.site.Direction.TheVariants.{Horizontal, Vertical}
+use Rattle.tabled_grid.specs.declared.site.Spot.TheVariants.{Edge, Crossing}
+use Rattle.tabled_grid.specs.Site.{Site, the_default, at_spot, at_offset}
 use Rattle.tabled_grid.specs.Event.{sign, write, erase, these_sites}
 use Rattle.tabled_grid.specs.Lines as lines
 use Rattle.tabled_config.specs.Configuration.{ConfigEvent, of_characters, borders_set, borders_replaced}
@@ -129,7 +132,7 @@ one_empty_cell = record {
 -- cell characters around three of four cells, with no class record
 unfoldable pub cells_of_three : Drawing
 cells_of_three = record {
-  events = put (at_spot (edge across 0 1)) (codes "1") ∷ put (at_spot (edge across 1 0)) (codes "1") ∷ put (at_spot (edge across 2 0)) (codes "2") ∷ put (at_spot (edge across 2 1)) (codes "2") ∷ put (at_spot (edge down 0 1)) (codes "3") ∷ put (at_spot (edge down 0 2)) (codes "4") ∷ put (at_spot (edge down 1 0)) (codes "3") ∷ put (at_spot (edge down 1 2)) (codes "4") ∷ put (at_spot (crossing 0 1)) (codes "5") ∷ put (at_spot (crossing 0 2)) (codes "6") ∷ put (at_spot (crossing 1 0)) (codes "5") ∷ put (at_spot (crossing 1 1)) (codes "8") ∷ put (at_spot (crossing 1 2)) (codes "4") ∷ put (at_spot (crossing 2 0)) (codes "7") ∷ put (at_spot (crossing 2 1)) (codes "2") ∷ put (at_spot (crossing 2 2)) (codes "8") ∷ [];
+  events = put (at_spot (Edge Horizontal 0 1)) (codes "1") ∷ put (at_spot (Edge Horizontal 1 0)) (codes "1") ∷ put (at_spot (Edge Horizontal 2 0)) (codes "2") ∷ put (at_spot (Edge Horizontal 2 1)) (codes "2") ∷ put (at_spot (Edge Vertical 0 1)) (codes "3") ∷ put (at_spot (Edge Vertical 0 2)) (codes "4") ∷ put (at_spot (Edge Vertical 1 0)) (codes "3") ∷ put (at_spot (Edge Vertical 1 2)) (codes "4") ∷ put (at_spot (Crossing 0 1)) (codes "5") ∷ put (at_spot (Crossing 0 2)) (codes "6") ∷ put (at_spot (Crossing 1 0)) (codes "5") ∷ put (at_spot (Crossing 1 1)) (codes "8") ∷ put (at_spot (Crossing 1 2)) (codes "4") ∷ put (at_spot (Crossing 2 0)) (codes "7") ∷ put (at_spot (Crossing 2 1)) (codes "2") ∷ put (at_spot (Crossing 2 2)) (codes "8") ∷ [];
   shape = (2, 2);
   widths = 3 ∷ 3 ∷ [];
   heights = 1 ∷ 1 ∷ [];
@@ -139,7 +142,7 @@ cells_of_three = record {
 -- characters down the first and the closing vertical line
 unfoldable pub down_both_sides : Drawing
 down_both_sides = record {
-  events = borders_set ascii ++ (put (at_spot (crossing 0 0)) (codes "T") ∷ put (from_start down 0 0 0) (codes "A") ∷ put (at_spot (crossing 1 0)) (codes "B") ∷ put (from_start down 1 0 0) (codes "L") ∷ put (at_spot (crossing 2 0)) (codes "E") ∷ put (at_spot (crossing 0 1)) (codes "T") ∷ put (from_start down 0 1 0) (codes "A") ∷ put (at_spot (crossing 1 1)) (codes "B") ∷ put (from_start down 1 1 0) (codes "L") ∷ put (at_spot (crossing 2 1)) (codes "E") ∷ []);
+  events = borders_set ascii ++ (put (at_spot (Crossing 0 0)) (codes "T") ∷ put (at_offset Vertical 0 0 (Offset.Start 0)) (codes "A") ∷ put (at_spot (Crossing 1 0)) (codes "B") ∷ put (at_offset Vertical 1 0 (Offset.Start 0)) (codes "L") ∷ put (at_spot (Crossing 2 0)) (codes "E") ∷ put (at_spot (Crossing 0 1)) (codes "T") ∷ put (at_offset Vertical 0 1 (Offset.Start 0)) (codes "A") ∷ put (at_spot (Crossing 1 1)) (codes "B") ∷ put (at_offset Vertical 1 1 (Offset.Start 0)) (codes "L") ∷ put (at_spot (Crossing 2 1)) (codes "E") ∷ []);
   shape = (2, 1);
   widths = 13 ∷ [];
   heights = 1 ∷ 1 ∷ [];
@@ -149,7 +152,7 @@ down_both_sides = record {
 -- offset characters in the middle of an edge
 unfoldable pub offsets_from_start : Drawing
 offsets_from_start = record {
-  events = borders_set ascii ++ (put (from_start across 0 0 4) (codes "T") ∷ put (from_start across 0 0 5) (codes "A") ∷ put (from_start across 0 0 6) (codes "B") ∷ put (from_start across 0 0 7) (codes "L") ∷ put (from_start across 0 0 8) (codes "E") ∷ []);
+  events = borders_set ascii ++ (put (at_offset Horizontal 0 0 (Offset.Start 4)) (codes "T") ∷ put (at_offset Horizontal 0 0 (Offset.Start 5)) (codes "A") ∷ put (at_offset Horizontal 0 0 (Offset.Start 6)) (codes "B") ∷ put (at_offset Horizontal 0 0 (Offset.Start 7)) (codes "L") ∷ put (at_offset Horizontal 0 0 (Offset.Start 8)) (codes "E") ∷ []);
   shape = (2, 1);
   widths = 13 ∷ [];
   heights = 1 ∷ 1 ∷ [];
@@ -159,7 +162,7 @@ offsets_from_start = record {
 -- characters on every place of a line, both crossings too
 unfoldable pub whole_line : Drawing
 whole_line = record {
-  events = borders_set ascii ++ (put (at_spot (crossing 0 0)) (codes "A") ∷ put (from_start across 0 0 0) (codes "B") ∷ put (from_start across 0 0 1) (codes "C") ∷ put (from_start across 0 0 2) (codes "D") ∷ put (from_start across 0 0 3) (codes "E") ∷ put (from_start across 0 0 4) (codes "F") ∷ put (from_start across 0 0 5) (codes "G") ∷ put (from_start across 0 0 6) (codes "H") ∷ put (from_start across 0 0 7) (codes "I") ∷ put (from_start across 0 0 8) (codes "J") ∷ put (from_start across 0 0 9) (codes "K") ∷ put (from_start across 0 0 10) (codes "L") ∷ put (from_start across 0 0 11) (codes "M") ∷ put (from_start across 0 0 12) (codes "N") ∷ put (at_spot (crossing 0 1)) (codes "O") ∷ []);
+  events = borders_set ascii ++ (put (at_spot (Crossing 0 0)) (codes "A") ∷ put (at_offset Horizontal 0 0 (Offset.Start 0)) (codes "B") ∷ put (at_offset Horizontal 0 0 (Offset.Start 1)) (codes "C") ∷ put (at_offset Horizontal 0 0 (Offset.Start 2)) (codes "D") ∷ put (at_offset Horizontal 0 0 (Offset.Start 3)) (codes "E") ∷ put (at_offset Horizontal 0 0 (Offset.Start 4)) (codes "F") ∷ put (at_offset Horizontal 0 0 (Offset.Start 5)) (codes "G") ∷ put (at_offset Horizontal 0 0 (Offset.Start 6)) (codes "H") ∷ put (at_offset Horizontal 0 0 (Offset.Start 7)) (codes "I") ∷ put (at_offset Horizontal 0 0 (Offset.Start 8)) (codes "J") ∷ put (at_offset Horizontal 0 0 (Offset.Start 9)) (codes "K") ∷ put (at_offset Horizontal 0 0 (Offset.Start 10)) (codes "L") ∷ put (at_offset Horizontal 0 0 (Offset.Start 11)) (codes "M") ∷ put (at_offset Horizontal 0 0 (Offset.Start 12)) (codes "N") ∷ put (at_spot (Crossing 0 1)) (codes "O") ∷ []);
   shape = (2, 1);
   widths = 13 ∷ [];
   heights = 1 ∷ 1 ∷ [];
@@ -169,7 +172,7 @@ whole_line = record {
 -- a drawn line shows a space at a crossing that has no character
 unfoldable pub empty_crossing : Drawing
 empty_crossing = record {
-  events = borders_set top_and_vertical ++ (put (from_start across 0 0 0) (codes "A") ∷ put (from_start across 0 0 1) (codes "B") ∷ put (from_start across 0 0 2) (codes "C") ∷ put (from_start across 0 1 0) (codes "E") ∷ put (from_start across 0 1 1) (codes "F") ∷ put (from_start across 0 1 2) (codes "G") ∷ []);
+  events = borders_set top_and_vertical ++ (put (at_offset Horizontal 0 0 (Offset.Start 0)) (codes "A") ∷ put (at_offset Horizontal 0 0 (Offset.Start 1)) (codes "B") ∷ put (at_offset Horizontal 0 0 (Offset.Start 2)) (codes "C") ∷ put (at_offset Horizontal 0 1 (Offset.Start 0)) (codes "E") ∷ put (at_offset Horizontal 0 1 (Offset.Start 1)) (codes "F") ∷ put (at_offset Horizontal 0 1 (Offset.Start 2)) (codes "G") ∷ []);
   shape = (1, 2);
   widths = 3 ∷ 3 ∷ [];
   heights = 1 ∷ [];
@@ -179,7 +182,7 @@ empty_crossing = record {
 -- offsets from both ends of an edge, and on the outer vertical lines
 unfoldable pub markdown_offsets : Drawing
 markdown_offsets = record {
-  events = markdown ++ (put (from_start across 1 0 0) (codes ":") ∷ put (from_end across 1 0 0) (codes ":") ∷ put (from_start down 1 0 0) (codes "#") ∷ put (from_start down 1 1 0) (codes "#") ∷ []);
+  events = markdown ++ (put (at_offset Horizontal 1 0 (Offset.Start 0)) (codes ":") ∷ put (at_offset Horizontal 1 0 (Offset.End 0)) (codes ":") ∷ put (at_offset Vertical 1 0 (Offset.Start 0)) (codes "#") ∷ put (at_offset Vertical 1 1 (Offset.Start 0)) (codes "#") ∷ []);
   shape = (2, 1);
   widths = 13 ∷ [];
   heights = 1 ∷ 1 ∷ [];
@@ -189,7 +192,7 @@ markdown_offsets = record {
 -- where both offsets reach a place that from the start shows; one past the edge shows nowhere
 unfoldable pub start_before_end : Drawing
 start_before_end = record {
-  events = borders_set ascii ++ (put (from_start across 0 0 2) (codes "s") ∷ put (from_end across 0 0 0) (codes "e") ∷ put (from_end across 0 0 3) (codes "n") ∷ []);
+  events = borders_set ascii ++ (put (at_offset Horizontal 0 0 (Offset.Start 2)) (codes "s") ∷ put (at_offset Horizontal 0 0 (Offset.End 0)) (codes "e") ∷ put (at_offset Horizontal 0 0 (Offset.End 3)) (codes "n") ∷ []);
   shape = (1, 1);
   widths = 3 ∷ [];
   heights = 1 ∷ [];
@@ -199,7 +202,7 @@ start_before_end = record {
 -- the same, written the other way round
 unfoldable pub end_then_start : Drawing
 end_then_start = record {
-  events = borders_set ascii ++ (put (from_end across 0 0 0) (codes "e") ∷ put (from_start across 0 0 2) (codes "s") ∷ []);
+  events = borders_set ascii ++ (put (at_offset Horizontal 0 0 (Offset.End 0)) (codes "e") ∷ put (at_offset Horizontal 0 0 (Offset.Start 2)) (codes "s") ∷ []);
   shape = (1, 1);
   widths = 3 ∷ [];
   heights = 1 ∷ [];
@@ -229,7 +232,7 @@ horizontal_line = record {
 -- a cell's character stays above a class record that was set later
 unfoldable pub cell_over_class : Drawing
 cell_over_class = record {
-  events = borders_set ascii ++ (put (at_spot (edge across 0 0)) (codes "x") ∷ []) ++ borders_set hashes;
+  events = borders_set ascii ++ (put (at_spot (Edge Horizontal 0 0)) (codes "x") ∷ []) ++ borders_set hashes;
   shape = (1, 1);
   widths = 3 ∷ [];
   heights = 1 ∷ [];
@@ -239,7 +242,7 @@ cell_over_class = record {
 -- a class record applied as an option clears the cells first
 unfoldable pub all_cleared : Drawing
 all_cleared = record {
-  events = borders_set ascii ++ (put (at_spot (edge across 0 0)) (codes "x") ∷ []) ++ borders_replaced nothing [] [];
+  events = borders_set ascii ++ (put (at_spot (Edge Horizontal 0 0)) (codes "x") ∷ []) ++ borders_replaced nothing [] [];
   shape = (1, 1);
   widths = 3 ∷ [];
   heights = 1 ∷ [];
@@ -259,7 +262,7 @@ line_replaced = record {
 -- a border around the first cell draws both outer lines for every row
 unfoldable pub boxed_cell : Drawing
 boxed_cell = record {
-  events = psql ++ (put (at_spot (edge across 0 0)) (codes "─") ∷ put (at_spot (edge across 1 0)) (codes "─") ∷ put (at_spot (edge down 0 0)) (codes "│") ∷ put (at_spot (edge down 0 1)) (codes "│") ∷ put (at_spot (crossing 0 0)) (codes "┌") ∷ put (at_spot (crossing 0 1)) (codes "┐") ∷ put (at_spot (crossing 1 0)) (codes "└") ∷ put (at_spot (crossing 1 1)) (codes "┘") ∷ []);
+  events = psql ++ (put (at_spot (Edge Horizontal 0 0)) (codes "─") ∷ put (at_spot (Edge Horizontal 1 0)) (codes "─") ∷ put (at_spot (Edge Vertical 0 0)) (codes "│") ∷ put (at_spot (Edge Vertical 0 1)) (codes "│") ∷ put (at_spot (Crossing 0 0)) (codes "┌") ∷ put (at_spot (Crossing 0 1)) (codes "┐") ∷ put (at_spot (Crossing 1 0)) (codes "└") ∷ put (at_spot (Crossing 1 1)) (codes "┘") ∷ []);
   shape = (3, 1);
   widths = 7 ∷ [];
   heights = 1 ∷ 1 ∷ 1 ∷ [];
@@ -269,7 +272,7 @@ boxed_cell = record {
 -- one character at a crossing draws the two lines through it
 unfoldable pub corner_alone : Drawing
 corner_alone = record {
-  events = put (at_spot (crossing 1 0)) (codes "#") ∷ [];
+  events = put (at_spot (Crossing 1 0)) (codes "#") ∷ [];
   shape = (2, 1);
   widths = 3 ∷ [];
   heights = 1 ∷ 1 ∷ [];
@@ -279,7 +282,7 @@ corner_alone = record {
 -- a character that was erased draws nothing
 unfoldable pub corner_erased : Drawing
 corner_erased = record {
-  events = put (at_spot (crossing 1 0)) (codes "#") ∷ of_characters (erase (these_sites (at_spot (crossing 1 0) ∷ []))) ∷ [];
+  events = put (at_spot (Crossing 1 0)) (codes "#") ∷ of_characters (erase (these_sites (at_spot (Crossing 1 0) ∷ []))) ∷ [];
   shape = (2, 1);
   widths = 3 ∷ [];
   heights = 1 ∷ 1 ∷ [];

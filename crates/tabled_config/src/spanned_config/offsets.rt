@@ -1,7 +1,7 @@
 //! Characters and colors at numbered places of an edge.
 
 ghost use Rattle.std.specs.Prelude.{◌≡◌, None, OnOk, OnErr};
-ghost use Rattle.tabled_grid.specs.Site.{across, down};
+ghost use Rattle.tabled_grid.specs.declared.site.Direction.TheVariants.{Horizontal, Vertical};
 ghost use Rattle.tabled_grid.specs.Calls.{edge_site, edge_offset, offsets_erased};
 ghost use Rattle.tabled_grid.specs.State.{state_at};
 ghost use Rattle.tabled_grid.specs.declared.place.Place.{Place as Spot};
@@ -20,9 +20,9 @@ impl SpannedConfig {
         offset: Offset,
         character: char,
     ) -> Result<(), OutOfMemory>
-        ensures ok { OnOk result (Changes (by_characters (edge_offset across pos.row pos.col offset character)) self.old self.new) }
+        ensures ok { OnOk result (Changes (by_characters (edge_offset Horizontal pos.row pos.col offset character)) self.old self.new) }
         ensures err { OnErr result (self.new ≡ self.old) }
-        ensures absent { OnErr result (state_at self.old.characters (edge_site across pos.row pos.col offset) ≡ None) }
+        ensures absent { OnErr result (state_at self.old.characters (edge_site Horizontal pos.row pos.col offset) ≡ None) }
     {
         self.characters
             .set_offset(across_at(pos), offset, character)
@@ -37,9 +37,9 @@ impl SpannedConfig {
         offset: Offset,
         character: char,
     ) -> Result<(), OutOfMemory>
-        ensures ok { OnOk result (Changes (by_characters (edge_offset down pos.row pos.col offset character)) self.old self.new) }
+        ensures ok { OnOk result (Changes (by_characters (edge_offset Vertical pos.row pos.col offset character)) self.old self.new) }
         ensures err { OnErr result (self.new ≡ self.old) }
-        ensures absent { OnErr result (state_at self.old.characters (edge_site down pos.row pos.col offset) ≡ None) }
+        ensures absent { OnErr result (state_at self.old.characters (edge_site Vertical pos.row pos.col offset) ≡ None) }
     {
         self.characters.set_offset(down_at(pos), offset, character)
     }
@@ -53,9 +53,9 @@ impl SpannedConfig {
         offset: Offset,
         color: ANSIBuf,
     ) -> Result<(), OutOfMemory>
-        ensures ok { OnOk result (Changes (by_colors (edge_offset across pos.row pos.col offset color)) self.old self.new) }
+        ensures ok { OnOk result (Changes (by_colors (edge_offset Horizontal pos.row pos.col offset color)) self.old self.new) }
         ensures err { OnErr result (self.new ≡ self.old) }
-        ensures absent { OnErr result (state_at self.old.colors (edge_site across pos.row pos.col offset) ≡ None) }
+        ensures absent { OnErr result (state_at self.old.colors (edge_site Horizontal pos.row pos.col offset) ≡ None) }
     {
         self.colors.set_offset(across_at(pos), offset, color)
     }
@@ -69,37 +69,37 @@ impl SpannedConfig {
         offset: Offset,
         color: ANSIBuf,
     ) -> Result<(), OutOfMemory>
-        ensures ok { OnOk result (Changes (by_colors (edge_offset down pos.row pos.col offset color)) self.old self.new) }
+        ensures ok { OnOk result (Changes (by_colors (edge_offset Vertical pos.row pos.col offset color)) self.old self.new) }
         ensures err { OnErr result (self.new ≡ self.old) }
-        ensures absent { OnErr result (state_at self.old.colors (edge_site down pos.row pos.col offset) ≡ None) }
+        ensures absent { OnErr result (state_at self.old.colors (edge_site Vertical pos.row pos.col offset) ≡ None) }
     {
         self.colors.set_offset(down_at(pos), offset, color)
     }
 
     /// Erases all offset characters on the edges of horizontal lines.
     pub fn remove_horizontal_chars(&mut self)
-        ensures { Changes (by_characters (offsets_erased across)) self.old self.new }
+        ensures { Changes (by_characters (offsets_erased Horizontal)) self.old self.new }
     {
         self.characters.erase_horizontal_offsets();
     }
 
     /// Erases all offset characters on the edges of vertical lines.
     pub fn remove_vertical_chars(&mut self)
-        ensures { Changes (by_characters (offsets_erased down)) self.old self.new }
+        ensures { Changes (by_characters (offsets_erased Vertical)) self.old self.new }
     {
         self.characters.erase_vertical_offsets();
     }
 
     /// Erases all offset colors on the edges of horizontal lines.
     pub fn remove_color_line_horizontal(&mut self)
-        ensures { Changes (by_colors (offsets_erased across)) self.old self.new }
+        ensures { Changes (by_colors (offsets_erased Horizontal)) self.old self.new }
     {
         self.colors.erase_horizontal_offsets();
     }
 
     /// Erases all offset colors on the edges of vertical lines.
     pub fn remove_color_line_vertical(&mut self)
-        ensures { Changes (by_colors (offsets_erased down)) self.old self.new }
+        ensures { Changes (by_colors (offsets_erased Vertical)) self.old self.new }
     {
         self.colors.erase_vertical_offsets();
     }

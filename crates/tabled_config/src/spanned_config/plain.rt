@@ -1,7 +1,7 @@
 //! What the printer asks of the characters besides single places.
 
 ghost use Rattle.std.specs.Prelude.{◌≡◌, ◌↔◌, IsFalse};
-ghost use Rattle.tabled_grid.specs.Site.{across};
+ghost use Rattle.tabled_grid.specs.declared.site.Direction.TheVariants.{Horizontal};
 ghost use Rattle.tabled_grid.specs.Value.{plain_value};
 ghost use Rattle.tabled_grid.specs.State.{state_at, HasNoOffsets};
 
@@ -18,7 +18,7 @@ impl SpannedConfig {
 
     /// Whether an offset character is kept for some horizontal line.
     pub(crate) fn has_horizontal_offsets(&self) -> bool
-        ensures { IsFalse result ↔ HasNoOffsets across self.now.characters }
+        ensures { IsFalse result ↔ HasNoOffsets Horizontal self.now.characters }
     {
         self.characters.has_horizontal_offsets()
     }

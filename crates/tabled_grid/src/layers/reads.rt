@@ -6,7 +6,7 @@ ghost use Rattle.std.specs.FinMap as map;
 ghost use Rattle.tabled_grid.specs.Table.{table};
 ghost use Rattle.tabled_grid.specs.Probing.{IsCounted, IsRaised};
 ghost use Rattle.tabled_grid.specs.Reading.{row_drawn, col_drawn};
-ghost use Rattle.tabled_grid.specs.Site.{rank, horizontal_meeting, vertical_meeting, edges, crossings, class_value, across as going_across, down as going_down};
+ghost use Rattle.tabled_grid.specs.Site.{rank, horizontal_meeting, vertical_meeting, edges, crossings, class_value, Horizontal as going_across, Vertical as going_down};
 ghost use Rattle.tabled_grid.specs.State.{class_draws as class_drawn};
 
 use super::Layers;

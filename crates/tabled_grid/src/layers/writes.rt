@@ -11,7 +11,7 @@ use crate::{Offset, OutOfMemory, Position, Target, Write};
 
 impl<T> Layers<T> {
     ghost use Rattle.tabled_grid.specs.Event.{sign, write, erase, these_sites, Changes};
-    ghost use Rattle.tabled_grid.specs.Site.{across, down};
+    ghost use Rattle.tabled_grid.specs.Site.{Horizontal, Vertical};
     ghost use Rattle.tabled_grid.specs.State.{State, state_at};
     ghost use Rattle.tabled_grid.specs.Calls.{edge_site, edge_offset, writes_anew};
     ghost use Rattle.tabled_grid.specs.Writes.{site_of, writes_made, PutsBackAt, PutsBack, PutsBackAll, Stays};
@@ -149,10 +149,10 @@ impl<T> Layers<T> {
     ) -> Result<Option<T>, OutOfMemory>
     where
         T: Drop,
-        ensures before { IfOk result (λ before. option_map sign before ≡ state_at self.old (edge_site across pos.row pos.col offset)) }
-        ensures ok { OnOk result (Changes (edge_offset across pos.row pos.col offset value) (state_at self.old) (state_at self.new)) }
+        ensures before { IfOk result (λ before. option_map sign before ≡ state_at self.old (edge_site Horizontal pos.row pos.col offset)) }
+        ensures ok { OnOk result (Changes (edge_offset Horizontal pos.row pos.col offset value) (state_at self.old) (state_at self.new)) }
         ensures err { OnErr result (self.new ≡ self.old) }
-        ensures absent { OnErr result (state_at self.old (edge_site across pos.row pos.col offset) ≡ None) }
+        ensures absent { OnErr result (state_at self.old (edge_site Horizontal pos.row pos.col offset) ≡ None) }
     {
         let Position { row, col } = pos;
         match offset {
@@ -174,10 +174,10 @@ impl<T> Layers<T> {
     ) -> Result<Option<T>, OutOfMemory>
     where
         T: Drop,
-        ensures before { IfOk result (λ before. option_map sign before ≡ state_at self.old (edge_site down pos.row pos.col offset)) }
-        ensures ok { OnOk result (Changes (edge_offset down pos.row pos.col offset value) (state_at self.old) (state_at self.new)) }
+        ensures before { IfOk result (λ before. option_map sign before ≡ state_at self.old (edge_site Vertical pos.row pos.col offset)) }
+        ensures ok { OnOk result (Changes (edge_offset Vertical pos.row pos.col offset value) (state_at self.old) (state_at self.new)) }
         ensures err { OnErr result (self.new ≡ self.old) }
-        ensures absent { OnErr result (state_at self.old (edge_site down pos.row pos.col offset) ≡ None) }
+        ensures absent { OnErr result (state_at self.old (edge_site Vertical pos.row pos.col offset) ≡ None) }
     {
         let Position { row, col } = pos;
         match offset {
@@ -205,7 +205,7 @@ impl<T> Layers<T> {
     fn erase_horizontal(&mut self, pos: Position, offset: Offset)
     where
         T: Drop,
-        ensures { Changes (erase (these_sites (edge_site across pos.row pos.col offset ∷ [])) ∷ []) (state_at self.old) (state_at self.new) }
+        ensures { Changes (erase (these_sites (edge_site Horizontal pos.row pos.col offset ∷ [])) ∷ []) (state_at self.old) (state_at self.new) }
     {
         let Position { row, col } = pos;
         match offset {
@@ -218,7 +218,7 @@ impl<T> Layers<T> {
     fn erase_vertical(&mut self, pos: Position, offset: Offset)
     where
         T: Drop,
-        ensures { Changes (erase (these_sites (edge_site down pos.row pos.col offset ∷ [])) ∷ []) (state_at self.old) (state_at self.new) }
+        ensures { Changes (erase (these_sites (edge_site Vertical pos.row pos.col offset ∷ [])) ∷ []) (state_at self.old) (state_at self.new) }
     {
         let Position { row, col } = pos;
         match offset {
