@@ -4,9 +4,9 @@ use crate::dice::Dice;
 use std::process::Abort;
 use std::test::Fail;
 use tabled_grid::{
-    Borders, Direction, HorizontalLine, Layers, LineOf, Offset, OutOfMemory, Place, Probes, VerticalLine,
+    Borders, Direction, HorizontalLine, Layers, LineOf, Offset, OutOfMemory, Place, Probes, Rank, VerticalLine,
 };
-use tabled_replay::{Event, Rank, Region, Site, Written, drawn, value};
+use tabled_replay::{Event, Region, Site, Written, drawn, value};
 
 /// The numbers of the lines, rows, columns and offsets that the calls name.
 const NUMBERS: [usize; 11] = [0, 1, 2, 3, 4, 5, 254, 255, 256, 257, 258];
@@ -48,16 +48,16 @@ impl Both {
             Site::Edges(Direction::Horizontal, Rank::Inner),
             class.horizontal,
         )?;
-        self.write(Site::Edges(Direction::Horizontal, Rank::Closing), class.bottom)?;
+        self.write(Site::Edges(Direction::Horizontal, Rank::Last), class.bottom)?;
         self.write(Site::Edges(Direction::Vertical, Rank::First), class.left)?;
         self.write(Site::Edges(Direction::Vertical, Rank::Inner), class.vertical)?;
-        self.write(Site::Edges(Direction::Vertical, Rank::Closing), class.right)?;
+        self.write(Site::Edges(Direction::Vertical, Rank::Last), class.right)?;
         self.write(Site::Crossings(Rank::First, Rank::First), class.top_left)?;
         self.write(
             Site::Crossings(Rank::First, Rank::Inner),
             class.top_intersection,
         )?;
-        self.write(Site::Crossings(Rank::First, Rank::Closing), class.top_right)?;
+        self.write(Site::Crossings(Rank::First, Rank::Last), class.top_right)?;
         self.write(
             Site::Crossings(Rank::Inner, Rank::First),
             class.left_intersection,
@@ -67,19 +67,19 @@ impl Both {
             class.intersection,
         )?;
         self.write(
-            Site::Crossings(Rank::Inner, Rank::Closing),
+            Site::Crossings(Rank::Inner, Rank::Last),
             class.right_intersection,
         )?;
         self.write(
-            Site::Crossings(Rank::Closing, Rank::First),
+            Site::Crossings(Rank::Last, Rank::First),
             class.bottom_left,
         )?;
         self.write(
-            Site::Crossings(Rank::Closing, Rank::Inner),
+            Site::Crossings(Rank::Last, Rank::Inner),
             class.bottom_intersection,
         )?;
         self.write(
-            Site::Crossings(Rank::Closing, Rank::Closing),
+            Site::Crossings(Rank::Last, Rank::Last),
             class.bottom_right,
         )
     }
@@ -97,7 +97,7 @@ impl Both {
         let [first, inner, closing] = meetings;
         self.write(Site::Meeting(line, Rank::First), first)?;
         self.write(Site::Meeting(line, Rank::Inner), inner)?;
-        self.write(Site::Meeting(line, Rank::Closing), closing)
+        self.write(Site::Meeting(line, Rank::Last), closing)
     }
 
     fn insert_line(&mut self, dice: &mut Dice) -> Result<(), OutOfMemory> {

@@ -5,9 +5,9 @@ use Rattle.tabled_grid.specs.declared.borders.Borders.{Borders}
 use Rattle.tabled_object.specs.declared.entity.Entity.{Entity}
 use Rattle.tabled_grid.specs.CustomLines.{no_borders}
 use Rattle.tabled_grid.specs.Calls.{entity_border_set, entity_border_erased, frame_erased}
-use Rattle.tabled_grid.specs.declared.site.Direction.TheVariants.{Horizontal, Vertical}
-use Rattle.tabled_grid.specs.Site.{inner}
-use Rattle.tabled_grid.specs.State.{line_classes, has_class, class_record_set}
+use Rattle.tabled_grid.specs.declared.place.Rank.TheVariants.{Inner as inner}
+use Rattle.tabled_grid.specs.Borders.{has_horizontal, has_vertical}
+use Rattle.tabled_grid.specs.State.{class_record_set}
 use Rattle.tabled_config.specs.Configuration.{ConfigEvent, by_characters, borders_set}
 
 -- steps in a row, each a change by the events that it makes of what stands before it; what was made are the events of them
@@ -33,10 +33,10 @@ framed border class = record {
   top_right = border.right_top_corner;
   bottom_left = border.left_bottom_corner;
   bottom_right = border.right_bottom_corner;
-  top_intersection = if has_class class (line_classes Vertical inner) then border.top else class.top_intersection;
-  bottom_intersection = if has_class class (line_classes Vertical inner) then border.bottom else class.bottom_intersection;
-  left_intersection = if has_class class (line_classes Horizontal inner) then border.left else class.left_intersection;
-  right_intersection = if has_class class (line_classes Horizontal inner) then border.right else class.right_intersection;
+  top_intersection = if has_vertical inner class then border.top else class.top_intersection;
+  bottom_intersection = if has_vertical inner class then border.bottom else class.bottom_intersection;
+  left_intersection = if has_horizontal inner class then border.left else class.left_intersection;
+  right_intersection = if has_horizontal inner class then border.right else class.right_intersection;
   horizontal = class.horizontal;
   vertical = class.vertical;
   intersection = class.intersection;

@@ -24,3 +24,4 @@ pub mod EntityBorders
 pub mod Clearing
 pub mod WritingAnew
 pub mod WritesLemmas
+pub mod SixLines

@@ -3,6 +3,7 @@ pub mod Event
 pub mod Value
 pub mod Drawn
 pub mod State
+pub mod Borders
 pub mod Lines
 pub mod Probing
 pub mod Table

@@ -11,11 +11,9 @@ pub use Rattle.tabled_grid.specs.declared.site.Direction.TheVariants.{Horizontal
 pub use Rattle.tabled_grid.specs.declared.site.Spot.{Spot}
 pub use Rattle.tabled_grid.specs.declared.site.Spot.TheVariants.{Edge, Crossing}
 
--- where a line stands among those of its direction: the first, the closing one, or one between
-pub data Rank : Type 0 where
-  first : Rank
-  inner : Rank
-  last : Rank
+-- where a line stands among those of its direction: the first, the last, which closes the table, or one between
+pub use Rattle.tabled_grid.specs.declared.place.Rank.{Rank}
+pub use Rattle.tabled_grid.specs.declared.place.Rank.TheVariants.{First as first, Inner as inner, Last as last}
 
 -- whether line n, of the lines 0 to count, stands there
 abbrev pub stands : Rank → ℕ → ℕ → Bool
@@ -48,7 +46,7 @@ pub data Site : Type 0 where
   at_offset : Direction → ℕ → ℕ → Offset → Site
 
 -- how strong what is kept there is: 0 the default, 1 classes, 2 custom vertical lines, 3 custom horizontal lines,
--- 4 cells, 5 offsets from an Edge's end, 6 offsets from its start
+-- 4 cells, 5 offsets from an edge's end, 6 offsets from its start
 abbrev pub level : Site → ℕ
 level the_default = 0
 level (of_class _) = 1

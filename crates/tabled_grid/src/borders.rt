@@ -2,6 +2,7 @@
 
 ghost use Rattle.std.specs.Prelude.{◌≡◌, ◌↔◌, None, IsTrue, ⊤, option_copied};
 
+use crate::{HorizontalLine, Rank, VerticalLine};
 use std::alloc::AllocError;
 
 /// A value for each of the fifteen kinds of border place, as characters or colors of a whole table.
@@ -51,8 +52,9 @@ impl<T: Copy> Clone for Borders<T> {
 }
 
 impl<T> Borders<T> {
-    ghost use Rattle.tabled_grid.specs.Site.{Horizontal, Vertical, first, inner, last, edges, crossings, rank, class_value};
-    ghost use Rattle.tabled_grid.specs.State.{line_classes, has_class, HasNothing};
+    ghost use Rattle.tabled_grid.specs.Site.{Horizontal, Vertical, edges, crossings, rank, class_value};
+    ghost use Rattle.tabled_grid.specs.State.{HasNothing};
+    ghost use Rattle.tabled_grid.specs.Borders.{has_horizontal, has_vertical};
     ghost use Rattle.tabled_grid.specs.CustomLines.{no_borders};
 
     /// A record with nothing set.
@@ -80,62 +82,64 @@ impl<T> Borders<T> {
 
     /// Whether horizontal line 0 has something: its edges or one of its crossings.
     pub fn has_top(&self) -> bool
-        ensures { result ≡ has_class self.now (line_classes Horizontal first) }
+        ensures { result ≡ has_horizontal Rank.First self.now }
     {
-        self.top.is_some()
-            || self.top_left.is_some()
-            || self.top_intersection.is_some()
-            || self.top_right.is_some()
+        self.has_horizontal_line(Rank::First)
     }
 
     /// Whether the closing horizontal line has something: its edges or one of its crossings.
     pub fn has_bottom(&self) -> bool
-        ensures { result ≡ has_class self.now (line_classes Horizontal last) }
+        ensures { result ≡ has_horizontal Rank.Last self.now }
     {
-        self.bottom.is_some()
-            || self.bottom_left.is_some()
-            || self.bottom_intersection.is_some()
-            || self.bottom_right.is_some()
+        self.has_horizontal_line(Rank::Last)
     }
 
     /// Whether vertical line 0 has something: its edges or one of its crossings.
     pub fn has_left(&self) -> bool
-        ensures { result ≡ has_class self.now (line_classes Vertical first) }
+        ensures { result ≡ has_vertical Rank.First self.now }
     {
-        self.left.is_some()
-            || self.top_left.is_some()
-            || self.left_intersection.is_some()
-            || self.bottom_left.is_some()
+        self.has_vertical_line(Rank::First)
     }
 
     /// Whether the closing vertical line has something: its edges or one of its crossings.
     pub fn has_right(&self) -> bool
-        ensures { result ≡ has_class self.now (line_classes Vertical last) }
+        ensures { result ≡ has_vertical Rank.Last self.now }
     {
-        self.right.is_some()
-            || self.top_right.is_some()
-            || self.right_intersection.is_some()
-            || self.bottom_right.is_some()
+        self.has_vertical_line(Rank::Last)
     }
 
-    /// Whether the horizontal lines between have something: its edges or one of its crossings.
+    /// Whether the horizontal lines between have something: their edges or one of their crossings.
     pub fn has_horizontal(&self) -> bool
-        ensures { result ≡ has_class self.now (line_classes Horizontal inner) }
+        ensures { result ≡ has_horizontal Rank.Inner self.now }
     {
-        self.horizontal.is_some()
-            || self.left_intersection.is_some()
-            || self.intersection.is_some()
-            || self.right_intersection.is_some()
+        self.has_horizontal_line(Rank::Inner)
     }
 
-    /// Whether the vertical lines between have something: its edges or one of its crossings.
+    /// Whether the vertical lines between have something: their edges or one of their crossings.
     pub fn has_vertical(&self) -> bool
-        ensures { result ≡ has_class self.now (line_classes Vertical inner) }
+        ensures { result ≡ has_vertical Rank.Inner self.now }
     {
-        self.vertical.is_some()
-            || self.top_intersection.is_some()
-            || self.intersection.is_some()
-            || self.bottom_intersection.is_some()
+        self.has_vertical_line(Rank::Inner)
+    }
+
+    /// Whether the horizontal lines of a rank have something: their edges or one of their crossings.
+    pub fn has_horizontal_line(&self, rank: Rank) -> bool
+        ensures { result ≡ has_horizontal rank self.now }
+    {
+        self.edges_across(rank).is_some()
+            || self.crossing(rank, Rank::First).is_some()
+            || self.crossing(rank, Rank::Inner).is_some()
+            || self.crossing(rank, Rank::Last).is_some()
+    }
+
+    /// Whether the vertical lines of a rank have something: their edges or one of their crossings.
+    pub fn has_vertical_line(&self, rank: Rank) -> bool
+        ensures { result ≡ has_vertical rank self.now }
+    {
+        self.edges_down(rank).is_some()
+            || self.crossing(Rank::First, rank).is_some()
+            || self.crossing(Rank::Inner, rank).is_some()
+            || self.crossing(Rank::Last, rank).is_some()
     }
 
     /// Whether nothing is set.
@@ -153,30 +157,57 @@ impl<T> Borders<T> {
         !lines.contains(&true)
     }
 
+    /// What the edges of the horizontal lines of a rank have.
+    fn edges_across(&self, rank: Rank) -> Option<&T>
+        ensures { option_copied result ≡ class_value (edges Horizontal rank) self.now }
+    {
+        match rank {
+            Rank::First => self.top.as_ref(),
+            Rank::Inner => self.horizontal.as_ref(),
+            Rank::Last => self.bottom.as_ref(),
+        }
+    }
+
+    /// What the edges of the vertical lines of a rank have.
+    fn edges_down(&self, rank: Rank) -> Option<&T>
+        ensures { option_copied result ≡ class_value (edges Vertical rank) self.now }
+    {
+        match rank {
+            Rank::First => self.left.as_ref(),
+            Rank::Inner => self.vertical.as_ref(),
+            Rank::Last => self.right.as_ref(),
+        }
+    }
+
+    /// What the crossings of the horizontal lines of one rank with the vertical lines of another have.
+    fn crossing(&self, row: Rank, col: Rank) -> Option<&T>
+        ensures { option_copied result ≡ class_value (crossings row col) self.now }
+    {
+        match (row, col) {
+            (Rank::First, Rank::First) => self.top_left.as_ref(),
+            (Rank::First, Rank::Inner) => self.top_intersection.as_ref(),
+            (Rank::First, Rank::Last) => self.top_right.as_ref(),
+            (Rank::Inner, Rank::First) => self.left_intersection.as_ref(),
+            (Rank::Inner, Rank::Inner) => self.intersection.as_ref(),
+            (Rank::Inner, Rank::Last) => self.right_intersection.as_ref(),
+            (Rank::Last, Rank::First) => self.bottom_left.as_ref(),
+            (Rank::Last, Rank::Inner) => self.bottom_intersection.as_ref(),
+            (Rank::Last, Rank::Last) => self.bottom_right.as_ref(),
+        }
+    }
+
     /// What the edges of horizontal line `row` have, of the lines 0 to `rows`.
     pub(crate) fn at_horizontal(&self, row: usize, rows: usize) -> Option<&T>
         ensures { option_copied result ≡ class_value (edges Horizontal (rank rows row)) self.now }
     {
-        if row == 0 {
-            self.top.as_ref()
-        } else if row == rows {
-            self.bottom.as_ref()
-        } else {
-            self.horizontal.as_ref()
-        }
+        self.edges_across(Rank::of(row, rows))
     }
 
     /// What the edges of vertical line `col` have, of the lines 0 to `cols`.
     pub(crate) fn at_vertical(&self, col: usize, cols: usize) -> Option<&T>
         ensures { option_copied result ≡ class_value (edges Vertical (rank cols col)) self.now }
     {
-        if col == 0 {
-            self.left.as_ref()
-        } else if col == cols {
-            self.right.as_ref()
-        } else {
-            self.vertical.as_ref()
-        }
+        self.edges_down(Rank::of(col, cols))
     }
 
     /// What the crossing of horizontal line `row` and vertical line `col` has, of the lines 0 to
@@ -184,27 +215,97 @@ impl<T> Borders<T> {
     pub(crate) fn at_crossing(&self, row: usize, col: usize, rows: usize, cols: usize) -> Option<&T>
         ensures { option_copied result ≡ class_value (crossings (rank rows row) (rank cols col)) self.now }
     {
-        let (first, inner, closing) = if row == 0 {
-            (&self.top_left, &self.top_intersection, &self.top_right)
-        } else if row == rows {
-            (
-                &self.bottom_left,
-                &self.bottom_intersection,
-                &self.bottom_right,
-            )
-        } else {
-            (
-                &self.left_intersection,
-                &self.intersection,
-                &self.right_intersection,
-            )
-        };
-        if col == 0 {
-            first.as_ref()
-        } else if col == cols {
-            closing.as_ref()
-        } else {
-            inner.as_ref()
+        self.crossing(Rank::of(row, rows), Rank::of(col, cols))
+    }
+}
+
+/// The record as six lines: of each rank a horizontal and a vertical one.
+impl<T: Copy> Borders<T> {
+    ghost use Rattle.tabled_grid.specs.Site.{Horizontal, Vertical, edges, crossings};
+    ghost use Rattle.tabled_grid.specs.Borders.{with_class, horizontal_of, vertical_of, put_horizontal, put_vertical};
+
+    /// The horizontal line of a rank.
+    pub fn horizontal_line(&self, rank: Rank) -> HorizontalLine<T>
+        ensures { result ≡ horizontal_of rank self.now }
+    {
+        HorizontalLine {
+            main: self.edges_across(rank).copied(),
+            intersection: self.crossing(rank, Rank::Inner).copied(),
+            left: self.crossing(rank, Rank::First).copied(),
+            right: self.crossing(rank, Rank::Last).copied(),
+        }
+    }
+
+    /// The vertical line of a rank.
+    pub fn vertical_line(&self, rank: Rank) -> VerticalLine<T>
+        ensures { result ≡ vertical_of rank self.now }
+    {
+        VerticalLine {
+            main: self.edges_down(rank).copied(),
+            intersection: self.crossing(Rank::Inner, rank).copied(),
+            top: self.crossing(Rank::First, rank).copied(),
+            bottom: self.crossing(Rank::Last, rank).copied(),
+        }
+    }
+
+    /// The record with this as its horizontal line of a rank, what the line does not have too.
+    pub fn with_horizontal_line(mut self, rank: Rank, line: HorizontalLine<T>) -> Self
+        ensures { result ≡ put_horizontal rank line self }
+    {
+        self.set_edges_across(rank, line.main);
+        self.set_crossing(rank, Rank::Inner, line.intersection);
+        self.set_crossing(rank, Rank::First, line.left);
+        self.set_crossing(rank, Rank::Last, line.right);
+        self
+    }
+
+    /// The record with this as its vertical line of a rank, what the line does not have too.
+    pub fn with_vertical_line(mut self, rank: Rank, line: VerticalLine<T>) -> Self
+        ensures { result ≡ put_vertical rank line self }
+    {
+        self.set_edges_down(rank, line.main);
+        self.set_crossing(Rank::Inner, rank, line.intersection);
+        self.set_crossing(Rank::First, rank, line.top);
+        self.set_crossing(Rank::Last, rank, line.bottom);
+        self
+    }
+
+    /// Sets the edges of the horizontal lines of a rank.
+    fn set_edges_across(&mut self, rank: Rank, value: Option<T>)
+        ensures { self.new ≡ with_class (edges Horizontal rank) value self.old }
+    {
+        match rank {
+            Rank::First => self.top = value,
+            Rank::Inner => self.horizontal = value,
+            Rank::Last => self.bottom = value,
+        }
+    }
+
+    /// Sets the edges of the vertical lines of a rank.
+    fn set_edges_down(&mut self, rank: Rank, value: Option<T>)
+        ensures { self.new ≡ with_class (edges Vertical rank) value self.old }
+    {
+        match rank {
+            Rank::First => self.left = value,
+            Rank::Inner => self.vertical = value,
+            Rank::Last => self.right = value,
+        }
+    }
+
+    /// Sets the crossings of the horizontal lines of one rank with the vertical lines of another.
+    fn set_crossing(&mut self, row: Rank, col: Rank, value: Option<T>)
+        ensures { self.new ≡ with_class (crossings row col) value self.old }
+    {
+        match (row, col) {
+            (Rank::First, Rank::First) => self.top_left = value,
+            (Rank::First, Rank::Inner) => self.top_intersection = value,
+            (Rank::First, Rank::Last) => self.top_right = value,
+            (Rank::Inner, Rank::First) => self.left_intersection = value,
+            (Rank::Inner, Rank::Inner) => self.intersection = value,
+            (Rank::Inner, Rank::Last) => self.right_intersection = value,
+            (Rank::Last, Rank::First) => self.bottom_left = value,
+            (Rank::Last, Rank::Inner) => self.bottom_intersection = value,
+            (Rank::Last, Rank::Last) => self.bottom_right = value,
         }
     }
 }

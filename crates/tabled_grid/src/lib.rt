@@ -31,7 +31,7 @@ pub use laws::{
 pub use layers::{Layers, border_writes};
 pub use lines::{HorizontalLine, VerticalLine};
 pub use offset::Offset;
-pub use place::{LineOf, Place};
+pub use place::{LineOf, Place, Rank};
 pub use probes::Probes;
 pub use site::{Direction, Spot};
 pub use tabled_border::{ANSIBuf, ANSIFmt, ANSIStr, AnsiText, Border, Keep, OutOfMemory};

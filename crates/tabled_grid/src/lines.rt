@@ -3,6 +3,7 @@
 ghost use Rattle.std.specs.Prelude.{◌≡◌, is_some, ⊤, option_copied};
 ghost use Rattle.tabled_grid.specs.Table.{passes};
 
+use crate::Rank;
 use std::alloc::AllocError;
 
 /// A custom horizontal line. A character that is missing leaves the place to the levels below.
@@ -105,7 +106,7 @@ pub(crate) fn has_bottom<T>(line: &Option<VerticalLine<T>>) -> bool
 
 impl<T> HorizontalLine<T> {
     ghost use Rattle.tabled_grid.specs.Site.{rank, horizontal_meeting};
-    ghost use Rattle.tabled_grid.specs.CustomLines.{no_horizontal};
+    ghost use Rattle.tabled_grid.specs.CustomLines.{no_horizontal, put_horizontal_meeting};
 
     /// A line of these characters: along its edges, at its crossings between, and at its two ends.
     pub const fn new(
@@ -135,19 +136,30 @@ impl<T> HorizontalLine<T> {
     pub(crate) fn at_crossing(&self, col: usize, cols: usize) -> Option<&T>
         ensures { option_copied result ≡ horizontal_meeting (rank cols col) self.now }
     {
-        if col == 0 {
-            self.left.as_ref()
-        } else if col == cols {
-            self.right.as_ref()
-        } else {
-            self.intersection.as_ref()
+        match Rank::of(col, cols) {
+            Rank::First => self.left.as_ref(),
+            Rank::Inner => self.intersection.as_ref(),
+            Rank::Last => self.right.as_ref(),
+        }
+    }
+
+    /// Sets or drops what the line has at its crossings with the vertical lines of a rank.
+    pub fn set_crossing(&mut self, rank: Rank, value: Option<T>)
+    where
+        T: Copy,
+        ensures { self.new ≡ put_horizontal_meeting rank value self.old }
+    {
+        match rank {
+            Rank::First => self.left = value,
+            Rank::Inner => self.intersection = value,
+            Rank::Last => self.right = value,
         }
     }
 }
 
 impl<T> VerticalLine<T> {
     ghost use Rattle.tabled_grid.specs.Site.{rank, vertical_meeting};
-    ghost use Rattle.tabled_grid.specs.CustomLines.{no_vertical};
+    ghost use Rattle.tabled_grid.specs.CustomLines.{no_vertical, put_vertical_meeting};
 
     /// A line of these characters: along its edges, at its crossings between, and at its two ends.
     pub const fn new(
@@ -177,12 +189,23 @@ impl<T> VerticalLine<T> {
     pub(crate) fn at_crossing(&self, row: usize, rows: usize) -> Option<&T>
         ensures { option_copied result ≡ vertical_meeting (rank rows row) self.now }
     {
-        if row == 0 {
-            self.top.as_ref()
-        } else if row == rows {
-            self.bottom.as_ref()
-        } else {
-            self.intersection.as_ref()
+        match Rank::of(row, rows) {
+            Rank::First => self.top.as_ref(),
+            Rank::Inner => self.intersection.as_ref(),
+            Rank::Last => self.bottom.as_ref(),
+        }
+    }
+
+    /// Sets or drops what the line has at its crossings with the horizontal lines of a rank.
+    pub fn set_crossing(&mut self, rank: Rank, value: Option<T>)
+    where
+        T: Copy,
+        ensures { self.new ≡ put_vertical_meeting rank value self.old }
+    {
+        match rank {
+            Rank::First => self.top = value,
+            Rank::Inner => self.intersection = value,
+            Rank::Last => self.bottom = value,
         }
     }
 }

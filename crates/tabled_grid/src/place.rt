@@ -24,6 +24,34 @@ pub enum LineOf {
     Vertical(usize),
 }
 
+/// Where a line stands among those of its direction.
+#[derive(Clone, Copy, Debug, PartialEq, Eq)]
+pub enum Rank {
+    /// Line 0.
+    First,
+    /// A line between the first and the last one.
+    Inner,
+    /// The line that closes the table.
+    Last,
+}
+
+impl Rank {
+    ghost use Rattle.tabled_grid.specs.Site.{rank};
+
+    /// Where line `line` stands, of the lines 0 to `count`.
+    pub fn of(line: usize, count: usize) -> Self
+        ensures { result ≡ rank count line }
+    {
+        if line == 0 {
+            Rank::First
+        } else if line == count {
+            Rank::Last
+        } else {
+            Rank::Inner
+        }
+    }
+}
+
 impl Place {
     ghost use Rattle.tabled_grid.specs.Value.{has_spot, inside};
 

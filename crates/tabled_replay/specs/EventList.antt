@@ -1,25 +1,19 @@
 -- What the plain reader's sites and events stand for.
 use Rattle.std.specs.Prelude.{ℕ, [], ◌∷◌}
-use Rattle.tabled_replay.specs.declared.event_list.Rank.{Rank as PlainRank}
 use Rattle.tabled_replay.specs.declared.event_list.Site.{Site as PlainSite}
 use Rattle.tabled_replay.specs.declared.event_list.Region.{Region as PlainRegion}
 use Rattle.tabled_replay.specs.declared.event_list.Written.{Written as PlainWritten}
 use Rattle.tabled_replay.specs.declared.event_list.Event.{Event as PlainEvent}
-use Rattle.tabled_grid.specs.Site.{Rank, first, inner, last, edges, crossings, mark, main_edges, meeting, Site, the_default, of_class, of_line, at_spot, at_offset}
+use Rattle.tabled_grid.specs.Site.{edges, crossings, mark, main_edges, meeting, Site, the_default, of_class, of_line, at_spot, at_offset}
 use Rattle.tabled_grid.specs.Event.{Written, sign, standing, Region, level_sites, offset_sites, line_sites, these_sites, Event, write, erase}
-
-abbrev pub rank_of : PlainRank → Rank
-rank_of PlainRank.First = first
-rank_of PlainRank.Inner = inner
-rank_of PlainRank.Closing = last
 
 abbrev pub site_of : PlainSite → Site
 site_of PlainSite.Default = the_default
-site_of (PlainSite.Edges d n) = of_class (edges d (rank_of n))
-site_of (PlainSite.Crossings n m) = of_class (crossings (rank_of n) (rank_of m))
+site_of (PlainSite.Edges d n) = of_class (edges d n)
+site_of (PlainSite.Crossings n m) = of_class (crossings n m)
 site_of (PlainSite.Mark line) = of_line line mark
 site_of (PlainSite.Main line) = of_line line main_edges
-site_of (PlainSite.Meeting line n) = of_line line (meeting (rank_of n))
+site_of (PlainSite.Meeting line n) = of_line line (meeting n)
 site_of (PlainSite.Cell spot) = at_spot spot
 site_of (PlainSite.Offset d r c offset) = at_offset d r c offset
 

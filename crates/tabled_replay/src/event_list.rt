@@ -4,25 +4,14 @@
 //! definitions of the events say. The tests of the store compare the two. Nothing else calls it.
 
 ghost use Rattle.std.specs.Prelude.{◌≡◌, ◌≤◌, map, option_map};
-ghost use Rattle.tabled_grid.specs.Site.{rank as rank_at, stands as stands_at, level as level_at, same_site};
+ghost use Rattle.tabled_grid.specs.Site.{stands as stands_at, level as level_at, same_site};
 ghost use Rattle.tabled_grid.specs.Event.{within as is_within, covers as is_covering, replay as replayed};
 ghost use Rattle.tabled_grid.specs.Value.{value as value_at, first_sign as first_sign_at};
 ghost use Rattle.tabled_grid.specs.Drawn.{draws as is_drawing, drawn as is_drawn};
-ghost use Rattle.tabled_replay.specs.EventList.{rank_of, site_of, region_of, written_of, event_of};
+ghost use Rattle.tabled_replay.specs.EventList.{site_of, region_of, written_of, event_of};
 ghost use Rattle.tabled_grid.specs.declared.place.LineOf.{LineOf as Line};
 
-use tabled_grid::{Direction, LineOf, Offset, Place, Spot};
-
-/// Where a line stands among those of its direction.
-#[derive(Clone, Copy, Debug, PartialEq, Eq)]
-pub enum Rank {
-    /// Line 0.
-    First,
-    /// A line between the first and the closing one.
-    Inner,
-    /// The line that closes the table.
-    Closing,
-}
+use tabled_grid::{Direction, LineOf, Offset, Place, Rank, Spot};
 
 /// Where something can be kept.
 #[derive(Clone, Copy, Debug, PartialEq, Eq)]
@@ -109,7 +98,7 @@ pub fn value(events: &[Event], shape: (usize, usize), size: usize, place: Place)
                 Site::Offset(Direction::Horizontal, row, col, Offset::End(size - 1 - at)),
                 Site::Cell(Spot::Edge(Direction::Horizontal, row, col)),
                 Site::Main(LineOf::Horizontal(row)),
-                Site::Edges(Direction::Horizontal, line_rank(rows, row)),
+                Site::Edges(Direction::Horizontal, Rank::of(row, rows)),
                 Site::Default,
             ],
         ),
@@ -120,13 +109,13 @@ pub fn value(events: &[Event], shape: (usize, usize), size: usize, place: Place)
                 Site::Offset(Direction::Vertical, row, col, Offset::End(size - 1 - at)),
                 Site::Cell(Spot::Edge(Direction::Vertical, row, col)),
                 Site::Main(LineOf::Vertical(col)),
-                Site::Edges(Direction::Vertical, line_rank(cols, col)),
+                Site::Edges(Direction::Vertical, Rank::of(col, cols)),
                 Site::Default,
             ],
         ),
         Place::Cross { row, col } => {
-            let row_rank = line_rank(rows, row);
-            let col_rank = line_rank(cols, col);
+            let row_rank = Rank::of(row, rows);
+            let col_rank = Rank::of(col, cols);
             first_sign(
                 events,
                 &[
@@ -239,27 +228,14 @@ fn level(site: Site) -> usize
     }
 }
 
-/// Where line `line` stands, of the lines 0 to `count`.
-fn line_rank(count: usize, line: usize) -> Rank
-    ensures { rank_of result ≡ rank_at count line }
-{
-    if line == 0 {
-        Rank::First
-    } else if line == count {
-        Rank::Closing
-    } else {
-        Rank::Inner
-    }
-}
-
 /// Whether line `line` stands there, of the lines 0 to `count`.
 fn stands(rank: Rank, count: usize, line: usize) -> bool
-    ensures { result ≡ stands_at (rank_of rank) count line }
+    ensures { result ≡ stands_at rank count line }
 {
     match rank {
         Rank::First => line == 0,
         Rank::Inner => 0 < line && line < count,
-        Rank::Closing => line == count,
+        Rank::Last => line == count,
     }
 }
 
@@ -283,7 +259,7 @@ fn draws_row(count: usize, line: usize, site: Site) -> bool
         }
         Site::Mark(LineOf::Horizontal(row)) => row == line,
         Site::Meeting(LineOf::Vertical(_), Rank::First) => line == 0,
-        Site::Meeting(LineOf::Vertical(_), Rank::Closing) => line == count,
+        Site::Meeting(LineOf::Vertical(_), Rank::Last) => line == count,
         Site::Cell(Spot::Edge(Direction::Horizontal, row, _) | Spot::Crossing(row, _)) => row == line,
         _ => false,
     }

@@ -1,105 +1,79 @@
--- Lines and frames that are put into a style and inherited again.
-use Rattle.std.proofs.Common.{◌≡◌, ℕ, Option, None, Some, refl}
+-- Lines that are put into a style and inherited again.
+use Rattle.std.proofs.Common.{◌≡◌, ℕ, Option, None, Some, refl, ap, ◌∙◌}
 use Rattle.tabled_grid.specs.declared.borders.Borders.{Borders}
 use Rattle.tabled_grid.specs.declared.lines.HorizontalLine.{HorizontalLine}
 use Rattle.tabled_grid.specs.declared.lines.VerticalLine.{VerticalLine}
-use Rattle.tabled_style.specs.Shown.{horizontal_of, top_of, bottom_of, vertical_of, left_of, right_of}
-use Rattle.tabled_style.specs.LineCalls.{horizontal_put, top_put, bottom_put, vertical_put, left_put, right_put, settled_across, settled_down, with_line_across, with_line_down}
-use Rattle.tabled_style.specs.Inheriting.{GivesAcross, GivesDown}
+use Rattle.tabled_grid.specs.declared.place.Rank.{Rank}
+use Rattle.tabled_grid.specs.declared.place.Rank.TheVariants.{First as first, Inner as inner, Last as last}
+use Rattle.tabled_grid.specs.Site.{horizontal_meeting, vertical_meeting}
+use Rattle.tabled_grid.specs.Borders.{horizontal_of, vertical_of, put_horizontal, put_vertical}
+use Rattle.tabled_grid.specs.CustomLines.{no_horizontal, no_vertical, put_horizontal_meeting, put_vertical_meeting}
+use Rattle.tabled_grid.proofs.SixLines.{horizontal_of-put, vertical_of-put, horizontal_of-put_vertical, vertical_of-put_horizontal, put_horizontal_meeting-same, put_vertical_meeting-same}
+use Rattle.tabled_style.specs.Shown.{Shown}
+use Rattle.tabled_style.specs.LineCalls.{space_where, spaced_down, spaced_across, followed_down, followed_across, settled_across, settled_down, with_line_across, with_line_down}
 
--- a line by its four fields
-abbrev across_by : Option ℕ → Option ℕ → Option ℕ → Option ℕ → HorizontalLine ℕ
-across_by main crossing left right = record { main = main; intersection = crossing; left = left; right = right }
+-- a line stays as it is where one is put across it that has the same at their crossing
+alike_across : (rank column : Rank) (x : Option ℕ) (put : VerticalLine ℕ) (borders : Borders ℕ) → horizontal_meeting column (horizontal_of rank borders) ≡ x → vertical_meeting rank put ≡ x
+    → horizontal_of rank (put_vertical column put borders) ≡ horizontal_of rank borders
+alike_across rank column x put borders has gets =
+    horizontal_of-put_vertical rank column put borders
+    ∙ ap (λ (y : Option ℕ). put_horizontal_meeting column y (horizontal_of rank borders)) gets
+    ∙ put_horizontal_meeting-same column x (horizontal_of rank borders) has
 
-abbrev down_by : Option ℕ → Option ℕ → Option ℕ → Option ℕ → VerticalLine ℕ
-down_by main crossing top bottom = record { main = main; intersection = crossing; top = top; bottom = bottom }
+alike_down : (rank row : Rank) (x : Option ℕ) (put : HorizontalLine ℕ) (borders : Borders ℕ) → vertical_meeting row (vertical_of rank borders) ≡ x → horizontal_meeting rank put ≡ x
+    → vertical_of rank (put_horizontal row put borders) ≡ vertical_of rank borders
+alike_down rank row x put borders has gets =
+    vertical_of-put_horizontal rank row put borders
+    ∙ ap (λ (y : Option ℕ). put_vertical_meeting row y (vertical_of rank borders)) gets
+    ∙ put_vertical_meeting-same row x (vertical_of rank borders) has
 
-horizontal_by_fields : (crossing first second main : Option ℕ) (borders : Borders ℕ)
-    → horizontal_of (settled_across (across_by main crossing first second) (horizontal_put (across_by main crossing first second) borders)) ≡ across_by main crossing first second
-horizontal_by_fields None None None main borders = refl
-horizontal_by_fields None None (Some z) main borders = refl
-horizontal_by_fields None (Some y) None main borders = refl
-horizontal_by_fields None (Some y) (Some z) main borders = refl
-horizontal_by_fields (Some x) None None main borders = refl
-horizontal_by_fields (Some x) None (Some z) main borders = refl
-horizontal_by_fields (Some x) (Some y) None main borders = refl
-horizontal_by_fields (Some x) (Some y) (Some z) main borders = refl
+-- so it stays through each part of the second step, which asks for what it has itself at a crossing
+dropped_down : (rank column : Rank) (borders : Borders ℕ) → horizontal_meeting column (horizontal_of rank borders) ≡ None → horizontal_of rank (put_vertical column no_vertical borders) ≡ horizontal_of rank borders
+dropped_down first column borders has = alike_across first column None no_vertical borders has refl
+dropped_down inner column borders has = alike_across inner column None no_vertical borders has refl
+dropped_down last column borders has = alike_across last column None no_vertical borders has refl
 
-pub horizontal_again : GivesAcross horizontal_put horizontal_of
-unfolding with_line_across
-horizontal_again line style = horizontal_by_fields line.intersection line.left line.right line.main style.borders
+dropped_across : (rank row : Rank) (borders : Borders ℕ) → vertical_meeting row (vertical_of rank borders) ≡ None → vertical_of rank (put_horizontal row no_horizontal borders) ≡ vertical_of rank borders
+dropped_across first row borders has = alike_down first row None no_horizontal borders has refl
+dropped_across inner row borders has = alike_down inner row None no_horizontal borders has refl
+dropped_across last row borders has = alike_down last row None no_horizontal borders has refl
 
-top_by_fields : (crossing first second main : Option ℕ) (borders : Borders ℕ)
-    → top_of (settled_across (across_by main crossing first second) (top_put (across_by main crossing first second) borders)) ≡ across_by main crossing first second
-top_by_fields None None None main borders = refl
-top_by_fields None None (Some z) main borders = refl
-top_by_fields None (Some y) None main borders = refl
-top_by_fields None (Some y) (Some z) main borders = refl
-top_by_fields (Some x) None None main borders = refl
-top_by_fields (Some x) None (Some z) main borders = refl
-top_by_fields (Some x) (Some y) None main borders = refl
-top_by_fields (Some x) (Some y) (Some z) main borders = refl
+followed_still : (rank column : Rank) (crossing : Option ℕ) (borders : Borders ℕ) → horizontal_meeting column (horizontal_of rank borders) ≡ crossing → horizontal_of rank (followed_down column crossing borders) ≡ horizontal_of rank borders
+unfolding followed_down spaced_down
+followed_still rank column None borders has = dropped_down rank column borders has
+followed_still rank first (Some c) borders has = refl
+followed_still first inner (Some c) borders has = alike_across first inner (Some c) (spaced_down borders) borders has (ap (space_where _) has)
+followed_still inner inner (Some c) borders has = alike_across inner inner (Some c) (spaced_down borders) borders has has
+followed_still last inner (Some c) borders has = alike_across last inner (Some c) (spaced_down borders) borders has (ap (space_where _) has)
+followed_still rank last (Some c) borders has = refl
 
-pub top_again : GivesAcross top_put top_of
-unfolding with_line_across
-top_again line style = top_by_fields line.intersection line.left line.right line.main style.borders
+still_followed : (rank row : Rank) (crossing : Option ℕ) (borders : Borders ℕ) → vertical_meeting row (vertical_of rank borders) ≡ crossing → vertical_of rank (followed_across row crossing borders) ≡ vertical_of rank borders
+unfolding followed_across spaced_across
+still_followed rank row None borders has = dropped_across rank row borders has
+still_followed rank first (Some c) borders has = refl
+still_followed first inner (Some c) borders has = alike_down first inner (Some c) (spaced_across borders) borders has (ap (space_where _) has)
+still_followed inner inner (Some c) borders has = alike_down inner inner (Some c) (spaced_across borders) borders has has
+still_followed last inner (Some c) borders has = alike_down last inner (Some c) (spaced_across borders) borders has (ap (space_where _) has)
+still_followed rank last (Some c) borders has = refl
 
-bottom_by_fields : (crossing first second main : Option ℕ) (borders : Borders ℕ)
-    → bottom_of (settled_across (across_by main crossing first second) (bottom_put (across_by main crossing first second) borders)) ≡ across_by main crossing first second
-bottom_by_fields None None None main borders = refl
-bottom_by_fields None None (Some z) main borders = refl
-bottom_by_fields None (Some y) None main borders = refl
-bottom_by_fields None (Some y) (Some z) main borders = refl
-bottom_by_fields (Some x) None None main borders = refl
-bottom_by_fields (Some x) None (Some z) main borders = refl
-bottom_by_fields (Some x) (Some y) None main borders = refl
-bottom_by_fields (Some x) (Some y) (Some z) main borders = refl
+pub across_again : (rank : Rank) (line : HorizontalLine ℕ) (style : Shown) → horizontal_of rank (with_line_across rank line style).borders ≡ line
+unfolding with_line_across settled_across
+across_again rank line style =
+    let put : Borders ℕ = put_horizontal rank line style.borders in
+    let crossed : Borders ℕ = followed_down inner line.intersection put in
+    let ended : Borders ℕ = followed_down first line.left crossed in
+    let is : horizontal_of rank put ≡ line = horizontal_of-put rank line style.borders in
+    let still : horizontal_of rank crossed ≡ line = followed_still rank inner line.intersection put (ap (λ (l : HorizontalLine ℕ). l.intersection) is) ∙ is in
+    let again : horizontal_of rank ended ≡ line = followed_still rank first line.left crossed (ap (λ (l : HorizontalLine ℕ). l.left) still) ∙ still in
+    followed_still rank last line.right ended (ap (λ (l : HorizontalLine ℕ). l.right) again) ∙ again
 
-pub bottom_again : GivesAcross bottom_put bottom_of
-unfolding with_line_across
-bottom_again line style = bottom_by_fields line.intersection line.left line.right line.main style.borders
-
-vertical_by_fields : (crossing first second main : Option ℕ) (borders : Borders ℕ)
-    → vertical_of (settled_down (down_by main crossing first second) (vertical_put (down_by main crossing first second) borders)) ≡ down_by main crossing first second
-vertical_by_fields None None None main borders = refl
-vertical_by_fields None None (Some z) main borders = refl
-vertical_by_fields None (Some y) None main borders = refl
-vertical_by_fields None (Some y) (Some z) main borders = refl
-vertical_by_fields (Some x) None None main borders = refl
-vertical_by_fields (Some x) None (Some z) main borders = refl
-vertical_by_fields (Some x) (Some y) None main borders = refl
-vertical_by_fields (Some x) (Some y) (Some z) main borders = refl
-
-pub vertical_again : GivesDown vertical_put vertical_of
-unfolding with_line_down
-vertical_again line style = vertical_by_fields line.intersection line.top line.bottom line.main style.borders
-
-left_by_fields : (crossing first second main : Option ℕ) (borders : Borders ℕ)
-    → left_of (settled_down (down_by main crossing first second) (left_put (down_by main crossing first second) borders)) ≡ down_by main crossing first second
-left_by_fields None None None main borders = refl
-left_by_fields None None (Some z) main borders = refl
-left_by_fields None (Some y) None main borders = refl
-left_by_fields None (Some y) (Some z) main borders = refl
-left_by_fields (Some x) None None main borders = refl
-left_by_fields (Some x) None (Some z) main borders = refl
-left_by_fields (Some x) (Some y) None main borders = refl
-left_by_fields (Some x) (Some y) (Some z) main borders = refl
-
-pub left_again : GivesDown left_put left_of
-unfolding with_line_down
-left_again line style = left_by_fields line.intersection line.top line.bottom line.main style.borders
-
-right_by_fields : (crossing first second main : Option ℕ) (borders : Borders ℕ)
-    → right_of (settled_down (down_by main crossing first second) (right_put (down_by main crossing first second) borders)) ≡ down_by main crossing first second
-right_by_fields None None None main borders = refl
-right_by_fields None None (Some z) main borders = refl
-right_by_fields None (Some y) None main borders = refl
-right_by_fields None (Some y) (Some z) main borders = refl
-right_by_fields (Some x) None None main borders = refl
-right_by_fields (Some x) None (Some z) main borders = refl
-right_by_fields (Some x) (Some y) None main borders = refl
-right_by_fields (Some x) (Some y) (Some z) main borders = refl
-
-pub right_again : GivesDown right_put right_of
-unfolding with_line_down
-right_again line style = right_by_fields line.intersection line.top line.bottom line.main style.borders
+pub down_again : (rank : Rank) (line : VerticalLine ℕ) (style : Shown) → vertical_of rank (with_line_down rank line style).borders ≡ line
+unfolding with_line_down settled_down
+down_again rank line style =
+    let put : Borders ℕ = put_vertical rank line style.borders in
+    let crossed : Borders ℕ = followed_across inner line.intersection put in
+    let ended : Borders ℕ = followed_across first line.top crossed in
+    let is : vertical_of rank put ≡ line = vertical_of-put rank line style.borders in
+    let still : vertical_of rank crossed ≡ line = still_followed rank inner line.intersection put (ap (λ (l : VerticalLine ℕ). l.intersection) is) ∙ is in
+    let again : vertical_of rank ended ≡ line = still_followed rank first line.top crossed (ap (λ (l : VerticalLine ℕ). l.top) still) ∙ still in
+    still_followed rank last line.bottom ended (ap (λ (l : VerticalLine ℕ). l.bottom) again) ∙ again

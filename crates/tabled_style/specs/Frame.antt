@@ -2,8 +2,9 @@
 use Rattle.std.specs.Prelude.{ℕ, Bool, ◌&&◌, [], ◌∷◌, is_some}
 use Rattle.std.specs.List.{list_any}
 use Rattle.tabled_border.specs.declared.border.Border.{Border}
+use Rattle.tabled_grid.specs.CustomLines.{no_horizontal, no_vertical}
 use Rattle.tabled_style.specs.Shown.{Shown}
-use Rattle.tabled_style.specs.Lines.{each_line, given_ends_across, given_ends_down}
+use Rattle.tabled_style.specs.Lines.{each_line, over_horizontal, over_vertical}
 use Rattle.tabled_style.specs.LineCalls.{space_where}
 
 -- whether a border has a side: the side itself or one of its corners
@@ -54,6 +55,6 @@ with_frame border style = record {
     bottom_left = border.left_bottom_corner;
     bottom_right = border.right_bottom_corner;
   };
-  horizontals = each_line (given_ends_across border.left border.right) style.horizontals;
-  verticals = each_line (given_ends_down border.top border.bottom) style.verticals;
+  horizontals = each_line (over_horizontal (record no_horizontal { left = border.left; right = border.right })) style.horizontals;
+  verticals = each_line (over_vertical (record no_vertical { top = border.top; bottom = border.bottom })) style.verticals;
 }

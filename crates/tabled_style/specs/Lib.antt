@@ -6,5 +6,4 @@ pub mod Removing
 pub mod LineCalls
 pub mod Frame
 pub mod Ready
-pub mod Inheriting
 pub mod Deciding

@@ -1,5 +1,5 @@
 -- Custom lines.
-use Rattle.std.specs.Prelude.{ℕ, Option, None, Some, List, map}
+use Rattle.std.specs.Prelude.{ℕ, Some, List, map}
 use Rattle.std.specs.Option.{option_or}
 use Rattle.tabled_grid.specs.declared.lines.HorizontalLine.{HorizontalLine}
 use Rattle.tabled_grid.specs.declared.lines.VerticalLine.{VerticalLine}
@@ -41,48 +41,3 @@ over_vertical put line = record {
   top = option_or put.top line.top;
   bottom = option_or put.bottom line.bottom;
 }
-
--- a line without one of its ends
-abbrev pub without_left_end : HorizontalLine ℕ → HorizontalLine ℕ
-without_left_end line = record line { left = None }
-
-abbrev pub without_right_end : HorizontalLine ℕ → HorizontalLine ℕ
-without_right_end line = record line { right = None }
-
-abbrev pub without_top_end : VerticalLine ℕ → VerticalLine ℕ
-without_top_end line = record line { top = None }
-
-abbrev pub without_bottom_end : VerticalLine ℕ → VerticalLine ℕ
-without_bottom_end line = record line { bottom = None }
-
--- a line with one of its ends, or its crossings, set
-abbrev pub with_left_end : ℕ → HorizontalLine ℕ → HorizontalLine ℕ
-with_left_end c line = record line { left = Some c }
-
-abbrev pub with_right_end : ℕ → HorizontalLine ℕ → HorizontalLine ℕ
-with_right_end c line = record line { right = Some c }
-
-abbrev pub with_crossing_across : ℕ → HorizontalLine ℕ → HorizontalLine ℕ
-with_crossing_across c line = record line { intersection = Some c }
-
-abbrev pub with_top_end : ℕ → VerticalLine ℕ → VerticalLine ℕ
-with_top_end c line = record line { top = Some c }
-
-abbrev pub with_bottom_end : ℕ → VerticalLine ℕ → VerticalLine ℕ
-with_bottom_end c line = record line { bottom = Some c }
-
-abbrev pub with_crossing_down : ℕ → VerticalLine ℕ → VerticalLine ℕ
-with_crossing_down c line = record line { intersection = Some c }
-
--- a line with the crossing, or the two ends, that are given in place of its own
-abbrev pub given_crossing_across : Option ℕ → HorizontalLine ℕ → HorizontalLine ℕ
-given_crossing_across crossing line = record line { intersection = option_or crossing line.intersection }
-
-abbrev pub given_crossing_down : Option ℕ → VerticalLine ℕ → VerticalLine ℕ
-given_crossing_down crossing line = record line { intersection = option_or crossing line.intersection }
-
-abbrev pub given_ends_across : Option ℕ → Option ℕ → HorizontalLine ℕ → HorizontalLine ℕ
-given_ends_across left right line = record line { left = option_or left line.left; right = option_or right line.right }
-
-abbrev pub given_ends_down : Option ℕ → Option ℕ → VerticalLine ℕ → VerticalLine ℕ
-given_ends_down top bottom line = record line { top = option_or top line.top; bottom = option_or bottom line.bottom }

@@ -3,8 +3,9 @@ use Rattle.std.specs.Prelude.{ℕ, Option, None, Some, [], ◌∷◌, codes, sli
 use Prim.Native.String.{String}
 use Rattle.tabled_grid.specs.declared.borders.Borders.{Borders}
 use Rattle.tabled_grid.specs.declared.lines.HorizontalLine.{HorizontalLine}
-use Rattle.tabled_grid.specs.CustomLines.{no_horizontal}
-use Rattle.tabled_grid.specs.CustomLines.{no_borders}
+use Rattle.tabled_grid.specs.declared.place.Rank.TheVariants.{First as first, Inner as inner, Last as last}
+use Rattle.tabled_grid.specs.Borders.{put_horizontal}
+use Rattle.tabled_grid.specs.CustomLines.{no_horizontal, no_borders}
 use Rattle.tabled_style.specs.Shown.{Shown}
 use Rattle.tabled_style.specs.Lines.{full_horizontal}
 
@@ -22,23 +23,12 @@ open_line main intersection = record { main = Some main; intersection = Some int
 
 -- the record of a top, a bottom, the lines between rows, and the edges of the vertical lines
 abbrev pub class_record : HorizontalLine ℕ → HorizontalLine ℕ → HorizontalLine ℕ → Option ℕ → Option ℕ → Option ℕ → Borders ℕ
-class_record top bottom between left right vertical = record {
-  top = top.main;
-  bottom = bottom.main;
-  left = left;
-  right = right;
-  top_left = top.left;
-  top_right = top.right;
-  bottom_left = bottom.left;
-  bottom_right = bottom.right;
-  top_intersection = top.intersection;
-  bottom_intersection = bottom.intersection;
-  left_intersection = between.left;
-  right_intersection = between.right;
-  horizontal = between.main;
-  vertical = vertical;
-  intersection = between.intersection;
-}
+class_record top bottom between left right vertical =
+    put_horizontal first top (put_horizontal last bottom (put_horizontal inner between (record no_borders {
+      left = left;
+      right = right;
+      vertical = vertical;
+    })))
 
 -- the record with one character for the edges of all vertical lines
 abbrev pub framed : HorizontalLine ℕ → HorizontalLine ℕ → HorizontalLine ℕ → ℕ → Borders ℕ
@@ -53,7 +43,7 @@ abbrev pub plain : Borders ℕ → Shown
 plain borders = record { borders = borders; horizontals = []; verticals = [] }
 
 abbrev pub ruled : Borders ℕ → HorizontalLine ℕ → Shown
-ruled borders first = record { borders = borders; horizontals = (1, first) ∷ []; verticals = [] }
+ruled borders under = record { borders = borders; horizontals = (1, under) ∷ []; verticals = [] }
 
 unfoldable pub empty : Shown
 empty = plain no_borders

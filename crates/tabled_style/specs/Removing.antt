@@ -3,28 +3,31 @@ use Rattle.std.specs.Prelude.{ℕ, None}
 use Rattle.tabled_grid.specs.declared.borders.Borders.{Borders}
 use Rattle.tabled_grid.specs.declared.lines.HorizontalLine.{HorizontalLine}
 use Rattle.tabled_grid.specs.declared.lines.VerticalLine.{VerticalLine}
+use Rattle.tabled_grid.specs.declared.place.Rank.{Rank}
+use Rattle.tabled_grid.specs.Borders.{put_horizontal, put_vertical}
+use Rattle.tabled_grid.specs.CustomLines.{no_horizontal, no_vertical, put_horizontal_meeting, put_vertical_meeting}
+use Rattle.tabled_style.specs.Shown.{Shown}
+use Rattle.tabled_style.specs.Lines.{each_line}
 
-abbrev pub without_top : Borders ℕ → Borders ℕ
-without_top borders = record borders { top = None; top_intersection = None; top_left = None; top_right = None }
+-- a record without its lines of a rank
+abbrev pub horizontal_dropped : Rank → Borders ℕ → Borders ℕ
+horizontal_dropped rank borders = put_horizontal rank no_horizontal borders
 
-abbrev pub without_bottom : Borders ℕ → Borders ℕ
-without_bottom borders =
-    record borders { bottom = None; bottom_intersection = None; bottom_left = None; bottom_right = None }
+abbrev pub vertical_dropped : Rank → Borders ℕ → Borders ℕ
+vertical_dropped rank borders = put_vertical rank no_vertical borders
 
-abbrev pub without_left : Borders ℕ → Borders ℕ
-without_left borders = record borders { left = None; left_intersection = None; top_left = None; bottom_left = None }
+-- a style without its lines of a rank; its custom lines of the other direction have nothing where they meet them
+unfoldable pub without_horizontal : Rank → Shown → Shown
+without_horizontal rank style = record style {
+  borders = horizontal_dropped rank style.borders;
+  verticals = each_line (put_vertical_meeting rank None) style.verticals;
+}
 
-abbrev pub without_right : Borders ℕ → Borders ℕ
-without_right borders =
-    record borders { right = None; right_intersection = None; top_right = None; bottom_right = None }
-
-abbrev pub without_horizontal : Borders ℕ → Borders ℕ
-without_horizontal borders =
-    record borders { horizontal = None; left_intersection = None; right_intersection = None; intersection = None }
-
-abbrev pub without_vertical : Borders ℕ → Borders ℕ
-without_vertical borders =
-    record borders { vertical = None; top_intersection = None; bottom_intersection = None; intersection = None }
+unfoldable pub without_vertical : Rank → Shown → Shown
+without_vertical rank style = record style {
+  borders = vertical_dropped rank style.borders;
+  horizontals = each_line (put_horizontal_meeting rank None) style.horizontals;
+}
 
 -- a custom line without its two ends
 abbrev pub without_ends_across : HorizontalLine ℕ → HorizontalLine ℕ

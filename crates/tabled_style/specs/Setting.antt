@@ -1,81 +1,55 @@
 -- The calls that set characters. What the style has is read before the call.
 use Rattle.std.specs.Prelude.{ℕ, Bool, Option, Some, if◌then◌else◌}
-use Rattle.tabled_style.specs.Shown.{Shown, has_top, has_bottom, has_left, has_right, has_horizontal, has_vertical}
-use Rattle.tabled_style.specs.Lines.{each_line, with_left_end, with_right_end, with_top_end, with_bottom_end, with_crossing_down, with_crossing_across}
+use Rattle.tabled_grid.specs.declared.borders.Borders.{Borders}
+use Rattle.tabled_grid.specs.declared.place.Rank.{Rank}
+use Rattle.tabled_grid.specs.declared.place.Rank.TheVariants.{First as first, Inner as inner, Last as last}
+use Rattle.tabled_grid.specs.Borders.{has_horizontal, has_vertical, horizontal_of, vertical_of, put_horizontal, put_vertical}
+use Rattle.tabled_grid.specs.CustomLines.{put_horizontal_meeting, put_vertical_meeting}
+use Rattle.tabled_style.specs.Shown.{Shown}
+use Rattle.tabled_style.specs.Lines.{each_line}
 
 -- the character where it is asked for, else what was there
 abbrev pub put_where : Bool → ℕ → Option ℕ → Option ℕ
 put_where asked c before = if asked then Some c else before
 
-unfoldable pub with_top : ℕ → Shown → Shown
-with_top c style = record style {
-  borders = record style.borders {
-    top = Some c;
-    top_left = put_where (has_left style.borders) c style.borders.top_left;
-    top_right = put_where (has_right style.borders) c style.borders.top_right;
-    top_intersection = put_where (has_vertical style.borders) c style.borders.top_intersection;
-  };
-  verticals = each_line (with_top_end c) style.verticals;
+-- a record with a character on its horizontal lines of a rank: on their edges, and where they cross the vertical lines that it has
+unfoldable pub horizontal_drawn : Rank → ℕ → Borders ℕ → Borders ℕ
+horizontal_drawn rank c borders =
+    let line = horizontal_of rank borders in
+    put_horizontal rank (record {
+      main = Some c;
+      intersection = put_where (has_vertical inner borders) c line.intersection;
+      left = put_where (has_vertical first borders) c line.left;
+      right = put_where (has_vertical last borders) c line.right;
+    }) borders
+
+unfoldable pub vertical_drawn : Rank → ℕ → Borders ℕ → Borders ℕ
+vertical_drawn rank c borders =
+    let line = vertical_of rank borders in
+    put_vertical rank (record {
+      main = Some c;
+      intersection = put_where (has_horizontal inner borders) c line.intersection;
+      top = put_where (has_horizontal first borders) c line.top;
+      bottom = put_where (has_horizontal last borders) c line.bottom;
+    }) borders
+
+-- a style with a character on the lines of a rank; its custom lines of the other direction have it where they meet them
+unfoldable pub with_horizontal : Rank → ℕ → Shown → Shown
+with_horizontal rank c style = record style {
+  borders = horizontal_drawn rank c style.borders;
+  verticals = each_line (put_vertical_meeting rank (Some c)) style.verticals;
 }
 
-unfoldable pub with_bottom : ℕ → Shown → Shown
-with_bottom c style = record style {
-  borders = record style.borders {
-    bottom = Some c;
-    bottom_left = put_where (has_left style.borders) c style.borders.bottom_left;
-    bottom_right = put_where (has_right style.borders) c style.borders.bottom_right;
-    bottom_intersection = put_where (has_vertical style.borders) c style.borders.bottom_intersection;
-  };
-  verticals = each_line (with_bottom_end c) style.verticals;
+unfoldable pub with_vertical : Rank → ℕ → Shown → Shown
+with_vertical rank c style = record style {
+  borders = vertical_drawn rank c style.borders;
+  horizontals = each_line (put_horizontal_meeting rank (Some c)) style.horizontals;
 }
 
-unfoldable pub with_left : ℕ → Shown → Shown
-with_left c style = record style {
-  borders = record style.borders {
-    left = Some c;
-    top_left = put_where (has_top style.borders) c style.borders.top_left;
-    bottom_left = put_where (has_bottom style.borders) c style.borders.bottom_left;
-    left_intersection = put_where (has_horizontal style.borders) c style.borders.left_intersection;
-  };
-  horizontals = each_line (with_left_end c) style.horizontals;
-}
-
-unfoldable pub with_right : ℕ → Shown → Shown
-with_right c style = record style {
-  borders = record style.borders {
-    right = Some c;
-    top_right = put_where (has_top style.borders) c style.borders.top_right;
-    bottom_right = put_where (has_bottom style.borders) c style.borders.bottom_right;
-    right_intersection = put_where (has_horizontal style.borders) c style.borders.right_intersection;
-  };
-  horizontals = each_line (with_right_end c) style.horizontals;
-}
-
-unfoldable pub with_horizontal : ℕ → Shown → Shown
-with_horizontal c style = record style {
-  borders = record style.borders {
-    horizontal = Some c;
-    intersection = put_where (has_vertical style.borders) c style.borders.intersection;
-    left_intersection = put_where (has_left style.borders) c style.borders.left_intersection;
-    right_intersection = put_where (has_right style.borders) c style.borders.right_intersection;
-  };
-  verticals = each_line (with_crossing_down c) style.verticals;
-}
-
-unfoldable pub with_vertical : ℕ → Shown → Shown
-with_vertical c style = record style {
-  borders = record style.borders {
-    vertical = Some c;
-    intersection = put_where (has_horizontal style.borders) c style.borders.intersection;
-    top_intersection = put_where (has_top style.borders) c style.borders.top_intersection;
-    bottom_intersection = put_where (has_bottom style.borders) c style.borders.bottom_intersection;
-  };
-  horizontals = each_line (with_crossing_across c) style.horizontals;
-}
-
+-- a style with a character where the inner lines cross, and at the crossings between of all custom lines
 unfoldable pub with_intersection : ℕ → Shown → Shown
 with_intersection c style = record {
   borders = record style.borders { intersection = Some c };
-  horizontals = each_line (with_crossing_across c) style.horizontals;
-  verticals = each_line (with_crossing_down c) style.verticals;
+  horizontals = each_line (put_horizontal_meeting inner (Some c)) style.horizontals;
+  verticals = each_line (put_vertical_meeting inner (Some c)) style.verticals;
 }

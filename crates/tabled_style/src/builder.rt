@@ -13,7 +13,7 @@ mod ready;
 mod removers;
 mod setters;
 
-use custom::{Horizontals, Verticals};
+use custom::Lines;
 
 /// A class record, and custom lines that stand at some index in place of what the record says there.
 ///
@@ -24,8 +24,8 @@ use custom::{Horizontals, Verticals};
 #[derive_where(Clone, Debug, PartialEq, Eq, PartialOrd, Ord, Hash)]
 pub struct Style<T, B, L, R, H, V, const HN: usize, const VN: usize> {
     borders: Borders<char>,
-    horizontals: Horizontals<HN>,
-    verticals: Verticals<VN>,
+    horizontals: Lines<HLine<char>, HN>,
+    verticals: Lines<VLine<char>, VN>,
     of_top: PhantomData<T>,
     of_bottom: PhantomData<B>,
     of_left: PhantomData<L>,
@@ -60,7 +60,11 @@ impl<T, B, L, R, H, V, const HN: usize, const VN: usize> Model for Style<T, B, L
 
 impl<T, B, L, R, H, V, const HN: usize, const VN: usize> Style<T, B, L, R, H, V, HN, VN> {
     /// The style of this record and these lines, whatever the markers say.
-    fn new(borders: Borders<char>, horizontals: Horizontals<HN>, verticals: Verticals<VN>) -> Self
+    fn new(
+        borders: Borders<char>,
+        horizontals: Lines<HLine<char>, HN>,
+        verticals: Lines<VLine<char>, VN>,
+    ) -> Self
         ensures { result ≡ record {
           borders = borders;
           horizontals = horizontals.entry;
@@ -78,6 +82,15 @@ impl<T, B, L, R, H, V, const HN: usize, const VN: usize> Style<T, B, L, R, H, V,
             of_horizontal: PhantomData,
             of_vertical: PhantomData,
         }
+    }
+
+    /// The same style under other markers.
+    fn marked<Top, Bottom, Left, Right, Horizontal, Vertical>(
+        self,
+    ) -> Style<Top, Bottom, Left, Right, Horizontal, Vertical, HN, VN>
+        ensures { result ≡ self }
+    {
+        Style::new(self.borders, self.horizontals, self.verticals)
     }
 
     /// The class record.

@@ -5,7 +5,7 @@ ghost use Rattle.tabled_style.specs.Lines.{full_horizontal, turned_down};
 
 use crate::{On, Style};
 use std::marker::{Model, PhantomData};
-use tabled_grid::{HorizontalLine as Line, VerticalLine};
+use tabled_grid::{HorizontalLine as Line, Rank, VerticalLine};
 
 /// A custom horizontal line: a character along its edges, one at its crossings between the outer vertical
 /// lines, and one at each of its two ends. What is missing leaves the place to the class record.
@@ -41,7 +41,7 @@ impl HorizontalLine<(), (), ()> {
 
 impl<L, R, I> HorizontalLine<L, R, I> {
     ghost use Rattle.tabled_grid.specs.CustomLines.{no_horizontal};
-    ghost use Rattle.tabled_style.specs.Shown.{horizontal_of, top_of, bottom_of};
+    ghost use Rattle.tabled_grid.specs.Borders.{horizontal_of};
 
     /// A line with nothing set.
     pub fn empty() -> Self
@@ -54,45 +54,27 @@ impl<L, R, I> HorizontalLine<L, R, I> {
     pub fn inherit<T, B, const HN: usize, const VN: usize>(
         style: Style<T, B, L, R, On, I, HN, VN>,
     ) -> Self
-        ensures { result ≡ horizontal_of style.borders }
+        ensures { result ≡ horizontal_of Rank.Inner style.borders }
     {
-        let borders = style.get_borders();
-        HorizontalLine::update(Line {
-            main: borders.horizontal,
-            intersection: borders.intersection,
-            left: borders.left_intersection,
-            right: borders.right_intersection,
-        })
+        HorizontalLine::update(style.get_borders().horizontal_line(Rank::Inner))
     }
 
     /// The line that a style draws above the first row.
     pub fn inherit_top<B, H, const HN: usize, const VN: usize>(
         style: Style<On, B, L, R, H, I, HN, VN>,
     ) -> Self
-        ensures { result ≡ top_of style.borders }
+        ensures { result ≡ horizontal_of Rank.First style.borders }
     {
-        let borders = style.get_borders();
-        HorizontalLine::update(Line {
-            main: borders.top,
-            intersection: borders.top_intersection,
-            left: borders.top_left,
-            right: borders.top_right,
-        })
+        HorizontalLine::update(style.get_borders().horizontal_line(Rank::First))
     }
 
     /// The line that a style draws below the last row.
     pub fn inherit_bottom<T, H, const HN: usize, const VN: usize>(
         style: Style<T, On, L, R, H, I, HN, VN>,
     ) -> Self
-        ensures { result ≡ bottom_of style.borders }
+        ensures { result ≡ horizontal_of Rank.Last style.borders }
     {
-        let borders = style.get_borders();
-        HorizontalLine::update(Line {
-            main: borders.bottom,
-            intersection: borders.bottom_intersection,
-            left: borders.bottom_left,
-            right: borders.bottom_right,
-        })
+        HorizontalLine::update(style.get_borders().horizontal_line(Rank::Last))
     }
 
     /// The line of these characters, whatever the markers say.

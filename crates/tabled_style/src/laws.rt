@@ -4,11 +4,12 @@ ghost use Rattle.std.specs.Prelude.{◌≡◌, ℕ};
 ghost use Rattle.tabled_border.specs.declared.border.Border.{Border as Frame};
 ghost use Rattle.tabled_grid.specs.declared.lines.HorizontalLine.{HorizontalLine as Across};
 ghost use Rattle.tabled_grid.specs.declared.lines.VerticalLine.{VerticalLine as Down};
-ghost use Rattle.tabled_style.specs.Shown.{Shown, horizontal_of, top_of, bottom_of, vertical_of, left_of, right_of, frame_of};
+ghost use Rattle.tabled_grid.specs.declared.place.Rank.{Rank};
+ghost use Rattle.tabled_grid.specs.Borders.{horizontal_of, vertical_of};
+ghost use Rattle.tabled_style.specs.Shown.{Shown, frame_of};
 ghost use Rattle.tabled_style.specs.Lines.{turned_across};
-ghost use Rattle.tabled_style.specs.LineCalls.{horizontal_put, top_put, bottom_put, vertical_put, left_put, right_put};
+ghost use Rattle.tabled_style.specs.LineCalls.{with_line_across, with_line_down};
 ghost use Rattle.tabled_style.specs.Frame.{with_frame};
-ghost use Rattle.tabled_style.specs.Inheriting.{GivesAcross, GivesDown};
 ghost use Rattle.std.specs.Prelude.{◌↔◌, None, IsTrue};
 ghost use Rattle.tabled_grid.specs.declared.place.LineOf.{LineOf as Line};
 ghost use Rattle.tabled_grid.specs.declared.place.Place.{Place as At};
@@ -32,14 +33,10 @@ pub fn turned_and_back<L, R, I>()
 
 /// A line that took the place of a line of a style is what is inherited from there, although the rest of the style
 /// followed it; and so is a frame, as it was corrected.
-#[tactic(auto, using(crate::proofs::Inherited::horizontal_again, crate::proofs::Inherited::top_again, crate::proofs::Inherited::bottom_again, crate::proofs::Inherited::vertical_again, crate::proofs::Inherited::left_again, crate::proofs::Inherited::right_again), unfolding(crate::specs::Frame::with_frame))]
+#[tactic(auto, using(crate::proofs::Inherited::across_again, crate::proofs::Inherited::down_again), unfolding(crate::specs::Frame::with_frame))]
 pub fn inherited_again()
-    ensures between_rows { GivesAcross horizontal_put horizontal_of }
-    ensures top { GivesAcross top_put top_of }
-    ensures bottom { GivesAcross bottom_put bottom_of }
-    ensures between_columns { GivesDown vertical_put vertical_of }
-    ensures left { GivesDown left_put left_of }
-    ensures right { GivesDown right_put right_of }
+    ensures across { (rank : Rank) (line : Across ℕ) (style : Shown) → horizontal_of rank (with_line_across rank line style).borders ≡ line }
+    ensures down { (rank : Rank) (line : Down ℕ) (style : Shown) → vertical_of rank (with_line_down rank line style).borders ≡ line }
     ensures frame { (border : Frame ℕ) (style : Shown) → frame_of (with_frame border style).borders ≡ border }
 {}
 

@@ -5,7 +5,7 @@ ghost use Rattle.tabled_style.specs.Lines.{full_vertical, turned_across};
 
 use crate::{On, Style};
 use std::marker::{Model, PhantomData};
-use tabled_grid::{HorizontalLine, VerticalLine as Line};
+use tabled_grid::{HorizontalLine, Rank, VerticalLine as Line};
 
 /// A custom vertical line: a character along its edges, one at its crossings between the outer horizontal
 /// lines, and one at each of its two ends. What is missing leaves the place to the class record.
@@ -41,7 +41,7 @@ impl VerticalLine<(), (), ()> {
 
 impl<T, B, I> VerticalLine<T, B, I> {
     ghost use Rattle.tabled_grid.specs.CustomLines.{no_vertical};
-    ghost use Rattle.tabled_style.specs.Shown.{vertical_of, left_of, right_of};
+    ghost use Rattle.tabled_grid.specs.Borders.{vertical_of};
 
     /// A line with nothing set.
     pub fn empty() -> Self
@@ -54,45 +54,27 @@ impl<T, B, I> VerticalLine<T, B, I> {
     pub fn inherit<L, R, const HN: usize, const VN: usize>(
         style: Style<T, B, L, R, I, On, HN, VN>,
     ) -> Self
-        ensures { result ≡ vertical_of style.borders }
+        ensures { result ≡ vertical_of Rank.Inner style.borders }
     {
-        let borders = style.get_borders();
-        VerticalLine::update(Line {
-            main: borders.vertical,
-            intersection: borders.intersection,
-            top: borders.top_intersection,
-            bottom: borders.bottom_intersection,
-        })
+        VerticalLine::update(style.get_borders().vertical_line(Rank::Inner))
     }
 
     /// The line that a style draws before the first column.
     pub fn inherit_left<R, V, const HN: usize, const VN: usize>(
         style: Style<T, B, On, R, I, V, HN, VN>,
     ) -> Self
-        ensures { result ≡ left_of style.borders }
+        ensures { result ≡ vertical_of Rank.First style.borders }
     {
-        let borders = style.get_borders();
-        VerticalLine::update(Line {
-            main: borders.left,
-            intersection: borders.left_intersection,
-            top: borders.top_left,
-            bottom: borders.bottom_left,
-        })
+        VerticalLine::update(style.get_borders().vertical_line(Rank::First))
     }
 
     /// The line that a style draws behind the last column.
     pub fn inherit_right<L, V, const HN: usize, const VN: usize>(
         style: Style<T, B, L, On, I, V, HN, VN>,
     ) -> Self
-        ensures { result ≡ right_of style.borders }
+        ensures { result ≡ vertical_of Rank.Last style.borders }
     {
-        let borders = style.get_borders();
-        VerticalLine::update(Line {
-            main: borders.right,
-            intersection: borders.right_intersection,
-            top: borders.top_right,
-            bottom: borders.bottom_right,
-        })
+        VerticalLine::update(style.get_borders().vertical_line(Rank::Last))
     }
 
     /// The line of these characters, whatever the markers say.

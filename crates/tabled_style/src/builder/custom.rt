@@ -1,121 +1,172 @@
 //! The custom lines of a style, each with the index of the line that it stands for.
 
-ghost use Rattle.std.specs.Prelude.{◌≡◌, None, Some, length};
-ghost use Rattle.tabled_style.specs.Lines.{each_line, over_horizontal, over_vertical, without_left_end, without_right_end, without_top_end, without_bottom_end};
+ghost use Rattle.std.specs.Prelude.{◌≡◌, ⊤, length};
+ghost use Rattle.tabled_style.specs.Lines.{each_line, over_horizontal, over_vertical};
+ghost use Rattle.tabled_grid.specs.CustomLines.{put_horizontal_meeting, put_vertical_meeting};
 
 use crate::{HorizontalLine, VerticalLine};
+use std::alloc::AllocError;
 use std::marker::Model;
-use tabled_grid::{HorizontalLine as HLine, VerticalLine as VLine};
+use tabled_grid::{HorizontalLine as HLine, Rank, VerticalLine as VLine};
 
-/// Custom horizontal lines.
-#[derive(Clone, Debug, Drop, PartialEq, Eq, PartialOrd, Ord, Hash)]
-pub(super) struct Horizontals<const N: usize> {
-    pub(super) lines: [(usize, HLine<char>); N],
+/// A custom line of one direction, and what calls do to it.
+pub(super) trait CustomLine: Copy {
+    ghost use Rattle.std.specs.Prelude.{◌≡◌, ℕ, Option};
+    ghost use Rattle.tabled_grid.specs.declared.place.Rank.{Rank};
+
+    /// A line with the given characters of another in place of its own.
+    ghost over: { Self → Self → Self };
+
+    /// A line with its crossings of a rank set.
+    ghost met: { Rank → Option ℕ → Self → Self };
+
+    /// The line with the given characters of `put`, but for its main one, in place of its own.
+    fn put_over(self, put: Self) -> Self
+        ensures { result ≡ over put self };
+
+    /// The line with this at its crossings with the lines of a rank.
+    fn meeting(self, rank: Rank, c: Option<char>) -> Self
+        ensures { result ≡ met rank c self };
 }
 
-impl<const N: usize> Model for Horizontals<N> {
-    ghost use Rattle.std.specs.Prelude.{ℕ, List};
-    ghost use Rattle.tabled_grid.specs.declared.lines.HorizontalLine.{HorizontalLine};
+impl CustomLine for HLine<char> {
+    ghost over = { over_horizontal };
 
-    ghost Value = { List (ℕ × HorizontalLine ℕ) };
+    ghost met = { put_horizontal_meeting };
+
+    fn put_over(self, put: Self) -> Self {
+        HLine {
+            main: self.main,
+            intersection: put.intersection.or(self.intersection),
+            left: put.left.or(self.left),
+            right: put.right.or(self.right),
+        }
+    }
+
+    fn meeting(mut self, rank: Rank, c: Option<char>) -> Self {
+        self.set_crossing(rank, c);
+        self
+    }
+}
+
+impl CustomLine for VLine<char> {
+    ghost over = { over_vertical };
+
+    ghost met = { put_vertical_meeting };
+
+    fn put_over(self, put: Self) -> Self {
+        VLine {
+            main: self.main,
+            intersection: put.intersection.or(self.intersection),
+            top: put.top.or(self.top),
+            bottom: put.bottom.or(self.bottom),
+        }
+    }
+
+    fn meeting(mut self, rank: Rank, c: Option<char>) -> Self {
+        self.set_crossing(rank, c);
+        self
+    }
+}
+
+/// Custom lines of one direction.
+#[derive(Debug, Drop, PartialEq, Eq, PartialOrd, Ord, Hash)]
+pub(super) struct Lines<Line, const N: usize> {
+    pub(super) lines: [(usize, Line); N],
+}
+
+impl<Line, const N: usize> Model for Lines<Line, N> {
+    ghost use Rattle.std.specs.Prelude.{ℕ, List};
+
+    ghost Value = { List (ℕ × Line) };
 
     ghost view = { λ fields. fields.lines };
 
     ghost inverse = { λ lines. record { lines = lines } };
 }
 
-/// Custom vertical lines.
-#[derive(Clone, Debug, Drop, PartialEq, Eq, PartialOrd, Ord, Hash)]
-pub(super) struct Verticals<const N: usize> {
-    pub(super) lines: [(usize, VLine<char>); N],
+/// Lines are copied.
+impl<const N: usize> Clone for Lines<HLine<char>, N> {
+    ghost is_clone = { λ value copy. copy ≡ value };
+
+    ghost is_infallible = { λ _. ⊤ };
+
+    fn clone(&self) -> Result<Self, AllocError> {
+        let lines = self.lines;
+        Ok(Lines { lines })
+    }
 }
 
-impl<const N: usize> Model for Verticals<N> {
-    ghost use Rattle.std.specs.Prelude.{ℕ, List};
-    ghost use Rattle.tabled_grid.specs.declared.lines.VerticalLine.{VerticalLine};
+/// Lines are copied.
+impl<const N: usize> Clone for Lines<VLine<char>, N> {
+    ghost is_clone = { λ value copy. copy ≡ value };
 
-    ghost Value = { List (ℕ × VerticalLine ℕ) };
+    ghost is_infallible = { λ _. ⊤ };
 
-    ghost view = { λ fields. fields.lines };
-
-    ghost inverse = { λ lines. record { lines = lines } };
+    fn clone(&self) -> Result<Self, AllocError> {
+        let lines = self.lines;
+        Ok(Lines { lines })
+    }
 }
 
-impl<const N: usize> Horizontals<N> {
+impl<Line: CustomLine, const N: usize> Lines<Line, N> {
+    /// The lines.
+    pub(super) fn as_slice(&self) -> &[(usize, Line)]
+        ensures { result.now ≡ self.now }
+    {
+        &self.lines
+    }
+
+    /// Puts the given characters of `put`, but for its main one, in place of those of each line.
+    pub(super) fn put_over(&mut self, put: Line)
+        ensures { self.new ≡ each_line (Line.over put) self.old }
+    {
+        put_over_each(&mut self.lines, put);
+    }
+
+    /// Sets or drops what each line has at its crossings with the lines of a rank.
+    pub(super) fn set_crossing(&mut self, rank: Rank, c: Option<char>)
+        ensures { self.new ≡ each_line (Line.met rank c) self.old }
+    {
+        set_each_crossing(&mut self.lines, rank, c);
+    }
+}
+
+impl<const N: usize> Lines<HLine<char>, N> {
     /// The characters of marked lines.
-    pub(super) fn of_marked<L, R, I>(list: [(usize, HorizontalLine<L, R, I>); N]) -> Self
+    pub(super) fn of_horizontals<L, R, I>(list: [(usize, HorizontalLine<L, R, I>); N]) -> Self
         ensures { result ≡ list }
     {
         let mut lines = [(0, HLine::empty()); N];
         copy_horizontals(&mut lines, &list);
-        Horizontals { lines }
-    }
-
-    /// The lines.
-    pub(super) fn as_slice(&self) -> &[(usize, HLine<char>)]
-        ensures { result.now ≡ self.now }
-    {
-        &self.lines
-    }
-
-    /// Puts the given characters of `put`, but for its main one, in place of those of each line.
-    pub(super) fn put_over(&mut self, put: HLine<char>)
-        ensures { self.new ≡ each_line (over_horizontal put) self.old }
-    {
-        put_over_horizontals(&mut self.lines, put);
-    }
-
-    /// Drops each line's left end.
-    pub(super) fn remove_left(&mut self)
-        ensures { self.new ≡ each_line without_left_end self.old }
-    {
-        remove_left(&mut self.lines);
-    }
-
-    /// Drops each line's right end.
-    pub(super) fn remove_right(&mut self)
-        ensures { self.new ≡ each_line without_right_end self.old }
-    {
-        remove_right(&mut self.lines);
+        Lines { lines }
     }
 }
 
-impl<const N: usize> Verticals<N> {
+impl<const N: usize> Lines<VLine<char>, N> {
     /// The characters of marked lines.
-    pub(super) fn of_marked<T, B, I>(list: [(usize, VerticalLine<T, B, I>); N]) -> Self
+    pub(super) fn of_verticals<T, B, I>(list: [(usize, VerticalLine<T, B, I>); N]) -> Self
         ensures { result ≡ list }
     {
         let mut lines = [(0, VLine::empty()); N];
         copy_verticals(&mut lines, &list);
-        Verticals { lines }
+        Lines { lines }
     }
+}
 
-    /// The lines.
-    pub(super) fn as_slice(&self) -> &[(usize, VLine<char>)]
-        ensures { result.now ≡ self.now }
-    {
-        &self.lines
+fn put_over_each<Line: CustomLine>(lines: &mut [(usize, Line)], put: Line)
+    ensures { lines.new ≡ each_line (Line.over put) lines.old }
+{
+    for (_, line) in lines.iter_mut() {
+        *line = line.put_over(put);
     }
+}
 
-    /// Puts the given characters of `put`, but for its main one, in place of those of each line.
-    pub(super) fn put_over(&mut self, put: VLine<char>)
-        ensures { self.new ≡ each_line (over_vertical put) self.old }
-    {
-        put_over_verticals(&mut self.lines, put);
-    }
-
-    /// Drops each line's upper end.
-    pub(super) fn remove_top(&mut self)
-        ensures { self.new ≡ each_line without_top_end self.old }
-    {
-        remove_top(&mut self.lines);
-    }
-
-    /// Drops each line's lower end.
-    pub(super) fn remove_bottom(&mut self)
-        ensures { self.new ≡ each_line without_bottom_end self.old }
-    {
-        remove_bottom(&mut self.lines);
+fn set_each_crossing<Line: CustomLine>(lines: &mut [(usize, Line)], rank: Rank, c: Option<char>)
+    ensures { lines.new ≡ each_line (Line.met rank c) lines.old }
+{
+    for (_, line) in lines.iter_mut() {
+        *line = line.meeting(rank, c);
     }
 }
 
@@ -142,77 +193,5 @@ fn copy_verticals<T, B, I>(
     for (i, line) in lines.iter_mut().enumerate() {
         let given = &list[i];
         *line = (given.0, given.1.into_inner());
-    }
-}
-
-fn put_over_horizontals(lines: &mut [(usize, HLine<char>)], put: HLine<char>)
-    ensures { lines.new ≡ each_line (over_horizontal put) lines.old }
-{
-    for (_, line) in lines.iter_mut() {
-        *line = over_horizontal(*line, put);
-    }
-}
-
-fn put_over_verticals(lines: &mut [(usize, VLine<char>)], put: VLine<char>)
-    ensures { lines.new ≡ each_line (over_vertical put) lines.old }
-{
-    for (_, line) in lines.iter_mut() {
-        *line = over_vertical(*line, put);
-    }
-}
-
-/// The line with the given characters of `put`, but for its main one, in place of its own.
-fn over_horizontal(line: HLine<char>, put: HLine<char>) -> HLine<char>
-    ensures { result ≡ over_horizontal put line }
-{
-    HLine {
-        main: line.main,
-        intersection: put.intersection.or(line.intersection),
-        left: put.left.or(line.left),
-        right: put.right.or(line.right),
-    }
-}
-
-/// The line with the given characters of `put`, but for its main one, in place of its own.
-fn over_vertical(line: VLine<char>, put: VLine<char>) -> VLine<char>
-    ensures { result ≡ over_vertical put line }
-{
-    VLine {
-        main: line.main,
-        intersection: put.intersection.or(line.intersection),
-        top: put.top.or(line.top),
-        bottom: put.bottom.or(line.bottom),
-    }
-}
-
-fn remove_left(lines: &mut [(usize, HLine<char>)])
-    ensures { lines.new ≡ each_line without_left_end lines.old }
-{
-    for (_, line) in lines.iter_mut() {
-        line.left = None;
-    }
-}
-
-fn remove_right(lines: &mut [(usize, HLine<char>)])
-    ensures { lines.new ≡ each_line without_right_end lines.old }
-{
-    for (_, line) in lines.iter_mut() {
-        line.right = None;
-    }
-}
-
-fn remove_top(lines: &mut [(usize, VLine<char>)])
-    ensures { lines.new ≡ each_line without_top_end lines.old }
-{
-    for (_, line) in lines.iter_mut() {
-        line.top = None;
-    }
-}
-
-fn remove_bottom(lines: &mut [(usize, VLine<char>)])
-    ensures { lines.new ≡ each_line without_bottom_end lines.old }
-{
-    for (_, line) in lines.iter_mut() {
-        line.bottom = None;
     }
 }

@@ -52,7 +52,7 @@ impl<T, B, L, R, H, V, const HN: usize, const VN: usize> Style<T, B, L, R, H, V,
         ensures { result ≡ with_frame (corrected border) self }
     {
         let frame = corners_given(sides_given(border.into_inner()));
-        let borders = Borders {
+        self.borders = Borders {
             top: frame.top,
             bottom: frame.bottom,
             left: frame.left,
@@ -67,7 +67,7 @@ impl<T, B, L, R, H, V, const HN: usize, const VN: usize> Style<T, B, L, R, H, V,
             .put_over(HLine::new(None, None, frame.left, frame.right));
         self.verticals
             .put_over(VLine::new(None, None, frame.top, frame.bottom));
-        Style::new(borders, self.horizontals, self.verticals)
+        self.marked()
     }
 }
 

@@ -1,15 +1,13 @@
 //! The calls that take lines: custom ones, and those that replace a line of the style.
 
-ghost use Rattle.std.specs.Prelude.{◌≡◌, Option, []};
-ghost use Rattle.tabled_style.specs.LineCalls.{space_where, crossed_down, crossed_across, left_kept, right_kept, top_kept, bottom_kept, settled_across, settled_down};
+ghost use Rattle.std.specs.Prelude.{◌≡◌, []};
+ghost use Rattle.tabled_style.specs.LineCalls.{space_where, spaced_down, spaced_across, followed_down, followed_across, settled_across, settled_down};
 
 use super::Style;
-use super::custom::{Horizontals, Verticals};
-use super::removers::{
-    without_bottom, without_horizontal, without_left, without_right, without_top, without_vertical,
-};
+use super::custom::Lines;
+use super::removers::{horizontal_dropped, vertical_dropped};
 use crate::{HorizontalLine, On, VerticalLine};
-use tabled_grid::{Borders, HorizontalLine as HLine, VerticalLine as VLine};
+use tabled_grid::{Borders, HorizontalLine as HLine, Rank, VerticalLine as VLine};
 
 /// What is given, or a space where one is asked for.
 pub(super) fn space_where(asked: bool, given: Option<char>) -> Option<char>
@@ -22,90 +20,76 @@ pub(super) fn space_where(asked: bool, given: Option<char>) -> Option<char>
     }
 }
 
-/// The record with lines between columns where a horizontal line has crossings, else without them.
-fn crossed_down(crossing: Option<char>, borders: Borders<char>) -> Borders<char>
-    ensures { result ≡ crossed_down crossing borders }
+/// The lines between columns of a record, with a space for what they lack.
+#[tactic(auto, unfolding(crate::specs::LineCalls::spaced_down))]
+fn spaced_down(borders: Borders<char>) -> VLine<char>
+    ensures { result ≡ spaced_down borders }
 {
-    match crossing {
-        Some(_) => Borders {
-            top_intersection: space_where(borders.has_top(), borders.top_intersection),
-            bottom_intersection: space_where(borders.has_bottom(), borders.bottom_intersection),
-            vertical: space_where(true, borders.vertical),
-            ..borders
-        },
-        None => without_vertical(borders),
+    let line = borders.vertical_line(Rank::Inner);
+    VLine {
+        main: space_where(true, line.main),
+        top: space_where(borders.has_top(), line.top),
+        bottom: space_where(borders.has_bottom(), line.bottom),
+        ..line
     }
 }
 
-/// The record with lines between rows where a vertical line has crossings, else without them.
-fn crossed_across(crossing: Option<char>, borders: Borders<char>) -> Borders<char>
-    ensures { result ≡ crossed_across crossing borders }
+/// The lines between rows of a record, with a space for what they lack.
+#[tactic(auto, unfolding(crate::specs::LineCalls::spaced_across))]
+fn spaced_across(borders: Borders<char>) -> HLine<char>
+    ensures { result ≡ spaced_across borders }
 {
-    match crossing {
-        Some(_) => Borders {
-            left_intersection: space_where(borders.has_left(), borders.left_intersection),
-            right_intersection: space_where(borders.has_right(), borders.right_intersection),
-            horizontal: space_where(true, borders.horizontal),
-            ..borders
-        },
-        None => without_horizontal(borders),
+    let line = borders.horizontal_line(Rank::Inner);
+    HLine {
+        main: space_where(true, line.main),
+        left: space_where(borders.has_left(), line.left),
+        right: space_where(borders.has_right(), line.right),
+        ..line
     }
 }
 
-/// The record with its left side where a line has a left end, else without it.
-fn left_kept(end: Option<char>, borders: Borders<char>) -> Borders<char>
-    ensures { result ≡ left_kept end borders }
+/// The record with its vertical lines of a rank as a horizontal line asks that has this where it crosses them.
+#[tactic(auto, unfolding(crate::specs::LineCalls::followed_down))]
+fn followed_down(rank: Rank, crossing: Option<char>, borders: Borders<char>) -> Borders<char>
+    ensures { result ≡ followed_down rank crossing borders }
 {
-    match end {
-        Some(_) => borders,
-        None => without_left(borders),
+    match (crossing, rank) {
+        (None, _) => vertical_dropped(rank, borders),
+        (Some(_), Rank::Inner) => borders.with_vertical_line(rank, spaced_down(borders)),
+        (Some(_), _) => borders,
     }
 }
 
-/// The record with its right side where a line has a right end, else without it.
-fn right_kept(end: Option<char>, borders: Borders<char>) -> Borders<char>
-    ensures { result ≡ right_kept end borders }
+/// The record with its horizontal lines of a rank as a vertical line asks that has this where it crosses them.
+#[tactic(auto, unfolding(crate::specs::LineCalls::followed_across))]
+fn followed_across(rank: Rank, crossing: Option<char>, borders: Borders<char>) -> Borders<char>
+    ensures { result ≡ followed_across rank crossing borders }
 {
-    match end {
-        Some(_) => borders,
-        None => without_right(borders),
-    }
-}
-
-/// The record with its top where a line has an upper end, else without it.
-fn top_kept(end: Option<char>, borders: Borders<char>) -> Borders<char>
-    ensures { result ≡ top_kept end borders }
-{
-    match end {
-        Some(_) => borders,
-        None => without_top(borders),
-    }
-}
-
-/// The record with its bottom where a line has a lower end, else without it.
-fn bottom_kept(end: Option<char>, borders: Borders<char>) -> Borders<char>
-    ensures { result ≡ bottom_kept end borders }
-{
-    match end {
-        Some(_) => borders,
-        None => without_bottom(borders),
+    match (crossing, rank) {
+        (None, _) => horizontal_dropped(rank, borders),
+        (Some(_), Rank::Inner) => borders.with_horizontal_line(rank, spaced_across(borders)),
+        (Some(_), _) => borders,
     }
 }
 
 /// The second step of a call that takes a horizontal line.
+#[tactic(auto, unfolding(crate::specs::LineCalls::settled_across))]
 fn settled_across(line: HLine<char>, between: Borders<char>) -> Borders<char>
     ensures { result ≡ settled_across line between }
 {
-    let crossed = crossed_down(line.intersection, between);
-    right_kept(line.right, left_kept(line.left, crossed))
+    let inner = followed_down(Rank::Inner, line.intersection, between);
+    let left = followed_down(Rank::First, line.left, inner);
+    followed_down(Rank::Last, line.right, left)
 }
 
 /// The second step of a call that takes a vertical line.
+#[tactic(auto, unfolding(crate::specs::LineCalls::settled_down))]
 fn settled_down(line: VLine<char>, between: Borders<char>) -> Borders<char>
     ensures { result ≡ settled_down line between }
 {
-    let crossed = crossed_across(line.intersection, between);
-    bottom_kept(line.bottom, top_kept(line.top, crossed))
+    let inner = followed_across(Rank::Inner, line.intersection, between);
+    let top = followed_across(Rank::First, line.top, inner);
+    followed_across(Rank::Last, line.bottom, top)
 }
 
 impl<T, B, L, R, H, V, const HN: usize, const VN: usize> Style<T, B, L, R, H, V, HN, VN> {
@@ -116,7 +100,7 @@ impl<T, B, L, R, H, V, const HN: usize, const VN: usize> Style<T, B, L, R, H, V,
     ) -> Style<T, B, L, R, H, V, SIZE, VN>
         ensures { result ≡ record self { horizontals = list } }
     {
-        Style::new(self.borders, Horizontals::of_marked(list), self.verticals)
+        Style::new(self.borders, Lines::of_horizontals(list), self.verticals)
     }
 
     /// Replaces the custom vertical lines by these, each with its index. A later one of the same index counts.
@@ -126,27 +110,60 @@ impl<T, B, L, R, H, V, const HN: usize, const VN: usize> Style<T, B, L, R, H, V,
     ) -> Style<T, B, L, R, H, V, HN, SIZE>
         ensures { result ≡ record self { verticals = list } }
     {
-        Style::new(self.borders, self.horizontals, Verticals::of_marked(list))
+        Style::new(self.borders, self.horizontals, Lines::of_verticals(list))
     }
 
     /// Drops the custom horizontal lines.
     pub fn remove_horizontals(self) -> Style<T, B, L, R, H, V, 0, VN>
         ensures { result ≡ record self { horizontals = [] } }
     {
-        Style::new(self.borders, Horizontals { lines: [] }, self.verticals)
+        Style::new(self.borders, Lines { lines: [] }, self.verticals)
     }
 
     /// Drops the custom vertical lines.
     pub fn remove_verticals(self) -> Style<T, B, L, R, H, V, HN, 0>
         ensures { result ≡ record self { verticals = [] } }
     {
-        Style::new(self.borders, self.horizontals, Verticals { lines: [] })
+        Style::new(self.borders, self.horizontals, Lines { lines: [] })
     }
 }
 
-#[tactic(auto, unfolding(crate::specs::LineCalls::with_line_across))]
 impl<T, B, L, R, H, V, const HN: usize, const VN: usize> Style<T, B, L, R, H, V, HN, VN> {
-    ghost use Rattle.tabled_style.specs.LineCalls.{horizontal_put, top_put, bottom_put, with_line_across};
+    ghost use Rattle.tabled_style.specs.LineCalls.{with_line_across, with_line_down};
+
+    /// The style with this as its horizontal line of a rank, followed by the rest.
+    #[tactic(auto, unfolding(crate::specs::LineCalls::with_line_across))]
+    fn with_line_across<Top, Bottom, Left, Right, Inner, Intersection>(
+        mut self,
+        rank: Rank,
+        line: HLine<char>,
+    ) -> Style<Top, Bottom, Left, Right, Inner, Intersection, HN, VN>
+        ensures { result ≡ with_line_across rank line self }
+    {
+        let between = self.borders.with_horizontal_line(rank, line);
+        self.borders = settled_across(line, between);
+        self.horizontals.put_over(line);
+        self.verticals
+            .put_over(VLine::new(None, line.intersection, None, None));
+        self.marked()
+    }
+
+    /// The style with this as its vertical line of a rank, followed by the rest.
+    #[tactic(auto, unfolding(crate::specs::LineCalls::with_line_down))]
+    fn with_line_down<Top, Bottom, Left, Right, Intersection, Inner>(
+        mut self,
+        rank: Rank,
+        line: VLine<char>,
+    ) -> Style<Top, Bottom, Left, Right, Intersection, Inner, HN, VN>
+        ensures { result ≡ with_line_down rank line self }
+    {
+        let between = self.borders.with_vertical_line(rank, line);
+        self.borders = settled_down(line, between);
+        self.horizontals
+            .put_over(HLine::new(None, line.intersection, None, None));
+        self.verticals.put_over(line);
+        self.marked()
+    }
 
     /// Replaces the lines between rows by this one.
     ///
@@ -156,84 +173,34 @@ impl<T, B, L, R, H, V, const HN: usize, const VN: usize> Style<T, B, L, R, H, V,
     /// end, the style loses its left side, and likewise the right one. The custom lines take the crossing, the
     /// horizontal ones also the two ends, where they are given.
     pub fn line_horizontal<Left, Right, Intersection>(
-        mut self,
+        self,
         line: HorizontalLine<Left, Right, Intersection>,
     ) -> Style<T, B, Left, Right, On, Intersection, HN, VN>
-        ensures { result ≡ with_line_across horizontal_put line self }
+        ensures { result ≡ with_line_across Rank.Inner line self }
     {
-        let line = line.into_inner();
-        let between = Borders {
-            horizontal: line.main,
-            intersection: line.intersection,
-            left_intersection: line.left,
-            right_intersection: line.right,
-            ..self.borders
-        };
-        self.horizontals.put_over(line);
-        self.verticals
-            .put_over(VLine::new(None, line.intersection, None, None));
-        Style::new(
-            settled_across(line, between),
-            self.horizontals,
-            self.verticals,
-        )
+        self.with_line_across(Rank::Inner, line.into_inner())
     }
 
     /// Replaces the top by this line. The rest of the style follows as in [`line_horizontal`](Style::line_horizontal).
     pub fn line_top<Left, Right, Intersection>(
-        mut self,
+        self,
         line: HorizontalLine<Left, Right, Intersection>,
     ) -> Style<On, B, Left, Right, H, Intersection, HN, VN>
-        ensures { result ≡ with_line_across top_put line self }
+        ensures { result ≡ with_line_across Rank.First line self }
     {
-        let line = line.into_inner();
-        let between = Borders {
-            top: line.main,
-            top_intersection: line.intersection,
-            top_left: line.left,
-            top_right: line.right,
-            ..self.borders
-        };
-        self.horizontals.put_over(line);
-        self.verticals
-            .put_over(VLine::new(None, line.intersection, None, None));
-        Style::new(
-            settled_across(line, between),
-            self.horizontals,
-            self.verticals,
-        )
+        self.with_line_across(Rank::First, line.into_inner())
     }
 
     /// Replaces the bottom by this line. The rest of the style follows as in
     /// [`line_horizontal`](Style::line_horizontal).
     pub fn line_bottom<Left, Right, Intersection>(
-        mut self,
+        self,
         line: HorizontalLine<Left, Right, Intersection>,
     ) -> Style<T, On, Left, Right, H, Intersection, HN, VN>
-        ensures { result ≡ with_line_across bottom_put line self }
+        ensures { result ≡ with_line_across Rank.Last line self }
     {
-        let line = line.into_inner();
-        let between = Borders {
-            bottom: line.main,
-            bottom_intersection: line.intersection,
-            bottom_left: line.left,
-            bottom_right: line.right,
-            ..self.borders
-        };
-        self.horizontals.put_over(line);
-        self.verticals
-            .put_over(VLine::new(None, line.intersection, None, None));
-        Style::new(
-            settled_across(line, between),
-            self.horizontals,
-            self.verticals,
-        )
+        self.with_line_across(Rank::Last, line.into_inner())
     }
-}
-
-#[tactic(auto, unfolding(crate::specs::LineCalls::with_line_down))]
-impl<T, B, L, R, H, V, const HN: usize, const VN: usize> Style<T, B, L, R, H, V, HN, VN> {
-    ghost use Rattle.tabled_style.specs.LineCalls.{vertical_put, left_put, right_put, with_line_down};
 
     /// Replaces the lines between columns by this one.
     ///
@@ -243,78 +210,33 @@ impl<T, B, L, R, H, V, const HN: usize, const VN: usize> Style<T, B, L, R, H, V,
     /// upper end, the style loses its top, and likewise the bottom. The custom lines take the crossing, the vertical
     /// ones also the two ends, where they are given.
     pub fn line_vertical<Top, Bottom, Intersection>(
-        mut self,
+        self,
         line: VerticalLine<Top, Bottom, Intersection>,
     ) -> Style<Top, Bottom, L, R, Intersection, On, HN, VN>
-        ensures { result ≡ with_line_down vertical_put line self }
+        ensures { result ≡ with_line_down Rank.Inner line self }
     {
-        let line = line.into_inner();
-        let between = Borders {
-            vertical: line.main,
-            intersection: line.intersection,
-            top_intersection: line.top,
-            bottom_intersection: line.bottom,
-            ..self.borders
-        };
-        self.horizontals
-            .put_over(HLine::new(None, line.intersection, None, None));
-        self.verticals.put_over(line);
-        Style::new(
-            settled_down(line, between),
-            self.horizontals,
-            self.verticals,
-        )
+        self.with_line_down(Rank::Inner, line.into_inner())
     }
 
     /// Replaces the left side by this line. The rest of the style follows as in
     /// [`line_vertical`](Style::line_vertical).
     pub fn line_left<Top, Bottom, Intersection>(
-        mut self,
+        self,
         line: VerticalLine<Top, Bottom, Intersection>,
     ) -> Style<Top, Bottom, On, R, Intersection, V, HN, VN>
-        ensures { result ≡ with_line_down left_put line self }
+        ensures { result ≡ with_line_down Rank.First line self }
     {
-        let line = line.into_inner();
-        let between = Borders {
-            left: line.main,
-            left_intersection: line.intersection,
-            top_left: line.top,
-            bottom_left: line.bottom,
-            ..self.borders
-        };
-        self.horizontals
-            .put_over(HLine::new(None, line.intersection, None, None));
-        self.verticals.put_over(line);
-        Style::new(
-            settled_down(line, between),
-            self.horizontals,
-            self.verticals,
-        )
+        self.with_line_down(Rank::First, line.into_inner())
     }
 
     /// Replaces the right side by this line. The rest of the style follows as in
     /// [`line_vertical`](Style::line_vertical).
     pub fn line_right<Top, Bottom, Intersection>(
-        mut self,
+        self,
         line: VerticalLine<Top, Bottom, Intersection>,
     ) -> Style<Top, Bottom, L, On, Intersection, V, HN, VN>
-        ensures { result ≡ with_line_down right_put line self }
+        ensures { result ≡ with_line_down Rank.Last line self }
     {
-        let line = line.into_inner();
-        let between = Borders {
-            right: line.main,
-            right_intersection: line.intersection,
-            top_right: line.top,
-            bottom_right: line.bottom,
-            ..self.borders
-        };
-        self.horizontals
-            .put_over(HLine::new(None, line.intersection, None, None));
-        self.verticals.put_over(line);
-        Style::new(
-            settled_down(line, between),
-            self.horizontals,
-            self.verticals,
-        )
+        self.with_line_down(Rank::Last, line.into_inner())
     }
 }

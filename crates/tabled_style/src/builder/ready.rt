@@ -1,13 +1,13 @@
 //! The ready styles.
 
 ghost use Rattle.std.specs.Prelude.{◌≡◌, Option};
-ghost use Rattle.tabled_style.specs.Ready.{open_line, class_record, framed, unframed};
+ghost use Rattle.tabled_style.specs.Ready.{open_line, class_record, framed, unframed, plain, ruled};
 ghost use Rattle.tabled_style.specs.Lines.{full_horizontal};
 
 use super::Style;
-use super::custom::{Horizontals, Verticals};
+use super::custom::Lines;
 use crate::On;
-use tabled_grid::{Borders, HorizontalLine as HLine};
+use tabled_grid::{Borders, HorizontalLine as HLine, Rank};
 
 /// Along the edges, at the crossings between, and at the two ends.
 fn full_line(main: char, intersection: char, left: char, right: char) -> HLine<char>
@@ -34,23 +34,16 @@ fn class_record(
 ) -> Borders<char>
     ensures { result ≡ class_record top bottom between left right vertical }
 {
-    Borders {
-        top: top.main,
-        bottom: bottom.main,
+    let verticals = Borders {
         left,
         right,
-        top_left: top.left,
-        top_right: top.right,
-        bottom_left: bottom.left,
-        bottom_right: bottom.right,
-        top_intersection: top.intersection,
-        bottom_intersection: bottom.intersection,
-        left_intersection: between.left,
-        right_intersection: between.right,
-        horizontal: between.main,
         vertical,
-        intersection: between.intersection,
-    }
+        ..Borders::empty()
+    };
+    verticals
+        .with_horizontal_line(Rank::Inner, between)
+        .with_horizontal_line(Rank::Last, bottom)
+        .with_horizontal_line(Rank::First, top)
 }
 
 /// The record with one character for the edges of all vertical lines.
@@ -67,6 +60,25 @@ fn unframed(line: HLine<char>, vertical: char) -> Borders<char>
     class_record(line, line, HLine::empty(), None, None, Some(vertical))
 }
 
+/// A style without custom lines.
+fn plain<T, B, L, R, H, V>(borders: Borders<char>) -> Style<T, B, L, R, H, V, 0, 0>
+    ensures { result ≡ plain borders }
+{
+    Style::new(borders, Lines { lines: [] }, Lines { lines: [] })
+}
+
+/// A style with one custom line, under the first row.
+fn ruled<T, B, L, R, H, V>(
+    borders: Borders<char>,
+    rule: HLine<char>,
+) -> Style<T, B, L, R, H, V, 1, 0>
+    ensures { result ≡ ruled borders rule }
+{
+    let rules = [(1, rule)];
+    Style::new(borders, Lines { lines: rules }, Lines { lines: [] })
+}
+
+#[tactic(auto, unfolding(crate::specs::Ready::empty, crate::specs::Ready::blank, crate::specs::Ready::ascii, crate::specs::Ready::psql, crate::specs::Ready::markdown, crate::specs::Ready::modern, crate::specs::Ready::sharp, crate::specs::Ready::rounded, crate::specs::Ready::modern_rounded, crate::specs::Ready::extended, crate::specs::Ready::dots, crate::specs::Ready::re_structured_text, crate::specs::Ready::ascii_rounded))]
 impl Style<(), (), (), (), (), (), 0, 0> {
     ghost use Rattle.tabled_style.specs.Ready.{empty, blank, ascii, psql, markdown, modern, sharp, rounded, modern_rounded, extended, dots, re_structured_text, ascii_rounded};
 
@@ -77,13 +89,10 @@ impl Style<(), (), (), (), (), (), 0, 0> {
     ///  Larch  45 m    yes
     ///  Beech  40 m    no
     /// ```
-    #[tactic(auto, unfolding(crate::specs::Ready::empty))]
     pub fn empty() -> Style<(), (), (), (), (), (), 0, 0>
         ensures { result ≡ empty }
     {
-        let borders = Borders::empty();
-        let horizontals = Horizontals { lines: [] };
-        Style::new(borders, horizontals, Verticals { lines: [] })
+        plain(Borders::empty())
     }
 
     /// A space between columns, and nothing else.
@@ -93,13 +102,10 @@ impl Style<(), (), (), (), (), (), 0, 0> {
     ///  Larch   45 m     yes
     ///  Beech   40 m     no
     /// ```
-    #[tactic(auto, unfolding(crate::specs::Ready::blank))]
     pub fn blank() -> Style<(), (), (), (), (), On, 0, 0>
         ensures { result ≡ blank }
     {
-        let borders = unframed(HLine::empty(), ' ');
-        let horizontals = Horizontals { lines: [] };
-        Style::new(borders, horizontals, Verticals { lines: [] })
+        plain(unframed(HLine::empty(), ' '))
     }
 
     /// Dashes, bars and plus signs on every line.
@@ -113,18 +119,15 @@ impl Style<(), (), (), (), (), (), 0, 0> {
     /// | Beech | 40 m   | no    |
     /// +-------+--------+-------+
     /// ```
-    #[tactic(auto, unfolding(crate::specs::Ready::ascii))]
     pub fn ascii() -> Style<On, On, On, On, On, On, 0, 0>
         ensures { result ≡ ascii }
     {
-        let borders = framed(
+        plain(framed(
             full_line('-', '+', '+', '+'),
             full_line('-', '+', '+', '+'),
             full_line('-', '+', '+', '+'),
             '|',
-        );
-        let horizontals = Horizontals { lines: [] };
-        Style::new(borders, horizontals, Verticals { lines: [] })
+        ))
     }
 
     /// Bars between columns, and one line under the first row, without a frame.
@@ -135,15 +138,11 @@ impl Style<(), (), (), (), (), (), 0, 0> {
     ///  Larch | 45 m   | yes
     ///  Beech | 40 m   | no
     /// ```
-    #[tactic(auto, unfolding(crate::specs::Ready::psql))]
     pub fn psql() -> Style<(), (), (), (), (), On, 1, 0>
         ensures { result ≡ psql }
     {
         let borders = unframed(HLine::empty(), '|');
-        let horizontals = Horizontals {
-            lines: [(1, open_line('-', '+'))],
-        };
-        Style::new(borders, horizontals, Verticals { lines: [] })
+        ruled(borders, open_line('-', '+'))
     }
 
     /// Bars on both sides and between columns, and one line under the first row.
@@ -154,15 +153,11 @@ impl Style<(), (), (), (), (), (), 0, 0> {
     /// | Larch | 45 m   | yes   |
     /// | Beech | 40 m   | no    |
     /// ```
-    #[tactic(auto, unfolding(crate::specs::Ready::markdown))]
     pub fn markdown() -> Style<(), (), On, On, (), On, 1, 0>
         ensures { result ≡ markdown }
     {
         let borders = framed(HLine::empty(), HLine::empty(), HLine::empty(), '|');
-        let horizontals = Horizontals {
-            lines: [(1, full_line('-', '|', '|', '|'))],
-        };
-        Style::new(borders, horizontals, Verticals { lines: [] })
+        ruled(borders, full_line('-', '|', '|', '|'))
     }
 
     /// Thin lines of the box drawing characters, everywhere.
@@ -176,18 +171,15 @@ impl Style<(), (), (), (), (), (), 0, 0> {
     /// │ Beech │ 40 m   │ no    │
     /// └───────┴────────┴───────┘
     /// ```
-    #[tactic(auto, unfolding(crate::specs::Ready::modern))]
     pub fn modern() -> Style<On, On, On, On, On, On, 0, 0>
         ensures { result ≡ modern }
     {
-        let borders = framed(
+        plain(framed(
             full_line('─', '┬', '┌', '┐'),
             full_line('─', '┴', '└', '┘'),
             full_line('─', '┼', '├', '┤'),
             '│',
-        );
-        let horizontals = Horizontals { lines: [] };
-        Style::new(borders, horizontals, Verticals { lines: [] })
+        ))
     }
 
     /// Thin lines, with no line between rows but the one under the first row.
@@ -200,7 +192,6 @@ impl Style<(), (), (), (), (), (), 0, 0> {
     /// │ Beech │ 40 m   │ no    │
     /// └───────┴────────┴───────┘
     /// ```
-    #[tactic(auto, unfolding(crate::specs::Ready::sharp))]
     pub fn sharp() -> Style<On, On, On, On, (), On, 1, 0>
         ensures { result ≡ sharp }
     {
@@ -210,10 +201,7 @@ impl Style<(), (), (), (), (), (), 0, 0> {
             HLine::empty(),
             '│',
         );
-        let horizontals = Horizontals {
-            lines: [(1, full_line('─', '┼', '├', '┤'))],
-        };
-        Style::new(borders, horizontals, Verticals { lines: [] })
+        ruled(borders, full_line('─', '┼', '├', '┤'))
     }
 
     /// As `sharp`, with round corners.
@@ -226,7 +214,6 @@ impl Style<(), (), (), (), (), (), 0, 0> {
     /// │ Beech │ 40 m   │ no    │
     /// ╰───────┴────────┴───────╯
     /// ```
-    #[tactic(auto, unfolding(crate::specs::Ready::rounded))]
     pub fn rounded() -> Style<On, On, On, On, (), On, 1, 0>
         ensures { result ≡ rounded }
     {
@@ -236,10 +223,7 @@ impl Style<(), (), (), (), (), (), 0, 0> {
             HLine::empty(),
             '│',
         );
-        let horizontals = Horizontals {
-            lines: [(1, full_line('─', '┼', '├', '┤'))],
-        };
-        Style::new(borders, horizontals, Verticals { lines: [] })
+        ruled(borders, full_line('─', '┼', '├', '┤'))
     }
 
     /// As `modern`, with round corners.
@@ -253,18 +237,15 @@ impl Style<(), (), (), (), (), (), 0, 0> {
     /// │ Beech │ 40 m   │ no    │
     /// ╰───────┴────────┴───────╯
     /// ```
-    #[tactic(auto, unfolding(crate::specs::Ready::modern_rounded))]
     pub fn modern_rounded() -> Style<On, On, On, On, On, On, 0, 0>
         ensures { result ≡ modern_rounded }
     {
-        let borders = framed(
+        plain(framed(
             full_line('─', '┬', '╭', '╮'),
             full_line('─', '┴', '╰', '╯'),
             full_line('─', '┼', '├', '┤'),
             '│',
-        );
-        let horizontals = Horizontals { lines: [] };
-        Style::new(borders, horizontals, Verticals { lines: [] })
+        ))
     }
 
     /// Double lines of the box drawing characters, everywhere.
@@ -278,18 +259,15 @@ impl Style<(), (), (), (), (), (), 0, 0> {
     /// ║ Beech ║ 40 m   ║ no    ║
     /// ╚═══════╩════════╩═══════╝
     /// ```
-    #[tactic(auto, unfolding(crate::specs::Ready::extended))]
     pub fn extended() -> Style<On, On, On, On, On, On, 0, 0>
         ensures { result ≡ extended }
     {
-        let borders = framed(
+        plain(framed(
             full_line('═', '╦', '╔', '╗'),
             full_line('═', '╩', '╚', '╝'),
             full_line('═', '╬', '╠', '╣'),
             '║',
-        );
-        let horizontals = Horizontals { lines: [] };
-        Style::new(borders, horizontals, Verticals { lines: [] })
+        ))
     }
 
     /// Full stops along the top, and full stops and colons elsewhere.
@@ -303,18 +281,15 @@ impl Style<(), (), (), (), (), (), 0, 0> {
     /// : Beech : 40 m   : no    :
     /// :.......:........:.......:
     /// ```
-    #[tactic(auto, unfolding(crate::specs::Ready::dots))]
     pub fn dots() -> Style<On, On, On, On, On, On, 0, 0>
         ensures { result ≡ dots }
     {
-        let borders = framed(
+        plain(framed(
             full_line('.', '.', '.', '.'),
             full_line('.', ':', ':', ':'),
             full_line('.', ':', ':', ':'),
             ':',
-        );
-        let horizontals = Horizontals { lines: [] };
-        Style::new(borders, horizontals, Verticals { lines: [] })
+        ))
     }
 
     /// Three lines of equals signs, broken between columns, as in the simple tables of reStructuredText.
@@ -327,15 +302,11 @@ impl Style<(), (), (), (), (), (), 0, 0> {
     ///  Beech   40 m     no
     /// ======= ======== =======
     /// ```
-    #[tactic(auto, unfolding(crate::specs::Ready::re_structured_text))]
     pub fn re_structured_text() -> Style<On, On, (), (), (), On, 1, 0>
         ensures { result ≡ re_structured_text }
     {
         let borders = unframed(open_line('=', ' '), ' ');
-        let horizontals = Horizontals {
-            lines: [(1, open_line('=', ' '))],
-        };
-        Style::new(borders, horizontals, Verticals { lines: [] })
+        ruled(borders, open_line('=', ' '))
     }
 
     /// A frame of dashes and bars with dots and apostrophes as corners, and bars between columns.
@@ -347,17 +318,14 @@ impl Style<(), (), (), (), (), (), 0, 0> {
     /// | Beech | 40 m   | no    |
     /// '------------------------'
     /// ```
-    #[tactic(auto, unfolding(crate::specs::Ready::ascii_rounded))]
     pub fn ascii_rounded() -> Style<On, On, On, On, (), On, 0, 0>
         ensures { result ≡ ascii_rounded }
     {
-        let borders = framed(
+        plain(framed(
             full_line('-', '-', '.', '.'),
             full_line('-', '-', '\'', '\''),
             HLine::empty(),
             '|',
-        );
-        let horizontals = Horizontals { lines: [] };
-        Style::new(borders, horizontals, Verticals { lines: [] })
+        ))
     }
 }

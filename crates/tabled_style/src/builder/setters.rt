@@ -1,11 +1,11 @@
 //! The calls that set the characters of sides, corners and crossings.
 
 ghost use Rattle.std.specs.Prelude.{◌≡◌, Some};
-ghost use Rattle.tabled_style.specs.Setting.{put_where};
+ghost use Rattle.tabled_style.specs.Setting.{put_where, horizontal_drawn, vertical_drawn, with_horizontal, with_vertical, with_intersection};
 
 use super::Style;
 use crate::On;
-use tabled_grid::{Borders, HorizontalLine as HLine, VerticalLine as VLine};
+use tabled_grid::{Borders, HorizontalLine as HLine, Rank, VerticalLine as VLine};
 
 /// The character where it is asked for, else what was there.
 fn put_where(asked: bool, c: char, before: Option<char>) -> Option<char>
@@ -14,118 +14,113 @@ fn put_where(asked: bool, c: char, before: Option<char>) -> Option<char>
     if asked { Some(c) } else { before }
 }
 
-#[tactic(auto, unfolding(crate::specs::Setting::with_top, crate::specs::Setting::with_bottom, crate::specs::Setting::with_left, crate::specs::Setting::with_right, crate::specs::Setting::with_horizontal, crate::specs::Setting::with_vertical))]
+/// The record with a character on its horizontal lines of a rank, and where they cross the vertical lines that it has.
+#[tactic(auto, unfolding(crate::specs::Setting::horizontal_drawn))]
+fn horizontal_drawn(rank: Rank, c: char, borders: Borders<char>) -> Borders<char>
+    ensures { result ≡ horizontal_drawn rank c borders }
+{
+    let line = borders.horizontal_line(rank);
+    let drawn = HLine {
+        main: Some(c),
+        intersection: put_where(borders.has_vertical(), c, line.intersection),
+        left: put_where(borders.has_left(), c, line.left),
+        right: put_where(borders.has_right(), c, line.right),
+    };
+    borders.with_horizontal_line(rank, drawn)
+}
+
+/// The record with a character on its vertical lines of a rank, and where they cross the horizontal lines that it has.
+#[tactic(auto, unfolding(crate::specs::Setting::vertical_drawn))]
+fn vertical_drawn(rank: Rank, c: char, borders: Borders<char>) -> Borders<char>
+    ensures { result ≡ vertical_drawn rank c borders }
+{
+    let line = borders.vertical_line(rank);
+    let drawn = VLine {
+        main: Some(c),
+        intersection: put_where(borders.has_horizontal(), c, line.intersection),
+        top: put_where(borders.has_top(), c, line.top),
+        bottom: put_where(borders.has_bottom(), c, line.bottom),
+    };
+    borders.with_vertical_line(rank, drawn)
+}
+
 impl<T, B, L, R, H, V, const HN: usize, const VN: usize> Style<T, B, L, R, H, V, HN, VN> {
-    ghost use Rattle.tabled_style.specs.Setting.{with_top, with_bottom, with_left, with_right, with_horizontal, with_vertical};
+    /// The style with a character on its horizontal lines of a rank, and where its custom vertical lines meet them.
+    #[tactic(auto, unfolding(crate::specs::Setting::with_horizontal))]
+    fn with_horizontal<Top, Bottom, Inner>(
+        mut self,
+        rank: Rank,
+        c: char,
+    ) -> Style<Top, Bottom, L, R, Inner, V, HN, VN>
+        ensures { result ≡ with_horizontal rank c self }
+    {
+        self.borders = horizontal_drawn(rank, c, self.borders);
+        self.verticals.set_crossing(rank, Some(c));
+        self.marked()
+    }
+
+    /// The style with a character on its vertical lines of a rank, and where its custom horizontal lines meet them.
+    #[tactic(auto, unfolding(crate::specs::Setting::with_vertical))]
+    fn with_vertical<Left, Right, Inner>(
+        mut self,
+        rank: Rank,
+        c: char,
+    ) -> Style<T, B, Left, Right, H, Inner, HN, VN>
+        ensures { result ≡ with_vertical rank c self }
+    {
+        self.borders = vertical_drawn(rank, c, self.borders);
+        self.horizontals.set_crossing(rank, Some(c));
+        self.marked()
+    }
 
     /// Sets the top: the edges above the first row, the corners there of the sides that the style has, the
     /// crossings there where it has lines between columns, and the upper ends of its custom vertical lines.
-    pub fn top(mut self, c: char) -> Style<On, B, L, R, H, V, HN, VN>
-        ensures { result ≡ with_top c self }
+    pub fn top(self, c: char) -> Style<On, B, L, R, H, V, HN, VN>
+        ensures { result ≡ with_horizontal Rank.First c self }
     {
-        let before = self.borders;
-        let borders = Borders {
-            top: Some(c),
-            top_left: put_where(before.has_left(), c, before.top_left),
-            top_right: put_where(before.has_right(), c, before.top_right),
-            top_intersection: put_where(before.has_vertical(), c, before.top_intersection),
-            ..before
-        };
-        self.verticals
-            .put_over(VLine::new(None, None, Some(c), None));
-        Style::new(borders, self.horizontals, self.verticals)
+        self.with_horizontal(Rank::First, c)
     }
 
     /// Sets the bottom: the edges below the last row, the corners there of the sides that the style has, the
     /// crossings there where it has lines between columns, and the lower ends of its custom vertical lines.
-    pub fn bottom(mut self, c: char) -> Style<T, On, L, R, H, V, HN, VN>
-        ensures { result ≡ with_bottom c self }
+    pub fn bottom(self, c: char) -> Style<T, On, L, R, H, V, HN, VN>
+        ensures { result ≡ with_horizontal Rank.Last c self }
     {
-        let before = self.borders;
-        let borders = Borders {
-            bottom: Some(c),
-            bottom_left: put_where(before.has_left(), c, before.bottom_left),
-            bottom_right: put_where(before.has_right(), c, before.bottom_right),
-            bottom_intersection: put_where(before.has_vertical(), c, before.bottom_intersection),
-            ..before
-        };
-        self.verticals
-            .put_over(VLine::new(None, None, None, Some(c)));
-        Style::new(borders, self.horizontals, self.verticals)
+        self.with_horizontal(Rank::Last, c)
     }
 
     /// Sets the left side: the edges before the first column, the corners there where the style has a top or a
     /// bottom, the crossings there where it has lines between rows, and the left ends of its custom horizontal
     /// lines.
-    pub fn left(mut self, c: char) -> Style<T, B, On, R, H, V, HN, VN>
-        ensures { result ≡ with_left c self }
+    pub fn left(self, c: char) -> Style<T, B, On, R, H, V, HN, VN>
+        ensures { result ≡ with_vertical Rank.First c self }
     {
-        let before = self.borders;
-        let borders = Borders {
-            left: Some(c),
-            top_left: put_where(before.has_top(), c, before.top_left),
-            bottom_left: put_where(before.has_bottom(), c, before.bottom_left),
-            left_intersection: put_where(before.has_horizontal(), c, before.left_intersection),
-            ..before
-        };
-        self.horizontals
-            .put_over(HLine::new(None, None, Some(c), None));
-        Style::new(borders, self.horizontals, self.verticals)
+        self.with_vertical(Rank::First, c)
     }
 
     /// Sets the right side: the edges behind the last column, the corners there where the style has a top or a
     /// bottom, the crossings there where it has lines between rows, and the right ends of its custom horizontal
     /// lines.
-    pub fn right(mut self, c: char) -> Style<T, B, L, On, H, V, HN, VN>
-        ensures { result ≡ with_right c self }
+    pub fn right(self, c: char) -> Style<T, B, L, On, H, V, HN, VN>
+        ensures { result ≡ with_vertical Rank.Last c self }
     {
-        let before = self.borders;
-        let borders = Borders {
-            right: Some(c),
-            top_right: put_where(before.has_top(), c, before.top_right),
-            bottom_right: put_where(before.has_bottom(), c, before.bottom_right),
-            right_intersection: put_where(before.has_horizontal(), c, before.right_intersection),
-            ..before
-        };
-        self.horizontals
-            .put_over(HLine::new(None, None, None, Some(c)));
-        Style::new(borders, self.horizontals, self.verticals)
+        self.with_vertical(Rank::Last, c)
     }
 
     /// Sets the lines between rows: their edges, their crossings where the style has lines between columns, their
     /// ends at the sides that it has, and the crossings of its custom vertical lines.
-    pub fn horizontal(mut self, c: char) -> Style<T, B, L, R, On, V, HN, VN>
-        ensures { result ≡ with_horizontal c self }
+    pub fn horizontal(self, c: char) -> Style<T, B, L, R, On, V, HN, VN>
+        ensures { result ≡ with_horizontal Rank.Inner c self }
     {
-        let before = self.borders;
-        let borders = Borders {
-            horizontal: Some(c),
-            intersection: put_where(before.has_vertical(), c, before.intersection),
-            left_intersection: put_where(before.has_left(), c, before.left_intersection),
-            right_intersection: put_where(before.has_right(), c, before.right_intersection),
-            ..before
-        };
-        self.verticals
-            .put_over(VLine::new(None, Some(c), None, None));
-        Style::new(borders, self.horizontals, self.verticals)
+        self.with_horizontal(Rank::Inner, c)
     }
 
     /// Sets the lines between columns: their edges, their crossings where the style has lines between rows, their
     /// ends at the top and the bottom where it has them, and the crossings of its custom horizontal lines.
-    pub fn vertical(mut self, c: char) -> Style<T, B, L, R, H, On, HN, VN>
-        ensures { result ≡ with_vertical c self }
+    pub fn vertical(self, c: char) -> Style<T, B, L, R, H, On, HN, VN>
+        ensures { result ≡ with_vertical Rank.Inner c self }
     {
-        let before = self.borders;
-        let borders = Borders {
-            vertical: Some(c),
-            intersection: put_where(before.has_horizontal(), c, before.intersection),
-            top_intersection: put_where(before.has_top(), c, before.top_intersection),
-            bottom_intersection: put_where(before.has_bottom(), c, before.bottom_intersection),
-            ..before
-        };
-        self.horizontals
-            .put_over(HLine::new(None, Some(c), None, None));
-        Style::new(borders, self.horizontals, self.verticals)
+        self.with_vertical(Rank::Inner, c)
     }
 }
 
@@ -211,17 +206,13 @@ impl<T, L, R, H, const HN: usize, const VN: usize> Style<T, On, L, R, H, On, HN,
 
 #[tactic(auto, unfolding(crate::specs::Setting::with_intersection))]
 impl<T, B, L, R, const HN: usize, const VN: usize> Style<T, B, L, R, On, On, HN, VN> {
-    ghost use Rattle.tabled_style.specs.Setting.{with_intersection};
-
     /// Sets the crossings of the lines between rows with those between columns, and those of all custom lines.
     pub fn intersection(mut self, c: char) -> Self
         ensures { result ≡ with_intersection c self }
     {
         self.borders.intersection = Some(c);
-        self.horizontals
-            .put_over(HLine::new(None, Some(c), None, None));
-        self.verticals
-            .put_over(VLine::new(None, Some(c), None, None));
+        self.horizontals.set_crossing(Rank::Inner, Some(c));
+        self.verticals.set_crossing(Rank::Inner, Some(c));
         self
     }
 }
