@@ -86,7 +86,7 @@ same_look cfg es fs shape widths heights by with =
       shape = shape;
       widths = widths;
       heights = heights;
-      Horizontal = λ r. same_drawn shape.0 (LineOf.Horizontal r) i;
+      across = λ r. same_drawn shape.0 (LineOf.Horizontal r) i;
       down = λ c. same_drawn shape.1 (LineOf.Vertical c) i;
       shown = λ place. value (same_kept i) shape (edge_size widths heights place) place;
     }
