@@ -39,7 +39,8 @@ spaced_across borders =
       right = space_where (has_vertical last borders) line.right;
     }
 
--- a line that has nothing where it crosses the lines of a rank takes these away, and one that has a crossing asks for inner ones
+-- what a line has where it crosses the lines of a rank says what becomes of those: where it has nothing they go; else outer
+-- ones stay as they are, and inner ones are put, spaced
 unfoldable pub followed_down : Rank → Option ℕ → Borders ℕ → Borders ℕ
 followed_down rank None borders = vertical_dropped rank borders
 followed_down inner (Some _) borders = put_vertical inner (spaced_down borders) borders
@@ -50,7 +51,7 @@ followed_across rank None borders = horizontal_dropped rank borders
 followed_across inner (Some _) borders = put_horizontal inner (spaced_across borders) borders
 followed_across _ (Some _) borders = borders
 
--- the second step
+-- the second step: the inner lines across follow, and then the outer ones at both ends
 unfoldable pub settled_across : HorizontalLine ℕ → Borders ℕ → Borders ℕ
 settled_across line between =
     followed_down last line.right (followed_down first line.left (followed_down inner line.intersection between))
