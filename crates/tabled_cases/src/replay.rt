@@ -4,9 +4,10 @@ use crate::dice::Dice;
 use std::process::Abort;
 use std::test::Fail;
 use tabled_grid::{
-    Borders, Direction, HorizontalLine, Layers, LineOf, Offset, OutOfMemory, Place, Probes, Rank, VerticalLine,
+    Borders, Class, Direction, Event, HorizontalLine, Layers, LineOf, Offset, OutOfMemory, Part,
+    Place, Probes, Rank, Region, Site, VerticalLine, Written,
 };
-use tabled_replay::{Event, Region, Site, Written, drawn, value};
+use tabled_replay::{drawn, value};
 
 /// The numbers of the lines, rows, columns and offsets that the calls name.
 const NUMBERS: [usize; 11] = [0, 1, 2, 3, 4, 5, 254, 255, 256, 257, 258];
@@ -24,7 +25,7 @@ const TABLES: [(usize, usize, usize); 5] = [
 #[derive(Drop)]
 struct Both {
     store: Layers<char>,
-    events: Vec<Event>,
+    events: Vec<Event<char>>,
 }
 
 impl Both {
@@ -43,43 +44,64 @@ impl Both {
     fn set_class(&mut self, class: Borders<char>) -> Result<(), OutOfMemory> {
         self.store.set_class(class);
         self.erase(Region::Level(1))?;
-        self.write(Site::Edges(Direction::Horizontal, Rank::First), class.top)?;
         self.write(
-            Site::Edges(Direction::Horizontal, Rank::Inner),
+            Site::Class(Class::Edges(Direction::Horizontal, Rank::First)),
+            class.top,
+        )?;
+        self.write(
+            Site::Class(Class::Edges(Direction::Horizontal, Rank::Inner)),
             class.horizontal,
         )?;
-        self.write(Site::Edges(Direction::Horizontal, Rank::Last), class.bottom)?;
-        self.write(Site::Edges(Direction::Vertical, Rank::First), class.left)?;
-        self.write(Site::Edges(Direction::Vertical, Rank::Inner), class.vertical)?;
-        self.write(Site::Edges(Direction::Vertical, Rank::Last), class.right)?;
-        self.write(Site::Crossings(Rank::First, Rank::First), class.top_left)?;
         self.write(
-            Site::Crossings(Rank::First, Rank::Inner),
+            Site::Class(Class::Edges(Direction::Horizontal, Rank::Last)),
+            class.bottom,
+        )?;
+        self.write(
+            Site::Class(Class::Edges(Direction::Vertical, Rank::First)),
+            class.left,
+        )?;
+        self.write(
+            Site::Class(Class::Edges(Direction::Vertical, Rank::Inner)),
+            class.vertical,
+        )?;
+        self.write(
+            Site::Class(Class::Edges(Direction::Vertical, Rank::Last)),
+            class.right,
+        )?;
+        self.write(
+            Site::Class(Class::Crossings(Rank::First, Rank::First)),
+            class.top_left,
+        )?;
+        self.write(
+            Site::Class(Class::Crossings(Rank::First, Rank::Inner)),
             class.top_intersection,
         )?;
-        self.write(Site::Crossings(Rank::First, Rank::Last), class.top_right)?;
         self.write(
-            Site::Crossings(Rank::Inner, Rank::First),
+            Site::Class(Class::Crossings(Rank::First, Rank::Last)),
+            class.top_right,
+        )?;
+        self.write(
+            Site::Class(Class::Crossings(Rank::Inner, Rank::First)),
             class.left_intersection,
         )?;
         self.write(
-            Site::Crossings(Rank::Inner, Rank::Inner),
+            Site::Class(Class::Crossings(Rank::Inner, Rank::Inner)),
             class.intersection,
         )?;
         self.write(
-            Site::Crossings(Rank::Inner, Rank::Last),
+            Site::Class(Class::Crossings(Rank::Inner, Rank::Last)),
             class.right_intersection,
         )?;
         self.write(
-            Site::Crossings(Rank::Last, Rank::First),
+            Site::Class(Class::Crossings(Rank::Last, Rank::First)),
             class.bottom_left,
         )?;
         self.write(
-            Site::Crossings(Rank::Last, Rank::Inner),
+            Site::Class(Class::Crossings(Rank::Last, Rank::Inner)),
             class.bottom_intersection,
         )?;
         self.write(
-            Site::Crossings(Rank::Last, Rank::Last),
+            Site::Class(Class::Crossings(Rank::Last, Rank::Last)),
             class.bottom_right,
         )
     }
@@ -91,13 +113,12 @@ impl Both {
         meetings: [Option<char>; 3],
     ) -> Result<(), OutOfMemory> {
         self.erase(Region::Line(line))?;
-        self.events
-            .push(Event::Write(Site::Mark(line), Written::Standing))?;
-        self.write(Site::Main(line), main)?;
+        self.events.push(Event::Write(Site::Line(line, Part::Mark), Written::Standing))?;
+        self.write(Site::Line(line, Part::Edges), main)?;
         let [first, inner, closing] = meetings;
-        self.write(Site::Meeting(line, Rank::First), first)?;
-        self.write(Site::Meeting(line, Rank::Inner), inner)?;
-        self.write(Site::Meeting(line, Rank::Last), closing)
+        self.write(Site::Line(line, Part::Crossings(Rank::First)), first)?;
+        self.write(Site::Line(line, Part::Crossings(Rank::Inner)), inner)?;
+        self.write(Site::Line(line, Part::Crossings(Rank::Last)), closing)
     }
 
     fn insert_line(&mut self, dice: &mut Dice) -> Result<(), OutOfMemory> {

@@ -4,11 +4,16 @@ use Rattle.std.proofs.lemmas.List.{append-nil}
 use Rattle.std.proofs.lemmas.List.Elements.{filter_map-append}
 use Rattle.tabled_grid.specs.declared.offset.Offset.{Offset}
 use Rattle.tabled_grid.specs.declared.site.Direction.TheVariants.{Horizontal, Vertical}
-use Rattle.tabled_grid.specs.Site.{Site, the_default, of_class, of_line, at_spot, at_offset}
+use Rattle.tabled_grid.specs.declared.site.Site.{Site}
+use Rattle.tabled_grid.specs.declared.site.Site.TheVariants.{Default as the_default, Class as of_class, Line as of_line, Cell as at_spot, Offset as at_offset}
 use Rattle.tabled_grid.specs.declared.borders.Borders.{Borders}
 use Rattle.tabled_grid.specs.declared.place.LineOf.{LineOf}
 use Rattle.tabled_grid.specs.declared.writes.Write.{Write}
 use Rattle.tabled_grid.specs.Event as grid
+use Rattle.tabled_grid.specs.declared.event.Event.TheVariants.{Erase as erase}
+use Rattle.tabled_grid.specs.declared.event.Region.TheVariants.{All as every_site, Level as level_sites, Offsets as offset_sites}
+use Rattle.tabled_grid.specs.declared.event.Event.{Event}
+use Rattle.tabled_grid.specs.declared.event.Region.{Region}
 use Rattle.tabled_grid.specs.Writes.{writes_made}
 use Rattle.tabled_grid.specs.State.{State, state_at, class_record_set, writes_of}
 use Rattle.tabled_border.specs.Texts.{Texts}
@@ -18,38 +23,38 @@ use Rattle.tabled_grid.proofs.Writing.{Shows-writes_of}
 use Rattle.tabled_config.specs.Configuration.{Configuration, ConfigEvent, character_event, color_event, characters_of, colors_of, by_characters, by_colors, writes_applied, all_but_offsets, default_color_set, Shows, Changes, all_writes, borders_set, borders_removed}
 
 -- the events of each kind, in lists of one kind and in two lists in a row
-pub characters_of-by_characters : (es : List (grid.Event ℕ)) → characters_of (by_characters es) ≡ es
+pub characters_of-by_characters : (es : List (Event ℕ)) → characters_of (by_characters es) ≡ es
 characters_of-by_characters [] = refl
 characters_of-by_characters (e ∷ es) = ap (λ rest. e ∷ rest) (characters_of-by_characters es)
 
-colors_of-by_characters : (es : List (grid.Event ℕ)) → colors_of (by_characters es) ≡ []
+colors_of-by_characters : (es : List (Event ℕ)) → colors_of (by_characters es) ≡ []
 colors_of-by_characters [] = refl
 colors_of-by_characters (e ∷ es) = colors_of-by_characters es
 
-characters_of-by_colors : (es : List (grid.Event Texts)) → characters_of (by_colors es) ≡ []
+characters_of-by_colors : (es : List (Event Texts)) → characters_of (by_colors es) ≡ []
 characters_of-by_colors [] = refl
 characters_of-by_colors (e ∷ es) = characters_of-by_colors es
 
-colors_of-by_colors : (es : List (grid.Event Texts)) → colors_of (by_colors es) ≡ es
+colors_of-by_colors : (es : List (Event Texts)) → colors_of (by_colors es) ≡ es
 colors_of-by_colors [] = refl
 colors_of-by_colors (e ∷ es) = ap (λ rest. e ∷ rest) (colors_of-by_colors es)
 
 -- what there is of each kind in the two kinds in a row
-pub characters_of-both : (es : List (grid.Event ℕ)) (fs : List (grid.Event Texts)) → characters_of (by_characters es ++ by_colors fs) ≡ es
+pub characters_of-both : (es : List (Event ℕ)) (fs : List (Event Texts)) → characters_of (by_characters es ++ by_colors fs) ≡ es
 characters_of-both es fs = filter_map-append character_event (by_characters es) (by_colors fs) ∙ ap (λ rest. characters_of (by_characters es) ++ rest) (characters_of-by_colors fs) ∙ append-nil (characters_of (by_characters es)) ∙ characters_of-by_characters es
 
-pub colors_of-both : (es : List (grid.Event ℕ)) (fs : List (grid.Event Texts)) → colors_of (by_characters es ++ by_colors fs) ≡ fs
+pub colors_of-both : (es : List (Event ℕ)) (fs : List (Event Texts)) → colors_of (by_characters es ++ by_colors fs) ≡ fs
 colors_of-both es fs = filter_map-append color_event (by_characters es) (by_colors fs) ∙ ap (λ start. start ++ colors_of (by_colors fs)) (colors_of-by_characters es) ∙ colors_of-by_colors fs
 
 -- a change of the characters alone, and of the colors alone
-pub Changes_by_characters : (es : List (grid.Event ℕ)) (before after : State ℕ) (colors : State Texts) (old : Configuration) → record { characters = before; colors = colors } ≡ old → grid.Changes es (state_at before) (state_at after) → Changes (by_characters es) old (record { characters = after; colors = colors })
+pub Changes_by_characters : (es : List (Event ℕ)) (before after : State ℕ) (colors : State Texts) (old : Configuration) → record { characters = before; colors = colors } ≡ old → grid.Changes es (state_at before) (state_at after) → Changes (by_characters es) old (record { characters = after; colors = colors })
 Changes_by_characters es before after colors old is changes =
     subst (λ cfg. Changes (by_characters es) cfg (record { characters = after; colors = colors })) is (record {
       characters_changed = subst (λ all. grid.Changes all (state_at before) (state_at after)) (sym (characters_of-by_characters es)) changes;
       colors_changed = subst (λ all. grid.Changes all (state_at colors) (state_at colors)) (sym (colors_of-by_characters es)) (Changes-nil (state_at colors));
     })
 
-pub Changes_by_colors : (es : List (grid.Event Texts)) (characters : State ℕ) (before after : State Texts) (old : Configuration) → record { characters = characters; colors = before } ≡ old → grid.Changes es (state_at before) (state_at after) → Changes (by_colors es) old (record { characters = characters; colors = after })
+pub Changes_by_colors : (es : List (Event Texts)) (characters : State ℕ) (before after : State Texts) (old : Configuration) → record { characters = characters; colors = before } ≡ old → grid.Changes es (state_at before) (state_at after) → Changes (by_colors es) old (record { characters = characters; colors = after })
 Changes_by_colors es characters before after old is changes =
     subst (λ cfg. Changes (by_colors es) cfg (record { characters = characters; colors = after })) is (record {
       characters_changed = subst (λ all. grid.Changes all (state_at characters) (state_at characters)) (sym (characters_of-by_colors es)) (Changes-nil (state_at characters));
@@ -57,7 +62,7 @@ Changes_by_colors es characters before after old is changes =
     })
 
 -- a change of both
-pub Changes_by_both : (es : List (grid.Event ℕ)) (fs : List (grid.Event Texts)) (old new : Configuration) → grid.Changes es (state_at old.characters) (state_at new.characters) → grid.Changes fs (state_at old.colors) (state_at new.colors) → Changes (by_characters es ++ by_colors fs) old new
+pub Changes_by_both : (es : List (Event ℕ)) (fs : List (Event Texts)) (old new : Configuration) → grid.Changes es (state_at old.characters) (state_at new.characters) → grid.Changes fs (state_at old.colors) (state_at new.colors) → Changes (by_characters es ++ by_colors fs) old new
 Changes_by_both es fs old new of_es of_fs = record {
   characters_changed = subst (λ all. grid.Changes all (state_at old.characters) (state_at new.characters)) (sym (characters_of-both es fs)) of_es;
   colors_changed = subst (λ all. grid.Changes all (state_at old.colors) (state_at new.colors)) (sym (colors_of-both es fs)) of_fs;
@@ -76,32 +81,32 @@ unfolding borders_set
 Changes-borders_set borders before after colors old is changes = Changes_by_characters (class_record_set borders) before after colors old is changes
 
 -- the regions of every level
-all_regions : List grid.Region
-all_regions = grid.level_sites 0 ∷ grid.level_sites 1 ∷ grid.level_sites 2 ∷ grid.level_sites 3 ∷ grid.level_sites 4 ∷ grid.offset_sites Horizontal ∷ grid.offset_sites Vertical ∷ []
+all_regions : List Region
+all_regions = level_sites 0 ∷ level_sites 1 ∷ level_sites 2 ∷ level_sites 3 ∷ level_sites 4 ∷ offset_sites Horizontal ∷ offset_sites Vertical ∷ []
 
 module _ {T : Type 0} where
   -- the erasures of every level
-  all_erasures : List (grid.Event T)
-  all_erasures = all_but_offsets ++ (grid.erase (grid.offset_sites Horizontal) ∷ []) ++ (grid.erase (grid.offset_sites Vertical) ∷ [])
+  all_erasures : List (Event T)
+  all_erasures = all_but_offsets ++ (erase (offset_sites Horizontal) ∷ []) ++ (erase (offset_sites Vertical) ∷ [])
 
   -- one erasure after the other
-  pub in_turn : (a b c d e : State T) → grid.Changes (grid.erase (grid.level_sites 0) ∷ []) (state_at a) (state_at b) → grid.Changes (grid.erase (grid.level_sites 1) ∷ []) (state_at b) (state_at c) → grid.Changes lines_erased (state_at c) (state_at d) → grid.Changes (grid.erase (grid.level_sites 4) ∷ []) (state_at d) (state_at e) → grid.Changes all_but_offsets (state_at a) (state_at e)
+  pub in_turn : (a b c d e : State T) → grid.Changes (erase (level_sites 0) ∷ []) (state_at a) (state_at b) → grid.Changes (erase (level_sites 1) ∷ []) (state_at b) (state_at c) → grid.Changes lines_erased (state_at c) (state_at d) → grid.Changes (erase (level_sites 4) ∷ []) (state_at d) (state_at e) → grid.Changes all_but_offsets (state_at a) (state_at e)
   in_turn a b c d e first second third fourth =
-      Changes-append (grid.erase (grid.level_sites 0) ∷ []) (grid.erase (grid.level_sites 1) ∷ lines_erased ++ grid.erase (grid.level_sites 4) ∷ []) (state_at a) (state_at b) (state_at e) first
-      (Changes-append (grid.erase (grid.level_sites 1) ∷ []) (lines_erased ++ grid.erase (grid.level_sites 4) ∷ []) (state_at b) (state_at c) (state_at e) second
-      (Changes-append lines_erased (grid.erase (grid.level_sites 4) ∷ []) (state_at c) (state_at d) (state_at e) third fourth))
+      Changes-append (erase (level_sites 0) ∷ []) (erase (level_sites 1) ∷ lines_erased ++ erase (level_sites 4) ∷ []) (state_at a) (state_at b) (state_at e) first
+      (Changes-append (erase (level_sites 1) ∷ []) (lines_erased ++ erase (level_sites 4) ∷ []) (state_at b) (state_at c) (state_at e) second
+      (Changes-append lines_erased (erase (level_sites 4) ∷ []) (state_at c) (state_at d) (state_at e) third fourth))
 
   -- and of the offsets at last
   all_in_turn : (a b c d : State T) → grid.Changes all_but_offsets (state_at a) (state_at b) → grid.Changes (offsets_erased Horizontal) (state_at b) (state_at c) → grid.Changes (offsets_erased Vertical) (state_at c) (state_at d) → grid.Changes all_erasures (state_at a) (state_at d)
   unfolding all_erasures
   all_in_turn a b c d first is_across is_down =
-      Changes-append all_but_offsets ((grid.erase (grid.offset_sites Horizontal) ∷ []) ++ (grid.erase (grid.offset_sites Vertical) ∷ [])) (state_at a) (state_at b) (state_at d) first
-      (Changes-append (grid.erase (grid.offset_sites Horizontal) ∷ []) (grid.erase (grid.offset_sites Vertical) ∷ []) (state_at b) (state_at c) (state_at d) is_across is_down)
+      Changes-append all_but_offsets ((erase (offset_sites Horizontal) ∷ []) ++ (erase (offset_sites Vertical) ∷ [])) (state_at a) (state_at b) (state_at d) first
+      (Changes-append (erase (offset_sites Horizontal) ∷ []) (erase (offset_sites Vertical) ∷ []) (state_at b) (state_at c) (state_at d) is_across is_down)
 
   -- they leave nothing, and cover every site
-  cleared_in_turn : (regions : List grid.Region) (q : Site) → grid.replay {T = T} (map grid.erase regions) q ≡ None
+  cleared_in_turn : (regions : List Region) (q : Site) → grid.replay {T = T} (map erase regions) q ≡ None
   cleared_in_turn [] q = replay-nil q
-  cleared_in_turn (region ∷ rest) q = replay_cleared region (map grid.erase rest) q ∙ cleared_in_turn rest q
+  cleared_in_turn (region ∷ rest) q = replay_cleared region (map erase rest) q ∙ cleared_in_turn rest q
 
   nothing_left : (old new : State T) → grid.Changes all_erasures (state_at old) (state_at new) → (q : Site) → state_at new q ≡ None
   unfolding grid.Changes all_erasures all_regions
@@ -116,16 +121,16 @@ module _ {T : Type 0} where
   nothing_left old new changes (at_offset Vertical r c (Offset.Start n)) = changes (at_offset Vertical r c (Offset.Start n)) ∙ cleared_in_turn all_regions (at_offset Vertical r c (Offset.Start n))
 
   -- so they erase every site
-  pub everything_erased : (a b c d : State T) → grid.Changes all_but_offsets (state_at a) (state_at b) → grid.Changes (offsets_erased Horizontal) (state_at b) (state_at c) → grid.Changes (offsets_erased Vertical) (state_at c) (state_at d) → grid.Changes (grid.erase grid.every_site ∷ []) (state_at a) (state_at d)
+  pub everything_erased : (a b c d : State T) → grid.Changes all_but_offsets (state_at a) (state_at b) → grid.Changes (offsets_erased Horizontal) (state_at b) (state_at c) → grid.Changes (offsets_erased Vertical) (state_at c) (state_at d) → grid.Changes (erase every_site ∷ []) (state_at a) (state_at d)
   unfolding grid.Changes
   everything_erased a b c d first is_across is_down =
       Changes_from_nothing [] (state_at d) (state_at d) (λ q _. nothing_left a d (all_in_turn a b c d first is_across is_down) q) (Changes-nil (state_at d))
 
 -- the default color set, and the class and the cells erased
-pub default_color_in_turn : (color : Texts) (a b c d : State Texts) → grid.Changes (default_set color) (state_at a) (state_at b) → grid.Changes (grid.erase (grid.level_sites 1) ∷ []) (state_at b) (state_at c) → grid.Changes (grid.erase (grid.level_sites 4) ∷ []) (state_at c) (state_at d) → grid.Changes (default_color_set color) (state_at a) (state_at d)
+pub default_color_in_turn : (color : Texts) (a b c d : State Texts) → grid.Changes (default_set color) (state_at a) (state_at b) → grid.Changes (erase (level_sites 1) ∷ []) (state_at b) (state_at c) → grid.Changes (erase (level_sites 4) ∷ []) (state_at c) (state_at d) → grid.Changes (default_color_set color) (state_at a) (state_at d)
 default_color_in_turn color a b c d first second third =
-    Changes-append (default_set color) ((grid.erase (grid.level_sites 1) ∷ []) ++ (grid.erase (grid.level_sites 4) ∷ [])) (state_at a) (state_at b) (state_at d) first
-    (Changes-append (grid.erase (grid.level_sites 1) ∷ []) (grid.erase (grid.level_sites 4) ∷ []) (state_at b) (state_at c) (state_at d) second third)
+    Changes-append (default_set color) ((erase (level_sites 1) ∷ []) ++ (erase (level_sites 4) ∷ [])) (state_at a) (state_at b) (state_at d) first
+    (Changes-append (erase (level_sites 1) ∷ []) (erase (level_sites 4) ∷ []) (state_at b) (state_at c) (state_at d) second third)
 
 -- every border removed
 pub Changes-borders_removed : (before after : State ℕ) (colors : State Texts) (old : Configuration) → record { characters = before; colors = colors } ≡ old → grid.Changes all_but_offsets (state_at before) (state_at after) → Changes borders_removed old (record { characters = after; colors = colors })

@@ -7,8 +7,11 @@ use Rattle.tabled_grid.specs.declared.place.Place.{Place}
 use Rattle.tabled_grid.specs.declared.place.LineOf.{LineOf}
 use Rattle.tabled_grid.specs.declared.offset.Offset.{Offset}
 use Rattle.tabled_grid.specs.declared.site.Direction.TheVariants.{Horizontal}
-use Rattle.tabled_grid.specs.Site.{Site, at_offset}
-use Rattle.tabled_grid.specs.Event.{Written, sign, replay}
+use Rattle.tabled_grid.specs.declared.site.Site.{Site}
+use Rattle.tabled_grid.specs.declared.site.Site.TheVariants.{Offset as at_offset}
+use Rattle.tabled_grid.specs.declared.event.Written.{Written}
+use Rattle.tabled_grid.specs.declared.event.Written.TheVariants.{Sign as sign}
+use Rattle.tabled_grid.specs.Event.{replay}
 use Rattle.tabled_grid.specs.Value.{has_spot, plain_sites, sign_or, first_sign, value, plain_value}
 use Rattle.tabled_grid.specs.Drawn.{drawn, Drawn}
 use Rattle.tabled_grid.specs.State.{State, state_at, edge_place, HasNoOffsets}

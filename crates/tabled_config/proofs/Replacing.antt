@@ -9,6 +9,9 @@ use Rattle.tabled_grid.specs.declared.lines.HorizontalLine.{HorizontalLine}
 use Rattle.tabled_grid.specs.declared.lines.VerticalLine.{VerticalLine}
 use Rattle.tabled_grid.specs.Calls.{line_set_across, line_set_down}
 use Rattle.tabled_grid.specs.Event as grid
+use Rattle.tabled_grid.specs.declared.event.Event.TheVariants.{Erase as erase}
+use Rattle.tabled_grid.specs.declared.event.Region.TheVariants.{All as every_site}
+use Rattle.tabled_grid.specs.declared.event.Event.{Event}
 use Rattle.tabled_grid.specs.State.{State, state_at, class_record_set}
 use Rattle.tabled_border.specs.Texts.{Texts}
 use Rattle.tabled_grid.proofs.Replay.{replay_cleared, Shows_after, Changes-append, Changes-nil}
@@ -19,7 +22,7 @@ behind : (i : ℕ) → i + 1 ≡ suc i
 behind i = omega arith
 
 -- one more of a list
-one_put : {X : Type 0} (put : X → List (grid.Event ℕ)) (lines : List X) (i : ℕ) (d : X) (old between new : State ℕ) → i < length lines → grid.Changes (flat_map put (take i lines)) (state_at old) (state_at between) → grid.Changes (put (slice_index_or lines i d)) (state_at between) (state_at new) → grid.Changes (flat_map put (take (i + 1) lines)) (state_at old) (state_at new)
+one_put : {X : Type 0} (put : X → List (Event ℕ)) (lines : List X) (i : ℕ) (d : X) (old between new : State ℕ) → i < length lines → grid.Changes (flat_map put (take i lines)) (state_at old) (state_at between) → grid.Changes (put (slice_index_or lines i d)) (state_at between) (state_at new) → grid.Changes (flat_map put (take (i + 1) lines)) (state_at old) (state_at new)
 one_put put lines i d old between new here before next =
     subst (λ es. grid.Changes es (state_at old) (state_at new)) (sym (ap (λ n. flat_map put (take n lines)) (behind i) ∙ ap (flat_map put) (take-suc lines i d here) ∙ flat_map-append put (take i lines) (slice_index_or lines i d ∷ [])))
     (Changes-append (flat_map put (take i lines)) (put (slice_index_or lines i d) ++ []) (state_at old) (state_at between) (state_at new) before
@@ -42,20 +45,20 @@ unfolding vertical_lines_put
 no_vertical_put store = Changes-nil (state_at store)
 
 -- a new store with lines and a class record
-pub shows_all : (across down class : List (grid.Event ℕ)) (a b c d : State ℕ) → grid.Shows [] (state_at a) → grid.Changes across (state_at a) (state_at b) → grid.Changes down (state_at b) (state_at c) → grid.Changes class (state_at c) (state_at d) → grid.Shows (across ++ down ++ class) (state_at d)
+pub shows_all : (across down class : List (Event ℕ)) (a b c d : State ℕ) → grid.Shows [] (state_at a) → grid.Changes across (state_at a) (state_at b) → grid.Changes down (state_at b) (state_at c) → grid.Changes class (state_at c) (state_at d) → grid.Shows (across ++ down ++ class) (state_at d)
 shows_all across down class a b c d new one other last =
     Shows_after [] (across ++ down ++ class) (state_at a) (state_at d) (Changes-append (across ++ down) class (state_at a) (state_at c) (state_at d) (Changes-append across down (state_at a) (state_at b) (state_at c) one other) last) new
 
 -- a store that shows some events has what they leave after every site was cleared, whatever there was before
-cleared_first : (es : List (grid.Event ℕ)) (old new : State ℕ) → grid.Shows es (state_at new) → grid.Changes (grid.erase grid.every_site ∷ es) (state_at old) (state_at new)
+cleared_first : (es : List (Event ℕ)) (old new : State ℕ) → grid.Shows es (state_at new) → grid.Changes (erase every_site ∷ es) (state_at old) (state_at new)
 unfolding grid.Changes grid.Shows
-cleared_first es old new shows q = shows q ∙ sym (replay_cleared grid.every_site es q)
+cleared_first es old new shows q = shows q ∙ sym (replay_cleared every_site es q)
 
-pub Changes-borders_replaced : (class : Borders ℕ) (horizontals : List (ℕ × HorizontalLine ℕ)) (verticals : List (ℕ × VerticalLine ℕ)) (before after : State ℕ) (colored emptied : State Texts) (old : Configuration) → record { characters = before; colors = colored } ≡ old → grid.Shows (horizontal_lines_put horizontals ++ vertical_lines_put verticals ++ class_record_set class) (state_at after) → grid.Changes (grid.erase grid.every_site ∷ []) (state_at colored) (state_at emptied) → Changes (borders_replaced class horizontals verticals) old (record { characters = after; colors = emptied })
+pub Changes-borders_replaced : (class : Borders ℕ) (horizontals : List (ℕ × HorizontalLine ℕ)) (verticals : List (ℕ × VerticalLine ℕ)) (before after : State ℕ) (colored emptied : State Texts) (old : Configuration) → record { characters = before; colors = colored } ≡ old → grid.Shows (horizontal_lines_put horizontals ++ vertical_lines_put verticals ++ class_record_set class) (state_at after) → grid.Changes (erase every_site ∷ []) (state_at colored) (state_at emptied) → Changes (borders_replaced class horizontals verticals) old (record { characters = after; colors = emptied })
 unfolding borders_replaced
 Changes-borders_replaced class horizontals verticals before after colored emptied old is shows drained =
     let es = horizontal_lines_put horizontals ++ vertical_lines_put verticals ++ class_record_set class in
     subst (λ cfg. Changes (borders_replaced class horizontals verticals) cfg (record { characters = after; colors = emptied })) is (record {
-      characters_changed = subst (λ all. grid.Changes all (state_at before) (state_at after)) (sym (characters_of-both (grid.erase grid.every_site ∷ es) (grid.erase grid.every_site ∷ []))) (cleared_first es before after shows);
-      colors_changed = subst (λ all. grid.Changes all (state_at colored) (state_at emptied)) (sym (colors_of-both (grid.erase grid.every_site ∷ es) (grid.erase grid.every_site ∷ []))) drained;
+      characters_changed = subst (λ all. grid.Changes all (state_at before) (state_at after)) (sym (characters_of-both (erase every_site ∷ es) (erase every_site ∷ []))) (cleared_first es before after shows);
+      colors_changed = subst (λ all. grid.Changes all (state_at colored) (state_at emptied)) (sym (colors_of-both (erase every_site ∷ es) (erase every_site ∷ []))) drained;
     })

@@ -8,6 +8,9 @@ use Rattle.tabled_grid.specs.declared.lines.VerticalLine.{VerticalLine}
 use Rattle.tabled_grid.specs.declared.borders.Borders.{Borders}
 use Rattle.tabled_grid.specs.declared.writes.Write.{Write}
 use Rattle.tabled_grid.specs.Event as grid
+use Rattle.tabled_grid.specs.declared.event.Event.TheVariants.{Erase as erase}
+use Rattle.tabled_grid.specs.declared.event.Region.TheVariants.{All as every_site, Level as level_sites}
+use Rattle.tabled_grid.specs.declared.event.Event.{Event}
 use Rattle.tabled_grid.specs.Writes.{writes_made}
 use Rattle.tabled_grid.specs.Calls.{default_set, line_set_across, line_set_down}
 use Rattle.tabled_grid.specs.State.{State, state_at, class_record_set, writes_of}
@@ -24,23 +27,23 @@ configuration_code = Prim.hlevel (codes, finmap.code)
 
 -- an event of a configuration: one of its border characters, or one of its border colors
 pub data ConfigEvent : Type 0 where
-  of_characters : grid.Event ℕ → ConfigEvent
-  of_colors : grid.Event Texts → ConfigEvent
+  of_characters : Event ℕ → ConfigEvent
+  of_colors : Event Texts → ConfigEvent
 
 -- the event as one of characters, and as one of colors
-abbrev pub character_event : ConfigEvent → Option (grid.Event ℕ)
+abbrev pub character_event : ConfigEvent → Option (Event ℕ)
 character_event (of_characters e) = Some e
 character_event _ = None
 
-abbrev pub color_event : ConfigEvent → Option (grid.Event Texts)
+abbrev pub color_event : ConfigEvent → Option (Event Texts)
 color_event (of_colors e) = Some e
 color_event _ = None
 
 -- those of a list that concern characters, and those that concern colors
-abbrev pub characters_of : List ConfigEvent → List (grid.Event ℕ)
+abbrev pub characters_of : List ConfigEvent → List (Event ℕ)
 characters_of es = filter_map character_event es
 
-abbrev pub colors_of : List ConfigEvent → List (grid.Event Texts)
+abbrev pub colors_of : List ConfigEvent → List (Event Texts)
 colors_of es = filter_map color_event es
 
 -- the configuration keeps what the events leave
@@ -58,10 +61,10 @@ unfoldable pub all_writes : Configuration → List ConfigEvent
 all_writes cfg = map of_characters (writes_of cfg.characters) ++ map of_colors (writes_of cfg.colors)
 
 -- events of characters alone, and of colors alone
-abbrev pub by_characters : List (grid.Event ℕ) → List ConfigEvent
+abbrev pub by_characters : List (Event ℕ) → List ConfigEvent
 by_characters es = map of_characters es
 
-abbrev pub by_colors : List (grid.Event Texts) → List ConfigEvent
+abbrev pub by_colors : List (Event Texts) → List ConfigEvent
 by_colors es = map of_colors es
 
 -- lists of writes, of characters and of colors
@@ -69,8 +72,8 @@ unfoldable pub writes_applied : List (Write ℕ) → List (Write Texts) → List
 writes_applied characters colors = by_characters (writes_made characters) ++ by_colors (writes_made colors)
 
 -- the erasures of every level but the offsets
-abbrev pub all_but_offsets : {T : Type 0} → List (grid.Event T)
-all_but_offsets = grid.erase (grid.level_sites 0) ∷ grid.erase (grid.level_sites 1) ∷ grid.erase (grid.level_sites 2) ∷ grid.erase (grid.level_sites 3) ∷ grid.erase (grid.level_sites 4) ∷ []
+abbrev pub all_but_offsets : {T : Type 0} → List (Event T)
+all_but_offsets = erase (level_sites 0) ∷ erase (level_sites 1) ∷ erase (level_sites 2) ∷ erase (level_sites 3) ∷ erase (level_sites 4) ∷ []
 
 -- the class record set whole
 unfoldable pub borders_set : Borders ℕ → List ConfigEvent
@@ -81,19 +84,19 @@ unfoldable pub borders_removed : List ConfigEvent
 borders_removed = by_characters all_but_offsets
 
 -- custom lines put, each at its index, in the order of a list
-unfoldable pub horizontal_lines_put : List (ℕ × HorizontalLine ℕ) → List (grid.Event ℕ)
+unfoldable pub horizontal_lines_put : List (ℕ × HorizontalLine ℕ) → List (Event ℕ)
 horizontal_lines_put lines = flat_map (λ line. line_set_across line.0 line.1) lines
 
-unfoldable pub vertical_lines_put : List (ℕ × VerticalLine ℕ) → List (grid.Event ℕ)
+unfoldable pub vertical_lines_put : List (ℕ × VerticalLine ℕ) → List (Event ℕ)
 vertical_lines_put lines = flat_map (λ line. line_set_down line.0 line.1) lines
 
 -- all borders replaced: all sites of all levels are cleared, of characters and of colors; then the custom lines are put,
 -- and the class record is set
 unfoldable pub borders_replaced : Borders ℕ → List (ℕ × HorizontalLine ℕ) → List (ℕ × VerticalLine ℕ) → List ConfigEvent
 borders_replaced borders horizontals verticals =
-    by_characters (grid.erase grid.every_site ∷ horizontal_lines_put horizontals ++ vertical_lines_put verticals ++ class_record_set borders)
-    ++ by_colors (grid.erase grid.every_site ∷ [])
+    by_characters (erase every_site ∷ horizontal_lines_put horizontals ++ vertical_lines_put verticals ++ class_record_set borders)
+    ++ by_colors (erase every_site ∷ [])
 
 -- the default color set, and the class colors and the cells' colors erased
-abbrev pub default_color_set : Texts → List (grid.Event Texts)
-default_color_set color = default_set color ++ (grid.erase (grid.level_sites 1) ∷ []) ++ (grid.erase (grid.level_sites 4) ∷ [])
+abbrev pub default_color_set : Texts → List (Event Texts)
+default_color_set color = default_set color ++ (erase (level_sites 1) ∷ []) ++ (erase (level_sites 4) ∷ [])

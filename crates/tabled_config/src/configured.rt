@@ -24,11 +24,12 @@ pub trait Configured {
 pub struct BorderEvent {}
 
 impl Model for BorderEvent {
-    ghost use Rattle.tabled_grid.specs.Event as grid;
+    ghost use Rattle.tabled_grid.specs.declared.event.Event.TheVariants.{Erase as erase};
+    ghost use Rattle.tabled_grid.specs.declared.event.Region.TheVariants.{All as every_site};
     ghost use Rattle.tabled_config.specs.Configuration.{ConfigEvent, of_characters};
 
     ghost Value = { ConfigEvent };
 
     // any one will do
-    ghost view = { λ _. of_characters (grid.erase grid.every_site) };
+    ghost view = { λ _. of_characters (erase every_site) };
 }

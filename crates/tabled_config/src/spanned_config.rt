@@ -2,6 +2,8 @@
 
 ghost use Rattle.std.specs.Prelude.{◌≡◌, ◌↔◌, [], ◌∷◌, IsTrue};
 ghost use Rattle.tabled_grid.specs.Event as grid;
+ghost use Rattle.tabled_grid.specs.declared.event.Event.TheVariants.{Erase as erase};
+ghost use Rattle.tabled_grid.specs.declared.event.Region.TheVariants.{All as every_site};
 ghost use Rattle.tabled_grid.specs.State.{state_at};
 ghost use Rattle.tabled_config.specs.Configuration.{all_but_offsets};
 
@@ -160,7 +162,7 @@ fn erase_below_offsets<T: Drop>(layers: &mut Layers<T>)
 
 /// Erases every level of a store.
 fn erase_all<T: Drop>(layers: &mut Layers<T>)
-    ensures { grid.Changes (grid.erase grid.every_site ∷ []) (state_at layers.old) (state_at layers.new) }
+    ensures { grid.Changes (erase every_site ∷ []) (state_at layers.old) (state_at layers.new) }
 {
     erase_below_offsets(layers);
     layers.erase_horizontal_offsets();

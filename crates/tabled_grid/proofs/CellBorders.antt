@@ -1,21 +1,19 @@
 -- The sides and corners of one cell, read together and erased together.
 use Rattle.std.proofs.Common.{◌≡◌, ℕ, ◌<◌, Bool, true, false, cond, ◌&&◌, ◌||◌, nat_lt, Option, Some, None, List, [], ◌∷◌, ◌++◌, refl, ap, sym, ◌∙◌, subst, option_and_then, arith}
 use Rattle.std.specs.Option.{option_map}
-use Rattle.std.specs.List.{list_any, filter_map}
 use Rattle.std.proofs.lemmas.Bool.Decides.{nat_tests}
-use Rattle.std.proofs.lemmas.List.Folds.{list_any-append}
+use Rattle.std.proofs.lemmas.List.Elements.{filter_map-append}
 use Rattle.tabled_border.specs.declared.border.Border.{Border}
 use Rattle.tabled_grid.specs.declared.place.Place.{Place}
 use Rattle.tabled_object.specs.declared.position.Position.{Position}
-use Rattle.tabled_grid.specs.Site.{Site, at_spot, same_site}
-use Rattle.tabled_grid.specs.Event.{Written, Region, these_sites, within, erase, replay, Changes}
+use Rattle.tabled_grid.specs.Site.{Site, at_spot}
+use Rattle.tabled_grid.specs.Event.{Written, Region, one_site, within, erase, replay, Changes}
 use Rattle.tabled_grid.specs.State.{State, state_at}
 use Rattle.tabled_grid.specs.Value.{plain_value}
 use Rattle.tabled_border.specs.Border.{no_border}
 use Rattle.tabled_grid.specs.Calls.{spot_of, cell_erased, places_erased, border_erased}
 use Rattle.tabled_grid.specs.CellBorder.{border_places, border_fields, border_shown}
-use Rattle.tabled_grid.proofs.Replay.{replay-nil, replay_cleared}
-use Rattle.tabled_grid.proofs.Changing.{one_erasure}
+use Rattle.tabled_grid.proofs.Replay.{replay-nil, replay_cleared, Changes-append, Changes-nil}
 
 or-none : (b : Bool) → (b || false) ≡ b
 or-none true = refl
@@ -43,46 +41,28 @@ unfolding border_shown
 border_inside keep shape pos places border h k are is =
     is ∙ ap (read_at keep shape) are ∙ ap (λ b. cond b (read_at keep shape (border_places pos)) no_border) (sym (both_below pos.row pos.col shape.0 shape.1 h k))
 
--- the sites of the places that are there
-abbrev pub sites_of : List (Option Place) → List Site
-sites_of places = filter_map (option_map (λ place. at_spot (spot_of place))) places
-
-sites_of-append : (ps qs : List (Option Place)) → sites_of (ps ++ qs) ≡ sites_of ps ++ sites_of qs
-sites_of-append [] qs = refl
-sites_of-append (None ∷ ps) qs = sites_of-append ps qs
-sites_of-append (Some p ∷ ps) qs = ap (λ all. at_spot (spot_of p) ∷ all) (sites_of-append ps qs)
-
--- what the clearing of listed sites leaves at each site
+-- what an erasure leaves at each site
 pub by_erasure : {T : Type 0} (region : Region) (old new : Site → Option (Written T)) → Changes (erase region ∷ []) old new → (q : Site) → new q ≡ cond (within region q) None (old q)
 unfolding Changes
 by_erasure region old new h q =
     h q ∙ ap (λ b. cond b (replay (erase region ∷ []) q) (old q)) (or-none (within region q))
     ∙ ap (λ k. cond (within region q) k (old q)) (replay_cleared region [] q ∙ replay-nil q)
 
--- two clearings of places are the clearing of all of them
+-- two erasures of places are the erasure of all of them
 pub erased_then : {T : Type 0} (ps qs : List (Option Place)) (old mid new : State T) → Changes (places_erased ps) (state_at old) (state_at mid) → Changes (places_erased qs) (state_at mid) (state_at new) → Changes (places_erased (ps ++ qs)) (state_at old) (state_at new)
 unfolding places_erased
 erased_then ps qs old mid new first then =
-    one_erasure (these_sites (sites_of (ps ++ qs))) (state_at old) (state_at new) (λ q.
-    by_erasure (these_sites (sites_of qs)) (state_at mid) (state_at new) then q
-    ∙ ap (cond (list_any (same_site q) (sites_of qs)) None) (by_erasure (these_sites (sites_of ps)) (state_at old) (state_at mid) first q)
-    ∙ either (list_any (same_site q) (sites_of ps)) (list_any (same_site q) (sites_of qs)) (state_at old q)
-    ∙ ap (λ b. cond b None (state_at old q)) (sym (ap (list_any (same_site q)) (sites_of-append ps qs) ∙ list_any-append (same_site q) (sites_of ps) (sites_of qs))))
-  where
-    either : {A : Type 0} (a b : Bool) (x : Option A) → cond b None (cond a None x) ≡ cond (a || b) None x
-    either true true x = refl
-    either true false x = refl
-    either false b x = refl
+    subst (λ es. Changes es (state_at old) (state_at new)) (sym (filter_map-append (option_map (λ place. erase (one_site (at_spot (spot_of place))))) ps qs))
+    (Changes-append (places_erased ps) (places_erased qs) (state_at old) (state_at mid) (state_at new) first then)
 
 -- a place that is not there
 pub nothing_erased : {T : Type 0} (place : Option Place) (state : State T) → place ≡ None → Changes (places_erased (place ∷ [])) (state_at state) (state_at state)
 unfolding places_erased
-nothing_erased place state e =
-    one_erasure (these_sites (sites_of (place ∷ []))) (state_at state) (state_at state) (λ q. ap (λ p. cond (list_any (same_site q) (sites_of (p ∷ []))) None (state_at state q)) (sym e))
+nothing_erased place state e = subst (λ p. Changes (places_erased (p ∷ [])) (state_at state) (state_at state)) (sym e) (Changes-nil (state_at state))
 
 pub cell_erased_there : {T : Type 0} (place : Option Place) (there : Place) (old new : State T) → place ≡ Some there → Changes (cell_erased there) (state_at old) (state_at new) → Changes (places_erased (place ∷ [])) (state_at old) (state_at new)
 unfolding places_erased
-cell_erased_there place there old new e h = subst (λ p. Changes (erase (these_sites (sites_of (p ∷ []))) ∷ []) (state_at old) (state_at new)) (sym e) h
+cell_erased_there place there old new e h = subst (λ p. Changes (places_erased (p ∷ [])) (state_at old) (state_at new)) (sym e) h
 
 -- where all places of a cell's border were cleared
 pub erased_at : {T : Type 0} (pos : Position) (places : Border Place) (old new : State T) → places ≡ border_places pos → Changes (places_erased (border_fields places)) (state_at old) (state_at new) → Changes (border_erased pos) (state_at old) (state_at new)

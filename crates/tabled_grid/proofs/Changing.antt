@@ -14,7 +14,7 @@ use Rattle.tabled_grid.specs.declared.keys.EdgePlace.{EdgePlace}
 use Rattle.tabled_grid.specs.Keys.{spot_cmp, edge_place_cmp, spots_total, edge_places_total, is_same_spot, is_same_edge_place}
 use Rattle.tabled_grid.specs.declared.offset.Offset.{Offset}
 use Rattle.tabled_grid.specs.Site.{Horizontal, Vertical, Spot, Class, Part, Site, the_default, of_class, of_line, at_spot, at_offset, level, same_site, same_spot, same_offset}
-use Rattle.tabled_grid.specs.Event.{Written, sign, Region, level_sites, offset_sites, line_sites, these_sites, within, write, erase, covered, replay, Shows, Changes}
+use Rattle.tabled_grid.specs.Event.{Written, sign, Region, level_sites, offset_sites, line_sites, one_site, within, write, erase, covered, replay, Shows, Changes}
 use Rattle.tabled_grid.specs.Lines.{horizontal_line_set, vertical_line_set}
 use Rattle.tabled_grid.specs.State.{State, state_at, HasNothing, classes, class_writes, class_record_set, edge_place, horizontal_part, vertical_part}
 use Rattle.tabled_grid.proofs.Replay.{replay-nil, replay_one, replay_cleared}
@@ -70,9 +70,9 @@ key_put : {K T : Type 0} {R : K → K → Ordering} → IsTotalOrder R → (valu
 key_put total values k v q same e =
     ap (option_map sign) (map.get-insert total values k v q ∙ ap (λ b. cond b (Some v) (map.get values q)) e) ∙ signs_put same v (map.get values q)
 
-key_taken : {K T : Type 0} {R : K → K → Ordering} → IsTotalOrder R → (values : map.FinMap R T) (k q : K) (same : Bool) → eq_by_cmp R q k ≡ same → option_map sign (map.get (map.remove values k) q) ≡ cond (same || false) None (option_map sign (map.get values q))
+key_taken : {K T : Type 0} {R : K → K → Ordering} → IsTotalOrder R → (values : map.FinMap R T) (k q : K) (same : Bool) → eq_by_cmp R q k ≡ same → option_map sign (map.get (map.remove values k) q) ≡ cond same None (option_map sign (map.get values q))
 key_taken total values k q same e =
-    ap (option_map sign) (map.get-remove total values k q ∙ ap (λ b. cond b None (map.get values q)) (e ∙ sym (or-none same))) ∙ signs_taken (same || false) (map.get values q)
+    ap (option_map sign) (map.get-remove total values k q ∙ ap (λ b. cond b None (map.get values q)) e) ∙ signs_taken same (map.get values q)
 
 nothing_left : {K T : Type 0} (R : K → K → Ordering) (q : K) → option_map sign (map.get (map.empty {X = T} {R = R}) q) ≡ None
 nothing_left {T = T} R q = ap (option_map sign) (map.get-empty {X = T} R q)
@@ -199,7 +199,7 @@ cell_set_sites k at v (at_offset Vertical r c o) = refl
 pub cell_set : {T : Type 0} (k : State T) (at : Spot) (v : T) → Changes (write (at_spot at) (sign v) ∷ []) (state_at k) (state_at (record k { cells = map.insert k.cells at v }))
 cell_set k at v = one_write (at_spot at) (sign v) (state_at k) (state_at (record k { cells = map.insert k.cells at v })) (cell_set_sites k at v)
 
-cell_erased_sites : {T : Type 0} (k : State T) (at : Spot) (q : Site) → state_at (record k { cells = map.remove k.cells at }) q ≡ cond (within (these_sites (at_spot at ∷ [])) q) None (state_at k q)
+cell_erased_sites : {T : Type 0} (k : State T) (at : Spot) (q : Site) → state_at (record k { cells = map.remove k.cells at }) q ≡ cond (within (one_site (at_spot at)) q) None (state_at k q)
 cell_erased_sites k at the_default = refl
 cell_erased_sites k at (of_class c) = refl
 cell_erased_sites k at (of_line (LineOf.Vertical n) p) = refl
@@ -209,8 +209,8 @@ cell_erased_sites k at (at_offset Horizontal r c o) = refl
 cell_erased_sites k at (at_offset Vertical r c o) = refl
 
 -- a value erased there
-pub cell_erased : {T : Type 0} (k : State T) (at : Spot) → Changes (erase (these_sites (at_spot at ∷ [])) ∷ []) (state_at k) (state_at (record k { cells = map.remove k.cells at }))
-cell_erased k at = one_erasure (these_sites (at_spot at ∷ [])) (state_at k) (state_at (record k { cells = map.remove k.cells at })) (cell_erased_sites k at)
+pub cell_erased : {T : Type 0} (k : State T) (at : Spot) → Changes (erase (one_site (at_spot at)) ∷ []) (state_at k) (state_at (record k { cells = map.remove k.cells at }))
+cell_erased k at = one_erasure (one_site (at_spot at)) (state_at k) (state_at (record k { cells = map.remove k.cells at })) (cell_erased_sites k at)
 
 cells_erased_sites : {T : Type 0} (k : State T) (q : Site) → state_at (record k { cells = map.empty }) q ≡ cond (within (level_sites 4) q) None (state_at k q)
 cells_erased_sites k the_default = refl
@@ -240,7 +240,7 @@ horizontal_offset_set_sites k at v (at_offset Vertical r c o) = refl
 pub horizontal_offset_set : {T : Type 0} (k : State T) (at : EdgePlace) (v : T) → Changes (write (at_offset Horizontal at.row at.col at.offset) (sign v) ∷ []) (state_at k) (state_at (record k { horizontal_offsets = map.insert k.horizontal_offsets at v }))
 horizontal_offset_set k at v = one_write (at_offset Horizontal at.row at.col at.offset) (sign v) (state_at k) (state_at (record k { horizontal_offsets = map.insert k.horizontal_offsets at v })) (horizontal_offset_set_sites k at v)
 
-horizontal_offset_erased_sites : {T : Type 0} (k : State T) (at : EdgePlace) (q : Site) → state_at (record k { horizontal_offsets = map.remove k.horizontal_offsets at }) q ≡ cond (within (these_sites (at_offset Horizontal at.row at.col at.offset ∷ [])) q) None (state_at k q)
+horizontal_offset_erased_sites : {T : Type 0} (k : State T) (at : EdgePlace) (q : Site) → state_at (record k { horizontal_offsets = map.remove k.horizontal_offsets at }) q ≡ cond (within (one_site (at_offset Horizontal at.row at.col at.offset)) q) None (state_at k q)
 horizontal_offset_erased_sites k at the_default = refl
 horizontal_offset_erased_sites k at (of_class c) = refl
 horizontal_offset_erased_sites k at (of_line (LineOf.Vertical n) p) = refl
@@ -250,8 +250,8 @@ horizontal_offset_erased_sites k at (at_offset Horizontal r c o) = key_taken edg
 horizontal_offset_erased_sites k at (at_offset Vertical r c o) = refl
 
 -- and erased there
-pub horizontal_offset_erased : {T : Type 0} (k : State T) (at : EdgePlace) → Changes (erase (these_sites (at_offset Horizontal at.row at.col at.offset ∷ [])) ∷ []) (state_at k) (state_at (record k { horizontal_offsets = map.remove k.horizontal_offsets at }))
-horizontal_offset_erased k at = one_erasure (these_sites (at_offset Horizontal at.row at.col at.offset ∷ [])) (state_at k) (state_at (record k { horizontal_offsets = map.remove k.horizontal_offsets at })) (horizontal_offset_erased_sites k at)
+pub horizontal_offset_erased : {T : Type 0} (k : State T) (at : EdgePlace) → Changes (erase (one_site (at_offset Horizontal at.row at.col at.offset)) ∷ []) (state_at k) (state_at (record k { horizontal_offsets = map.remove k.horizontal_offsets at }))
+horizontal_offset_erased k at = one_erasure (one_site (at_offset Horizontal at.row at.col at.offset)) (state_at k) (state_at (record k { horizontal_offsets = map.remove k.horizontal_offsets at })) (horizontal_offset_erased_sites k at)
 
 horizontal_offsets_erased_sites : {T : Type 0} (k : State T) (q : Site) → state_at (record k { horizontal_offsets = map.empty }) q ≡ cond (within (offset_sites Horizontal) q) None (state_at k q)
 horizontal_offsets_erased_sites k the_default = refl
@@ -279,7 +279,7 @@ vertical_offset_set_sites k at v (at_offset Vertical r c o) = key_put edge_place
 pub vertical_offset_set : {T : Type 0} (k : State T) (at : EdgePlace) (v : T) → Changes (write (at_offset Vertical at.row at.col at.offset) (sign v) ∷ []) (state_at k) (state_at (record k { vertical_offsets = map.insert k.vertical_offsets at v }))
 vertical_offset_set k at v = one_write (at_offset Vertical at.row at.col at.offset) (sign v) (state_at k) (state_at (record k { vertical_offsets = map.insert k.vertical_offsets at v })) (vertical_offset_set_sites k at v)
 
-vertical_offset_erased_sites : {T : Type 0} (k : State T) (at : EdgePlace) (q : Site) → state_at (record k { vertical_offsets = map.remove k.vertical_offsets at }) q ≡ cond (within (these_sites (at_offset Vertical at.row at.col at.offset ∷ [])) q) None (state_at k q)
+vertical_offset_erased_sites : {T : Type 0} (k : State T) (at : EdgePlace) (q : Site) → state_at (record k { vertical_offsets = map.remove k.vertical_offsets at }) q ≡ cond (within (one_site (at_offset Vertical at.row at.col at.offset)) q) None (state_at k q)
 vertical_offset_erased_sites k at the_default = refl
 vertical_offset_erased_sites k at (of_class c) = refl
 vertical_offset_erased_sites k at (of_line (LineOf.Vertical n) p) = refl
@@ -289,8 +289,8 @@ vertical_offset_erased_sites k at (at_offset Horizontal r c o) = refl
 vertical_offset_erased_sites k at (at_offset Vertical r c o) = key_taken edge_places_total k.vertical_offsets at (edge_place r c o) ((r == at.row) && (c == at.col) && same_offset o at.offset) (is_same_edge_place (edge_place r c o) at)
 
 -- and erased there
-pub vertical_offset_erased : {T : Type 0} (k : State T) (at : EdgePlace) → Changes (erase (these_sites (at_offset Vertical at.row at.col at.offset ∷ [])) ∷ []) (state_at k) (state_at (record k { vertical_offsets = map.remove k.vertical_offsets at }))
-vertical_offset_erased k at = one_erasure (these_sites (at_offset Vertical at.row at.col at.offset ∷ [])) (state_at k) (state_at (record k { vertical_offsets = map.remove k.vertical_offsets at })) (vertical_offset_erased_sites k at)
+pub vertical_offset_erased : {T : Type 0} (k : State T) (at : EdgePlace) → Changes (erase (one_site (at_offset Vertical at.row at.col at.offset)) ∷ []) (state_at k) (state_at (record k { vertical_offsets = map.remove k.vertical_offsets at }))
+vertical_offset_erased k at = one_erasure (one_site (at_offset Vertical at.row at.col at.offset)) (state_at k) (state_at (record k { vertical_offsets = map.remove k.vertical_offsets at })) (vertical_offset_erased_sites k at)
 
 vertical_offsets_erased_sites : {T : Type 0} (k : State T) (q : Site) → state_at (record k { vertical_offsets = map.empty }) q ≡ cond (within (offset_sites Vertical) q) None (state_at k q)
 vertical_offsets_erased_sites k the_default = refl

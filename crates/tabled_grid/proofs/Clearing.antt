@@ -1,5 +1,5 @@
 -- Erasures in a row: cell by cell, and spot by spot along a line.
-use Rattle.std.proofs.Common.{◌≡◌, ℕ, ◌+◌, ◌<◌, ◌==◌, Bool, true, false, cond, ◌||◌, Option, None, List, [], ◌∷◌, ◌++◌, refl, ap, sym, ◌∙◌, subst, map, arith}
+use Rattle.std.proofs.Common.{◌≡◌, ℕ, ◌+◌, ◌<◌, ◌==◌, Bool, true, false, cond, ◌||◌, None, List, [], ◌∷◌, ◌++◌, refl, ap, sym, ◌∙◌, subst, map, arith}
 use Rattle.std.specs.List.{flat_map, filter, list_any, range_with_len}
 use Rattle.std.proofs.lemmas.List.{append_assoc, map-append}
 use Rattle.std.proofs.lemmas.Bool.Decides.{nat_tests}
@@ -9,12 +9,10 @@ use Rattle.tabled_object.specs.declared.position.Position.{Position}
 use Rattle.tabled_object.specs.Entities.{is_inside}
 use Rattle.tabled_grid.specs.declared.place.LineOf.{LineOf}
 use Rattle.tabled_grid.specs.Site.{Spot, Site, at_spot, same_site}
-use Rattle.tabled_grid.specs.Event.{these_sites, erase, Changes}
+use Rattle.tabled_grid.specs.Event.{one_site, erase, covered, replay, Changes}
 use Rattle.tabled_grid.specs.State.{State, state_at}
 use Rattle.tabled_grid.specs.Calls.{border_erased, borders_erased, spots_erased, line_spots, frame_erased}
-use Rattle.tabled_grid.proofs.Replay.{Changes-append, Changes-nil}
-use Rattle.tabled_grid.proofs.Changing.{one_erasure}
-use Rattle.tabled_grid.proofs.CellBorders.{by_erasure}
+use Rattle.tabled_grid.proofs.Replay.{replay-nil, replay_cleared, Changes-append, Changes-nil}
 
 -- a cell inside, and then the others
 pub one_inside : {T : Type 0} (rows cols : ℕ) (pos : Position) (rest : List Position) (old mid end : State T) → is_inside rows cols pos ≡ true → Changes (border_erased pos) (state_at old) (state_at mid) → Changes (borders_erased (rows, cols) rest) (state_at mid) (state_at end) → Changes (borders_erased (rows, cols) (pos ∷ rest)) (state_at old) (state_at end)
@@ -41,31 +39,34 @@ among spots q = list_any (same_site q) (map at_spot spots)
 among-append : (ps qs : List Spot) (q : Site) → among (ps ++ qs) q ≡ (among ps q || among qs q)
 among-append ps qs q = ap (list_any (same_site q)) (map-append at_spot ps qs) ∙ list_any-append (same_site q) (map at_spot ps) (map at_spot qs)
 
+-- erasures of spots cover these and leave nothing
+covered_spots : (T : Type 0) (spots : List Spot) (q : Site) → covered (spots_erased {T = T} spots) q ≡ among spots q
+unfolding spots_erased
+covered_spots T [] q = refl
+covered_spots T (spot ∷ spots) q = ap (λ b. same_site q (at_spot spot) || b) (covered_spots T spots q)
+
+replayed_spots : (T : Type 0) (spots : List Spot) (q : Site) → replay (spots_erased {T = T} spots) q ≡ None
+unfolding spots_erased
+replayed_spots T [] q = replay-nil q
+replayed_spots T (spot ∷ spots) q = replay_cleared (one_site (at_spot spot)) (spots_erased spots) q ∙ replayed_spots T spots q
+
 -- lists of the same spots are erased alike
 same_erasure : {T : Type 0} (ps qs : List Spot) (old new : State T) → ((q : Site) → among ps q ≡ among qs q) → Changes (spots_erased ps) (state_at old) (state_at new) → Changes (spots_erased qs) (state_at old) (state_at new)
-unfolding spots_erased
-same_erasure ps qs old new same erased =
-    one_erasure (these_sites (map at_spot qs)) (state_at old) (state_at new) (λ q. by_erasure (these_sites (map at_spot ps)) (state_at old) (state_at new) erased q ∙ ap (λ b. cond b None (state_at old q)) (same q))
+unfolding Changes
+same_erasure {T} ps qs old new same erased q =
+    erased q ∙ (λ i. cond ((covered_spots T ps q ∙ same q ∙ sym (covered_spots T qs q)) i) ((replayed_spots T ps q ∙ sym (replayed_spots T qs q)) i) (state_at old q))
 
--- two erasures in a row are one
+-- two erasures in a row
 pub spots_then : {T : Type 0} (ps qs : List Spot) (old mid new : State T) → Changes (spots_erased ps) (state_at old) (state_at mid) → Changes (spots_erased qs) (state_at mid) (state_at new) → Changes (spots_erased (ps ++ qs)) (state_at old) (state_at new)
 unfolding spots_erased
 spots_then ps qs old mid new first then =
-    one_erasure (these_sites (map at_spot (ps ++ qs))) (state_at old) (state_at new) (λ q.
-    by_erasure (these_sites (map at_spot qs)) (state_at mid) (state_at new) then q
-    ∙ ap (cond (among qs q) None) (by_erasure (these_sites (map at_spot ps)) (state_at old) (state_at mid) first q)
-    ∙ either (among ps q) (among qs q) (state_at old q)
-    ∙ ap (λ b. cond b None (state_at old q)) (sym (among-append ps qs q)))
-  where
-    either : {A : Type 0} (a b : Bool) (x : Option A) → cond b None (cond a None x) ≡ cond (a || b) None x
-    either true true x = refl
-    either true false x = refl
-    either false b x = refl
+    subst (λ es. Changes es (state_at old) (state_at new)) (sym (map-append (λ spot. erase (one_site (at_spot spot))) ps qs))
+    (Changes-append (spots_erased ps) (spots_erased qs) (state_at old) (state_at mid) (state_at new) first then)
 
 -- one spot, by its name
-pub named_spot : {T : Type 0} (spot named : Spot) (old new : State T) → spot ≡ named → Changes (erase (these_sites (at_spot spot ∷ [])) ∷ []) (state_at old) (state_at new) → Changes (spots_erased (named ∷ [])) (state_at old) (state_at new)
+pub named_spot : {T : Type 0} (spot named : Spot) (old new : State T) → spot ≡ named → Changes (erase (one_site (at_spot spot)) ∷ []) (state_at old) (state_at new) → Changes (spots_erased (named ∷ [])) (state_at old) (state_at new)
 unfolding spots_erased
-named_spot spot named old new e h = subst (λ s. Changes (erase (these_sites (at_spot s ∷ [])) ∷ []) (state_at old) (state_at new)) e h
+named_spot spot named old new e h = subst (λ s. Changes (erase (one_site (at_spot s)) ∷ []) (state_at old) (state_at new)) e h
 
 module _ (f g : ℕ → Spot) where
   -- the edges and the crossings of a line so far
@@ -74,7 +75,7 @@ module _ (f g : ℕ → Spot) where
 
   pub none_so_far : {T : Type 0} (store : State T) → Changes (spots_erased (so_far 0)) (state_at store) (state_at store)
   unfolding spots_erased
-  none_so_far store = one_erasure (these_sites []) (state_at store) (state_at store) (λ q. refl)
+  none_so_far store = Changes-nil (state_at store)
 
   reordered : (a b c d : Bool) → (((a || b) || c) || d) ≡ ((a || c) || (b || d))
   reordered true b c d = refl

@@ -10,7 +10,7 @@ use Rattle.tabled_grid.specs.declared.lines.VerticalLine.{VerticalLine}
 use Rattle.tabled_grid.specs.declared.place.LineOf.{LineOf}
 use Rattle.tabled_grid.specs.Keys.{spots_total, exact_spots, is_same_spot, edge_places_total, exact_edge_places, is_same_edge_place}
 use Rattle.tabled_grid.specs.Site.{Horizontal, Vertical, first, inner, last, Class, edges, crossings, class_value, Part, mark, main_edges, meeting, Site, the_default, of_class, of_line, at_spot, at_offset, same_site, same_offset}
-use Rattle.tabled_grid.specs.Event.{Written, sign, standing, write, erase, replay, these_sites, Changes}
+use Rattle.tabled_grid.specs.Event.{Written, sign, standing, write, erase, replay, one_site, Changes}
 use Rattle.tabled_grid.specs.State.{State, state_at, edge_place, horizontal_part, vertical_part}
 use Rattle.tabled_grid.specs.Calls.{spot_of}
 use Rattle.tabled_grid.specs.declared.offset.Offset.{Offset}
@@ -140,9 +140,8 @@ value_back (Ok x) site before value old now new is ok absent puts =
 value_back (Err e) site before value old now new is ok absent puts = absurd (let e = ap is_some absent in let is_there = puts.0 in cc)
 
 -- nothing stood there, and what stands is taken
-pub nothing_back : {T : Type 0} (site : Site) (before : Option T) (old now new : State T) → before ≡ None → Changes (erase (these_sites (site ∷ [])) ∷ []) (state_at now) (state_at new) → PutsBackAt site before old now → new ≡ old
+pub nothing_back : {T : Type 0} (site : Site) (before : Option T) (old now new : State T) → before ≡ None → Changes (erase (one_site site) ∷ []) (state_at now) (state_at new) → PutsBackAt site before old now → new ≡ old
 unfolding PutsBackAt
 nothing_back site before old now new is changes puts =
-    same_state new old (λ q. by_erasure (these_sites (site ∷ [])) (state_at now) (state_at new) changes q
-    ∙ ap (λ b. cond b None (state_at now q)) (or-none (same_site q site))
+    same_state new old (λ q. by_erasure (one_site site) (state_at now) (state_at new) changes q
     ∙ ap (λ o. cond (same_site q site) (option_map sign o) (state_at now q)) (sym is) ∙ sym (puts.1 q))

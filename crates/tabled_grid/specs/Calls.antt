@@ -12,7 +12,7 @@ use Rattle.tabled_object.specs.declared.entity.Entity.{Entity}
 use Rattle.tabled_grid.specs.CellBorder.{border_places, border_fields}
 use Rattle.tabled_object.specs.Entities.{below, cells_of, is_inside}
 use Rattle.tabled_grid.specs.Site.{Direction, Horizontal, Vertical, Spot, Edge, Crossing, Site, the_default, at_spot, at_offset}
-use Rattle.tabled_grid.specs.Event.{sign, Written, Event, write, erase, level_sites, offset_sites, line_sites, these_sites}
+use Rattle.tabled_grid.specs.Event.{sign, Written, Event, write, erase, level_sites, offset_sites, line_sites, one_site}
 use Rattle.tabled_grid.specs.Drawn.{written}
 use Rattle.tabled_grid.specs.Lines as lines
 
@@ -45,7 +45,7 @@ abbrev pub cell_set : {T : Type 0} → Place → T → List (Event T)
 cell_set place value = write (at_spot (spot_of place)) (sign value) ∷ []
 
 abbrev pub cell_erased : {T : Type 0} → Place → List (Event T)
-cell_erased place = erase (these_sites (at_spot (spot_of place) ∷ [])) ∷ []
+cell_erased place = erase (one_site (at_spot (spot_of place))) ∷ []
 
 -- a value written at the spot of a place, where both the place and the value are there
 abbrev pub given_write : {T : Type 0} → Option Place × Option T → Option (Event T)
@@ -74,7 +74,7 @@ entity_border_set entity (rows, cols) border = borders_of (rows, cols) border (c
 
 -- the spots of places erased
 unfoldable pub places_erased : {T : Type 0} → List (Option Place) → List (Event T)
-places_erased places = erase (these_sites (filter_map (option_map (λ place. at_spot (spot_of place))) places)) ∷ []
+places_erased places = filter_map (option_map (λ place. erase (one_site (at_spot (spot_of place))))) places
 
 -- the sides and corners of a cell erased
 abbrev pub border_erased : {T : Type 0} → Position → List (Event T)
@@ -90,7 +90,7 @@ entity_border_erased entity (rows, cols) = borders_erased (rows, cols) (cells_of
 
 -- spots erased
 unfoldable pub spots_erased : {T : Type 0} → List Spot → List (Event T)
-spots_erased spots = erase (these_sites (map at_spot spots)) ∷ []
+spots_erased spots = map (λ spot. erase (one_site (at_spot spot))) spots
 
 -- the edge of a line over a column or beside a row, and its crossing with a line of the other direction
 abbrev pub edge_of : LineOf → ℕ → Spot

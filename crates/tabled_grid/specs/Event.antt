@@ -1,22 +1,17 @@
 -- Events: what is written and erased, in order, and what a list of them leaves.
-use Rattle.std.specs.Prelude.{◌≡◌, ℕ, Bool, true, false, ◌==◌, if◌then◌else◌, Option, Some, None, List, filter, option_and_then}
+use Rattle.std.specs.Prelude.{◌≡◌, Bool, true, false, ◌==◌, if◌then◌else◌, Option, Some, None, List, filter, option_and_then}
 use Rattle.std.specs.List.{list_any, last_or}
-use Rattle.tabled_grid.specs.declared.place.LineOf.{LineOf}
-use Rattle.tabled_grid.specs.Site.{Direction, Site, level, same_direction, same_line, same_site, of_line, at_offset}
-
+use Rattle.tabled_grid.specs.Site.{Site, level, same_direction, same_line, same_site, of_line, at_offset}
 -- what is written at a site: a character or a color, or the bare mark that a custom line stands
-pub data Written (T : Type 0) : Type 0 where
-  sign : T → Written T
-  standing : Written T
-
+pub use Rattle.tabled_grid.specs.declared.event.Written.{Written}
+pub use Rattle.tabled_grid.specs.declared.event.Written.TheVariants.{Sign as sign, Standing as standing}
 -- the sites that an erasure clears: all, those of one level, both kinds of offsets on the edges of one direction, those
--- of one custom line, or the ones listed
-pub data Region : Type 0 where
-  every_site : Region
-  level_sites : ℕ → Region
-  offset_sites : Direction → Region
-  line_sites : LineOf → Region
-  these_sites : List Site → Region
+-- of one custom line, or one
+pub use Rattle.tabled_grid.specs.declared.event.Region.{Region}
+pub use Rattle.tabled_grid.specs.declared.event.Region.TheVariants.{All as every_site, Level as level_sites, Offsets as offset_sites, Line as line_sites, One as one_site}
+-- something is written at a site, or a region is cleared
+pub use Rattle.tabled_grid.specs.declared.event.Event.{Event}
+pub use Rattle.tabled_grid.specs.declared.event.Event.TheVariants.{Write as write, Erase as erase}
 
 abbrev pub within : Region → Site → Bool
 within every_site q = true
@@ -25,12 +20,7 @@ within (offset_sites d) (at_offset e r c offset) = same_direction d e
 within (offset_sites d) _ = false
 within (line_sites l) (of_line m p) = same_line l m
 within (line_sites l) _ = false
-within (these_sites qs) q = list_any (same_site q) qs
-
--- something is written at a site, or a region is cleared
-pub data Event (T : Type 0) : Type 0 where
-  write : Site → Written T → Event T
-  erase : Region → Event T
+within (one_site p) q = same_site q p
 
 -- whether the event decides what the site has
 abbrev pub covers : {T : Type 0} → Site → Event T → Bool

@@ -10,10 +10,19 @@ pub use Rattle.tabled_grid.specs.declared.site.Direction.{Direction}
 pub use Rattle.tabled_grid.specs.declared.site.Direction.TheVariants.{Horizontal, Vertical}
 pub use Rattle.tabled_grid.specs.declared.site.Spot.{Spot}
 pub use Rattle.tabled_grid.specs.declared.site.Spot.TheVariants.{Edge, Crossing}
-
 -- where a line stands among those of its direction: the first, the last, which closes the table, or one between
 pub use Rattle.tabled_grid.specs.declared.place.Rank.{Rank}
 pub use Rattle.tabled_grid.specs.declared.place.Rank.TheVariants.{First as first, Inner as inner, Last as last}
+-- the fifteen classes: the edges of one direction on the lines of one rank, and the crossings of a horizontal line
+-- of one rank with a vertical line of another
+pub use Rattle.tabled_grid.specs.declared.site.Class.{Class}
+pub use Rattle.tabled_grid.specs.declared.site.Class.TheVariants.{Edges as edges, Crossings as crossings}
+-- the parts of a custom line: the mark that it stands, its edges, and its crossings with the lines of one rank
+pub use Rattle.tabled_grid.specs.declared.site.Part.{Part}
+pub use Rattle.tabled_grid.specs.declared.site.Part.TheVariants.{Mark as mark, Edges as main_edges, Crossings as meeting}
+-- where something can be kept
+pub use Rattle.tabled_grid.specs.declared.site.Site.{Site}
+pub use Rattle.tabled_grid.specs.declared.site.Site.TheVariants.{Default as the_default, Class as of_class, Line as of_line, Cell as at_spot, Offset as at_offset}
 
 -- whether line n, of the lines 0 to count, stands there
 abbrev pub stands : Rank → ℕ → ℕ → Bool
@@ -24,26 +33,6 @@ stands last count n = n == count
 -- where line n stands, of the lines 0 to count
 abbrev pub rank : ℕ → ℕ → Rank
 rank count n = if n == 0 then first else (if n == count then last else inner)
-
--- the fifteen classes: the edges of one direction on the lines of one rank, and the crossings of a horizontal line
--- of one rank with a vertical line of another
-pub data Class : Type 0 where
-  edges : Direction → Rank → Class
-  crossings : Rank → Rank → Class
-
--- the parts of a custom line: the mark that it stands, its edges, and its crossings with the lines of one rank
-pub data Part : Type 0 where
-  mark : Part
-  main_edges : Part
-  meeting : Rank → Part
-
--- where something can be kept
-pub data Site : Type 0 where
-  the_default : Site
-  of_class : Class → Site
-  of_line : LineOf → Part → Site
-  at_spot : Spot → Site
-  at_offset : Direction → ℕ → ℕ → Offset → Site
 
 -- how strong what is kept there is: 0 the default, 1 classes, 2 custom vertical lines, 3 custom horizontal lines,
 -- 4 cells, 5 offsets from an edge's end, 6 offsets from its start

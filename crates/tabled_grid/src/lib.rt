@@ -12,6 +12,7 @@ mod cells;
 mod counted_map;
 mod counter;
 mod custom_lines;
+mod event;
 mod keep;
 mod keys;
 mod laws;
@@ -25,6 +26,7 @@ mod site;
 mod writes;
 
 pub use borders::Borders;
+pub use event::{Event, Region, Written};
 pub use laws::{
     changes_in_a_row, equal_where_same_is_kept, read_alike, shown_after_change, shows_its_writes,
 };
@@ -33,7 +35,7 @@ pub use lines::{HorizontalLine, VerticalLine};
 pub use offset::Offset;
 pub use place::{LineOf, Place, Rank};
 pub use probes::Probes;
-pub use site::{Direction, Spot};
+pub use site::{Class, Direction, Part, Site, Spot};
 pub use tabled_border::{ANSIBuf, ANSIFmt, ANSIStr, AnsiText, Border, Keep, OutOfMemory};
 pub use tabled_object::{
     Cell, Column, Columns, Combine, Difference, DifferenceIterator, Dimension, Entity,

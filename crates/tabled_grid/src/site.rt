@@ -1,8 +1,8 @@
-//! Where cells keep something: at an edge, with all its places, or at a crossing.
+//! Where a table keeps something.
 
 ghost use Rattle.std.specs.Prelude.{◌≡◌};
 
-use crate::{LineOf, Place};
+use crate::{LineOf, Offset, Place, Rank};
 
 /// Which way an edge runs.
 #[derive(Clone, Copy, Debug, PartialEq, Eq, PartialOrd, Ord)]
@@ -21,6 +21,41 @@ pub enum Spot {
     Edge(Direction, usize, usize),
     /// The crossing of a horizontal line and a vertical line.
     Crossing(usize, usize),
+}
+
+/// What a class record has one value for.
+#[derive(Clone, Copy, Debug, PartialEq, Eq)]
+pub enum Class {
+    /// The edges of one direction, on the lines of one rank.
+    Edges(Direction, Rank),
+    /// The crossings of the horizontal lines of one rank with the vertical lines of another.
+    Crossings(Rank, Rank),
+}
+
+/// What a custom line has.
+#[derive(Clone, Copy, Debug, PartialEq, Eq)]
+pub enum Part {
+    /// The mark that it stands.
+    Mark,
+    /// Its edges.
+    Edges,
+    /// Its crossings with the lines of one rank.
+    Crossings(Rank),
+}
+
+/// Where something can be kept.
+#[derive(Clone, Copy, Debug, PartialEq, Eq)]
+pub enum Site {
+    /// The default.
+    Default,
+    /// In the class record.
+    Class(Class),
+    /// At a custom line.
+    Line(LineOf, Part),
+    /// At the cell level of an edge or a crossing.
+    Cell(Spot),
+    /// At a numbered place of an edge, which is named as in [`Spot::Edge`].
+    Offset(Direction, usize, usize, Offset),
 }
 
 impl Place {

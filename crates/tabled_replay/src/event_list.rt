@@ -3,71 +3,20 @@
 //! It keeps nothing but the list, and answers each question by going over it from the start, as the
 //! definitions of the events say. The tests of the store compare the two. Nothing else calls it.
 
-ghost use Rattle.std.specs.Prelude.{◌≡◌, ◌≤◌, map, option_map};
+ghost use Rattle.std.specs.Prelude.{◌≡◌, ◌≤◌};
 ghost use Rattle.tabled_grid.specs.Site.{stands as stands_at, level as level_at, same_site};
 ghost use Rattle.tabled_grid.specs.Event.{within as is_within, covers as is_covering, replay as replayed};
 ghost use Rattle.tabled_grid.specs.Value.{value as value_at, first_sign as first_sign_at};
 ghost use Rattle.tabled_grid.specs.Drawn.{draws as is_drawing, drawn as is_drawn};
-ghost use Rattle.tabled_replay.specs.EventList.{site_of, region_of, written_of, event_of};
 ghost use Rattle.tabled_grid.specs.declared.place.LineOf.{LineOf as Line};
 
-use tabled_grid::{Direction, LineOf, Offset, Place, Rank, Spot};
-
-/// Where something can be kept.
-#[derive(Clone, Copy, Debug, PartialEq, Eq)]
-pub enum Site {
-    /// The default.
-    Default,
-    /// The class of the edges of one direction, on the lines of one rank.
-    Edges(Direction, Rank),
-    /// The class of the crossings of a horizontal line of one rank with a vertical one of another.
-    Crossings(Rank, Rank),
-    /// The mark that a custom line stands.
-    Mark(LineOf),
-    /// The edges of a custom line.
-    Main(LineOf),
-    /// The crossings of a custom line with the lines of one rank.
-    Meeting(LineOf, Rank),
-    /// A cell's edge or crossing.
-    Cell(Spot),
-    /// A numbered place of an edge.
-    Offset(Direction, usize, usize, Offset),
-}
-
-/// The sites that an erasure clears.
-#[derive(Clone, Copy, Debug, PartialEq, Eq)]
-pub enum Region {
-    /// All sites of one level.
-    Level(usize),
-    /// Both kinds of offsets on the edges of one direction.
-    Offsets(Direction),
-    /// All parts of one custom line.
-    Line(LineOf),
-    /// One site.
-    One(Site),
-}
-
-/// What is kept at a site.
-#[derive(Clone, Copy, Debug, PartialEq, Eq)]
-pub enum Written {
-    /// A character.
-    Sign(char),
-    /// The mark that a custom line stands.
-    Standing,
-}
-
-/// A write, or an erasure.
-#[derive(Clone, Copy, Debug, PartialEq, Eq)]
-pub enum Event {
-    /// What is kept at a site from now on.
-    Write(Site, Written),
-    /// Nothing is kept at the sites of the region from now on.
-    Erase(Region),
-}
+use tabled_grid::{
+    Class, Direction, Event, LineOf, Offset, Part, Place, Rank, Region, Site, Spot, Written,
+};
 
 /// What a list of events leaves at a site.
-pub fn replay(events: &[Event], site: Site) -> Option<Written>
-    ensures { option_map written_of result ≡ replayed (map event_of events.now) (site_of site) }
+pub fn replay(events: &[Event<char>], site: Site) -> Option<Written<char>>
+    ensures { result ≡ replayed events.now site }
 {
     let mut found = None;
     for event in events {
@@ -83,8 +32,13 @@ pub fn replay(events: &[Event], site: Site) -> Option<Written>
 
 /// The value of a place, in a table of `shape.0` rows and `shape.1` columns, where its edge is `size`
 /// characters long.
-pub fn value(events: &[Event], shape: (usize, usize), size: usize, place: Place) -> Option<char>
-    ensures { result ≡ value_at (replayed (map event_of events.now)) shape size place }
+pub fn value(
+    events: &[Event<char>],
+    shape: (usize, usize),
+    size: usize,
+    place: Place,
+) -> Option<char>
+    ensures { result ≡ value_at (replayed events.now) shape size place }
 {
     if !place.is_inside(shape, size) {
         return None;
@@ -97,8 +51,8 @@ pub fn value(events: &[Event], shape: (usize, usize), size: usize, place: Place)
                 Site::Offset(Direction::Horizontal, row, col, Offset::Start(at)),
                 Site::Offset(Direction::Horizontal, row, col, Offset::End(size - 1 - at)),
                 Site::Cell(Spot::Edge(Direction::Horizontal, row, col)),
-                Site::Main(LineOf::Horizontal(row)),
-                Site::Edges(Direction::Horizontal, Rank::of(row, rows)),
+                Site::Line(LineOf::Horizontal(row), Part::Edges),
+                Site::Class(Class::Edges(Direction::Horizontal, Rank::of(row, rows))),
                 Site::Default,
             ],
         ),
@@ -108,8 +62,8 @@ pub fn value(events: &[Event], shape: (usize, usize), size: usize, place: Place)
                 Site::Offset(Direction::Vertical, row, col, Offset::Start(at)),
                 Site::Offset(Direction::Vertical, row, col, Offset::End(size - 1 - at)),
                 Site::Cell(Spot::Edge(Direction::Vertical, row, col)),
-                Site::Main(LineOf::Vertical(col)),
-                Site::Edges(Direction::Vertical, Rank::of(col, cols)),
+                Site::Line(LineOf::Vertical(col), Part::Edges),
+                Site::Class(Class::Edges(Direction::Vertical, Rank::of(col, cols))),
                 Site::Default,
             ],
         ),
@@ -120,9 +74,9 @@ pub fn value(events: &[Event], shape: (usize, usize), size: usize, place: Place)
                 events,
                 &[
                     Site::Cell(Spot::Crossing(row, col)),
-                    Site::Meeting(LineOf::Horizontal(row), col_rank),
-                    Site::Meeting(LineOf::Vertical(col), row_rank),
-                    Site::Crossings(row_rank, col_rank),
+                    Site::Line(LineOf::Horizontal(row), Part::Crossings(col_rank)),
+                    Site::Line(LineOf::Vertical(col), Part::Crossings(row_rank)),
+                    Site::Class(Class::Crossings(row_rank, col_rank)),
                     Site::Default,
                 ],
             )
@@ -131,8 +85,8 @@ pub fn value(events: &[Event], shape: (usize, usize), size: usize, place: Place)
 }
 
 /// Whether a line is drawn, of the lines 0 to `count` of its direction.
-pub fn drawn(events: &[Event], count: usize, line: LineOf) -> bool
-    ensures { result ≡ is_drawn (map event_of events.now) count line }
+pub fn drawn(events: &[Event<char>], count: usize, line: LineOf) -> bool
+    ensures { result ≡ is_drawn events.now count line }
 {
     if line.number() > count {
         return false;
@@ -148,8 +102,8 @@ pub fn drawn(events: &[Event], count: usize, line: LineOf) -> bool
 }
 
 /// The first character that is kept at one of the sites.
-fn first_sign(events: &[Event], sites: &[Site]) -> Option<char>
-    ensures { result ≡ first_sign_at (replayed (map event_of events.now)) (map site_of sites.now) }
+fn first_sign(events: &[Event<char>], sites: &[Site]) -> Option<char>
+    ensures { result ≡ first_sign_at (replayed events.now) sites.now }
 {
     for site in sites {
         if let Some(Written::Sign(character)) = replay(events, *site) {
@@ -160,8 +114,8 @@ fn first_sign(events: &[Event], sites: &[Site]) -> Option<char>
 }
 
 /// Whether an event decides what a site has.
-fn covers(event: Event, site: Site) -> bool
-    ensures { result ≡ is_covering (site_of site) (event_of event) }
+fn covers(event: Event<char>, site: Site) -> bool
+    ensures { result ≡ is_covering site event }
 {
     match event {
         Event::Write(at, _) => same(site, at),
@@ -170,16 +124,17 @@ fn covers(event: Event, site: Site) -> bool
 }
 
 fn within(region: Region, site: Site) -> bool
-    ensures { result ≡ is_within (region_of region) (site_of site) }
+    ensures { result ≡ is_within region site }
 {
     match region {
+        Region::All => true,
         Region::Level(number) => level(site) == number,
         Region::Offsets(direction) => match site {
             Site::Offset(way, ..) => direction == way,
             _ => false,
         },
         Region::Line(line) => match site {
-            Site::Mark(other) | Site::Main(other) | Site::Meeting(other, _) => line == other,
+            Site::Line(other, _) => line == other,
             _ => false,
         },
         Region::One(at) => same(site, at),
@@ -187,20 +142,13 @@ fn within(region: Region, site: Site) -> bool
 }
 
 fn same(site: Site, other: Site) -> bool
-    ensures { result ≡ same_site (site_of site) (site_of other) }
+    ensures { result ≡ same_site site other }
 {
     match (site, other) {
         (Site::Default, Site::Default) => true,
-        (Site::Edges(way, rank), Site::Edges(other_way, other_rank)) => {
-            way == other_way && rank == other_rank
-        }
-        (Site::Crossings(row, col), Site::Crossings(other_row, other_col)) => {
-            row == other_row && col == other_col
-        }
-        (Site::Mark(line), Site::Mark(other_line)) => line == other_line,
-        (Site::Main(line), Site::Main(other_line)) => line == other_line,
-        (Site::Meeting(line, rank), Site::Meeting(other_line, other_rank)) => {
-            line == other_line && rank == other_rank
+        (Site::Class(class), Site::Class(other_class)) => class == other_class,
+        (Site::Line(line, part), Site::Line(other_line, other_part)) => {
+            line == other_line && part == other_part
         }
         (Site::Cell(spot), Site::Cell(other_spot)) => spot == other_spot,
         (
@@ -213,15 +161,13 @@ fn same(site: Site, other: Site) -> bool
 
 /// How strong what is kept at a site is.
 fn level(site: Site) -> usize
-    ensures { result ≡ level_at (site_of site) }
+    ensures { result ≡ level_at site }
 {
     match site {
         Site::Default => 0,
-        Site::Edges(..) | Site::Crossings(..) => 1,
-        Site::Mark(line) | Site::Main(line) | Site::Meeting(line, _) => match line {
-            LineOf::Vertical(_) => 2,
-            LineOf::Horizontal(_) => 3,
-        },
+        Site::Class(_) => 1,
+        Site::Line(LineOf::Vertical(_), _) => 2,
+        Site::Line(LineOf::Horizontal(_), _) => 3,
         Site::Cell(_) => 4,
         Site::Offset(_, _, _, Offset::End(_)) => 5,
         Site::Offset(_, _, _, Offset::Start(_)) => 6,
@@ -241,7 +187,7 @@ fn stands(rank: Rank, count: usize, line: usize) -> bool
 
 /// Whether something kept at a site draws the line, of the lines 0 to `count` of its direction.
 fn draws(count: usize, line: LineOf, site: Site) -> bool
-    ensures { result ≡ is_drawing count line (site_of site) }
+    ensures { result ≡ is_drawing count line site }
 {
     match line {
         LineOf::Horizontal(row) => draws_row(count, row, site),
@@ -250,30 +196,30 @@ fn draws(count: usize, line: LineOf, site: Site) -> bool
 }
 
 fn draws_row(count: usize, line: usize, site: Site) -> bool
-    ensures { result ≡ is_drawing count (Line.Horizontal line) (site_of site) }
+    ensures { result ≡ is_drawing count (Line.Horizontal line) site }
 {
     match site {
         Site::Default => true,
-        Site::Edges(Direction::Horizontal, rank) | Site::Crossings(rank, _) => {
+        Site::Class(Class::Edges(Direction::Horizontal, rank) | Class::Crossings(rank, _)) => {
             stands(rank, count, line)
         }
-        Site::Mark(LineOf::Horizontal(row)) => row == line,
-        Site::Meeting(LineOf::Vertical(_), Rank::First) => line == 0,
-        Site::Meeting(LineOf::Vertical(_), Rank::Last) => line == count,
-        Site::Cell(Spot::Edge(Direction::Horizontal, row, _) | Spot::Crossing(row, _)) => row == line,
+        Site::Line(LineOf::Horizontal(row), Part::Mark) => row == line,
+        Site::Line(LineOf::Vertical(_), Part::Crossings(Rank::First)) => line == 0,
+        Site::Line(LineOf::Vertical(_), Part::Crossings(Rank::Last)) => line == count,
+        Site::Cell(Spot::Edge(Direction::Horizontal, row, _) | Spot::Crossing(row, _)) => row
+            == line,
         _ => false,
     }
 }
 
 fn draws_col(count: usize, line: usize, site: Site) -> bool
-    ensures { result ≡ is_drawing count (Line.Vertical line) (site_of site) }
+    ensures { result ≡ is_drawing count (Line.Vertical line) site }
 {
     match site {
         Site::Default => true,
-        Site::Edges(Direction::Vertical, rank)
-        | Site::Crossings(_, rank)
-        | Site::Meeting(LineOf::Horizontal(_), rank) => stands(rank, count, line),
-        Site::Mark(LineOf::Vertical(col)) => col == line,
+        Site::Class(Class::Edges(Direction::Vertical, rank) | Class::Crossings(_, rank))
+        | Site::Line(LineOf::Horizontal(_), Part::Crossings(rank)) => stands(rank, count, line),
+        Site::Line(LineOf::Vertical(col), Part::Mark) => col == line,
         Site::Cell(Spot::Edge(Direction::Vertical, _, col) | Spot::Crossing(_, col)) => col == line,
         _ => false,
     }

@@ -6,4 +6,4 @@
 
 mod event_list;
 
-pub use event_list::{Event, Region, Site, Written, drawn, replay, value};
+pub use event_list::{drawn, replay, value};

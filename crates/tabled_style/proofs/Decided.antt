@@ -1,7 +1,10 @@
 -- A configuration to which a style was applied keeps what the style writes, whatever it kept before.
 use Rattle.std.proofs.Common.{◌≡◌, ℕ, Bool, true, false, cond, Option, None, List, [], ◌∷◌, ◌++◌, refl, ap, subst, ◌∙◌}
 use Rattle.tabled_grid.specs.Event as grid
-use Rattle.tabled_grid.specs.Site.{Site}
+use Rattle.tabled_grid.specs.declared.event.Event.TheVariants.{Erase as erase}
+use Rattle.tabled_grid.specs.declared.event.Region.TheVariants.{All as every_site}
+use Rattle.tabled_grid.specs.declared.event.Event.{Event}
+use Rattle.tabled_grid.specs.declared.site.Site.{Site}
 use Rattle.tabled_grid.specs.State.{state_at, class_record_set}
 use Rattle.tabled_grid.specs.Value.{value, sign_or, first_sign, inside, sites}
 use Rattle.tabled_grid.specs.declared.place.Place.{Place}
@@ -15,18 +18,18 @@ use Rattle.tabled_style.specs.Deciding.{written_by}
 pub characters_shown : (style : Shown) (old new : Configuration) → Changes (borders_replaced style.borders style.horizontals style.verticals) old new → grid.Shows (written_by style) (state_at new.characters)
 unfolding borders_replaced written_by grid.Shows grid.Changes
 characters_shown style old new changes q =
-    let es : List (grid.Event ℕ) = horizontal_lines_put style.horizontals ++ vertical_lines_put style.verticals ++ class_record_set style.borders in
-    let changed : grid.Changes (grid.erase grid.every_site ∷ es) (state_at old.characters) (state_at new.characters) =
-    subst (λ all. grid.Changes all (state_at old.characters) (state_at new.characters)) (characters_of-both (grid.erase grid.every_site ∷ es) (grid.erase grid.every_site ∷ [])) changes.characters_changed in
-    changed q ∙ replay_cleared grid.every_site es q
+    let es : List (Event ℕ) = horizontal_lines_put style.horizontals ++ vertical_lines_put style.verticals ++ class_record_set style.borders in
+    let changed : grid.Changes (erase every_site ∷ es) (state_at old.characters) (state_at new.characters) =
+    subst (λ all. grid.Changes all (state_at old.characters) (state_at new.characters)) (characters_of-both (erase every_site ∷ es) (erase every_site ∷ [])) changes.characters_changed in
+    changed q ∙ replay_cleared every_site es q
 
 colors_shown : (style : Shown) (old new : Configuration) → Changes (borders_replaced style.borders style.horizontals style.verticals) old new → grid.Shows [] (state_at new.colors)
 unfolding borders_replaced grid.Shows grid.Changes
 colors_shown style old new changes q =
-    let es : List (grid.Event ℕ) = horizontal_lines_put style.horizontals ++ vertical_lines_put style.verticals ++ class_record_set style.borders in
-    let changed : grid.Changes (grid.erase grid.every_site ∷ []) (state_at old.colors) (state_at new.colors) =
-    subst (λ all. grid.Changes all (state_at old.colors) (state_at new.colors)) (colors_of-both (grid.erase grid.every_site ∷ es) (grid.erase grid.every_site ∷ [])) changes.colors_changed in
-    changed q ∙ replay_cleared grid.every_site [] q
+    let es : List (Event ℕ) = horizontal_lines_put style.horizontals ++ vertical_lines_put style.verticals ++ class_record_set style.borders in
+    let changed : grid.Changes (erase every_site ∷ []) (state_at old.colors) (state_at new.colors) =
+    subst (λ all. grid.Changes all (state_at old.colors) (state_at new.colors)) (colors_of-both (erase every_site ∷ es) (erase every_site ∷ [])) changes.colors_changed in
+    changed q ∙ replay_cleared every_site [] q
 
 -- where nothing is kept no place has a value
 none_first : {T : Type 0} (qs : List Site) → first_sign (grid.replay {T = T} []) qs ≡ None

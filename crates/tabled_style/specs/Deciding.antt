@@ -1,6 +1,6 @@
 -- What a table shows after a style.
 use Rattle.std.specs.Prelude.{ℕ, List, ◌++◌}
-use Rattle.tabled_grid.specs.Event.{Event}
+use Rattle.tabled_grid.specs.declared.event.Event.{Event}
 use Rattle.tabled_grid.specs.State.{class_record_set}
 use Rattle.tabled_config.specs.Configuration.{horizontal_lines_put, vertical_lines_put}
 use Rattle.tabled_style.specs.Shown.{Shown}

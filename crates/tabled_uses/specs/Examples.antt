@@ -9,8 +9,11 @@ use Rattle.tabled_grid.specs.declared.place.Place.{Place}
 use Rattle.tabled_grid.specs.declared.offset.Offset.{Offset}
 use Rattle.tabled_grid.specs.declared.site.Direction.TheVariants.{Horizontal, Vertical}
 use Rattle.tabled_grid.specs.declared.site.Spot.TheVariants.{Edge, Crossing}
-use Rattle.tabled_grid.specs.Site.{Site, the_default, at_spot, at_offset}
-use Rattle.tabled_grid.specs.Event.{sign, write, erase, these_sites}
+use Rattle.tabled_grid.specs.declared.site.Site.{Site}
+use Rattle.tabled_grid.specs.declared.site.Site.TheVariants.{Default as the_default, Cell as at_spot, Offset as at_offset}
+use Rattle.tabled_grid.specs.declared.event.Written.TheVariants.{Sign as sign}
+use Rattle.tabled_grid.specs.declared.event.Event.TheVariants.{Write as write, Erase as erase}
+use Rattle.tabled_grid.specs.declared.event.Region.TheVariants.{One as one_site}
 use Rattle.tabled_grid.specs.Lines as lines
 use Rattle.tabled_config.specs.Configuration.{ConfigEvent, of_characters, borders_set, borders_replaced}
 use Rattle.tabled_config.specs.Texts.{Table}
@@ -282,7 +285,7 @@ corner_alone = record {
 -- a character that was erased draws nothing
 unfoldable pub corner_erased : Drawing
 corner_erased = record {
-  events = put (at_spot (Crossing 1 0)) (codes "#") ∷ of_characters (erase (these_sites (at_spot (Crossing 1 0) ∷ []))) ∷ [];
+  events = put (at_spot (Crossing 1 0)) (codes "#") ∷ of_characters (erase (one_site (at_spot (Crossing 1 0)))) ∷ [];
   shape = (2, 1);
   widths = 3 ∷ [];
   heights = 1 ∷ 1 ∷ [];

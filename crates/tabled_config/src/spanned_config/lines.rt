@@ -4,7 +4,8 @@ ghost use Rattle.std.specs.Prelude.{◌≡◌, None, OnOk, OnErr, IfOk, option_c
 ghost use Rattle.std.specs.Ordering.{nat_cmp};
 ghost use Rattle.std.specs.FinMap as map;
 ghost use Rattle.tabled_grid.specs.Table.{table};
-ghost use Rattle.tabled_grid.specs.Site.{of_line, mark};
+ghost use Rattle.tabled_grid.specs.declared.site.Site.TheVariants.{Line as of_line};
+ghost use Rattle.tabled_grid.specs.declared.site.Part.TheVariants.{Mark as mark};
 ghost use Rattle.tabled_grid.specs.Calls.{line_set_across, line_set_down, line_removed};
 ghost use Rattle.tabled_grid.specs.State.{state_at};
 ghost use Rattle.tabled_grid.specs.declared.place.LineOf.{LineOf as Line};

@@ -3,7 +3,7 @@
 ghost use Rattle.std.specs.Prelude.{◌≡◌, None, OnOk, OnErr};
 ghost use Rattle.tabled_grid.specs.declared.site.Direction.TheVariants.{Horizontal, Vertical};
 ghost use Rattle.tabled_grid.specs.Calls.{edge_offset, offsets_erased};
-ghost use Rattle.tabled_grid.specs.Site.{at_offset};
+ghost use Rattle.tabled_grid.specs.declared.site.Site.TheVariants.{Offset as at_offset};
 ghost use Rattle.tabled_grid.specs.State.{state_at};
 ghost use Rattle.tabled_grid.specs.declared.place.Place.{Place as Spot};
 ghost use Rattle.tabled_config.specs.Configuration.{Changes, by_characters, by_colors};

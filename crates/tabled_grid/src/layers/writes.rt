@@ -146,7 +146,7 @@ impl<T: Drop> Group<T> for Vec<Write<T>> {
 }
 
 impl<T> Layers<T> {
-    ghost use Rattle.tabled_grid.specs.Event.{sign, write, erase, these_sites, Changes};
+    ghost use Rattle.tabled_grid.specs.Event.{sign, write, erase, one_site, Changes};
     ghost use Rattle.tabled_grid.specs.Site.{at_spot};
     ghost use Rattle.tabled_grid.specs.State.{State, state_at};
     ghost use Rattle.tabled_grid.specs.Calls.{writes_anew};
@@ -217,7 +217,7 @@ impl<T> Layers<T> {
     fn erase_at(&mut self, target: Target)
     where
         T: Drop,
-        ensures { Changes (erase (these_sites (site_of target ∷ [])) ∷ []) (state_at self.old) (state_at self.new) }
+        ensures { Changes (erase (one_site (site_of target)) ∷ []) (state_at self.old) (state_at self.new) }
     {
         match target {
             Target::Cell(place) => self.erase_spot(place.spot()),
@@ -232,7 +232,7 @@ impl<T> Layers<T> {
     pub(super) fn erase_spot(&mut self, spot: Spot)
     where
         T: Drop,
-        ensures { Changes (erase (these_sites (at_spot spot ∷ [])) ∷ []) (state_at self.old) (state_at self.new) }
+        ensures { Changes (erase (one_site (at_spot spot)) ∷ []) (state_at self.old) (state_at self.new) }
     {
         take_cell(&mut self.cells, &mut self.on_lines, spot);
     }

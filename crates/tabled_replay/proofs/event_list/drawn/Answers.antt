@@ -1,6 +1,6 @@
 use Rattle.std.proofs.Common.{◌<◌, ◌≤◌, is_some, sym, ap, ◌∙◌, arith}
 use Rattle.tabled_grid.specs.Drawn.{number}
-use Rattle.tabled_replay.proofs.EventListLemmas.{drawn_past, drawn_found, drawn_nowhere, is_some-written}
+use Rattle.tabled_replay.proofs.EventListLemmas.{drawn_past, drawn_found, drawn_nowhere}
 use Rattle.tabled_replay.proofs.event_list.drawn.Goals as goal
 
 pub returns-then-number-count : goal.returns-then-number-count
@@ -14,7 +14,7 @@ returns-then-is_some c =
     sym
     (drawn_found _ _ _ _ _ _ _ c.loop-event-test.true c.in-Write.is upto c.loop-event.invariant
     (sym c.draws.ensures ∙ c.if-draws.true)
-    (sym (ap is_some c.replay.ensures) ∙ is_some-written c.replay.result ∙ sym c.is_some.ensures ∙ c.if-is_some.true))
+    (sym (ap is_some c.replay.ensures) ∙ sym c.is_some.ensures ∙ c.if-is_some.true))
 
 pub returns : goal.returns
 returns c =
