@@ -24,6 +24,16 @@ impl Keep for char {
     }
 }
 
+impl Keep for bool {
+    /// A copy, which takes no memory.
+    fn keep(&self, _alloc: Global) -> Result<Self, OutOfMemory>
+        ensures copy { IfOk result (λ copy. copy ≡ self.now) }
+        ensures always { IsOk result }
+    {
+        Ok(*self)
+    }
+}
+
 impl Keep for u128 {
     /// A copy, which takes no memory.
     fn keep(&self, _alloc: Global) -> Result<Self, OutOfMemory>

@@ -1,0 +1,5 @@
+pub mod Shade
+pub mod Painting
+pub mod Shown
+pub mod Order
+pub mod BorderColors

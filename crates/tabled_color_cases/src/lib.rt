@@ -1,0 +1,13 @@
+//! Single cases of colors and of settings by entity: each expected value is reasoned by hand.
+#![tactic(auto)]
+
+#[cfg(test)]
+mod border_colors;
+#[cfg(test)]
+mod colorized;
+#[cfg(test)]
+mod colors;
+#[cfg(test)]
+mod constants;
+#[cfg(test)]
+mod settings;

@@ -1,0 +1,146 @@
+-- What the calls of the last events leave, slot by slot.
+use Rattle.std.proofs.Common.{◌≡◌, ℕ, ◌+◌, ◌<◌, ◌≤◌, suc, Bool, true, false, cond, not, ◌||◌, ◌&&◌, ◌==◌, Option, Some, None, List, [], ◌∷◌, ◌++◌, length, take, drop, get_or, filter, is_some, refl, sym, ap, ◌∙◌, subst, arith, take-append-drop}
+use Rattle.std.specs.List.{list_any, last_or}
+use Rattle.std.specs.Map.{lookup}
+use Rattle.std.specs.BTreeMap.{BTreeMap, get, is_at, Updates}
+use Rattle.std.proofs.lemmas.List.{take_more, drop_more, take_all}
+use Rattle.std.proofs.lemmas.List.Elements.{filter_map-append}
+use Rattle.std.proofs.lemmas.List.Folds.{list_any-append}
+use Rattle.tabled_object.specs.declared.entity.Entity.{Entity}
+use Rattle.tabled_object.specs.declared.entity.Entity.TheVariants.{Global, Column, Row, Cell}
+use Rattle.tabled_object.specs.declared.position.Position.{Position}
+use Rattle.tabled_object.specs.Entities.{covers}
+use Rattle.tabled_settings.specs.Setting.{EntityEvent, covering, same_entity}
+use Rattle.tabled_settings.specs.Live.{without, has_event}
+use Rattle.tabled_settings.specs.Slots.{standing, place, emptied, event_at, later_of, IsOnce, entity_cmp, HasPlaces}
+use Rattle.tabled_settings.specs.SameLaws.{entity_equiv}
+use Rattle.tabled_settings.proofs.Entities.{equal_entities, entity_itself, found_entity}
+use Rattle.tabled_settings.proofs.Placing.{Tells, is_placed, place-push, place-emptied, standing-emptied, standing-push, standing-push_hole, length-emptied, IsOnce-filter, IsOnce-push, none_left, none_filtered, none_before, filter_all, place_or, place_alike, last_at}
+
+entities_told : Tells same_entity
+entities_told = record { equal = equal_entities; itself = entity_itself }
+
+-- ---- one event more
+
+module _ {V : Type 0} (slots after : List (Option (Entity × V))) (entity : Entity) (value : V) (once : IsOnce same_entity (standing slots)) (made : after ≡ emptied (place (same_entity entity) slots) slots ++ Some (entity, value) ∷ []) where
+  pub standing-put : standing after ≡ filter (λ event. not (same_entity entity event.0)) (standing slots) ++ (entity, value) ∷ []
+  standing-put =
+      ap standing made ∙ standing-push (emptied (place (same_entity entity) slots) slots) (entity, value)
+      ∙ ap (λ es. es ++ (entity, value) ∷ []) (standing-emptied entities_told entity slots once)
+
+  pub once-put : IsOnce same_entity (standing after)
+  once-put =
+      subst (IsOnce same_entity) (sym standing-put)
+      (IsOnce-push entities_told (filter (λ event. not (same_entity entity event.0)) (standing slots)) (entity, value) (IsOnce-filter entities_told (λ event. not (same_entity entity event.0)) (standing slots) once) (none_left (same_entity entity) (standing slots)))
+
+  pub places-put : (places new : BTreeMap Entity ℕ) (n : ℕ) → HasPlaces places slots → n ≡ length slots → Updates entity_cmp places new entity (Some n) → HasPlaces new after
+  places-put places new n has end updates other =
+      updates.0 other
+      ∙ (λ i. cond (found_entity entity other i) (Some (end i)) (has other i))
+      ∙ either (same_entity other entity) refl
+      ∙ sym (
+      ap (place (same_entity other)) made ∙ place-push (same_entity other) (emptied (place (same_entity entity) slots) slots) (entity, value)
+      ∙ (λ i. cond (same_entity other entity) (Some (length-emptied (place (same_entity entity) slots) slots i)) (place-emptied entities_told entity other slots once i)))
+    where
+      either : (b : Bool) → same_entity other entity ≡ b
+          → cond b (Some (length slots)) (place (same_entity other) slots) ≡ cond b (Some (length slots)) (cond (same_entity entity other) None (place (same_entity other) slots))
+      either true h = refl
+      either false h = sym (ap (λ b. cond b None (place (same_entity other) slots)) (entity_equiv.symm entity other ∙ h))
+
+-- the slots after: those before with a hole where the entity's event stood, and the new event at their end
+pub slots_after : {V : Type 0} (slots reserved holed after : List (Option (Entity × V))) (before found : Option ℕ) (entity : Entity) (value : V)
+    → reserved ≡ slots → before ≡ found → found ≡ place (same_entity entity) slots → holed ≡ emptied before reserved → after ≡ holed ++ Some (entity, value) ∷ []
+    → after ≡ emptied (place (same_entity entity) slots) slots ++ Some (entity, value) ∷ []
+slots_after slots reserved holed after before found entity value same was has hole pushed =
+    pushed ∙ ap (λ all. all ++ Some (entity, value) ∷ []) (hole ∙ (λ i. emptied ((was ∙ has) i) (same i)))
+
+-- ---- look-ups
+
+or_false : (b : Bool) → (b || false) ≡ b
+or_false true = refl
+or_false false = refl
+
+-- an entity but the one of all cells covers a cell where it is the cell, its row or its column
+covers_by_three : (cell : Position) (entity : Entity) → same_entity Global entity ≡ false
+    → covers entity cell ≡ (same_entity (Cell cell.row cell.col) entity || (same_entity (Row cell.row) entity || same_entity (Column cell.col) entity))
+covers_by_three cell Global h = absurd cc
+covers_by_three cell (Column col) h = refl
+covers_by_three cell (Row row) h = sym (or_false (cell.row == row))
+covers_by_three cell (Cell row col) h = sym (or_false ((cell.row == row) && (cell.col == col)))
+
+pub last_by_three : {T : Type 0} (places : BTreeMap Entity ℕ) (slots : List (Option (EntityEvent T))) (cell : Position) → HasPlaces places slots → has_event Global (standing slots) ≡ false
+    → last_or None (covering (standing slots) cell)
+    ≡ event_at slots (later_of (get entity_cmp places (Cell cell.row cell.col)) (later_of (get entity_cmp places (Row cell.row)) (get entity_cmp places (Column cell.col))))
+last_by_three places slots cell has no_global =
+    last_at (λ entity. covers entity cell) slots
+    ∙ ap (event_at slots) (
+    place_alike (same_entity Global) (λ entity. covers entity cell) (λ e. same_entity (Cell cell.row cell.col) e || (same_entity (Row cell.row) e || same_entity (Column cell.col) e)) (covers_by_three cell) slots no_global
+    ∙ sym (
+    ap (later_of (place (same_entity (Cell cell.row cell.col)) slots)) (place_or (same_entity (Row cell.row)) (same_entity (Column cell.col)) slots)
+    ∙ place_or (same_entity (Cell cell.row cell.col)) (λ e. same_entity (Row cell.row) e || same_entity (Column cell.col) e) slots)
+    ∙ sym (λ i. later_of (has (Cell cell.row cell.col) i) (later_of (has (Row cell.row) i) (has (Column cell.col) i))))
+
+-- ---- none at all
+
+module _ {V : Type 0} (places : BTreeMap Entity ℕ) (slots : List (Option (Entity × V))) (has : HasPlaces places slots) where
+  pub none_stands : length places.entries ≡ 0 → standing slots ≡ []
+  none_stands none = by_entries places.entries refl none (standing slots) refl
+    where
+      by_entries : (es : List (Entity × ℕ)) → places.entries ≡ es → length es ≡ 0 → (events : List (Entity × V)) → standing slots ≡ events → events ≡ []
+      by_entries es is h [] stand = refl
+      by_entries (e ∷ es) is h (event ∷ events) stand = absurd (let no : suc (length es) ≡ 0 = h in omega arith)
+      by_entries [] is h (event ∷ events) stand =
+          absurd (
+          let found : is_some (place (same_entity event.0) slots) ≡ true = is_placed (same_entity event.0) slots ∙ ap (list_any (λ e. same_entity event.0 e.0)) stand ∙ ap (λ b. b || list_any (λ e. same_entity event.0 e.0) events) (entity_itself event.0) in
+          let none : false ≡ is_some (place (same_entity event.0) slots) = sym (ap (λ all. is_some (lookup (is_at (entity_cmp event.0)) all)) is) ∙ ap is_some (has event.0) in
+          let no : false ≡ true = none ∙ found in
+          cc)
+
+  pub none_placed : standing slots ≡ [] → length places.entries ≡ 0
+  none_placed none = by_entries places.entries refl
+    where
+      by_entries : (es : List (Entity × ℕ)) → places.entries ≡ es → length es ≡ 0
+      by_entries [] is = refl
+      by_entries (e ∷ es) is =
+          absurd (
+          let here : is_some (get entity_cmp places e.0) ≡ true = ap (λ all. is_some (lookup (is_at (entity_cmp e.0)) all)) is ∙ ap (λ b. is_some (cond b (Some e.1) (lookup (is_at (entity_cmp e.0)) es))) (found_entity e.0 e.0 ∙ entity_itself e.0) in
+          let none_there : is_some (place (same_entity e.0) slots) ≡ false = is_placed (same_entity e.0) slots ∙ ap (list_any (λ event. same_entity e.0 event.0)) none in
+          let no : true ≡ false = sym here ∙ ap is_some (has e.0) ∙ none_there in
+          cc)
+
+-- ---- copies
+
+module _ {V : Type 0} (slots : List (Option (Entity × V))) (at : ℕ) (slot : Option (Entity × V)) (inside : at < length slots) (is : slot ≡ get_or slots at slot) where
+  seen_more : take (at + 1) slots ≡ take at slots ++ slot ∷ []
+  seen_more = take_more slots at slot inside ∙ ap (λ s. take at slots ++ s ∷ []) (sym is)
+
+  pub copied_hole : slot ≡ None → standing (take (at + 1) slots) ≡ standing (take at slots)
+  copied_hole hole = ap standing (seen_more ∙ ap (λ s. take at slots ++ s ∷ []) hole) ∙ standing-push_hole (take at slots)
+
+  pub copied_event : (event : Entity × V) → slot ≡ Some event → IsOnce same_entity (standing slots)
+      → standing (take (at + 1) slots) ≡ filter (λ other. not (same_entity event.0 other.0)) (standing (take at slots)) ++ event ∷ []
+  copied_event event there once =
+      let further : slots ≡ take at slots ++ Some event ∷ drop (at + 1) slots =
+      sym (take-append-drop at slots) ∙ ap (λ rest. take at slots ++ rest) (drop_more slots at slot inside ∙ ap (λ s. s ∷ drop (at + 1) slots) (sym is ∙ there)) in
+      let stand : standing slots ≡ standing (take at slots) ++ event ∷ standing (drop (at + 1) slots) =
+      ap standing further ∙ filter_map-append (λ s. s) (take at slots) (Some event ∷ drop (at + 1) slots) in
+      ap standing (seen_more ∙ ap (λ s. take at slots ++ s ∷ []) there) ∙ standing-push (take at slots) event
+      ∙ ap (λ es. es ++ event ∷ []) (sym (filter_all (same_entity event.0) (standing (take at slots))
+      (none_before entities_told (standing (take at slots)) event (standing (drop (at + 1) slots)) (subst (IsOnce same_entity) stand once))))
+
+pub copied_all : {V : Type 0} (slots : List (Option (Entity × V))) (at : ℕ) → length slots ≤ at → standing (take at slots) ≡ standing slots
+copied_all slots at past = ap standing (take_all at slots past)
+
+-- ---- all cells
+
+other_than_global : (entity : Entity) → (entity ≡ Global → ⊥) → same_entity Global entity ≡ false
+other_than_global Global h = absurd (h refl)
+other_than_global (Column _) h = refl
+other_than_global (Row _) h = refl
+other_than_global (Cell _ _) h = refl
+
+pub no_global : {T : Type 0} (entity : Entity) (value : Option T) (events new : List (EntityEvent T)) → (entity ≡ Global → ⊥) → has_event Global events ≡ false
+    → new ≡ without entity events ++ (entity, value) ∷ [] → has_event Global new ≡ false
+no_global entity value events new other none made =
+    ap (has_event Global) made ∙ list_any-append (λ event. same_entity Global event.0) (without entity events) ((entity, value) ∷ [])
+    ∙ (λ i. none_filtered (same_entity Global) (λ event. not (same_entity entity event.0)) events none i || (other_than_global entity other i || false))

@@ -1,0 +1,6 @@
+pub mod Setting
+pub mod Live
+pub mod Showing
+pub mod Slots
+pub mod Same
+pub mod SameLaws

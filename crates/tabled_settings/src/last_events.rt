@@ -1,0 +1,130 @@
+//! The last event of each entity, in the order of the events.
+
+ghost use Rattle.std.specs.Prelude.{◌≡◌, ◌↔◌, ◌++◌, ◌∷◌, [], None, false, IsTrue, OnOk, OnErr, option_copied, option_map};
+ghost use Rattle.std.specs.List.{last_or};
+ghost use Rattle.std.specs.Cmp.Lexicographic.{pointwise};
+ghost use Rattle.tabled_object.specs.declared.entity.Entity.{Entity as Which};
+ghost use Rattle.tabled_settings.specs.Setting.{covering};
+ghost use Rattle.tabled_settings.specs.Live.{without, has_event};
+ghost use Rattle.tabled_settings.specs.Same.{same_event};
+
+use crate::slots::{self, Slot};
+use std::alloc::Global;
+use std::collections::BTreeMap;
+use std::marker::Model;
+use tabled_border::{Keep, OutOfMemory};
+use tabled_object::{Entity, Position};
+
+/// The last event of each entity, in the order of these events. In contracts it is their list.
+#[derive(Debug, Drop)]
+pub(crate) struct LastEvents<T> {
+    /// The events in their order, with a hole where an entity had a later one.
+    slots: Vec<Slot<T>>,
+    /// In which slot the event of each entity stands.
+    places: BTreeMap<Entity, usize>,
+}
+
+impl<T> Model for LastEvents<T> {
+    ghost use Rattle.std.specs.Prelude.{List, Option};
+    ghost use Rattle.tabled_object.specs.declared.entity.Entity.{Entity as Which};
+    ghost use Rattle.tabled_settings.specs.Setting.{EntityEvent, same_entity};
+    ghost use Rattle.tabled_settings.specs.Slots.{standing, IsOnce, HasPlaces};
+
+    ghost Value = { List (EntityEvent T) };
+
+    ghost view = { λ last. standing last.slots.items };
+
+    ghost invariant = { λ last. IsOnce same_entity (standing last.slots.items) × HasPlaces last.places last.slots.items };
+}
+
+impl<T> LastEvents<T> {
+    /// No events.
+    pub(crate) fn new(alloc: Global) -> Self
+        ensures { result ≡ [] }
+    {
+        LastEvents {
+            slots: Vec::new(alloc),
+            places: BTreeMap::new(alloc),
+        }
+    }
+
+    /// Whether there is none.
+    pub(crate) fn is_empty(&self) -> bool
+        ensures { IsTrue result ↔ (self.now ≡ []) }
+    {
+        self.places.is_empty()
+    }
+
+    /// Takes all events away.
+    pub(crate) fn clear(&mut self)
+    where
+        T: Drop,
+        ensures { self.new ≡ [] }
+    {
+        self.slots.clear();
+        self.places.clear();
+    }
+
+    /// Adds an event, in place of an earlier one of that entity. Where memory is refused nothing changes.
+    pub(crate) fn put(&mut self, entity: Entity, value: Option<T>) -> Result<(), OutOfMemory>
+    where
+        T: Drop,
+        ensures ok { OnOk result (self.new ≡ without entity self.old ++ (entity, value) ∷ []) }
+        ensures err { OnErr result (self.new ≡ self.old) }
+    {
+        self.close_up();
+        self.slots.reserve(1)?;
+        let before = self.places.insert(entity, self.slots.len())?;
+        slots::empty(&mut self.slots, before);
+        self.slots.push_reserved(Some((entity, value)));
+        Ok(())
+    }
+
+    /// The value of the last event that covers a cell, or none inside for a removal. No event is one of all cells.
+    pub(crate) fn last(&self, cell: Position) -> Option<&Option<T>>
+        requires { has_event Entity.Global self.now ≡ false }
+        ensures { option_copied result ≡ option_map (λ event. event.1) (last_or None (covering self.now cell)) }
+    {
+        let Position { row, col } = cell;
+        let of_row = slots::place_of(&self.places, Entity::Row(row));
+        let of_column = slots::place_of(&self.places, Entity::Column(col));
+        let of_cell = slots::place_of(&self.places, Entity::Cell(row, col));
+        let place = slots::later(of_cell, slots::later(of_row, of_column));
+        slots::value_at(&self.slots, place)
+    }
+
+    /// Closes the holes where they are more than half of the slots. Each time at least as many events came since the
+    /// last time as there are entities, so that a call takes a logarithm of these on the average.
+    fn close_up(&mut self)
+    where
+        T: Drop,
+        ensures { self.new ≡ self.old }
+    {
+        if self.slots.len() / 2 > self.places.len() {
+            self.slots.retain(|slot| slot.is_some());
+            slots::number(&self.slots, &mut self.places);
+        }
+    }
+
+    /// Whether both have the same events in the same order.
+    pub(crate) fn is_same(&self, other: &Self) -> bool
+    where
+        T: PartialEq,
+        ensures { result ≡ pointwise (same_event T.eq) self.now other.now }
+    {
+        slots::stand_alike(&self.slots, &other.slots)
+    }
+}
+
+impl<T: Keep> Keep for LastEvents<T> {
+    fn keep(&self, alloc: Global) -> Result<Self, OutOfMemory> {
+        let mut copy = LastEvents::new(alloc);
+        for slot in &self.slots {
+            match slot {
+                Some((entity, value)) => copy.put(*entity, value.keep(alloc)?)?,
+                None => {}
+            }
+        }
+        Ok(copy)
+    }
+}

@@ -1,0 +1,17 @@
+//! Settings by entity: a map from entities to values in which the last write or removal that covers a cell decides,
+//! and the values of a cell that are set so.
+//!
+//! `docs/DEFINITIONS.md` explains the words of the contracts.
+#![tactic(auto)]
+
+mod alignment;
+mod entity_map;
+mod last_events;
+mod laws;
+mod sides;
+mod slots;
+
+pub use alignment::{AlignmentHorizontal, AlignmentVertical};
+pub use entity_map::EntityMap;
+pub use laws::{changes_in_a_row, shown_after_change, value_is_the_setting};
+pub use sides::Sides;

@@ -1,0 +1,115 @@
+//! Slots of events: a vector with holes, and where each entity's event stands in it.
+
+ghost use Rattle.std.specs.Prelude.{◌≡◌, ◌∷◌, [], ◌<◌, is_some, MatchOption, length, vec_len, vec_capacity, option_copied, option_map};
+ghost use Rattle.std.specs.BTreeMap.{get};
+ghost use Rattle.std.specs.Cmp.Lexicographic.{pointwise};
+ghost use Rattle.tabled_object.specs.declared.entity.Entity.{Entity as Which};
+ghost use Rattle.tabled_settings.specs.Setting.{same_entity};
+ghost use Rattle.tabled_settings.specs.Slots.{standing, place, entity_cmp, HasPlaces, emptied, event_at, later_of};
+ghost use Rattle.tabled_settings.specs.Same.{same_event};
+
+use std::collections::BTreeMap;
+use tabled_object::Entity;
+
+/// The event of an entity: the value that is written for it, or none for a removal; or a hole.
+pub(crate) type Slot<T> = Option<(Entity, Option<T>)>;
+
+/// Empties a slot, if there is one to empty.
+pub(crate) fn empty<T: Drop>(slots: &mut Vec<Slot<T>>, place: Option<usize>)
+    ensures emptied { slots.new.items ≡ emptied place slots.old.items }
+    ensures len { vec_len slots.new ≡ vec_len slots.old }
+    ensures capacity { vec_capacity slots.new ≡ vec_capacity slots.old }
+{
+    if let Some(place) = place
+        && place < slots.len()
+    {
+        slots[place] = None;
+    }
+}
+
+/// Notes for each entity where its event stands. The entities are those that have a place already, so this takes no
+/// memory.
+pub(crate) fn number<T>(slots: &[Slot<T>], places: &mut BTreeMap<Entity, usize>)
+    requires { (entity : Which) → is_some (get entity_cmp places.old entity) ≡ is_some (place (same_entity entity) slots.now) }
+    ensures { HasPlaces places.new slots.now }
+{
+    for (at, slot) in slots.iter().enumerate() {
+        match slot {
+            Some((entity, _)) => {
+                let _ = places.insert(*entity, at);
+            }
+            None => {}
+        }
+    }
+}
+
+/// Where the event of an entity stands.
+pub(crate) fn place_of(places: &BTreeMap<Entity, usize>, entity: Entity) -> Option<usize>
+    ensures { result ≡ get entity_cmp places.now entity }
+{
+    places.get(&entity).copied()
+}
+
+/// The later of two places, where there are such.
+pub(crate) fn later(a: Option<usize>, b: Option<usize>) -> Option<usize>
+    ensures { result ≡ later_of a b }
+{
+    match (a, b) {
+        (Some(a), Some(b)) => Some(a.max(b)),
+        (Some(a), None) => Some(a),
+        (None, b) => b,
+    }
+}
+
+/// The value of the event at a place, if there is one.
+pub(crate) fn value_at<T>(slots: &[Slot<T>], place: Option<usize>) -> Option<&Option<T>>
+    ensures { option_copied result ≡ option_map (λ event. event.1) (event_at slots.now place) }
+{
+    match slots.get(place?) {
+        Some(Some((_, value))) => Some(value),
+        Some(None) => None,
+        None => None,
+    }
+}
+
+/// The first event that stands in the slots, and the slots behind it.
+pub(crate) fn first_standing<T>(slots: &[Slot<T>]) -> Option<(&(Entity, Option<T>), &[Slot<T>])>
+    ensures first { MatchOption result (standing slots.now ≡ [])
+        (λ first. standing slots.now ≡ first.0.now ∷ standing first.1.now) }
+    ensures shorter { MatchOption result (standing slots.now ≡ []) (λ first. length first.1.now < length slots.now) }
+{
+    let mut left = slots;
+    while let Some((slot, behind)) = left.split_first() {
+        if let Some(event) = slot {
+            return Some((event, behind));
+        }
+        left = behind;
+    }
+    None
+}
+
+/// Whether the same events stand in both, in the same order.
+pub(crate) fn stand_alike<T: PartialEq>(these: &[Slot<T>], those: &[Slot<T>]) -> bool
+    ensures { result ≡ pointwise (same_event T.eq) (standing these.now) (standing those.now) }
+{
+    let mut left = these;
+    let mut right = those;
+    while let Some((event, behind)) = first_standing(left) {
+        let Some((other, others)) = first_standing(right) else {
+            return false;
+        };
+        if !is_same_event(event, other) {
+            return false;
+        }
+        left = behind;
+        right = others;
+    }
+    first_standing(right).is_none()
+}
+
+/// Whether two events are one of the same entity, with equal values or both removals.
+fn is_same_event<T: PartialEq>(event: &(Entity, Option<T>), other: &(Entity, Option<T>)) -> bool
+    ensures { result ≡ same_event T.eq event.now other.now }
+{
+    event.0 == other.0 && event.1 == other.1
+}
