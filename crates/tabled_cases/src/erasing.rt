@@ -84,11 +84,11 @@ fn set_twice_and_erase(store: &mut Layers<char>, crossing: Place) -> Result<(), 
 fn a_crossing_set_twice_and_erased_draws_nothing(rt: HostRuntime) -> Result<(), Fail> {
     let mut store = Layers::new(rt.alloc());
     let written = set_twice_and_erase(&mut store, Place::Cross { row: 1, col: 2 });
-    let draws_across = draws(&store, LineOf::Horizontal(1));
-    let draws_down = draws(&store, LineOf::Vertical(2));
+    let draws_horizontal = draws(&store, LineOf::Horizontal(1));
+    let draws_vertical = draws(&store, LineOf::Vertical(2));
     drop(store);
     written?;
-    assert!(rt; !draws_across);
-    assert!(rt; !draws_down);
+    assert!(rt; !draws_horizontal);
+    assert!(rt; !draws_vertical);
     Ok(())
 }

@@ -31,7 +31,7 @@ fn write_all(store: &mut Layers<char>) -> Result<(), OutOfMemory> {
 }
 
 /// How many horizontal lines stand, and the first two of them.
-fn copied_across(
+fn copied_horizontal(
     store: &Layers<char>,
 ) -> Result<(usize, [Option<HorizontalLine<char>>; 2]), OutOfMemory> {
     let lines = store.hlines()?;
@@ -42,7 +42,9 @@ fn copied_across(
 }
 
 /// How many vertical lines stand, and the third of them.
-fn copied_down(store: &Layers<char>) -> Result<(usize, Option<VerticalLine<char>>), OutOfMemory> {
+fn copied_vertical(
+    store: &Layers<char>,
+) -> Result<(usize, Option<VerticalLine<char>>), OutOfMemory> {
     let lines = store.vlines()?;
     Ok((lines.len(), lines.get(&2).copied()))
 }
@@ -51,15 +53,15 @@ fn copied_down(store: &Layers<char>) -> Result<(usize, Option<VerticalLine<char>
 fn all_lines_are_copied(rt: HostRuntime) -> Result<(), Fail> {
     let mut store = Layers::new(rt.alloc());
     let made = write_all(&mut store);
-    let across = copied_across(&store);
-    let down = copied_down(&store);
+    let horizontal = copied_horizontal(&store);
+    let vertical = copied_vertical(&store);
     drop(store);
     made?;
     let first = HorizontalLine::empty();
     let second = HorizontalLine::new(Some('-'), None, None, Some('r'));
-    assert!(rt; across? == (2, [Some(first), Some(second)]));
+    assert!(rt; horizontal? == (2, [Some(first), Some(second)]));
     let third = VerticalLine::new(Some('|'), None, Some('t'), None);
-    assert!(rt; down? == (1, Some(third)));
+    assert!(rt; vertical? == (1, Some(third)));
     Ok(())
 }
 

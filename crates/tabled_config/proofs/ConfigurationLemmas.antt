@@ -99,9 +99,9 @@ module _ {T : Type 0} where
   -- and of the offsets at last
   all_in_turn : (a b c d : State T) → grid.Changes all_but_offsets (state_at a) (state_at b) → grid.Changes (offsets_erased Horizontal) (state_at b) (state_at c) → grid.Changes (offsets_erased Vertical) (state_at c) (state_at d) → grid.Changes all_erasures (state_at a) (state_at d)
   unfolding all_erasures
-  all_in_turn a b c d first is_across is_down =
+  all_in_turn a b c d first is_horizontal is_vertical =
       Changes-append all_but_offsets ((erase (offset_sites Horizontal) ∷ []) ++ (erase (offset_sites Vertical) ∷ [])) (state_at a) (state_at b) (state_at d) first
-      (Changes-append (erase (offset_sites Horizontal) ∷ []) (erase (offset_sites Vertical) ∷ []) (state_at b) (state_at c) (state_at d) is_across is_down)
+      (Changes-append (erase (offset_sites Horizontal) ∷ []) (erase (offset_sites Vertical) ∷ []) (state_at b) (state_at c) (state_at d) is_horizontal is_vertical)
 
   -- they leave nothing, and cover every site
   cleared_in_turn : (regions : List Region) (q : Site) → grid.replay {T = T} (map erase regions) q ≡ None
@@ -123,8 +123,8 @@ module _ {T : Type 0} where
   -- so they erase every site
   pub everything_erased : (a b c d : State T) → grid.Changes all_but_offsets (state_at a) (state_at b) → grid.Changes (offsets_erased Horizontal) (state_at b) (state_at c) → grid.Changes (offsets_erased Vertical) (state_at c) (state_at d) → grid.Changes (erase every_site ∷ []) (state_at a) (state_at d)
   unfolding grid.Changes
-  everything_erased a b c d first is_across is_down =
-      Changes_from_nothing [] (state_at d) (state_at d) (λ q _. nothing_left a d (all_in_turn a b c d first is_across is_down) q) (Changes-nil (state_at d))
+  everything_erased a b c d first is_horizontal is_vertical =
+      Changes_from_nothing [] (state_at d) (state_at d) (λ q _. nothing_left a d (all_in_turn a b c d first is_horizontal is_vertical) q) (Changes-nil (state_at d))
 
 -- the default color set, and the class and the cells erased
 pub default_color_in_turn : (color : Texts) (a b c d : State Texts) → grid.Changes (default_set color) (state_at a) (state_at b) → grid.Changes (erase (level_sites 1) ∷ []) (state_at b) (state_at c) → grid.Changes (erase (level_sites 4) ∷ []) (state_at c) (state_at d) → grid.Changes (default_color_set color) (state_at a) (state_at d)

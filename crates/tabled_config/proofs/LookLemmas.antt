@@ -23,8 +23,8 @@ use Rattle.tabled_config.specs.Picture.{look, edge_size}
 use Rattle.tabled_config.proofs.ConfigurationLemmas.{Shows-all_writes}
 
 -- what the configuration answers of a line is how the table looks
-pub own_across : (cfg : Configuration) (shape : ℕ × ℕ) (widths heights : ℕ → ℕ) (line : ℕ) (answer : Bool) → IsTrue answer ↔ Drawn (state_at cfg.characters) shape.0 (LineOf.Horizontal line) → answer ≡ (look (all_writes cfg) shape widths heights).across line
-own_across cfg shape widths heights line answer says =
+pub own_horizontal : (cfg : Configuration) (shape : ℕ × ℕ) (widths heights : ℕ → ℕ) (line : ℕ) (answer : Bool) → IsTrue answer ↔ Drawn (state_at cfg.characters) shape.0 (LineOf.Horizontal line) → answer ≡ (look (all_writes cfg) shape widths heights).horizontal line
+own_horizontal cfg shape widths heights line answer says =
     drawn-answer (characters_of (all_writes cfg)) (state_at cfg.characters) shape.0 (LineOf.Horizontal line) answer (Shows-all_writes cfg).characters_shown says
 
 pub own_drawn : (cfg : Configuration) (count : ℕ) (line : LineOf) (answer : Bool) → IsTrue answer ↔ Drawn (state_at cfg.characters) count line → answer ≡ drawn (characters_of (all_writes cfg)) count line
@@ -89,7 +89,7 @@ same_look cfg es fs shape widths heights by with =
       shape = shape;
       widths = widths;
       heights = heights;
-      across = λ r. same_drawn shape.0 (LineOf.Horizontal r) i;
-      down = λ c. same_drawn shape.1 (LineOf.Vertical c) i;
+      horizontal = λ r. same_drawn shape.0 (LineOf.Horizontal r) i;
+      vertical = λ c. same_drawn shape.1 (LineOf.Vertical c) i;
       shown = λ place. value (same_kept i) shape (edge_size widths heights place) place;
     }

@@ -7,7 +7,7 @@ use Rattle.std.proofs.lemmas.List.{append-nil}
 use Rattle.tabled_grid.specs.declared.borders.Borders.{Borders}
 use Rattle.tabled_grid.specs.declared.lines.HorizontalLine.{HorizontalLine}
 use Rattle.tabled_grid.specs.declared.lines.VerticalLine.{VerticalLine}
-use Rattle.tabled_grid.specs.Calls.{line_set_across, line_set_down}
+use Rattle.tabled_grid.specs.Calls.{line_set_horizontal, line_set_vertical}
 use Rattle.tabled_grid.specs.Event as grid
 use Rattle.tabled_grid.specs.declared.event.Event.TheVariants.{Erase as erase}
 use Rattle.tabled_grid.specs.declared.event.Region.TheVariants.{All as every_site}
@@ -28,13 +28,13 @@ one_put put lines i d old between new here before next =
     (Changes-append (flat_map put (take i lines)) (put (slice_index_or lines i d) ++ []) (state_at old) (state_at between) (state_at new) before
     (subst (λ es. grid.Changes es (state_at between) (state_at new)) (sym (append-nil (put (slice_index_or lines i d)))) next))
 
-pub horizontal_put : (lines : List (ℕ × HorizontalLine ℕ)) (i : ℕ) (d : ℕ × HorizontalLine ℕ) (old between new : State ℕ) → i < length lines → grid.Changes (horizontal_lines_put (take i lines)) (state_at old) (state_at between) → grid.Changes (line_set_across (slice_index_or lines i d).0 (slice_index_or lines i d).1) (state_at between) (state_at new) → grid.Changes (horizontal_lines_put (take (i + 1) lines)) (state_at old) (state_at new)
+pub horizontal_put : (lines : List (ℕ × HorizontalLine ℕ)) (i : ℕ) (d : ℕ × HorizontalLine ℕ) (old between new : State ℕ) → i < length lines → grid.Changes (horizontal_lines_put (take i lines)) (state_at old) (state_at between) → grid.Changes (line_set_horizontal (slice_index_or lines i d).0 (slice_index_or lines i d).1) (state_at between) (state_at new) → grid.Changes (horizontal_lines_put (take (i + 1) lines)) (state_at old) (state_at new)
 unfolding horizontal_lines_put
-horizontal_put lines i d old between new here before next = one_put (λ line. line_set_across line.0 line.1) lines i d old between new here before next
+horizontal_put lines i d old between new here before next = one_put (λ line. line_set_horizontal line.0 line.1) lines i d old between new here before next
 
-pub vertical_put : (lines : List (ℕ × VerticalLine ℕ)) (i : ℕ) (d : ℕ × VerticalLine ℕ) (old between new : State ℕ) → i < length lines → grid.Changes (vertical_lines_put (take i lines)) (state_at old) (state_at between) → grid.Changes (line_set_down (slice_index_or lines i d).0 (slice_index_or lines i d).1) (state_at between) (state_at new) → grid.Changes (vertical_lines_put (take (i + 1) lines)) (state_at old) (state_at new)
+pub vertical_put : (lines : List (ℕ × VerticalLine ℕ)) (i : ℕ) (d : ℕ × VerticalLine ℕ) (old between new : State ℕ) → i < length lines → grid.Changes (vertical_lines_put (take i lines)) (state_at old) (state_at between) → grid.Changes (line_set_vertical (slice_index_or lines i d).0 (slice_index_or lines i d).1) (state_at between) (state_at new) → grid.Changes (vertical_lines_put (take (i + 1) lines)) (state_at old) (state_at new)
 unfolding vertical_lines_put
-vertical_put lines i d old between new here before next = one_put (λ line. line_set_down line.0 line.1) lines i d old between new here before next
+vertical_put lines i d old between new here before next = one_put (λ line. line_set_vertical line.0 line.1) lines i d old between new here before next
 
 pub no_horizontal_put : (store : State ℕ) → grid.Changes (horizontal_lines_put []) (state_at store) (state_at store)
 unfolding horizontal_lines_put
@@ -45,9 +45,9 @@ unfolding vertical_lines_put
 no_vertical_put store = Changes-nil (state_at store)
 
 -- a new store with lines and a class record
-pub shows_all : (across down class : List (Event ℕ)) (a b c d : State ℕ) → grid.Shows [] (state_at a) → grid.Changes across (state_at a) (state_at b) → grid.Changes down (state_at b) (state_at c) → grid.Changes class (state_at c) (state_at d) → grid.Shows (across ++ down ++ class) (state_at d)
-shows_all across down class a b c d new one other last =
-    Shows_after [] (across ++ down ++ class) (state_at a) (state_at d) (Changes-append (across ++ down) class (state_at a) (state_at c) (state_at d) (Changes-append across down (state_at a) (state_at b) (state_at c) one other) last) new
+pub shows_all : (horizontal vertical class : List (Event ℕ)) (a b c d : State ℕ) → grid.Shows [] (state_at a) → grid.Changes horizontal (state_at a) (state_at b) → grid.Changes vertical (state_at b) (state_at c) → grid.Changes class (state_at c) (state_at d) → grid.Shows (horizontal ++ vertical ++ class) (state_at d)
+shows_all horizontal vertical class a b c d new one other last =
+    Shows_after [] (horizontal ++ vertical ++ class) (state_at a) (state_at d) (Changes-append (horizontal ++ vertical) class (state_at a) (state_at c) (state_at d) (Changes-append horizontal vertical (state_at a) (state_at b) (state_at c) one other) last) new
 
 -- a store that shows some events has what they leave after every site was cleared, whatever there was before
 cleared_first : (es : List (Event ℕ)) (old new : State ℕ) → grid.Shows es (state_at new) → grid.Changes (erase every_site ∷ es) (state_at old) (state_at new)

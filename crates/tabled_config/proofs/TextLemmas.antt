@@ -64,9 +64,9 @@ line_closed f step close n count e =
     ∙ ap (λ m. text_shown (map f (flat_map step (below m))) ++ text_shown (map f close)) (sym e)
 
 -- a horizontal line of a table that has places, none past the closing one
-pub along_any : (across down : ℕ → Bool) (shape : ℕ × ℕ) (widths heights : ℕ → ℕ) (r : ℕ) → is_empty shape ≡ false → r ≤ shape.0 → along across down shape widths heights (LineOf.Horizontal r) ≡ along_line down widths shape.1 (λ c. Place.Cross r c) (λ c k. Place.Horizontal r c k)
-along_any across down shape widths heights r any within =
-    let places : List Place = along_line down widths shape.1 (λ c. Place.Cross r c) (λ c k. Place.Horizontal r c k) in
+pub along_any : (horizontal vertical : ℕ → Bool) (shape : ℕ × ℕ) (widths heights : ℕ → ℕ) (r : ℕ) → is_empty shape ≡ false → r ≤ shape.0 → along horizontal vertical shape widths heights (LineOf.Horizontal r) ≡ along_line vertical widths shape.1 (λ c. Place.Cross r c) (λ c k. Place.Horizontal r c k)
+along_any horizontal vertical shape widths heights r any within =
+    let places : List Place = along_line vertical widths shape.1 (λ c. Place.Cross r c) (λ c k. Place.Horizontal r c k) in
     ap (λ b. cond (b || nat_lt shape.0 r) [] places) any ∙ ap (λ b. cond b [] places) (le-ltb shape.0 r within)
 
 -- a line feed is one byte

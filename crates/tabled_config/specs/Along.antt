@@ -21,7 +21,7 @@ along_line drawn size count crossing place =
 
 -- the places along a line of a table of that shape, up to the closing line, where the drawn lines and the sizes are these
 abbrev pub along : (ℕ → Bool) → (ℕ → Bool) → ℕ × ℕ → (ℕ → ℕ) → (ℕ → ℕ) → LineOf → List Place
-along across down (rows, cols) widths heights (LineOf.Horizontal r) =
-    if is_empty (rows, cols) || nat_lt rows r then [] else along_line down widths cols (λ c. Place.Cross r c) (λ c k. Place.Horizontal r c k)
-along across down (rows, cols) widths heights (LineOf.Vertical c) =
-    if is_empty (rows, cols) || nat_lt cols c then [] else along_line across heights rows (λ r. Place.Cross r c) (λ r k. Place.Vertical r c k)
+along horizontal vertical (rows, cols) widths heights (LineOf.Horizontal r) =
+    if is_empty (rows, cols) || nat_lt rows r then [] else along_line vertical widths cols (λ c. Place.Cross r c) (λ c k. Place.Horizontal r c k)
+along horizontal vertical (rows, cols) widths heights (LineOf.Vertical c) =
+    if is_empty (rows, cols) || nat_lt cols c then [] else along_line horizontal heights rows (λ r. Place.Cross r c) (λ r k. Place.Vertical r c k)

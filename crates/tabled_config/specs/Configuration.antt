@@ -12,7 +12,7 @@ use Rattle.tabled_grid.specs.declared.event.Event.TheVariants.{Erase as erase}
 use Rattle.tabled_grid.specs.declared.event.Region.TheVariants.{All as every_site, Level as level_sites}
 use Rattle.tabled_grid.specs.declared.event.Event.{Event}
 use Rattle.tabled_grid.specs.Writes.{writes_made}
-use Rattle.tabled_grid.specs.Calls.{default_set, line_set_across, line_set_down}
+use Rattle.tabled_grid.specs.Calls.{default_set, line_set_horizontal, line_set_vertical}
 use Rattle.tabled_grid.specs.State.{State, state_at, class_record_set, writes_of}
 use Rattle.tabled_border.specs.Texts.{Texts}
 
@@ -85,10 +85,10 @@ borders_removed = by_characters all_but_offsets
 
 -- custom lines put, each at its index, in the order of a list
 unfoldable pub horizontal_lines_put : List (ℕ × HorizontalLine ℕ) → List (Event ℕ)
-horizontal_lines_put lines = flat_map (λ line. line_set_across line.0 line.1) lines
+horizontal_lines_put lines = flat_map (λ line. line_set_horizontal line.0 line.1) lines
 
 unfoldable pub vertical_lines_put : List (ℕ × VerticalLine ℕ) → List (Event ℕ)
-vertical_lines_put lines = flat_map (λ line. line_set_down line.0 line.1) lines
+vertical_lines_put lines = flat_map (λ line. line_set_vertical line.0 line.1) lines
 
 -- all borders replaced: all sites of all levels are cleared, of characters and of colors; then the custom lines are put,
 -- and the class record is set

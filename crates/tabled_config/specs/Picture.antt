@@ -16,8 +16,8 @@ pub record Look : Type 0 where
   pub shape : ℕ × ℕ
   pub widths : ℕ → ℕ
   pub heights : ℕ → ℕ
-  pub across : ℕ → Bool
-  pub down : ℕ → Bool
+  pub horizontal : ℕ → Bool
+  pub vertical : ℕ → Bool
   pub shown : Place → Option ℕ
 
 -- the length of a place's edge; a crossing has none
@@ -32,8 +32,8 @@ look es (rows, cols) widths heights = record {
   shape = (rows, cols);
   widths = widths;
   heights = heights;
-  across = λ r. drawn (characters_of es) rows (LineOf.Horizontal r);
-  down = λ c. drawn (characters_of es) cols (LineOf.Vertical c);
+  horizontal = λ r. drawn (characters_of es) rows (LineOf.Horizontal r);
+  vertical = λ c. drawn (characters_of es) cols (LineOf.Vertical c);
   shown = λ place. value (replay (characters_of es)) (rows, cols) (edge_size widths heights place) place;
 }
 
@@ -48,11 +48,11 @@ text_shown shown = encode_utf8_all (map character shown)
 module _ (view : Look) where
   -- what the places along a line show
   abbrev pub shown_along : LineOf → List (Option ℕ)
-  shown_along line = map view.shown (along view.across view.down view.shape view.widths view.heights line)
+  shown_along line = map view.shown (along view.horizontal view.vertical view.shape view.widths view.heights line)
 
   -- what vertical line c shows at one line of text of row r, if the line is drawn
   abbrev pub side_shown : ℕ → ℕ → ℕ → List (Option ℕ)
-  side_shown r k c = if view.down c then view.shown (Place.Vertical r c k) ∷ [] else []
+  side_shown r k c = if view.vertical c then view.shown (Place.Vertical r c k) ∷ [] else []
 
   -- one line of text of a row: before each column's piece the side, and the closing side at last
   abbrev pub line_of_pieces : ℕ → ℕ → (ℕ → List ℕ) → List ℕ
@@ -64,7 +64,7 @@ module _ (view : Look) where
 
   -- horizontal line r as a line of text, if it is drawn
   abbrev pub line_if_drawn : ℕ → List (List ℕ)
-  line_if_drawn r = if view.across r then text_shown (shown_along (LineOf.Horizontal r)) ∷ [] else []
+  line_if_drawn r = if view.horizontal r then text_shown (shown_along (LineOf.Horizontal r)) ∷ [] else []
 
   -- a row as lines of text
   abbrev pub row_lines : ℕ → List (List ℕ) → List (List ℕ)

@@ -63,7 +63,7 @@ impl<D: Dimension> Frame<'_, D> {
     fn has_side(&self, col: usize) -> bool
         requires { col ≤ self.now.shape.1 }
         ensures { let view = framed D.width_of D.height_of self.now in
-            result ≡ view.down col }
+            result ≡ view.vertical col }
     {
         self.sides[col]
     }
@@ -72,7 +72,7 @@ impl<D: Dimension> Frame<'_, D> {
     fn push_crossing(&self, text: &mut String, row: usize, col: usize) -> Result<(), AllocError>
         requires { col ≤ self.now.shape.1 }
         ensures { let view = framed D.width_of D.height_of self.now in
-            Appends result text.old text.new (text_shown (map view.shown (crossing_at view.down (λ c. Spot.Cross row c) col))) }
+            Appends result text.old text.new (text_shown (map view.shown (crossing_at view.vertical (λ c. Spot.Cross row c) col))) }
     {
         if self.has_side(col) {
             text.push(self.character(Place::Cross { row, col }))?;

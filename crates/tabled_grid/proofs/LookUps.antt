@@ -172,25 +172,25 @@ module _ {T : Type 0} (borders : Borders T) where
   given_edge Horizontal rank e = or_left (is_some (class_value (edges Horizontal rank) borders)) _ e
   given_edge Vertical rank e = or_left (is_some (class_value (edges Vertical rank) borders)) _ e
 
-  given_across : (row col : Rank) → is_some (class_value (crossings row col) borders) ≡ true → has_class borders (line_classes Horizontal row) ≡ true
-  given_across row first e = or_right (is_some (class_value (edges Horizontal row) borders)) _ (or_left _ _ e)
-  given_across row inner e = or_right (is_some (class_value (edges Horizontal row) borders)) _ (or_right (is_some (class_value (crossings row first) borders)) _ (or_left _ _ e))
-  given_across row last e = or_right (is_some (class_value (edges Horizontal row) borders)) _ (or_right (is_some (class_value (crossings row first) borders)) _ (or_right (is_some (class_value (crossings row inner) borders)) _ (or_left _ _ e)))
+  given_horizontal : (row col : Rank) → is_some (class_value (crossings row col) borders) ≡ true → has_class borders (line_classes Horizontal row) ≡ true
+  given_horizontal row first e = or_right (is_some (class_value (edges Horizontal row) borders)) _ (or_left _ _ e)
+  given_horizontal row inner e = or_right (is_some (class_value (edges Horizontal row) borders)) _ (or_right (is_some (class_value (crossings row first) borders)) _ (or_left _ _ e))
+  given_horizontal row last e = or_right (is_some (class_value (edges Horizontal row) borders)) _ (or_right (is_some (class_value (crossings row first) borders)) _ (or_right (is_some (class_value (crossings row inner) borders)) _ (or_left _ _ e)))
 
-  given_down : (row col : Rank) → is_some (class_value (crossings row col) borders) ≡ true → has_class borders (line_classes Vertical col) ≡ true
-  given_down first col e = or_right (is_some (class_value (edges Vertical col) borders)) _ (or_left _ _ e)
-  given_down inner col e = or_right (is_some (class_value (edges Vertical col) borders)) _ (or_right (is_some (class_value (crossings first col) borders)) _ (or_left _ _ e))
-  given_down last col e = or_right (is_some (class_value (edges Vertical col) borders)) _ (or_right (is_some (class_value (crossings first col) borders)) _ (or_right (is_some (class_value (crossings inner col) borders)) _ (or_left _ _ e)))
+  given_vertical : (row col : Rank) → is_some (class_value (crossings row col) borders) ≡ true → has_class borders (line_classes Vertical col) ≡ true
+  given_vertical first col e = or_right (is_some (class_value (edges Vertical col) borders)) _ (or_left _ _ e)
+  given_vertical inner col e = or_right (is_some (class_value (edges Vertical col) borders)) _ (or_right (is_some (class_value (crossings first col) borders)) _ (or_left _ _ e))
+  given_vertical last col e = or_right (is_some (class_value (edges Vertical col) borders)) _ (or_right (is_some (class_value (crossings first col) borders)) _ (or_right (is_some (class_value (crossings inner col) borders)) _ (or_left _ _ e)))
 
   -- a class that draws a line and has a field is one of those of the line's rank
   pub class_draws_it : (d : Direction) (count n : ℕ) (c : Class) → draws count (line_of d n) (of_class c) ≡ true → is_some (class_value c borders) ≡ true → rank_draws borders count d n ≡ true
   unfolding line_of
   class_draws_it Horizontal count n (edges Horizontal rank) e f = by_rank Horizontal rank count n e (given_edge Horizontal rank f)
   class_draws_it Horizontal count n (edges Vertical rank) e f = absurd cc
-  class_draws_it Horizontal count n (crossings row col) e f = by_rank Horizontal row count n e (given_across row col f)
+  class_draws_it Horizontal count n (crossings row col) e f = by_rank Horizontal row count n e (given_horizontal row col f)
   class_draws_it Vertical count n (edges Vertical rank) e f = by_rank Vertical rank count n e (given_edge Vertical rank f)
   class_draws_it Vertical count n (edges Horizontal rank) e f = absurd cc
-  class_draws_it Vertical count n (crossings row col) e f = by_rank Vertical col count n e (given_down row col f)
+  class_draws_it Vertical count n (crossings row col) e f = by_rank Vertical col count n e (given_vertical row col f)
 
 -- an edge or a crossing outside has no plain value
 pub plain_outside : {T : Type 0} (state : State T) (shape : ℕ × ℕ) (place : Place) → has_spot shape place ≡ false → plain_value (state_at state) shape place ≡ None

@@ -21,11 +21,11 @@ abbrev pub default_set : {T : Type 0} → T → List (Event T)
 default_set value = write the_default (sign value) ∷ []
 
 -- a custom line put at its index, and removed
-abbrev pub line_set_across : {T : Type 0} → ℕ → HorizontalLine T → List (Event T)
-line_set_across n line = lines.horizontal_line_set n line
+abbrev pub line_set_horizontal : {T : Type 0} → ℕ → HorizontalLine T → List (Event T)
+line_set_horizontal n line = lines.horizontal_line_set n line
 
-abbrev pub line_set_down : {T : Type 0} → ℕ → VerticalLine T → List (Event T)
-line_set_down n line = lines.vertical_line_set n line
+abbrev pub line_set_vertical : {T : Type 0} → ℕ → VerticalLine T → List (Event T)
+line_set_vertical n line = lines.vertical_line_set n line
 
 abbrev pub line_removed : {T : Type 0} → LineOf → List (Event T)
 line_removed line = erase (line_sites line) ∷ []

@@ -13,13 +13,13 @@ abbrev pub next_line : ℕ → Option ℕ
 next_line n = if nat_lt (n + 1) (2 ^ 64) then Some (n + 1) else None
 
 -- the first place of an edge, and the crossing, of lines that are there
-abbrev pub side_across : Option ℕ → ℕ → Option Place
-side_across (Some r) c = Some (Place.Horizontal r c 0)
-side_across None c = None
+abbrev pub side_horizontal : Option ℕ → ℕ → Option Place
+side_horizontal (Some r) c = Some (Place.Horizontal r c 0)
+side_horizontal None c = None
 
-abbrev pub side_down : ℕ → Option ℕ → Option Place
-side_down r (Some c) = Some (Place.Vertical r c 0)
-side_down r None = None
+abbrev pub side_vertical : ℕ → Option ℕ → Option Place
+side_vertical r (Some c) = Some (Place.Vertical r c 0)
+side_vertical r None = None
 
 abbrev pub corner : Option ℕ → Option ℕ → Option Place
 corner (Some r) (Some c) = Some (Place.Cross r c)
@@ -29,10 +29,10 @@ corner None c = None
 -- the places of a cell's sides and corners
 abbrev pub border_places : Position → Border Place
 border_places pos = record {
-  top = side_across (Some pos.row) pos.col;
-  bottom = side_across (next_line pos.row) pos.col;
-  left = side_down pos.row (Some pos.col);
-  right = side_down pos.row (next_line pos.col);
+  top = side_horizontal (Some pos.row) pos.col;
+  bottom = side_horizontal (next_line pos.row) pos.col;
+  left = side_vertical pos.row (Some pos.col);
+  right = side_vertical pos.row (next_line pos.col);
   left_top_corner = corner (Some pos.row) (Some pos.col);
   left_bottom_corner = corner (next_line pos.row) (Some pos.col);
   right_top_corner = corner (Some pos.row) (next_line pos.col);

@@ -19,7 +19,7 @@ lies_on _ _ = false
 
 -- whether something kept at the site draws the line, of the lines 0 to count of its direction:
 -- the default draws every line; a class those of its rank; a custom line the line at which it stands; its crossings with
--- lines across draw these where they are outer ones, its crossings with lines down whatever they are; a cell's edge or
+-- horizontal lines draw these where they are outer ones, its crossings with vertical lines whatever they are; a cell's edge or
 -- crossing the lines that it lies on. Offsets draw nothing.
 abbrev pub draws : ℕ → LineOf → Site → Bool
 draws count line the_default = true

@@ -126,7 +126,7 @@ impl<T> Borders<T> {
     pub fn has_horizontal_line(&self, rank: Rank) -> bool
         ensures { result ≡ has_horizontal rank self.now }
     {
-        self.edges_across(rank).is_some()
+        self.edges_horizontal(rank).is_some()
             || self.crossing(rank, Rank::First).is_some()
             || self.crossing(rank, Rank::Inner).is_some()
             || self.crossing(rank, Rank::Last).is_some()
@@ -136,7 +136,7 @@ impl<T> Borders<T> {
     pub fn has_vertical_line(&self, rank: Rank) -> bool
         ensures { result ≡ has_vertical rank self.now }
     {
-        self.edges_down(rank).is_some()
+        self.edges_vertical(rank).is_some()
             || self.crossing(Rank::First, rank).is_some()
             || self.crossing(Rank::Inner, rank).is_some()
             || self.crossing(Rank::Last, rank).is_some()
@@ -158,7 +158,7 @@ impl<T> Borders<T> {
     }
 
     /// What the edges of the horizontal lines of a rank have.
-    fn edges_across(&self, rank: Rank) -> Option<&T>
+    fn edges_horizontal(&self, rank: Rank) -> Option<&T>
         ensures { option_copied result ≡ class_value (edges Horizontal rank) self.now }
     {
         match rank {
@@ -169,7 +169,7 @@ impl<T> Borders<T> {
     }
 
     /// What the edges of the vertical lines of a rank have.
-    fn edges_down(&self, rank: Rank) -> Option<&T>
+    fn edges_vertical(&self, rank: Rank) -> Option<&T>
         ensures { option_copied result ≡ class_value (edges Vertical rank) self.now }
     {
         match rank {
@@ -200,14 +200,14 @@ impl<T> Borders<T> {
     pub(crate) fn at_horizontal(&self, row: usize, rows: usize) -> Option<&T>
         ensures { option_copied result ≡ class_value (edges Horizontal (rank rows row)) self.now }
     {
-        self.edges_across(Rank::of(row, rows))
+        self.edges_horizontal(Rank::of(row, rows))
     }
 
     /// What the edges of vertical line `col` have, of the lines 0 to `cols`.
     pub(crate) fn at_vertical(&self, col: usize, cols: usize) -> Option<&T>
         ensures { option_copied result ≡ class_value (edges Vertical (rank cols col)) self.now }
     {
-        self.edges_down(Rank::of(col, cols))
+        self.edges_vertical(Rank::of(col, cols))
     }
 
     /// What the crossing of horizontal line `row` and vertical line `col` has, of the lines 0 to
@@ -229,7 +229,7 @@ impl<T: Copy> Borders<T> {
         ensures { result ≡ horizontal_of rank self.now }
     {
         HorizontalLine {
-            main: self.edges_across(rank).copied(),
+            main: self.edges_horizontal(rank).copied(),
             intersection: self.crossing(rank, Rank::Inner).copied(),
             left: self.crossing(rank, Rank::First).copied(),
             right: self.crossing(rank, Rank::Last).copied(),
@@ -241,7 +241,7 @@ impl<T: Copy> Borders<T> {
         ensures { result ≡ vertical_of rank self.now }
     {
         VerticalLine {
-            main: self.edges_down(rank).copied(),
+            main: self.edges_vertical(rank).copied(),
             intersection: self.crossing(Rank::Inner, rank).copied(),
             top: self.crossing(Rank::First, rank).copied(),
             bottom: self.crossing(Rank::Last, rank).copied(),
@@ -252,7 +252,7 @@ impl<T: Copy> Borders<T> {
     pub fn with_horizontal_line(mut self, rank: Rank, line: HorizontalLine<T>) -> Self
         ensures { result ≡ put_horizontal rank line self }
     {
-        self.set_edges_across(rank, line.main);
+        self.set_edges_horizontal(rank, line.main);
         self.set_crossing(rank, Rank::Inner, line.intersection);
         self.set_crossing(rank, Rank::First, line.left);
         self.set_crossing(rank, Rank::Last, line.right);
@@ -263,7 +263,7 @@ impl<T: Copy> Borders<T> {
     pub fn with_vertical_line(mut self, rank: Rank, line: VerticalLine<T>) -> Self
         ensures { result ≡ put_vertical rank line self }
     {
-        self.set_edges_down(rank, line.main);
+        self.set_edges_vertical(rank, line.main);
         self.set_crossing(Rank::Inner, rank, line.intersection);
         self.set_crossing(Rank::First, rank, line.top);
         self.set_crossing(Rank::Last, rank, line.bottom);
@@ -271,7 +271,7 @@ impl<T: Copy> Borders<T> {
     }
 
     /// Sets the edges of the horizontal lines of a rank.
-    fn set_edges_across(&mut self, rank: Rank, value: Option<T>)
+    fn set_edges_horizontal(&mut self, rank: Rank, value: Option<T>)
         ensures { self.new ≡ with_class (edges Horizontal rank) value self.old }
     {
         match rank {
@@ -282,7 +282,7 @@ impl<T: Copy> Borders<T> {
     }
 
     /// Sets the edges of the vertical lines of a rank.
-    fn set_edges_down(&mut self, rank: Rank, value: Option<T>)
+    fn set_edges_vertical(&mut self, rank: Rank, value: Option<T>)
         ensures { self.new ≡ with_class (edges Vertical rank) value self.old }
     {
         match rank {

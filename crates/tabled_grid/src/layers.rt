@@ -100,7 +100,7 @@ impl<T> Layers<T> {
     ghost use Rattle.tabled_grid.specs.Event.{sign, erase, level_sites, Shows, Changes};
     ghost use Rattle.tabled_grid.specs.State.{state_at, class_record_set};
     ghost use Rattle.tabled_grid.specs.Site.{Horizontal, Vertical, mark, of_line, at_spot};
-    ghost use Rattle.tabled_grid.specs.Calls.{default_set, line_set_across, line_set_down, line_removed, spot_of, cell_set, cell_erased, offset_site, offset_set, edge_offset, offsets_erased, lines_erased};
+    ghost use Rattle.tabled_grid.specs.Calls.{default_set, line_set_horizontal, line_set_vertical, line_removed, spot_of, cell_set, cell_erased, offset_site, offset_set, edge_offset, offsets_erased, lines_erased};
     ghost use Rattle.tabled_grid.specs.declared.place.LineOf.{LineOf as Line};
 
     /// A store in which nothing was written. It keeps the allocator for the calls that need memory.
@@ -175,7 +175,7 @@ impl<T> Layers<T> {
     ) -> Result<(), OutOfMemory>
     where
         T: Drop,
-        ensures ok { OnOk result (Changes (line_set_across line fields) (state_at self.old) (state_at self.new)) }
+        ensures ok { OnOk result (Changes (line_set_horizontal line fields) (state_at self.old) (state_at self.new)) }
         ensures err { OnErr result (self.new ≡ self.old) }
         ensures absent { OnErr result (state_at self.old (of_line (Line.Horizontal line) mark) ≡ None) }
     {
@@ -209,7 +209,7 @@ impl<T> Layers<T> {
     pub fn insert_vline(&mut self, line: usize, fields: VerticalLine<T>) -> Result<(), OutOfMemory>
     where
         T: Drop,
-        ensures ok { OnOk result (Changes (line_set_down line fields) (state_at self.old) (state_at self.new)) }
+        ensures ok { OnOk result (Changes (line_set_vertical line fields) (state_at self.old) (state_at self.new)) }
         ensures err { OnErr result (self.new ≡ self.old) }
         ensures absent { OnErr result (state_at self.old (of_line (Line.Vertical line) mark) ≡ None) }
     {

@@ -20,8 +20,8 @@ space_where asked (Some c) = Some c
 
 -- the lines between columns of a record, with a space for what they lack on their edges and at the top and the bottom that
 -- the record has
-unfoldable pub spaced_down : Borders ℕ → VerticalLine ℕ
-spaced_down borders =
+unfoldable pub spaced_vertical : Borders ℕ → VerticalLine ℕ
+spaced_vertical borders =
     let line = vertical_of inner borders in
     record line {
       main = space_where true line.main;
@@ -30,8 +30,8 @@ spaced_down borders =
     }
 
 -- the lines between rows likewise, at the left and the right side
-unfoldable pub spaced_across : Borders ℕ → HorizontalLine ℕ
-spaced_across borders =
+unfoldable pub spaced_horizontal : Borders ℕ → HorizontalLine ℕ
+spaced_horizontal borders =
     let line = horizontal_of inner borders in
     record line {
       main = space_where true line.main;
@@ -41,37 +41,37 @@ spaced_across borders =
 
 -- what a line has where it crosses the lines of a rank says what becomes of those: where it has nothing they go; else outer
 -- ones stay as they are, and inner ones are put, spaced
-unfoldable pub followed_down : Rank → Option ℕ → Borders ℕ → Borders ℕ
-followed_down rank None borders = vertical_dropped rank borders
-followed_down inner (Some _) borders = put_vertical inner (spaced_down borders) borders
-followed_down _ (Some _) borders = borders
+unfoldable pub followed_vertical : Rank → Option ℕ → Borders ℕ → Borders ℕ
+followed_vertical rank None borders = vertical_dropped rank borders
+followed_vertical inner (Some _) borders = put_vertical inner (spaced_vertical borders) borders
+followed_vertical _ (Some _) borders = borders
 
-unfoldable pub followed_across : Rank → Option ℕ → Borders ℕ → Borders ℕ
-followed_across rank None borders = horizontal_dropped rank borders
-followed_across inner (Some _) borders = put_horizontal inner (spaced_across borders) borders
-followed_across _ (Some _) borders = borders
+unfoldable pub followed_horizontal : Rank → Option ℕ → Borders ℕ → Borders ℕ
+followed_horizontal rank None borders = horizontal_dropped rank borders
+followed_horizontal inner (Some _) borders = put_horizontal inner (spaced_horizontal borders) borders
+followed_horizontal _ (Some _) borders = borders
 
 -- the second step: the inner lines across follow, and then the outer ones at both ends
-unfoldable pub settled_across : HorizontalLine ℕ → Borders ℕ → Borders ℕ
-settled_across line between =
-    followed_down last line.right (followed_down first line.left (followed_down inner line.intersection between))
+unfoldable pub settled_horizontal : HorizontalLine ℕ → Borders ℕ → Borders ℕ
+settled_horizontal line between =
+    followed_vertical last line.right (followed_vertical first line.left (followed_vertical inner line.intersection between))
 
-unfoldable pub settled_down : VerticalLine ℕ → Borders ℕ → Borders ℕ
-settled_down line between =
-    followed_across last line.bottom (followed_across first line.top (followed_across inner line.intersection between))
+unfoldable pub settled_vertical : VerticalLine ℕ → Borders ℕ → Borders ℕ
+settled_vertical line between =
+    followed_horizontal last line.bottom (followed_horizontal first line.top (followed_horizontal inner line.intersection between))
 
 -- a style after a call with a line for a rank: custom lines of its direction take its crossing and its ends, those of the
 -- other one its crossing, where they are given
-unfoldable pub with_line_across : Rank → HorizontalLine ℕ → Shown → Shown
-with_line_across rank line style = record {
-  borders = settled_across line (put_horizontal rank line style.borders);
+unfoldable pub with_line_horizontal : Rank → HorizontalLine ℕ → Shown → Shown
+with_line_horizontal rank line style = record {
+  borders = settled_horizontal line (put_horizontal rank line style.borders);
   horizontals = each_line (over_horizontal line) style.horizontals;
   verticals = each_line (over_vertical (record no_vertical { intersection = line.intersection })) style.verticals;
 }
 
-unfoldable pub with_line_down : Rank → VerticalLine ℕ → Shown → Shown
-with_line_down rank line style = record {
-  borders = settled_down line (put_vertical rank line style.borders);
+unfoldable pub with_line_vertical : Rank → VerticalLine ℕ → Shown → Shown
+with_line_vertical rank line style = record {
+  borders = settled_vertical line (put_vertical rank line style.borders);
   horizontals = each_line (over_horizontal (record no_horizontal { intersection = line.intersection })) style.horizontals;
   verticals = each_line (over_vertical line) style.verticals;
 }

@@ -14,12 +14,12 @@ full_vertical main intersection top bottom =
     record { main = Some main; intersection = Some intersection; top = Some top; bottom = Some bottom }
 
 -- a horizontal line turned down, its left end up
-abbrev pub turned_down : {T : Type 0} → HorizontalLine T → VerticalLine T
-turned_down line = record { main = line.main; intersection = line.intersection; top = line.left; bottom = line.right }
+abbrev pub turned_vertical : {T : Type 0} → HorizontalLine T → VerticalLine T
+turned_vertical line = record { main = line.main; intersection = line.intersection; top = line.left; bottom = line.right }
 
 -- a vertical line turned across, its upper end to the left
-abbrev pub turned_across : {T : Type 0} → VerticalLine T → HorizontalLine T
-turned_across line = record { main = line.main; intersection = line.intersection; left = line.top; right = line.bottom }
+abbrev pub turned_horizontal : {T : Type 0} → VerticalLine T → HorizontalLine T
+turned_horizontal line = record { main = line.main; intersection = line.intersection; left = line.top; right = line.bottom }
 
 -- each custom line changed, at its index
 abbrev pub each_line : {L : Type 0} → (L → L) → List (ℕ × L) → List (ℕ × L)

@@ -30,8 +30,8 @@ without_vertical rank style = record style {
 }
 
 -- a custom line without its two ends
-abbrev pub without_ends_across : HorizontalLine ℕ → HorizontalLine ℕ
-without_ends_across line = record line { left = None; right = None }
+abbrev pub without_ends_horizontal : HorizontalLine ℕ → HorizontalLine ℕ
+without_ends_horizontal line = record line { left = None; right = None }
 
-abbrev pub without_ends_down : VerticalLine ℕ → VerticalLine ℕ
-without_ends_down line = record line { top = None; bottom = None }
+abbrev pub without_ends_vertical : VerticalLine ℕ → VerticalLine ℕ
+without_ends_vertical line = record line { top = None; bottom = None }

@@ -1,7 +1,7 @@
 //! A custom horizontal line, built call by call.
 
 ghost use Rattle.std.specs.Prelude.{◌≡◌, None, Some, IsSome};
-ghost use Rattle.tabled_style.specs.Lines.{full_horizontal, turned_down};
+ghost use Rattle.tabled_style.specs.Lines.{full_horizontal, turned_vertical};
 
 use crate::{On, Style};
 use std::marker::{Model, PhantomData};
@@ -236,7 +236,7 @@ impl<L, R, I> From<Line<char>> for HorizontalLine<L, R, I> {
 
 /// The line turned down: its left end is the top, its right end the bottom.
 impl<L, R, I> From<HorizontalLine<L, R, I>> for VerticalLine<char> {
-    ghost from_gives = { λ line result. result ≡ turned_down line };
+    ghost from_gives = { λ line result. result ≡ turned_vertical line };
 
     fn from(line: HorizontalLine<L, R, I>) -> Self {
         let Line {

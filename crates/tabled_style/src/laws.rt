@@ -2,13 +2,13 @@
 
 ghost use Rattle.std.specs.Prelude.{◌≡◌, ℕ};
 ghost use Rattle.tabled_border.specs.declared.border.Border.{Border as Frame};
-ghost use Rattle.tabled_grid.specs.declared.lines.HorizontalLine.{HorizontalLine as Across};
-ghost use Rattle.tabled_grid.specs.declared.lines.VerticalLine.{VerticalLine as Down};
+ghost use Rattle.tabled_grid.specs.declared.lines.HorizontalLine.{HorizontalLine as Horizontal};
+ghost use Rattle.tabled_grid.specs.declared.lines.VerticalLine.{VerticalLine as Vertical};
 ghost use Rattle.tabled_grid.specs.declared.place.Rank.{Rank};
 ghost use Rattle.tabled_grid.specs.Borders.{horizontal_of, vertical_of};
 ghost use Rattle.tabled_style.specs.Shown.{Shown, frame_of};
-ghost use Rattle.tabled_style.specs.Lines.{turned_across};
-ghost use Rattle.tabled_style.specs.LineCalls.{with_line_across, with_line_down};
+ghost use Rattle.tabled_style.specs.Lines.{turned_horizontal};
+ghost use Rattle.tabled_style.specs.LineCalls.{with_line_horizontal, with_line_vertical};
 ghost use Rattle.tabled_style.specs.Frame.{with_frame};
 ghost use Rattle.std.specs.Prelude.{◌↔◌, None, IsTrue};
 ghost use Rattle.tabled_grid.specs.declared.place.LineOf.{LineOf as Line};
@@ -27,16 +27,16 @@ use tabled_grid::VerticalLine as VLine;
 /// A horizontal line that is converted to a vertical one, whose four characters are then those of a horizontal line,
 /// its upper end on the left, has its four characters again.
 pub fn turned_and_back<L, R, I>()
-    ensures { (line : Across ℕ) (down : Down ℕ)
-        → ⟦<VLine<char> as From<HorizontalLine<L, R, I>>>⟧.from_gives line down → turned_across down ≡ line }
+    ensures { (line : Horizontal ℕ) (vertical : Vertical ℕ)
+        → ⟦<VLine<char> as From<HorizontalLine<L, R, I>>>⟧.from_gives line vertical → turned_horizontal vertical ≡ line }
 {}
 
 /// A line that took the place of a line of a style is what is inherited from there, although the rest of the style
 /// followed it; and so is a frame, as it was corrected.
-#[tactic(auto, using(crate::proofs::Inherited::across_again, crate::proofs::Inherited::down_again), unfolding(crate::specs::Frame::with_frame))]
+#[tactic(auto, using(crate::proofs::Inherited::horizontal_again, crate::proofs::Inherited::vertical_again), unfolding(crate::specs::Frame::with_frame))]
 pub fn inherited_again()
-    ensures across { (rank : Rank) (line : Across ℕ) (style : Shown) → horizontal_of rank (with_line_across rank line style).borders ≡ line }
-    ensures down { (rank : Rank) (line : Down ℕ) (style : Shown) → vertical_of rank (with_line_down rank line style).borders ≡ line }
+    ensures horizontal { (rank : Rank) (line : Horizontal ℕ) (style : Shown) → horizontal_of rank (with_line_horizontal rank line style).borders ≡ line }
+    ensures vertical { (rank : Rank) (line : Vertical ℕ) (style : Shown) → vertical_of rank (with_line_vertical rank line style).borders ≡ line }
     ensures frame { (border : Frame ℕ) (style : Shown) → frame_of (with_frame border style).borders ≡ border }
 {}
 

@@ -1,7 +1,7 @@
 //! A custom vertical line, built call by call.
 
 ghost use Rattle.std.specs.Prelude.{◌≡◌, None, Some, IsSome};
-ghost use Rattle.tabled_style.specs.Lines.{full_vertical, turned_across};
+ghost use Rattle.tabled_style.specs.Lines.{full_vertical, turned_horizontal};
 
 use crate::{On, Style};
 use std::marker::{Model, PhantomData};
@@ -236,7 +236,7 @@ impl<T, B, I> From<Line<char>> for VerticalLine<T, B, I> {
 
 /// The line turned across: its upper end is the left one, its lower end the right one.
 impl<T, B, I> From<VerticalLine<T, B, I>> for HorizontalLine<char> {
-    ghost from_gives = { λ line result. result ≡ turned_across line };
+    ghost from_gives = { λ line result. result ≡ turned_horizontal line };
 
     fn from(line: VerticalLine<T, B, I>) -> Self {
         let Line {

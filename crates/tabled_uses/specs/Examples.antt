@@ -36,7 +36,7 @@ text_of drawing = printed drawing.events drawing.shape (slice_index drawing.widt
 unfoldable pub places_of : Drawing → LineOf → List Place
 places_of drawing line =
     let view = look drawing.events drawing.shape (slice_index drawing.widths) (slice_index drawing.heights) in
-    along view.across view.down view.shape view.widths view.heights line
+    along view.horizontal view.vertical view.shape view.widths view.heights line
 
 -- the bytes of lines of text
 abbrev pub as_lines : List (List ℕ) → List ℕ
@@ -142,7 +142,7 @@ cells_of_three = record {
   cells = (codes " a " ∷ codes " b " ∷ []) ∷ (codes " c " ∷ codes " d " ∷ []) ∷ [];
 }
 
--- characters down the first and the closing vertical line
+-- characters down the first and the last vertical line
 unfoldable pub down_both_sides : Drawing
 down_both_sides = record {
   events = borders_set ascii ++ (put (at_spot (Crossing 0 0)) (codes "T") ∷ put (at_offset Vertical 0 0 (Offset.Start 0)) (codes "A") ∷ put (at_spot (Crossing 1 0)) (codes "B") ∷ put (at_offset Vertical 1 0 (Offset.Start 0)) (codes "L") ∷ put (at_spot (Crossing 2 0)) (codes "E") ∷ put (at_spot (Crossing 0 1)) (codes "T") ∷ put (at_offset Vertical 0 1 (Offset.Start 0)) (codes "A") ∷ put (at_spot (Crossing 1 1)) (codes "B") ∷ put (at_offset Vertical 1 1 (Offset.Start 0)) (codes "L") ∷ put (at_spot (Crossing 2 1)) (codes "E") ∷ []);

@@ -161,13 +161,13 @@ fn a_vertical_offset_shows_beside_its_row(rt: HostRuntime) -> Result<(), Fail> {
 
 /// Whether a copy of the lines of each direction has the two that were put at 1.
 fn copies_have_both(cfg: &SpannedConfig) -> Result<bool, OutOfMemory> {
-    let across = cfg.get_horizontal_lines()?;
-    let down = cfg.get_vertical_lines()?;
+    let horizontal = cfg.get_horizontal_lines()?;
+    let vertical = cfg.get_vertical_lines()?;
     Ok(
-        across.get(&1) == Some(&HorizontalLine::new(Some('-'), Some('h'), None, None))
-            && down.get(&1) == Some(&VerticalLine::new(Some('|'), Some('v'), None, None))
-            && across.len() == 1
-            && down.len() == 1,
+        horizontal.get(&1) == Some(&HorizontalLine::new(Some('-'), Some('h'), None, None))
+            && vertical.get(&1) == Some(&VerticalLine::new(Some('|'), Some('v'), None, None))
+            && horizontal.len() == 1
+            && vertical.len() == 1,
     )
 }
 

@@ -47,13 +47,13 @@ fn lettered() -> Style<On, On, On, On, On, On, 0, 0> {
 
 #[test]
 fn lines_are_inherited_from_sides_that_are_there(rt: HostRuntime) {
-    let across = HorizontalLine::inherit(lettered());
+    let horizontal = HorizontalLine::inherit(lettered());
     let above = HorizontalLine::inherit_top(lettered()).into_inner();
     let below = HorizontalLine::inherit_bottom(lettered()).into_inner();
     let between = VerticalLine::inherit(lettered());
     let before = VerticalLine::inherit_left(lettered()).into_inner();
     let behind = VerticalLine::inherit_right(lettered()).into_inner();
-    assert!(rt; across == HorizontalLine::full('5', 'i', 'e', 'f'));
+    assert!(rt; horizontal == HorizontalLine::full('5', 'i', 'e', 'f'));
     assert!(rt; above == HLine::new(Some('1'), Some('g'), Some('a'), Some('b')));
     assert!(rt; below == HLine::new(Some('2'), Some('h'), Some('c'), Some('d')));
     assert!(rt; between == VerticalLine::full('6', 'i', 'g', 'h'));
@@ -87,15 +87,15 @@ fn a_style_is_copied_framed_and_emptied(rt: HostRuntime) {
 
 #[test]
 fn a_line_of_either_direction_takes_the_place_of_each_line(rt: HostRuntime) {
-    let across = HorizontalLine::filled('x');
-    let down = VerticalLine::filled('y');
+    let horizontal = HorizontalLine::filled('x');
+    let vertical = VerticalLine::filled('y');
     let borders: Borders<char> = Style::empty()
-        .line_top(across)
-        .line_bottom(across)
-        .line_horizontal(across)
-        .line_left(down)
-        .line_right(down)
-        .line_vertical(down)
+        .line_top(horizontal)
+        .line_bottom(horizontal)
+        .line_horizontal(horizontal)
+        .line_left(vertical)
+        .line_right(vertical)
+        .line_vertical(vertical)
         .into();
     assert!(rt; (borders.top, borders.horizontal) == (Some('x'), Some('x')));
     assert!(rt; (borders.top_left, borders.bottom_right) == (Some('y'), Some('y')));
@@ -104,37 +104,40 @@ fn a_line_of_either_direction_takes_the_place_of_each_line(rt: HostRuntime) {
 
 #[test]
 fn characters_of_a_horizontal_line_are_read_back(rt: HostRuntime) {
-    let across = HorizontalLine::new('m')
+    let horizontal = HorizontalLine::new('m')
         .intersection('i')
         .left('l')
         .right('r')
         .horizontal('n');
     let read = [
-        across.get_horizontal(),
-        across.get_intersection(),
-        across.get_left(),
-        across.get_right(),
+        horizontal.get_horizontal(),
+        horizontal.get_intersection(),
+        horizontal.get_left(),
+        horizontal.get_right(),
     ];
     assert!(rt; read == ['n', 'i', 'l', 'r']);
-    let bare = across.remove_intersection().remove_left().remove_right();
+    let bare = horizontal
+        .remove_intersection()
+        .remove_left()
+        .remove_right();
     assert!(rt; bare == HorizontalLine::new('n'));
 }
 
 #[test]
 fn characters_of_a_vertical_line_are_read_back(rt: HostRuntime) {
-    let down = VerticalLine::new('m')
+    let vertical = VerticalLine::new('m')
         .intersection('i')
         .top('t')
         .bottom('b')
         .vertical('n');
     let read = [
-        down.get_vertical(),
-        down.get_intersection(),
-        down.get_top(),
-        down.get_bottom(),
+        vertical.get_vertical(),
+        vertical.get_intersection(),
+        vertical.get_top(),
+        vertical.get_bottom(),
     ];
     assert!(rt; read == ['n', 'i', 't', 'b']);
-    let bare = down.remove_intersection().remove_top().remove_bottom();
+    let bare = vertical.remove_intersection().remove_top().remove_bottom();
     assert!(rt; bare == VerticalLine::new('n'));
 }
 

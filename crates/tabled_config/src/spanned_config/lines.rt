@@ -6,7 +6,7 @@ ghost use Rattle.std.specs.FinMap as map;
 ghost use Rattle.tabled_grid.specs.Table.{table};
 ghost use Rattle.tabled_grid.specs.declared.site.Site.TheVariants.{Line as of_line};
 ghost use Rattle.tabled_grid.specs.declared.site.Part.TheVariants.{Mark as mark};
-ghost use Rattle.tabled_grid.specs.Calls.{line_set_across, line_set_down, line_removed};
+ghost use Rattle.tabled_grid.specs.Calls.{line_set_horizontal, line_set_vertical, line_removed};
 ghost use Rattle.tabled_grid.specs.State.{state_at};
 ghost use Rattle.tabled_grid.specs.declared.place.LineOf.{LineOf as Line};
 ghost use Rattle.tabled_config.specs.Configuration.{Changes, by_characters};
@@ -23,7 +23,7 @@ impl SpannedConfig {
         line: usize,
         fields: HorizontalLine<char>,
     ) -> Result<(), OutOfMemory>
-        ensures ok { OnOk result (Changes (by_characters (line_set_across line fields)) self.old self.new) }
+        ensures ok { OnOk result (Changes (by_characters (line_set_horizontal line fields)) self.old self.new) }
         ensures err { OnErr result (self.new ≡ self.old) }
         ensures absent { OnErr result (state_at self.old.characters (of_line (Line.Horizontal line) mark) ≡ None) }
     {
@@ -58,7 +58,7 @@ impl SpannedConfig {
         line: usize,
         fields: VerticalLine<char>,
     ) -> Result<(), OutOfMemory>
-        ensures ok { OnOk result (Changes (by_characters (line_set_down line fields)) self.old self.new) }
+        ensures ok { OnOk result (Changes (by_characters (line_set_vertical line fields)) self.old self.new) }
         ensures err { OnErr result (self.new ≡ self.old) }
         ensures absent { OnErr result (state_at self.old.characters (of_line (Line.Vertical line) mark) ≡ None) }
     {

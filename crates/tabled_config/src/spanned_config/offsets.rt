@@ -26,7 +26,7 @@ impl SpannedConfig {
         ensures absent { OnErr result (state_at self.old.characters (at_offset Horizontal pos.row pos.col offset) ≡ None) }
     {
         self.characters
-            .set_offset(across_at(pos), offset, character)
+            .set_offset(horizontal_at(pos), offset, character)
     }
 
     /// Writes a character at a numbered place of the edge of vertical line `pos.col` beside row `pos.row`,
@@ -42,7 +42,8 @@ impl SpannedConfig {
         ensures err { OnErr result (self.new ≡ self.old) }
         ensures absent { OnErr result (state_at self.old.characters (at_offset Vertical pos.row pos.col offset) ≡ None) }
     {
-        self.characters.set_offset(down_at(pos), offset, character)
+        self.characters
+            .set_offset(vertical_at(pos), offset, character)
     }
 
     /// Writes a color at a numbered place of the edge of horizontal line `pos.row` over column `pos.col`,
@@ -58,7 +59,7 @@ impl SpannedConfig {
         ensures err { OnErr result (self.new ≡ self.old) }
         ensures absent { OnErr result (state_at self.old.colors (at_offset Horizontal pos.row pos.col offset) ≡ None) }
     {
-        self.colors.set_offset(across_at(pos), offset, color)
+        self.colors.set_offset(horizontal_at(pos), offset, color)
     }
 
     /// Writes a color at a numbered place of the edge of vertical line `pos.col` beside row `pos.row`,
@@ -74,7 +75,7 @@ impl SpannedConfig {
         ensures err { OnErr result (self.new ≡ self.old) }
         ensures absent { OnErr result (state_at self.old.colors (at_offset Vertical pos.row pos.col offset) ≡ None) }
     {
-        self.colors.set_offset(down_at(pos), offset, color)
+        self.colors.set_offset(vertical_at(pos), offset, color)
     }
 
     /// Erases all offset characters on the edges of horizontal lines.
@@ -107,7 +108,7 @@ impl SpannedConfig {
 }
 
 /// The edge of a horizontal line, by its first place.
-fn across_at(pos: Position) -> Place
+fn horizontal_at(pos: Position) -> Place
     ensures { result ≡ Spot.Horizontal pos.row pos.col 0 }
 {
     Place::Horizontal {
@@ -118,7 +119,7 @@ fn across_at(pos: Position) -> Place
 }
 
 /// The edge of a vertical line, by its first place.
-fn down_at(pos: Position) -> Place
+fn vertical_at(pos: Position) -> Place
     ensures { result ≡ Spot.Vertical pos.row pos.col 0 }
 {
     Place::Vertical {

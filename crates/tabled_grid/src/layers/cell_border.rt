@@ -4,7 +4,7 @@ ghost use Rattle.std.specs.Prelude.{◌≡◌, [], ◌∷◌, OnOk, OnErr, IsTru
 ghost use Rattle.tabled_grid.specs.Calls.{border_set};
 ghost use Rattle.tabled_grid.specs.Writes.{writes_made};
 ghost use Rattle.tabled_grid.specs.declared.writes.Target.{Target};
-ghost use Rattle.tabled_grid.specs.CellBorder.{next_line, side_across, side_down, corner, border_places, border_shown};
+ghost use Rattle.tabled_grid.specs.CellBorder.{next_line, side_horizontal, side_vertical, corner, border_places, border_shown};
 
 use super::Layers;
 use super::writes::Group;
@@ -148,10 +148,10 @@ fn places(pos: Position) -> Border<Place>
     let below = next(row);
     let behind = next(col);
     Border {
-        top: across(Some(row), col),
-        bottom: across(below, col),
-        left: down(row, Some(col)),
-        right: down(row, behind),
+        top: horizontal(Some(row), col),
+        bottom: horizontal(below, col),
+        left: vertical(row, Some(col)),
+        right: vertical(row, behind),
         left_top_corner: cross(Some(row), Some(col)),
         left_bottom_corner: cross(below, Some(col)),
         right_top_corner: cross(Some(row), behind),
@@ -166,15 +166,15 @@ fn next(line: usize) -> Option<usize>
     line.checked_add(1)
 }
 
-fn across(row: Option<usize>, col: usize) -> Option<Place>
-    ensures { result ≡ side_across row col }
+fn horizontal(row: Option<usize>, col: usize) -> Option<Place>
+    ensures { result ≡ side_horizontal row col }
 {
     let row = row?;
     Some(Place::Horizontal { row, col, at: 0 })
 }
 
-fn down(row: usize, col: Option<usize>) -> Option<Place>
-    ensures { result ≡ side_down row col }
+fn vertical(row: usize, col: Option<usize>) -> Option<Place>
+    ensures { result ≡ side_vertical row col }
 {
     let col = col?;
     Some(Place::Vertical { row, col, at: 0 })

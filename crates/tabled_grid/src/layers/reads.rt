@@ -6,7 +6,7 @@ ghost use Rattle.std.specs.FinMap as map;
 ghost use Rattle.tabled_grid.specs.Table.{table};
 ghost use Rattle.tabled_grid.specs.Probing.{IsCounted, IsRaised};
 ghost use Rattle.tabled_grid.specs.Reading.{direction_of, row_drawn, col_drawn};
-ghost use Rattle.tabled_grid.specs.Site.{Horizontal as going_across, Vertical as going_down, rank, horizontal_meeting, vertical_meeting, edges, crossings, class_value};
+ghost use Rattle.tabled_grid.specs.Site.{Horizontal as horizontal, Vertical as vertical, rank, horizontal_meeting, vertical_meeting, edges, crossings, class_value};
 ghost use Rattle.tabled_grid.specs.Keys.{line_cmp};
 ghost use Rattle.tabled_grid.specs.Drawn.{number};
 ghost use Rattle.tabled_grid.specs.State.{class_draws as class_drawn};
@@ -120,14 +120,14 @@ impl<T> Layers<T> {
 
     /// Whether something is kept at an offset of an edge of a horizontal line, from its start or its end.
     pub fn has_horizontal_offsets(&self) -> bool
-        ensures { IsFalse result ↔ HasNoOffsets going_across self.now }
+        ensures { IsFalse result ↔ HasNoOffsets horizontal self.now }
     {
         !self.horizontal_offsets.is_empty()
     }
 
     /// Whether something is kept at an offset of an edge of a vertical line, from its start or its end.
     pub fn has_vertical_offsets(&self) -> bool
-        ensures { IsFalse result ↔ HasNoOffsets going_down self.now }
+        ensures { IsFalse result ↔ HasNoOffsets vertical self.now }
     {
         !self.vertical_offsets.is_empty()
     }

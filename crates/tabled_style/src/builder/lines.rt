@@ -1,7 +1,7 @@
 //! The calls that take lines: custom ones, and those that replace a line of the style.
 
 ghost use Rattle.std.specs.Prelude.{◌≡◌, []};
-ghost use Rattle.tabled_style.specs.LineCalls.{space_where, spaced_down, spaced_across, followed_down, followed_across, settled_across, settled_down};
+ghost use Rattle.tabled_style.specs.LineCalls.{space_where, spaced_vertical, spaced_horizontal, followed_vertical, followed_horizontal, settled_horizontal, settled_vertical};
 
 use super::Style;
 use super::custom::Lines;
@@ -21,9 +21,9 @@ pub(super) fn space_where(asked: bool, given: Option<char>) -> Option<char>
 }
 
 /// The lines between columns of a record, with a space for what they lack.
-#[tactic(auto, unfolding(crate::specs::LineCalls::spaced_down))]
-fn spaced_down(borders: Borders<char>) -> VLine<char>
-    ensures { result ≡ spaced_down borders }
+#[tactic(auto, unfolding(crate::specs::LineCalls::spaced_vertical))]
+fn spaced_vertical(borders: Borders<char>) -> VLine<char>
+    ensures { result ≡ spaced_vertical borders }
 {
     let line = borders.vertical_line(Rank::Inner);
     VLine {
@@ -35,9 +35,9 @@ fn spaced_down(borders: Borders<char>) -> VLine<char>
 }
 
 /// The lines between rows of a record, with a space for what they lack.
-#[tactic(auto, unfolding(crate::specs::LineCalls::spaced_across))]
-fn spaced_across(borders: Borders<char>) -> HLine<char>
-    ensures { result ≡ spaced_across borders }
+#[tactic(auto, unfolding(crate::specs::LineCalls::spaced_horizontal))]
+fn spaced_horizontal(borders: Borders<char>) -> HLine<char>
+    ensures { result ≡ spaced_horizontal borders }
 {
     let line = borders.horizontal_line(Rank::Inner);
     HLine {
@@ -49,47 +49,47 @@ fn spaced_across(borders: Borders<char>) -> HLine<char>
 }
 
 /// The record with its vertical lines of a rank as a horizontal line asks that has this where it crosses them.
-#[tactic(auto, unfolding(crate::specs::LineCalls::followed_down))]
-fn followed_down(rank: Rank, crossing: Option<char>, borders: Borders<char>) -> Borders<char>
-    ensures { result ≡ followed_down rank crossing borders }
+#[tactic(auto, unfolding(crate::specs::LineCalls::followed_vertical))]
+fn followed_vertical(rank: Rank, crossing: Option<char>, borders: Borders<char>) -> Borders<char>
+    ensures { result ≡ followed_vertical rank crossing borders }
 {
     match (crossing, rank) {
         (None, _) => vertical_dropped(rank, borders),
-        (Some(_), Rank::Inner) => borders.with_vertical_line(rank, spaced_down(borders)),
+        (Some(_), Rank::Inner) => borders.with_vertical_line(rank, spaced_vertical(borders)),
         (Some(_), _) => borders,
     }
 }
 
 /// The record with its horizontal lines of a rank as a vertical line asks that has this where it crosses them.
-#[tactic(auto, unfolding(crate::specs::LineCalls::followed_across))]
-fn followed_across(rank: Rank, crossing: Option<char>, borders: Borders<char>) -> Borders<char>
-    ensures { result ≡ followed_across rank crossing borders }
+#[tactic(auto, unfolding(crate::specs::LineCalls::followed_horizontal))]
+fn followed_horizontal(rank: Rank, crossing: Option<char>, borders: Borders<char>) -> Borders<char>
+    ensures { result ≡ followed_horizontal rank crossing borders }
 {
     match (crossing, rank) {
         (None, _) => horizontal_dropped(rank, borders),
-        (Some(_), Rank::Inner) => borders.with_horizontal_line(rank, spaced_across(borders)),
+        (Some(_), Rank::Inner) => borders.with_horizontal_line(rank, spaced_horizontal(borders)),
         (Some(_), _) => borders,
     }
 }
 
 /// The second step of a call that takes a horizontal line.
-#[tactic(auto, unfolding(crate::specs::LineCalls::settled_across))]
-fn settled_across(line: HLine<char>, between: Borders<char>) -> Borders<char>
-    ensures { result ≡ settled_across line between }
+#[tactic(auto, unfolding(crate::specs::LineCalls::settled_horizontal))]
+fn settled_horizontal(line: HLine<char>, between: Borders<char>) -> Borders<char>
+    ensures { result ≡ settled_horizontal line between }
 {
-    let inner = followed_down(Rank::Inner, line.intersection, between);
-    let left = followed_down(Rank::First, line.left, inner);
-    followed_down(Rank::Last, line.right, left)
+    let inner = followed_vertical(Rank::Inner, line.intersection, between);
+    let left = followed_vertical(Rank::First, line.left, inner);
+    followed_vertical(Rank::Last, line.right, left)
 }
 
 /// The second step of a call that takes a vertical line.
-#[tactic(auto, unfolding(crate::specs::LineCalls::settled_down))]
-fn settled_down(line: VLine<char>, between: Borders<char>) -> Borders<char>
-    ensures { result ≡ settled_down line between }
+#[tactic(auto, unfolding(crate::specs::LineCalls::settled_vertical))]
+fn settled_vertical(line: VLine<char>, between: Borders<char>) -> Borders<char>
+    ensures { result ≡ settled_vertical line between }
 {
-    let inner = followed_across(Rank::Inner, line.intersection, between);
-    let top = followed_across(Rank::First, line.top, inner);
-    followed_across(Rank::Last, line.bottom, top)
+    let inner = followed_horizontal(Rank::Inner, line.intersection, between);
+    let top = followed_horizontal(Rank::First, line.top, inner);
+    followed_horizontal(Rank::Last, line.bottom, top)
 }
 
 impl<T, B, L, R, H, V, const HN: usize, const VN: usize> Style<T, B, L, R, H, V, HN, VN> {
@@ -129,19 +129,19 @@ impl<T, B, L, R, H, V, const HN: usize, const VN: usize> Style<T, B, L, R, H, V,
 }
 
 impl<T, B, L, R, H, V, const HN: usize, const VN: usize> Style<T, B, L, R, H, V, HN, VN> {
-    ghost use Rattle.tabled_style.specs.LineCalls.{with_line_across, with_line_down};
+    ghost use Rattle.tabled_style.specs.LineCalls.{with_line_horizontal, with_line_vertical};
 
     /// The style with this as its horizontal line of a rank, followed by the rest.
-    #[tactic(auto, unfolding(crate::specs::LineCalls::with_line_across))]
-    fn with_line_across<Top, Bottom, Left, Right, Inner, Intersection>(
+    #[tactic(auto, unfolding(crate::specs::LineCalls::with_line_horizontal))]
+    fn with_line_horizontal<Top, Bottom, Left, Right, Inner, Intersection>(
         mut self,
         rank: Rank,
         line: HLine<char>,
     ) -> Style<Top, Bottom, Left, Right, Inner, Intersection, HN, VN>
-        ensures { result ≡ with_line_across rank line self }
+        ensures { result ≡ with_line_horizontal rank line self }
     {
         let between = self.borders.with_horizontal_line(rank, line);
-        self.borders = settled_across(line, between);
+        self.borders = settled_horizontal(line, between);
         self.horizontals.put_over(line);
         self.verticals
             .put_over(VLine::new(None, line.intersection, None, None));
@@ -149,16 +149,16 @@ impl<T, B, L, R, H, V, const HN: usize, const VN: usize> Style<T, B, L, R, H, V,
     }
 
     /// The style with this as its vertical line of a rank, followed by the rest.
-    #[tactic(auto, unfolding(crate::specs::LineCalls::with_line_down))]
-    fn with_line_down<Top, Bottom, Left, Right, Intersection, Inner>(
+    #[tactic(auto, unfolding(crate::specs::LineCalls::with_line_vertical))]
+    fn with_line_vertical<Top, Bottom, Left, Right, Intersection, Inner>(
         mut self,
         rank: Rank,
         line: VLine<char>,
     ) -> Style<Top, Bottom, Left, Right, Intersection, Inner, HN, VN>
-        ensures { result ≡ with_line_down rank line self }
+        ensures { result ≡ with_line_vertical rank line self }
     {
         let between = self.borders.with_vertical_line(rank, line);
-        self.borders = settled_down(line, between);
+        self.borders = settled_vertical(line, between);
         self.horizontals
             .put_over(HLine::new(None, line.intersection, None, None));
         self.verticals.put_over(line);
@@ -176,9 +176,9 @@ impl<T, B, L, R, H, V, const HN: usize, const VN: usize> Style<T, B, L, R, H, V,
         self,
         line: HorizontalLine<Left, Right, Intersection>,
     ) -> Style<T, B, Left, Right, On, Intersection, HN, VN>
-        ensures { result ≡ with_line_across Rank.Inner line self }
+        ensures { result ≡ with_line_horizontal Rank.Inner line self }
     {
-        self.with_line_across(Rank::Inner, line.into_inner())
+        self.with_line_horizontal(Rank::Inner, line.into_inner())
     }
 
     /// Replaces the top by this line. The rest of the style follows as in [`line_horizontal`](Style::line_horizontal).
@@ -186,9 +186,9 @@ impl<T, B, L, R, H, V, const HN: usize, const VN: usize> Style<T, B, L, R, H, V,
         self,
         line: HorizontalLine<Left, Right, Intersection>,
     ) -> Style<On, B, Left, Right, H, Intersection, HN, VN>
-        ensures { result ≡ with_line_across Rank.First line self }
+        ensures { result ≡ with_line_horizontal Rank.First line self }
     {
-        self.with_line_across(Rank::First, line.into_inner())
+        self.with_line_horizontal(Rank::First, line.into_inner())
     }
 
     /// Replaces the bottom by this line. The rest of the style follows as in
@@ -197,9 +197,9 @@ impl<T, B, L, R, H, V, const HN: usize, const VN: usize> Style<T, B, L, R, H, V,
         self,
         line: HorizontalLine<Left, Right, Intersection>,
     ) -> Style<T, On, Left, Right, H, Intersection, HN, VN>
-        ensures { result ≡ with_line_across Rank.Last line self }
+        ensures { result ≡ with_line_horizontal Rank.Last line self }
     {
-        self.with_line_across(Rank::Last, line.into_inner())
+        self.with_line_horizontal(Rank::Last, line.into_inner())
     }
 
     /// Replaces the lines between columns by this one.
@@ -213,9 +213,9 @@ impl<T, B, L, R, H, V, const HN: usize, const VN: usize> Style<T, B, L, R, H, V,
         self,
         line: VerticalLine<Top, Bottom, Intersection>,
     ) -> Style<Top, Bottom, L, R, Intersection, On, HN, VN>
-        ensures { result ≡ with_line_down Rank.Inner line self }
+        ensures { result ≡ with_line_vertical Rank.Inner line self }
     {
-        self.with_line_down(Rank::Inner, line.into_inner())
+        self.with_line_vertical(Rank::Inner, line.into_inner())
     }
 
     /// Replaces the left side by this line. The rest of the style follows as in
@@ -224,9 +224,9 @@ impl<T, B, L, R, H, V, const HN: usize, const VN: usize> Style<T, B, L, R, H, V,
         self,
         line: VerticalLine<Top, Bottom, Intersection>,
     ) -> Style<Top, Bottom, On, R, Intersection, V, HN, VN>
-        ensures { result ≡ with_line_down Rank.First line self }
+        ensures { result ≡ with_line_vertical Rank.First line self }
     {
-        self.with_line_down(Rank::First, line.into_inner())
+        self.with_line_vertical(Rank::First, line.into_inner())
     }
 
     /// Replaces the right side by this line. The rest of the style follows as in
@@ -235,8 +235,8 @@ impl<T, B, L, R, H, V, const HN: usize, const VN: usize> Style<T, B, L, R, H, V,
         self,
         line: VerticalLine<Top, Bottom, Intersection>,
     ) -> Style<Top, Bottom, L, On, Intersection, V, HN, VN>
-        ensures { result ≡ with_line_down Rank.Last line self }
+        ensures { result ≡ with_line_vertical Rank.Last line self }
     {
-        self.with_line_down(Rank::Last, line.into_inner())
+        self.with_line_vertical(Rank::Last, line.into_inner())
     }
 }

@@ -109,15 +109,15 @@ impl<T, B, L, R, H, const HN: usize, const VN: usize> Style<T, B, L, R, H, On, H
 impl<H, V, const HN: usize, const VN: usize> Style<On, On, On, On, H, V, HN, VN> {
     ghost use Rattle.tabled_config.specs.Options.{inner_of};
     ghost use Rattle.tabled_style.specs.Lines.{each_line};
-    ghost use Rattle.tabled_style.specs.Removing.{without_ends_across, without_ends_down};
+    ghost use Rattle.tabled_style.specs.Removing.{without_ends_horizontal, without_ends_vertical};
 
     /// Drops the frame: the bottom, the top, the left and the right side. What stays are the lines between rows
     /// and between columns with the crossings of the two, and the custom lines without their ends.
     pub fn remove_frame(self) -> Style<(), (), (), (), H, V, HN, VN>
         ensures { result ≡ record {
           borders = inner_of self.borders;
-          horizontals = each_line without_ends_across self.horizontals;
-          verticals = each_line without_ends_down self.verticals;
+          horizontals = each_line without_ends_horizontal self.horizontals;
+          verticals = each_line without_ends_vertical self.verticals;
         } }
     {
         self.remove_bottom()

@@ -13,4 +13,4 @@ invariant-loop-col g l =
     let view : Look = framed g.D.Dimension.width_of g.D.Dimension.height_of l.self in
     string_bytes l.text
     ≡ string_bytes l.initial.text
-    ++ text_shown (map view.shown (flat_map (λ c. crossing_at view.down (λ d. Place.Cross l.row d) c ++ map (λ k. Place.Horizontal l.row c k) (below (view.widths c))) (below l.col)))
+    ++ text_shown (map view.shown (flat_map (λ c. crossing_at view.vertical (λ d. Place.Cross l.row d) c ++ map (λ k. Place.Horizontal l.row c k) (below (view.widths c))) (below l.col)))
