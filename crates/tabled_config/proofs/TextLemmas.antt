@@ -57,13 +57,13 @@ line_more f crossing edge n =
     ∙ shown_append f (flat_map (λ k. crossing k ++ edge k) (below n)) (crossing n ++ edge n)
     ∙ ap (λ bs. text_shown (map f (flat_map (λ k. crossing k ++ edge k) (below n))) ++ bs) (shown_append f (crossing n) (edge n))
 
--- the closing crossing
+-- the last crossing
 pub line_closed : {X : Type 0} (f : X → Option ℕ) (step : ℕ → List X) (close : List X) (n count : ℕ) → n ≡ count → text_shown (map f (flat_map step (below count) ++ close)) ≡ text_shown (map f (flat_map step (below n))) ++ text_shown (map f close)
 line_closed f step close n count e =
     shown_append f (flat_map step (below count)) close
     ∙ ap (λ m. text_shown (map f (flat_map step (below m))) ++ text_shown (map f close)) (sym e)
 
--- a horizontal line of a table that has places, none past the closing one
+-- a horizontal line of a table that has places, none past the last one
 pub along_any : (horizontal vertical : ℕ → Bool) (shape : ℕ × ℕ) (widths heights : ℕ → ℕ) (r : ℕ) → is_empty shape ≡ false → r ≤ shape.0 → along horizontal vertical shape widths heights (LineOf.Horizontal r) ≡ along_line vertical widths shape.1 (λ c. Place.Cross r c) (λ c k. Place.Horizontal r c k)
 along_any horizontal vertical shape widths heights r any within =
     let places : List Place = along_line vertical widths shape.1 (λ c. Place.Cross r c) (λ c k. Place.Horizontal r c k) in
@@ -104,7 +104,7 @@ rows_more line lines n =
     ∙ flat_map-append ended (flat_map (λ r. line r ++ lines r) (below n)) (line n ++ lines n)
     ∙ ap (λ bs. flat_map ended (flat_map (λ r. line r ++ lines r) (below n)) ++ bs) (flat_map-append ended (line n) (lines n))
 
--- the closing line
+-- the last line
 pub rows_closed : (e : Bool) (step : ℕ → List (List ℕ)) (close : List (List ℕ)) (n count : ℕ) → e ≡ false → n ≡ count → flat_map ended (if e then [] else flat_map step (below count) ++ close) ≡ flat_map ended (flat_map step (below n)) ++ flat_map ended close
 rows_closed e step close n count is same =
     ap (λ b. flat_map ended (if b then [] else flat_map step (below count) ++ close)) is

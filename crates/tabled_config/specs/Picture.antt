@@ -54,7 +54,7 @@ module _ (view : Look) where
   abbrev pub side_shown : ℕ → ℕ → ℕ → List (Option ℕ)
   side_shown r k c = if view.vertical c then view.shown (Place.Vertical r c k) ∷ [] else []
 
-  -- one line of text of a row: before each column's piece the side, and the closing side at last
+  -- one line of text of a row: before each column's piece the side, and the last side at last
   abbrev pub line_of_pieces : ℕ → ℕ → (ℕ → List ℕ) → List ℕ
   line_of_pieces r k piece = flat_map (λ c. text_shown (side_shown r k c) ++ piece c) (below view.shape.1) ++ text_shown (side_shown r k view.shape.1)
 
@@ -70,7 +70,7 @@ module _ (view : Look) where
   abbrev pub row_lines : ℕ → List (List ℕ) → List (List ℕ)
   row_lines r cells = map (cell_line r cells) (below (view.heights r))
 
-  -- the lines of the text, from top to bottom: for each row its line and its cells, and the closing line at last
+  -- the lines of the text, from top to bottom: for each row its line and its cells, and the last line at last
   abbrev pub text_lines : Table → List (List ℕ)
   text_lines cells =
       if is_empty view.shape then [] else

@@ -205,7 +205,7 @@ module _ {T : Type 0} (k : State T) (numbers : map.FinMap line_cmp ℕ) (t b l r
     λ drawn. e ∙ col_by_site drawn.by drawn.draws_it drawn.is_kept,
   )
 
--- a line past the closing one is not drawn
+-- a line past the last one is not drawn
 pub past_answer : {T : Type 0} (k : State T) (count' : ℕ) (line : LineOf) → count' < number line → IsTrue false ↔ Drawn (state_at k) count' line
 past_answer k count' line past = (λ yes. absurd cc, λ drawn. absurd (omega (arith, past, drawn.no_further)))
 

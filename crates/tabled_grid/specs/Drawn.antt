@@ -35,7 +35,7 @@ draws count (LineOf.Vertical n) (of_line (LineOf.Horizontal m) (meeting rank)) =
 draws count line (at_spot spot) = lies_on line spot
 draws count line _ = false
 
--- a line is drawn where it is none past the closing one and something is kept at a site that draws it
+-- a line is drawn where it is none past the last one and something is kept at a site that draws it
 pub record Drawn {T : Type 0} (state : Site → Option (Written T)) (count : ℕ) (line : LineOf) : Type 0 where
   pub no_further : number line ≤ count
   pub by : Site

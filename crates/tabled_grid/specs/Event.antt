@@ -13,6 +13,7 @@ pub use Rattle.tabled_grid.specs.declared.event.Region.TheVariants.{All as every
 pub use Rattle.tabled_grid.specs.declared.event.Event.{Event}
 pub use Rattle.tabled_grid.specs.declared.event.Event.TheVariants.{Write as write, Erase as erase}
 
+-- whether a region has a site
 abbrev pub within : Region → Site → Bool
 within every_site q = true
 within (level_sites n) q = level q == n

@@ -18,6 +18,7 @@ abbrev pub pick : {T : Type 0} → Option T → Option T → Option T
 pick None other = other
 pick (Some x) other = Some x
 
+-- which way the edges of a line run
 abbrev pub direction_of : LineOf → Direction
 direction_of (LineOf.Horizontal n) = Horizontal
 direction_of (LineOf.Vertical n) = Vertical

@@ -10,27 +10,27 @@ use std::alloc::AllocError;
 pub struct Borders<T> {
     /// The edges of horizontal line 0.
     pub top: Option<T>,
-    /// The edges of the closing horizontal line.
+    /// The edges of the last horizontal line.
     pub bottom: Option<T>,
     /// The edges of vertical line 0.
     pub left: Option<T>,
-    /// The edges of the closing vertical line.
+    /// The edges of the last vertical line.
     pub right: Option<T>,
     /// The crossing of the first lines.
     pub top_left: Option<T>,
-    /// The crossing of horizontal line 0 and the closing vertical line.
+    /// The crossing of horizontal line 0 and the last vertical line.
     pub top_right: Option<T>,
-    /// The crossing of the closing horizontal line and vertical line 0.
+    /// The crossing of the last horizontal line and vertical line 0.
     pub bottom_left: Option<T>,
-    /// The crossing of the closing lines.
+    /// The crossing of the last lines.
     pub bottom_right: Option<T>,
     /// The other crossings on horizontal line 0.
     pub top_intersection: Option<T>,
-    /// The other crossings on the closing horizontal line.
+    /// The other crossings on the last horizontal line.
     pub bottom_intersection: Option<T>,
     /// The other crossings on vertical line 0.
     pub left_intersection: Option<T>,
-    /// The other crossings on the closing vertical line.
+    /// The other crossings on the last vertical line.
     pub right_intersection: Option<T>,
     /// The edges of the other horizontal lines.
     pub horizontal: Option<T>,
@@ -87,7 +87,7 @@ impl<T> Borders<T> {
         self.has_horizontal_line(Rank::First)
     }
 
-    /// Whether the closing horizontal line has something: its edges or one of its crossings.
+    /// Whether the last horizontal line has something: its edges or one of its crossings.
     pub fn has_bottom(&self) -> bool
         ensures { result ≡ has_horizontal Rank.Last self.now }
     {
@@ -101,7 +101,7 @@ impl<T> Borders<T> {
         self.has_vertical_line(Rank::First)
     }
 
-    /// Whether the closing vertical line has something: its edges or one of its crossings.
+    /// Whether the last vertical line has something: its edges or one of its crossings.
     pub fn has_right(&self) -> bool
         ensures { result ≡ has_vertical Rank.Last self.now }
     {

@@ -11,11 +11,11 @@ use std::alloc::AllocError;
 pub struct HorizontalLine<T> {
     /// Along the edges.
     pub main: Option<T>,
-    /// At the crossings between the first and the closing vertical line.
+    /// At the crossings between the first and the last vertical line.
     pub intersection: Option<T>,
     /// At the crossing with vertical line 0.
     pub left: Option<T>,
-    /// At the crossing with the closing vertical line.
+    /// At the crossing with the last vertical line.
     pub right: Option<T>,
 }
 
@@ -35,11 +35,11 @@ impl<T: Copy> Clone for HorizontalLine<T> {
 pub struct VerticalLine<T> {
     /// Along the edges.
     pub main: Option<T>,
-    /// At the crossings between the first and the closing horizontal line.
+    /// At the crossings between the first and the last horizontal line.
     pub intersection: Option<T>,
     /// At the crossing with horizontal line 0.
     pub top: Option<T>,
-    /// At the crossing with the closing horizontal line.
+    /// At the crossing with the last horizontal line.
     pub bottom: Option<T>,
 }
 

@@ -312,7 +312,7 @@ inner_intersection = record {
   cells = (codes " a " ∷ codes " b " ∷ []) ∷ (codes " c " ∷ codes " d " ∷ []) ∷ [];
 }
 
--- a custom line at the closing index draws it
+-- a custom line at the index of the last line draws it
 unfoldable pub closing_line : Drawing
 closing_line = record {
   events = vertical_bars ++ horizontal_line_set 1 dashes;

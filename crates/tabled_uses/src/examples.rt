@@ -107,7 +107,7 @@ pub fn drawn_lines()
 {}
 
 /// The places along a line are its crossings with the drawn lines of the other direction, and its edges between.
-/// A line past the closing one has none.
+/// A line past the last one has none.
 pub fn places_along_lines()
     ensures two_heights { text_of table.two_heights ≡ as_lines (
         codes "--- ---" ∷
