@@ -7,10 +7,12 @@ use Rattle.tabled_grid.specs.declared.borders.Borders.{Borders}
 use Rattle.tabled_grid.specs.Calls.{entity_border_set, entity_border_erased, frame_erased}
 use Rattle.tabled_grid.specs.Event as grid
 use Rattle.tabled_grid.specs.State.{State, state_at, class_record_set}
-use Rattle.tabled_grid.proofs.Replay.{Changes-append, Changes-nil}
+use Rattle.tabled_grid.proofs.Replay.{Changes-append}
 use Rattle.tabled_border.specs.Texts.{Texts}
-use Rattle.tabled_config.specs.Configuration.{Configuration, ConfigEvent, Changes, by_characters}
+use Rattle.tabled_config.specs.Configuration.{Configuration, Changes, by_characters}
 use Rattle.tabled_config.specs.Options.{MakesInTurn, entity_bordered, entity_unbordered, inner_of, table_unbordered}
+use Rattle.tabled_settings.specs.declared.cell_settings.CellSettings.{CellSettings}
+use Rattle.tabled_config.specs.ChangeLaws.{none_change_borders}
 use Rattle.tabled_config.proofs.ConfigurationLemmas.{Changes_by_characters}
 use Rattle.std.specs.List.{flat_map}
 
@@ -62,32 +64,28 @@ pub where_sure : {A E P : Type 0} (result : Result A E) → IsOk result → OnOk
 where_sure (Ok x) sure p = p
 where_sure (Err e) sure p = absurd cc
 
--- a change of a configuration that was lent is one of the configuration that it was lent of
-pub changes_lent : (es fs : List ConfigEvent) (old lent new : Configuration) → lent ≡ old → fs ≡ es → Changes fs lent new → Changes es old new
-changes_lent es fs old lent new same events changes = subst (λ all. Changes all old new) events (subst (λ cfg. Changes fs cfg new) same changes)
-
 -- a border around the cells of an entity
-pub Changes-entity_bordered : (border : Border ℕ) (shape : ℕ × ℕ) (entity : Entity) (before after : State ℕ) (colors : State Texts) (old : Configuration) → record { characters = before; colors = colors } ≡ old → grid.Changes (entity_border_set entity shape border) (state_at before) (state_at after) → Changes (entity_bordered border shape entity) old (record { characters = after; colors = colors })
+pub Changes-entity_bordered : (border : Border ℕ) (shape : ℕ × ℕ) (entity : Entity) (before after : State ℕ) (colors : State Texts) (settings : CellSettings) (old : Configuration) → record { characters = before; colors = colors; settings = settings } ≡ old → grid.Changes (entity_border_set entity shape border) (state_at before) (state_at after) → Changes (entity_bordered border shape entity) old (record { characters = after; colors = colors; settings = settings })
 unfolding entity_bordered
-Changes-entity_bordered border shape entity before after colors old is changes = Changes_by_characters (entity_border_set entity shape border) before after colors old is changes
+Changes-entity_bordered border shape entity before after colors settings old is changes = Changes_by_characters (entity_border_set entity shape border) before after colors settings old is changes
 
 -- the borders of the cells of an entity removed
-pub Changes-entity_unbordered : (shape : ℕ × ℕ) (entity : Entity) (before after : State ℕ) (colors : State Texts) (old : Configuration) → record { characters = before; colors = colors } ≡ old → grid.Changes (entity_border_erased entity shape) (state_at before) (state_at after) → Changes (entity_unbordered shape entity) old (record { characters = after; colors = colors })
+pub Changes-entity_unbordered : (shape : ℕ × ℕ) (entity : Entity) (before after : State ℕ) (colors : State Texts) (settings : CellSettings) (old : Configuration) → record { characters = before; colors = colors; settings = settings } ≡ old → grid.Changes (entity_border_erased entity shape) (state_at before) (state_at after) → Changes (entity_unbordered shape entity) old (record { characters = after; colors = colors; settings = settings })
 unfolding entity_unbordered
-Changes-entity_unbordered shape entity before after colors old is changes = Changes_by_characters (entity_border_erased entity shape) before after colors old is changes
+Changes-entity_unbordered shape entity before after colors settings old is changes = Changes_by_characters (entity_border_erased entity shape) before after colors settings old is changes
 
 -- a table without rows or columns has no frame
 pub no_frame : (rows cols : ℕ) (class : Borders ℕ) (cfg : Configuration) → ((rows == 0) || (cols == 0)) ≡ true → Changes (table_unbordered (rows, cols) class) cfg cfg
 unfolding table_unbordered
 no_frame rows cols class cfg none =
     subst (λ b. Changes (cond b [] (by_characters (class_record_set (inner_of class) ++ frame_erased (rows, cols)))) cfg cfg) (sym none)
-    (record { characters_changed = Changes-nil (state_at cfg.characters); colors_changed = Changes-nil (state_at cfg.colors) })
+    (none_change_borders cfg)
 
 -- the frame of a table removed
-pub Changes-table_unbordered : (rows cols : ℕ) (class result : Borders ℕ) (before between after : State ℕ) (colors : State Texts) (old : Configuration) → ((rows == 0) || (cols == 0)) ≡ false → record { characters = before; colors = colors } ≡ old → result ≡ inner_of class → grid.Changes (class_record_set result) (state_at before) (state_at between) → grid.Changes (frame_erased (rows, cols)) (state_at between) (state_at after) → Changes (table_unbordered (rows, cols) class) old (record { characters = after; colors = colors })
+pub Changes-table_unbordered : (rows cols : ℕ) (class result : Borders ℕ) (before between after : State ℕ) (colors : State Texts) (settings : CellSettings) (old : Configuration) → ((rows == 0) || (cols == 0)) ≡ false → record { characters = before; colors = colors; settings = settings } ≡ old → result ≡ inner_of class → grid.Changes (class_record_set result) (state_at before) (state_at between) → grid.Changes (frame_erased (rows, cols)) (state_at between) (state_at after) → Changes (table_unbordered (rows, cols) class) old (record { characters = after; colors = colors; settings = settings })
 unfolding table_unbordered
-Changes-table_unbordered rows cols class result before between after colors old some is inner sets erases =
-    subst (λ b. Changes (cond b [] (by_characters (class_record_set (inner_of class) ++ frame_erased (rows, cols)))) old (record { characters = after; colors = colors })) (sym some)
-    (Changes_by_characters (class_record_set (inner_of class) ++ frame_erased (rows, cols)) before after colors old is
+Changes-table_unbordered rows cols class result before between after colors settings old some is inner sets erases =
+    subst (λ b. Changes (cond b [] (by_characters (class_record_set (inner_of class) ++ frame_erased (rows, cols)))) old (record { characters = after; colors = colors; settings = settings })) (sym some)
+    (Changes_by_characters (class_record_set (inner_of class) ++ frame_erased (rows, cols)) before after colors settings old is
     (Changes-append (class_record_set (inner_of class)) (frame_erased (rows, cols)) (state_at before) (state_at between) (state_at after)
     (subst (λ borders. grid.Changes (class_record_set borders) (state_at before) (state_at between)) inner sets) erases))

@@ -1,4 +1,6 @@
 pub mod ConfigurationLemmas
+pub mod ColoredLemmas
+pub mod ColorsLemmas
 pub mod SameConfigurationLemmas
 pub mod FaultLemmas
 pub mod LookLemmas

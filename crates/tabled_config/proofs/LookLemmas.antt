@@ -11,31 +11,32 @@ use Rattle.tabled_grid.specs.declared.site.Site.{Site}
 use Rattle.tabled_grid.specs.declared.site.Site.TheVariants.{Offset as at_offset}
 use Rattle.tabled_grid.specs.declared.event.Written.{Written}
 use Rattle.tabled_grid.specs.declared.event.Written.TheVariants.{Sign as sign}
+use Rattle.tabled_grid.specs.Event as grid
 use Rattle.tabled_grid.specs.Event.{replay}
 use Rattle.tabled_grid.specs.Value.{has_spot, plain_sites, sign_or, first_sign, value, plain_value}
 use Rattle.tabled_grid.specs.Drawn.{drawn, Drawn}
 use Rattle.tabled_grid.specs.State.{State, state_at, edge_place, HasNoOffsets}
 use Rattle.tabled_grid.specs.Keys.{edge_place_cmp}
 use Rattle.tabled_grid.proofs.DrawnLemmas.{drawn-answer, Drawn-drawn, replay-shown, value-shown}
-use Rattle.tabled_config.specs.Configuration.{Configuration, ConfigEvent, characters_of, Shows, all_writes}
+use Rattle.tabled_config.specs.Configuration.{Configuration, ConfigEvent, characters_of, all_writes}
 use Rattle.tabled_object.specs.Entities.{below}
 use Rattle.tabled_config.specs.Picture.{look, edge_size}
-use Rattle.tabled_config.proofs.ConfigurationLemmas.{Shows-all_writes}
+use Rattle.tabled_config.proofs.ConfigurationLemmas.{shown_characters}
 
 -- what the configuration answers of a line is how the table looks
 pub own_horizontal : (cfg : Configuration) (shape : ℕ × ℕ) (widths heights : ℕ → ℕ) (line : ℕ) (answer : Bool) → IsTrue answer ↔ Drawn (state_at cfg.characters) shape.0 (LineOf.Horizontal line) → answer ≡ (look (all_writes cfg) shape widths heights).horizontal line
 own_horizontal cfg shape widths heights line answer says =
-    drawn-answer (characters_of (all_writes cfg)) (state_at cfg.characters) shape.0 (LineOf.Horizontal line) answer (Shows-all_writes cfg).characters_shown says
+    drawn-answer (characters_of (all_writes cfg)) (state_at cfg.characters) shape.0 (LineOf.Horizontal line) answer (shown_characters cfg) says
 
 pub own_drawn : (cfg : Configuration) (count : ℕ) (line : LineOf) (answer : Bool) → IsTrue answer ↔ Drawn (state_at cfg.characters) count line → answer ≡ drawn (characters_of (all_writes cfg)) count line
 own_drawn cfg count line answer says =
-    drawn-answer (characters_of (all_writes cfg)) (state_at cfg.characters) count line answer (Shows-all_writes cfg).characters_shown says
+    drawn-answer (characters_of (all_writes cfg)) (state_at cfg.characters) count line answer (shown_characters cfg) says
 
 -- what it answers of a place too
 pub own_shown : (cfg : Configuration) (shape : ℕ × ℕ) (widths heights : ℕ → ℕ) (place : Place) (size : ℕ) (found : Option ℕ) → size ≡ edge_size widths heights place → found ≡ value (state_at cfg.characters) shape size place → found ≡ (look (all_writes cfg) shape widths heights).shown place
 own_shown cfg shape widths heights place size found sized is =
     is ∙ ap (λ s. value (state_at cfg.characters) shape s place) sized
-    ∙ value-shown (characters_of (all_writes cfg)) (state_at cfg.characters) shape (edge_size widths heights place) place (Shows-all_writes cfg).characters_shown
+    ∙ value-shown (characters_of (all_writes cfg)) (state_at cfg.characters) shape (edge_size widths heights place) place (shown_characters cfg)
 
 and_true : (b : Bool) → b && true ≡ b
 and_true true = refl
@@ -76,15 +77,15 @@ listed_more cfg cols n m answer before after same listed says pushed =
     ∙ ap (λ b. map line (below n) ++ b ∷ []) (own_drawn cfg cols (LineOf.Vertical n) answer says)
     ∙ sym (map-range_with_len_more line 0 n n (omega arith))
 
--- two lists of events that a configuration shows give one look
-pub same_look : (cfg : Configuration) (es fs : List ConfigEvent) (shape : ℕ × ℕ) (widths heights : ℕ → ℕ) → Shows es cfg → Shows fs cfg → look es shape widths heights ≡ look fs shape widths heights
+-- two lists of events whose characters a configuration shows give one look
+pub same_look : (cfg : Configuration) (es fs : List ConfigEvent) (shape : ℕ × ℕ) (widths heights : ℕ → ℕ) → grid.Shows (characters_of es) (state_at cfg.characters) → grid.Shows (characters_of fs) (state_at cfg.characters) → look es shape widths heights ≡ look fs shape widths heights
 same_look cfg es fs shape widths heights by with =
     let keep : Site → Option (Written ℕ) = state_at cfg.characters in
-    let same_kept : replay (characters_of es) ≡ replay (characters_of fs) = sym (replay-shown (characters_of es) keep by.characters_shown) ∙ replay-shown (characters_of fs) keep with.characters_shown in
+    let same_kept : replay (characters_of es) ≡ replay (characters_of fs) = sym (replay-shown (characters_of es) keep by) ∙ replay-shown (characters_of fs) keep with in
     let same_drawn : (count : ℕ) (line : LineOf) → drawn (characters_of es) count line ≡ drawn (characters_of fs) count line =
     λ count line.
-    let there = Drawn-drawn (characters_of es) keep count line by.characters_shown in
-    drawn-answer (characters_of fs) keep count line (drawn (characters_of es) count line) with.characters_shown (there.1, there.0) in
+    let there = Drawn-drawn (characters_of es) keep count line by in
+    drawn-answer (characters_of fs) keep count line (drawn (characters_of es) count line) with (there.1, there.0) in
     λ i. record {
       shape = shape;
       widths = widths;

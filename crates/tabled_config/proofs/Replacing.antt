@@ -1,5 +1,5 @@
 -- All borders replaced at once.
-use Rattle.std.proofs.Common.{◌≡◌, ℕ, suc, ◌+◌, ◌<◌, arith, List, [], ◌∷◌, ◌++◌, length, take, slice_index_or, sym, ap, subst, ◌∙◌}
+use Rattle.std.proofs.Common.{◌≡◌, ℕ, suc, ◌+◌, ◌<◌, arith, List, [], ◌∷◌, ◌++◌, length, take, slice_index_or, refl, sym, ap, subst, ◌∙◌}
 use Rattle.std.specs.List.{flat_map}
 use Rattle.std.proofs.Math.Seq.{take-suc}
 use Rattle.std.proofs.lemmas.Grind.{flat_map-append}
@@ -16,7 +16,8 @@ use Rattle.tabled_grid.specs.State.{State, state_at, class_record_set}
 use Rattle.tabled_border.specs.Texts.{Texts}
 use Rattle.tabled_grid.proofs.Replay.{replay_cleared, Shows_after, Changes-append, Changes-nil}
 use Rattle.tabled_config.specs.Configuration.{Configuration, Changes, borders_replaced, horizontal_lines_put, vertical_lines_put}
-use Rattle.tabled_config.proofs.ConfigurationLemmas.{characters_of-both, colors_of-both}
+use Rattle.tabled_settings.specs.declared.cell_settings.CellSettings.{CellSettings}
+use Rattle.tabled_config.proofs.ConfigurationLemmas.{Changes_by_both}
 
 behind : (i : ℕ) → i + 1 ≡ suc i
 behind i = omega arith
@@ -54,11 +55,9 @@ cleared_first : (es : List (Event ℕ)) (old new : State ℕ) → grid.Shows es 
 unfolding grid.Changes grid.Shows
 cleared_first es old new shows q = shows q ∙ sym (replay_cleared every_site es q)
 
-pub Changes-borders_replaced : (class : Borders ℕ) (horizontals : List (ℕ × HorizontalLine ℕ)) (verticals : List (ℕ × VerticalLine ℕ)) (before after : State ℕ) (colored emptied : State Texts) (old : Configuration) → record { characters = before; colors = colored } ≡ old → grid.Shows (horizontal_lines_put horizontals ++ vertical_lines_put verticals ++ class_record_set class) (state_at after) → grid.Changes (erase every_site ∷ []) (state_at colored) (state_at emptied) → Changes (borders_replaced class horizontals verticals) old (record { characters = after; colors = emptied })
+pub Changes-borders_replaced : (class : Borders ℕ) (horizontals : List (ℕ × HorizontalLine ℕ)) (verticals : List (ℕ × VerticalLine ℕ)) (before after : State ℕ) (colored emptied : State Texts) (settings : CellSettings) (old : Configuration) → record { characters = before; colors = colored; settings = settings } ≡ old → grid.Shows (horizontal_lines_put horizontals ++ vertical_lines_put verticals ++ class_record_set class) (state_at after) → grid.Changes (erase every_site ∷ []) (state_at colored) (state_at emptied) → Changes (borders_replaced class horizontals verticals) old (record { characters = after; colors = emptied; settings = settings })
 unfolding borders_replaced
-Changes-borders_replaced class horizontals verticals before after colored emptied old is shows drained =
+Changes-borders_replaced class horizontals verticals before after colored emptied settings old is shows drained =
     let es = horizontal_lines_put horizontals ++ vertical_lines_put verticals ++ class_record_set class in
-    subst (λ cfg. Changes (borders_replaced class horizontals verticals) cfg (record { characters = after; colors = emptied })) is (record {
-      characters_changed = subst (λ all. grid.Changes all (state_at before) (state_at after)) (sym (characters_of-both (erase every_site ∷ es) (erase every_site ∷ []))) (cleared_first es before after shows);
-      colors_changed = subst (λ all. grid.Changes all (state_at colored) (state_at emptied)) (sym (colors_of-both (erase every_site ∷ es) (erase every_site ∷ []))) drained;
-    })
+    subst (λ cfg. Changes (borders_replaced class horizontals verticals) cfg (record { characters = after; colors = emptied; settings = settings })) is
+    (Changes_by_both (erase every_site ∷ es) (erase every_site ∷ []) (record { characters = before; colors = colored; settings = settings }) (record { characters = after; colors = emptied; settings = settings }) (cleared_first es before after shows) drained refl)

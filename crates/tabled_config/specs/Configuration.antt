@@ -1,5 +1,5 @@
 -- What a configuration keeps, and what changes it.
-use Rattle.std.specs.Prelude.{ℕ, Option, Some, None, List, [], ◌∷◌, ◌++◌, map}
+use Rattle.std.specs.Prelude.{◌≡◌, ℕ, Option, Some, None, List, [], ◌∷◌, ◌++◌, map}
 use Rattle.std.specs.Coded.{Coded, codes}
 use Rattle.std.specs.FinMap as finmap
 use Rattle.std.specs.List.{flat_map, filter_map}
@@ -15,22 +15,30 @@ use Rattle.tabled_grid.specs.Writes.{writes_made}
 use Rattle.tabled_grid.specs.Calls.{default_set, line_set_horizontal, line_set_vertical}
 use Rattle.tabled_grid.specs.State.{State, state_at, class_record_set, writes_of}
 use Rattle.tabled_border.specs.Texts.{Texts}
+use Rattle.tabled_settings.specs.declared.cell_settings.CellSettings.{CellSettings}
+use Rattle.tabled_settings.specs.CellSettings.{SettingEvent, settings_after, first_settings, settings_left}
+use Rattle.tabled_config.specs.CellColors.{CellColorEvent}
 
--- what a configuration keeps: the border characters, as their codes, and the border colors, as their texts
+-- what a configuration keeps: the border characters, as their codes; the border colors, as their texts; and what is set for
+-- cells by entity
 pub record Configuration : Type 0 where
   pub characters : State ℕ
   pub colors : State Texts
+  pub settings : CellSettings
 
 -- by it a proof tells two configurations apart
 pub configuration_code : Coded Configuration
 configuration_code = Prim.hlevel (codes, finmap.code)
 
--- an event of a configuration: one of its border characters, or one of its border colors
+-- an event of a configuration: of its border characters, of its border colors, of what is set for cells, or of the colors of
+-- cells
 pub data ConfigEvent : Type 0 where
   of_characters : Event ℕ → ConfigEvent
   of_colors : Event Texts → ConfigEvent
+  of_settings : SettingEvent → ConfigEvent
+  of_cell_colors : CellColorEvent → ConfigEvent
 
--- the event as one of characters, and as one of colors
+-- the event as one of each kind
 abbrev pub character_event : ConfigEvent → Option (Event ℕ)
 character_event (of_characters e) = Some e
 character_event _ = None
@@ -39,26 +47,43 @@ abbrev pub color_event : ConfigEvent → Option (Event Texts)
 color_event (of_colors e) = Some e
 color_event _ = None
 
--- those of a list that concern characters, and those that concern colors
+abbrev pub setting_event : ConfigEvent → Option SettingEvent
+setting_event (of_settings e) = Some e
+setting_event _ = None
+
+abbrev pub cell_color_event : ConfigEvent → Option CellColorEvent
+cell_color_event (of_cell_colors e) = Some e
+cell_color_event _ = None
+
+-- those of a list that are of one kind
 abbrev pub characters_of : List ConfigEvent → List (Event ℕ)
 characters_of es = filter_map character_event es
 
 abbrev pub colors_of : List ConfigEvent → List (Event Texts)
 colors_of es = filter_map color_event es
 
--- the configuration keeps what the events leave
+abbrev pub settings_of : List ConfigEvent → List SettingEvent
+settings_of es = filter_map setting_event es
+
+abbrev pub cell_colors_of : List ConfigEvent → List CellColorEvent
+cell_colors_of es = filter_map cell_color_event es
+
+-- the configuration keeps what the events leave; those of the colors of cells are passed over
 pub record Shows (es : List ConfigEvent) (cfg : Configuration) : Type 0 where
   pub characters_shown : grid.Shows (characters_of es) (state_at cfg.characters)
   pub colors_shown : grid.Shows (colors_of es) (state_at cfg.colors)
+  pub settings_shown : cfg.settings ≡ settings_after first_settings (settings_of es)
 
--- the new configuration keeps what the events leave where they cover a site, and else what the old one kept
+-- the new configuration keeps what the events leave where they cover a site, and else what the old one kept; what is set for
+-- cells is what the events make of it
 pub record Changes (es : List ConfigEvent) (old new : Configuration) : Type 0 where
   pub characters_changed : grid.Changes (characters_of es) (state_at old.characters) (state_at new.characters)
   pub colors_changed : grid.Changes (colors_of es) (state_at old.colors) (state_at new.colors)
+  pub settings_changed : new.settings ≡ settings_after old.settings (settings_of es)
 
--- a list of events that the configuration shows: the writes of all that it keeps
+-- the writes of all that a configuration keeps, and the events that are left of its settings
 unfoldable pub all_writes : Configuration → List ConfigEvent
-all_writes cfg = map of_characters (writes_of cfg.characters) ++ map of_colors (writes_of cfg.colors)
+all_writes cfg = map of_characters (writes_of cfg.characters) ++ map of_colors (writes_of cfg.colors) ++ map of_settings (settings_left cfg.settings)
 
 -- events of characters alone, and of colors alone
 abbrev pub by_characters : List (Event ℕ) → List ConfigEvent
@@ -66,6 +91,10 @@ by_characters es = map of_characters es
 
 abbrev pub by_colors : List (Event Texts) → List ConfigEvent
 by_colors es = map of_colors es
+
+-- one event of what is set for cells
+abbrev pub by_setting : SettingEvent → List ConfigEvent
+by_setting e = of_settings e ∷ []
 
 -- lists of writes, of characters and of colors
 unfoldable pub writes_applied : List (Write ℕ) → List (Write Texts) → List ConfigEvent

@@ -4,6 +4,7 @@ pub use Rattle.tabled_grid.specs.Value
 pub use Rattle.tabled_grid.specs.Drawn
 pub use Rattle.tabled_grid.specs.State
 pub use Rattle.tabled_grid.specs.Probing
+pub mod CellColors
 pub mod Configuration
 pub mod Colored
 pub mod ChangeLaws

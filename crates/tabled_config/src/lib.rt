@@ -5,6 +5,7 @@
 
 mod border_options;
 mod cell_option;
+mod color_map;
 mod colored_config;
 mod configured;
 mod laws;
@@ -15,11 +16,12 @@ mod spanned_config;
 mod table_option;
 
 pub use cell_option::{CellOption, modify};
+pub use color_map::{ColorMap, Colors};
 pub use colored_config::ColoredConfig;
 pub use configured::{BorderEvent, Configured};
 pub use laws::{
-    any_list, changes_in_a_row, equal_where_same_is_kept, shown_after_change, shows_its_writes,
-    steps_in_turn,
+    any_list, cell_colors_by_entity, changes_in_a_row, equal_where_same_is_kept,
+    shown_after_change, shows_its_writes, shows_when_new, steps_in_turn,
 };
 pub use print::print_plain;
 pub use print_error::PrintError;

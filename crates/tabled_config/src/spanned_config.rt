@@ -1,4 +1,4 @@
-//! The configuration of a table's borders.
+//! The configuration of a table's borders and of its cells.
 
 ghost use Rattle.std.specs.Prelude.{◌≡◌, ◌↔◌, [], ◌∷◌, IsTrue};
 ghost use Rattle.tabled_grid.specs.Event as grid;
@@ -17,16 +17,19 @@ mod offsets;
 mod plain;
 mod removing;
 mod replacing;
+mod settings;
 
 use std::alloc::Global;
 use std::marker::Model;
 use tabled_grid::{ANSIBuf, Borders, Layers, LineOf, Place, Probes};
+use tabled_settings::CellSettings;
 
-/// What a table keeps for its borders.
+/// What a table keeps for its borders, and what is set for its cells.
 #[derive(Debug)]
 pub struct SpannedConfig {
     characters: Layers<char>,
     colors: Layers<ANSIBuf>,
+    settings: CellSettings,
 }
 
 /// Written out, so that letting a configuration go is one call wherever it ends.
@@ -35,6 +38,7 @@ impl Drop for SpannedConfig {
         let SpannedConfig {
             characters: _,
             colors: _,
+            settings: _,
         } = self;
     }
 }
@@ -46,7 +50,7 @@ impl Model for SpannedConfig {
 
     ghost coded = { configuration_code };
 
-    ghost view = { λ cfg. record { characters = cfg.characters; colors = cfg.colors } };
+    ghost view = { λ cfg. record { characters = cfg.characters; colors = cfg.colors; settings = cfg.settings } };
 }
 
 impl SpannedConfig {
@@ -64,6 +68,7 @@ impl SpannedConfig {
         SpannedConfig {
             characters: Layers::new(alloc),
             colors: Layers::new(alloc),
+            settings: CellSettings::new(alloc),
         }
     }
 

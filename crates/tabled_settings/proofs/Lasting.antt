@@ -17,7 +17,7 @@ use Rattle.tabled_settings.specs.SameLaws.{entity_equiv}
 use Rattle.tabled_settings.proofs.Entities.{equal_entities, entity_itself, found_entity}
 use Rattle.tabled_settings.proofs.Placing.{Tells, is_placed, place-push, place-emptied, standing-emptied, standing-push, standing-push_hole, length-emptied, IsOnce-filter, IsOnce-push, none_left, none_filtered, none_before, filter_all, place_or, place_alike, last_at}
 
-entities_told : Tells same_entity
+pub entities_told : Tells same_entity
 entities_told = record { equal = equal_entities; itself = entity_itself }
 
 -- ---- one event more

@@ -153,7 +153,7 @@ pub record Tells {K : Type 0} (same : K → K → Bool) : Type 0 where
   pub equal : (a b : K) → same a b ≡ true → a ≡ b
   pub itself : (a : K) → same a a ≡ true
 
-neither : (a b : Bool) → (a || b) ≡ false → (a ≡ false) × (b ≡ false)
+pub neither : (a b : Bool) → (a || b) ≡ false → (a ≡ false) × (b ≡ false)
 neither true b h = absurd cc
 neither false b h = (refl, h)
 

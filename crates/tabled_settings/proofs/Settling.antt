@@ -82,6 +82,21 @@ module _ {T : Type 0} (cell : Position) where
   pub value_is_the_setting : (default : T) (events : List (EntityEvent T)) → value_at (after_all (at_first default) events) cell ≡ setting events default cell
   value_is_the_setting default events = value_at-after_all (at_first default) events ∙ given_at_first default (last_or None (covering events cell))
 
+-- a removal at the beginning changes nothing
+pub after_removal : {T : Type 0} (cell : Position) (default : T) (entity : Entity) (events : List (EntityEvent T)) → setting ((entity, None) ∷ events) default cell ≡ setting events default cell
+after_removal {T} cell default entity events = by_cover (covers entity cell)
+  where
+    with_value : Option (EntityEvent T) → T
+    with_value last = unwrap_or (option_and_then (λ e. e.1) last) default
+
+    removed_first : (es : List (EntityEvent T)) → with_value (last_or (Some (entity, None)) es) ≡ with_value (last_or None es)
+    removed_first [] = refl
+    removed_first (e ∷ es) = refl
+
+    by_cover : (b : Bool) → with_value (last_or None (cond b ((entity, None) ∷ covering events cell) (covering events cell))) ≡ with_value (last_or None (covering events cell))
+    by_cover true = removed_first (covering events cell)
+    by_cover false = refl
+
 module _ {T : Type 0} (cell : Position) where
   -- what a look-up among the events since finds gives the value
   abbrev pub value_found : Live T → Option (Option T) → T

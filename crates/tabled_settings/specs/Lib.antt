@@ -1,6 +1,6 @@
 pub mod Setting
 pub mod Live
-pub mod Showing
+pub mod CellSettings
 pub mod Slots
 pub mod Same
 pub mod SameLaws

@@ -1,5 +1,5 @@
 -- What an entity map shows: of the events so far those that still count.
-use Rattle.std.specs.Prelude.{Bool, not, if◌then◌else◌, List, [], ◌∷◌, ◌++◌, filter, unwrap_or}
+use Rattle.std.specs.Prelude.{Bool, not, if◌then◌else◌, Option, Some, None, List, [], ◌∷◌, ◌++◌, filter, unwrap_or}
 use Rattle.std.specs.List.{list_any}
 use Rattle.tabled_object.specs.declared.entity.Entity.{Entity}
 use Rattle.tabled_object.specs.declared.entity.Entity.TheVariants.{Global}
@@ -37,6 +37,15 @@ abbrev pub after_all : {T : Type 0} → Live T → List (EntityEvent T) → Live
 after_all live [] = live
 after_all live (event ∷ events) = after_all (after live event) events
 
+-- it after an event, if there is one
+abbrev pub after_if : {T : Type 0} → Live T → Option (EntityEvent T) → Live T
+after_if live None = live
+after_if live (Some event) = after live event
+
+-- the events that still count: after these alone it would be what it is
+abbrev pub events_left : {T : Type 0} → Live T → List (EntityEvent T)
+events_left live = write_of Global live.global ∷ live.since
+
 -- the value of a cell
 abbrev pub value_at : {T : Type 0} → Live T → Position → T
-value_at live cell = setting (write_of Global live.global ∷ live.since) live.default cell
+value_at live cell = setting (events_left live) live.default cell

@@ -1,5 +1,5 @@
 -- Settings by entity: what a list of writes and removals leaves for a cell.
-use Rattle.std.specs.Prelude.{Bool, true, false, ◌==◌, ◌&&◌, Option, Some, None, List, filter, unwrap_or, option_and_then}
+use Rattle.std.specs.Prelude.{Bool, true, false, ◌==◌, ◌&&◌, Option, Some, None, is_some, List, filter, unwrap_or, option_and_then}
 use Rattle.std.specs.List.{last_or}
 use Rattle.tabled_object.specs.declared.entity.Entity.{Entity}
 use Rattle.tabled_object.specs.declared.entity.Entity.TheVariants.{Global, Column, Row, Cell}
@@ -15,6 +15,10 @@ write_of entity value = (entity, Some value)
 
 abbrev pub removal_of : {T : Type 0} → Entity → EntityEvent T
 removal_of entity = (entity, None)
+
+-- whether it is a write
+abbrev pub is_write : {T : Type 0} → EntityEvent T → Bool
+is_write event = is_some event.1
 
 -- of these events those that cover the cell, in their order
 abbrev pub covering : {T : Type 0} → List (EntityEvent T) → Position → List (EntityEvent T)

@@ -84,7 +84,18 @@ impl<T> EntityMap<T> {
         match self.since.last(position) {
             Some(Some(value)) => value,
             Some(None) => &self.default,
-            None => self.all(),
+            None => self.global(),
+        }
+    }
+
+    /// What was written last for all cells, or the default where that was removed or nothing was written. A cell has it
+    /// unless an entity that covers the cell had an event since then.
+    pub fn global(&self) -> &T
+        ensures { result.now ≡ self.now.global }
+    {
+        match &self.global {
+            Some(value) => value,
+            None => &self.default,
         }
     }
 
@@ -103,16 +114,6 @@ impl<T> EntityMap<T> {
     {
         self.global = value;
         self.since.clear();
-    }
-
-    /// What all cells have where no event since then covers them.
-    fn all(&self) -> &T
-        ensures { result.now ≡ self.now.global }
-    {
-        match &self.global {
-            Some(value) => value,
-            None => &self.default,
-        }
     }
 }
 
@@ -136,7 +137,7 @@ impl<T: PartialEq> PartialEq for EntityMap<T> {
 
     fn eq(&self, other: &Self) -> bool {
         self.default == other.default
-            && self.all() == other.all()
+            && self.global() == other.global()
             && self.since.is_same(&other.since)
     }
 }

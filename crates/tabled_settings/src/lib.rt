@@ -5,6 +5,7 @@
 #![tactic(auto)]
 
 mod alignment;
+mod cell_settings;
 mod entity_map;
 mod last_events;
 mod laws;
@@ -12,6 +13,9 @@ mod sides;
 mod slots;
 
 pub use alignment::{AlignmentHorizontal, AlignmentVertical};
+pub use cell_settings::CellSettings;
 pub use entity_map::EntityMap;
-pub use laws::{changes_in_a_row, shown_after_change, value_is_the_setting};
+pub use laws::{
+    as_by_what_is_left, each_by_its_own_events, settings_in_a_row, value_is_the_setting,
+};
 pub use sides::Sides;

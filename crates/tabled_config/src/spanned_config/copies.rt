@@ -12,6 +12,7 @@ impl Keep for SpannedConfig {
         Ok(SpannedConfig {
             characters: self.characters.keep(alloc)?,
             colors: self.colors.keep(alloc)?,
+            settings: self.settings.keep(alloc)?,
         })
     }
 }

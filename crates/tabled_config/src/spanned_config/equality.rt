@@ -1,10 +1,11 @@
 //! When two configurations are equal.
 
-ghost use Rattle.tabled_config.specs.SameConfiguration.{same_configuration};
+ghost use Rattle.std.specs.Prelude.{◌≡◌};
+ghost use Rattle.tabled_config.specs.SameConfiguration.{same_stores, same_configuration};
 
 use super::SpannedConfig;
 
-/// Equality compares the characters and the colors that are kept, and nothing else: not the allocator.
+/// Equality compares the characters, the colors and the settings that are kept, and nothing else: not the allocator.
 impl PartialEq for SpannedConfig {
     ghost use Rattle.tabled_config.specs.SameConfiguration.{configuration_per};
 
@@ -14,7 +15,7 @@ impl PartialEq for SpannedConfig {
 
     #[tactic(auto, unfolding(crate::specs::SameConfiguration::same_configuration))]
     fn eq(&self, other: &Self) -> bool {
-        self.characters == other.characters && self.colors == other.colors
+        self.has_same_stores(other) && self.settings == other.settings
     }
 }
 
@@ -22,4 +23,14 @@ impl Eq for SpannedConfig {
     ghost use Rattle.tabled_config.specs.SameConfiguration.{configuration_equiv};
 
     ghost laws = { configuration_equiv };
+}
+
+impl SpannedConfig {
+    /// Whether both keep the same characters and the same colors.
+    #[tactic(auto, unfolding(crate::specs::SameConfiguration::same_stores))]
+    fn has_same_stores(&self, other: &Self) -> bool
+        ensures { result ≡ same_stores self.now other.now }
+    {
+        self.characters == other.characters && self.colors == other.colors
+    }
 }

@@ -9,6 +9,6 @@ returns-then-is_empty c = no_frame c.args.shape.0 c.args.shape.1 c.args.self.now
 
 pub returns : goal.returns
 returns c =
-    subst (λ cfg. Changes (table_unbordered c.args.shape cfg.characters.class_record) cfg (record { characters = c.erase_frame.new.self; colors = c.self.inside.colors })) c.self.view_is
-    (Changes-table_unbordered c.args.shape.0 c.args.shape.1 c.self.inside.characters.class_record c.inner_of-class.result c.self.inside.characters c.set_class.new.self c.erase_frame.new.self c.self.inside.colors _
-    (sym c.is_empty.ensures ∙ c.if-is_empty.false) (λ i. record { characters = c.self.inside.characters; colors = c.self.inside.colors }) (c.inner_of-class.ensures ∙ ap (λ class. inner_of class) c.get_class.ensures) c.set_class.ensures c.erase_frame.ensures)
+    subst (λ cfg. Changes (table_unbordered c.args.shape cfg.characters.class_record) cfg (record { characters = c.erase_frame.new.self; colors = c.self.inside.colors; settings = c.self.inside.settings })) c.self.view_is
+    (Changes-table_unbordered c.args.shape.0 c.args.shape.1 c.self.inside.characters.class_record c.inner_of-class.result c.self.inside.characters c.set_class.new.self c.erase_frame.new.self c.self.inside.colors c.self.inside.settings _
+    (sym c.is_empty.ensures ∙ c.if-is_empty.false) (λ i. record { characters = c.self.inside.characters; colors = c.self.inside.colors; settings = c.self.inside.settings }) (c.inner_of-class.ensures ∙ ap (λ class. inner_of class) c.get_class.ensures) c.set_class.ensures c.erase_frame.ensures)

@@ -8,4 +8,4 @@ use Rattle.tabled_config.proofs.spanned_config.SpannedConfig.set_horizontal_char
 
 pub returns-clause-ok : goal.returns-clause-ok
 returns-clause-ok c =
-    on_ok c.set_offset.result (λ e. Changes_by_characters _ c.self.inside.characters _ c.self.inside.colors c.args.self.now c.self.view_is (subst (λ place. grid.Changes (offset_set place c.args.offset c.args.character) (state_at c.self.inside.characters) (state_at c.set_offset.new.self)) c.horizontal_at.ensures e)) c.set_offset.ensures.ok
+    on_ok c.set_offset.result (λ e. Changes_by_characters _ c.self.inside.characters _ c.self.inside.colors c.self.inside.settings c.args.self.now c.self.view_is (subst (λ place. grid.Changes (offset_set place c.args.offset c.args.character) (state_at c.self.inside.characters) (state_at c.set_offset.new.self)) c.horizontal_at.ensures e)) c.set_offset.ensures.ok

@@ -8,4 +8,4 @@ use Rattle.tabled_config.proofs.spanned_config.SpannedConfig.set_vertical_char_c
 
 pub returns-clause-ok : goal.returns-clause-ok
 returns-clause-ok c =
-    on_ok c.set_offset.result (λ e. Changes_by_colors _ c.self.inside.characters c.self.inside.colors _ c.args.self.now c.self.view_is (subst (λ place. grid.Changes (offset_set place c.args.offset c.args.color) (state_at c.self.inside.colors) (state_at c.set_offset.new.self)) c.vertical_at.ensures e)) c.set_offset.ensures.ok
+    on_ok c.set_offset.result (λ e. Changes_by_colors _ c.self.inside.characters c.self.inside.colors _ c.self.inside.settings c.args.self.now c.self.view_is (subst (λ place. grid.Changes (offset_set place c.args.offset c.args.color) (state_at c.self.inside.colors) (state_at c.set_offset.new.self)) c.vertical_at.ensures e)) c.set_offset.ensures.ok

@@ -20,7 +20,7 @@ returns-in-Some-None g c =
 
 pub returns-in-None : goal.returns-in-None
 returns-in-None g c =
-    c.all.ensures
+    c.global.ensures
     ∙ value_at-found c.args.position c.args.self.now None (
     sym (ap option_copied c.in-None.is) ∙ c.last.ensures
     ∙ ap (λ live. option_map (λ event. event.1) (last_or None (covering live.since c.args.position))) c.self.view_is)
