@@ -3,3 +3,4 @@ pub mod Painting
 pub mod Shown
 pub mod Order
 pub mod BorderColors
+pub mod Coloring

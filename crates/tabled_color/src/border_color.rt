@@ -3,6 +3,8 @@
 ghost use Rattle.std.specs.Prelude.{◌≡◌, Some, IfOk, option_map};
 ghost use Rattle.tabled_color.specs.Shade.{texts_of};
 
+mod option;
+
 use crate::Color;
 use std::alloc::Global;
 use std::marker::Model;

@@ -6,6 +6,8 @@ ghost use Rattle.tabled_border.specs.LentTexts.{lent_texts};
 ghost use Rattle.tabled_color.specs.Shade.{texts_of, owned_shade, static_shade, sequence, rgb_sequence, joined_text, joined};
 ghost use Rattle.tabled_color.specs.Painting.{painted, colorized};
 
+mod option;
+
 use std::alloc::Global;
 use std::fmt;
 use std::marker::Model;
