@@ -4,10 +4,14 @@
 #[cfg(test)]
 mod border_colors;
 #[cfg(test)]
+mod cells;
+#[cfg(test)]
 mod colorized;
 #[cfg(test)]
 mod colors;
 #[cfg(test)]
 mod constants;
+#[cfg(test)]
+mod options;
 #[cfg(test)]
 mod settings;
