@@ -119,6 +119,223 @@ impl Theme {
         self.put_character(Edges(Vertical, Inner), Some(c));
     }
 
+    /// The character of the edges of the first horizontal line.
+    pub fn get_borders_top(&self) -> Option<char>
+        ensures { result ≡ class_value (edges Horizontal first) self.now.characters }
+    {
+        self.character(Edges(Horizontal, First))
+    }
+
+    /// The character of the edges of the last horizontal line.
+    pub fn get_borders_bottom(&self) -> Option<char>
+        ensures { result ≡ class_value (edges Horizontal last) self.now.characters }
+    {
+        self.character(Edges(Horizontal, Last))
+    }
+
+    /// The character of the edges of the first vertical line.
+    pub fn get_borders_left(&self) -> Option<char>
+        ensures { result ≡ class_value (edges Vertical first) self.now.characters }
+    {
+        self.character(Edges(Vertical, First))
+    }
+
+    /// The character of the edges of the last vertical line.
+    pub fn get_borders_right(&self) -> Option<char>
+        ensures { result ≡ class_value (edges Vertical last) self.now.characters }
+    {
+        self.character(Edges(Vertical, Last))
+    }
+
+    /// The character of the upper left corner.
+    pub fn get_borders_corner_top_left(&self) -> Option<char>
+        ensures { result ≡ class_value (crossings first first) self.now.characters }
+    {
+        self.character(Crossings(First, First))
+    }
+
+    /// The character of the upper right corner.
+    pub fn get_borders_corner_top_right(&self) -> Option<char>
+        ensures { result ≡ class_value (crossings first last) self.now.characters }
+    {
+        self.character(Crossings(First, Last))
+    }
+
+    /// The character of the lower left corner.
+    pub fn get_borders_corner_bottom_left(&self) -> Option<char>
+        ensures { result ≡ class_value (crossings last first) self.now.characters }
+    {
+        self.character(Crossings(Last, First))
+    }
+
+    /// The character of the lower right corner.
+    pub fn get_borders_corner_bottom_right(&self) -> Option<char>
+        ensures { result ≡ class_value (crossings last last) self.now.characters }
+    {
+        self.character(Crossings(Last, Last))
+    }
+
+    /// The character of the crossings on the first horizontal line, the corners aside.
+    pub fn get_borders_intersection_top(&self) -> Option<char>
+        ensures { result ≡ class_value (crossings first inner) self.now.characters }
+    {
+        self.character(Crossings(First, Inner))
+    }
+
+    /// The character of the crossings on the last horizontal line, the corners aside.
+    pub fn get_borders_intersection_bottom(&self) -> Option<char>
+        ensures { result ≡ class_value (crossings last inner) self.now.characters }
+    {
+        self.character(Crossings(Last, Inner))
+    }
+
+    /// The character of the crossings on the first vertical line, the corners aside.
+    pub fn get_borders_intersection_left(&self) -> Option<char>
+        ensures { result ≡ class_value (crossings inner first) self.now.characters }
+    {
+        self.character(Crossings(Inner, First))
+    }
+
+    /// The character of the crossings on the last vertical line, the corners aside.
+    pub fn get_borders_intersection_right(&self) -> Option<char>
+        ensures { result ≡ class_value (crossings inner last) self.now.characters }
+    {
+        self.character(Crossings(Inner, Last))
+    }
+
+    /// The character of the crossings of inner lines.
+    pub fn get_borders_intersection(&self) -> Option<char>
+        ensures { result ≡ class_value (crossings inner inner) self.now.characters }
+    {
+        self.character(Crossings(Inner, Inner))
+    }
+
+    /// The character of the edges of the inner horizontal lines.
+    pub fn get_borders_horizontal(&self) -> Option<char>
+        ensures { result ≡ class_value (edges Horizontal inner) self.now.characters }
+    {
+        self.character(Edges(Horizontal, Inner))
+    }
+
+    /// The character of the edges of the inner vertical lines.
+    pub fn get_borders_vertical(&self) -> Option<char>
+        ensures { result ≡ class_value (edges Vertical inner) self.now.characters }
+    {
+        self.character(Edges(Vertical, Inner))
+    }
+
+    /// Drops the character of the edges of the first horizontal line.
+    pub fn remove_borders_top(&mut self)
+        ensures { self.new ≡ with_character (edges Horizontal first) None self.old }
+    {
+        self.put_character(Edges(Horizontal, First), None);
+    }
+
+    /// Drops the character of the edges of the last horizontal line.
+    pub fn remove_borders_bottom(&mut self)
+        ensures { self.new ≡ with_character (edges Horizontal last) None self.old }
+    {
+        self.put_character(Edges(Horizontal, Last), None);
+    }
+
+    /// Drops the character of the edges of the first vertical line.
+    pub fn remove_borders_left(&mut self)
+        ensures { self.new ≡ with_character (edges Vertical first) None self.old }
+    {
+        self.put_character(Edges(Vertical, First), None);
+    }
+
+    /// Drops the character of the edges of the last vertical line.
+    pub fn remove_borders_right(&mut self)
+        ensures { self.new ≡ with_character (edges Vertical last) None self.old }
+    {
+        self.put_character(Edges(Vertical, Last), None);
+    }
+
+    /// Drops the character of the upper left corner.
+    pub fn remove_borders_corner_top_left(&mut self)
+        ensures { self.new ≡ with_character (crossings first first) None self.old }
+    {
+        self.put_character(Crossings(First, First), None);
+    }
+
+    /// Drops the character of the upper right corner.
+    pub fn remove_borders_corner_top_right(&mut self)
+        ensures { self.new ≡ with_character (crossings first last) None self.old }
+    {
+        self.put_character(Crossings(First, Last), None);
+    }
+
+    /// Drops the character of the lower left corner.
+    pub fn remove_borders_corner_bottom_left(&mut self)
+        ensures { self.new ≡ with_character (crossings last first) None self.old }
+    {
+        self.put_character(Crossings(Last, First), None);
+    }
+
+    /// Drops the character of the lower right corner.
+    pub fn remove_borders_corner_bottom_right(&mut self)
+        ensures { self.new ≡ with_character (crossings last last) None self.old }
+    {
+        self.put_character(Crossings(Last, Last), None);
+    }
+
+    /// Drops the character of the crossings on the first horizontal line, the corners aside.
+    pub fn remove_borders_intersection_top(&mut self)
+        ensures { self.new ≡ with_character (crossings first inner) None self.old }
+    {
+        self.put_character(Crossings(First, Inner), None);
+    }
+
+    /// Drops the character of the crossings on the last horizontal line, the corners aside.
+    pub fn remove_borders_intersection_bottom(&mut self)
+        ensures { self.new ≡ with_character (crossings last inner) None self.old }
+    {
+        self.put_character(Crossings(Last, Inner), None);
+    }
+
+    /// Drops the character of the crossings on the first vertical line, the corners aside.
+    pub fn remove_borders_intersection_left(&mut self)
+        ensures { self.new ≡ with_character (crossings inner first) None self.old }
+    {
+        self.put_character(Crossings(Inner, First), None);
+    }
+
+    /// Drops the character of the crossings on the last vertical line, the corners aside.
+    pub fn remove_borders_intersection_right(&mut self)
+        ensures { self.new ≡ with_character (crossings inner last) None self.old }
+    {
+        self.put_character(Crossings(Inner, Last), None);
+    }
+
+    /// Drops the character of the crossings of inner lines.
+    pub fn remove_borders_intersection(&mut self)
+        ensures { self.new ≡ with_character (crossings inner inner) None self.old }
+    {
+        self.put_character(Crossings(Inner, Inner), None);
+    }
+
+    /// Drops the character of the edges of the inner horizontal lines.
+    pub fn remove_borders_horizontal(&mut self)
+        ensures { self.new ≡ with_character (edges Horizontal inner) None self.old }
+    {
+        self.put_character(Edges(Horizontal, Inner), None);
+    }
+
+    /// Drops the character of the edges of the inner vertical lines.
+    pub fn remove_borders_vertical(&mut self)
+        ensures { self.new ≡ with_character (edges Vertical inner) None self.old }
+    {
+        self.put_character(Edges(Vertical, Inner), None);
+    }
+
+    /// The character of a class.
+    fn character(&self, class: Class) -> Option<char>
+        ensures { result ≡ class_value class self.now.characters }
+    {
+        field(&self.characters, class).copied()
+    }
+
     /// Gives a class this character, or none.
     fn put_character(&mut self, class: Class, c: Option<char>)
         ensures { self.new ≡ with_character class c self.old }

@@ -120,6 +120,223 @@ impl Theme {
         self.put_color(Edges(Vertical, Inner), Some(color));
     }
 
+    /// The color of the edges of the first horizontal line.
+    pub fn get_colors_top(&self) -> Option<&Color>
+        ensures { option_copied result ≡ class_value (edges Horizontal first) self.now.colors }
+    {
+        self.color(Edges(Horizontal, First))
+    }
+
+    /// The color of the edges of the last horizontal line.
+    pub fn get_colors_bottom(&self) -> Option<&Color>
+        ensures { option_copied result ≡ class_value (edges Horizontal last) self.now.colors }
+    {
+        self.color(Edges(Horizontal, Last))
+    }
+
+    /// The color of the edges of the first vertical line.
+    pub fn get_colors_left(&self) -> Option<&Color>
+        ensures { option_copied result ≡ class_value (edges Vertical first) self.now.colors }
+    {
+        self.color(Edges(Vertical, First))
+    }
+
+    /// The color of the edges of the last vertical line.
+    pub fn get_colors_right(&self) -> Option<&Color>
+        ensures { option_copied result ≡ class_value (edges Vertical last) self.now.colors }
+    {
+        self.color(Edges(Vertical, Last))
+    }
+
+    /// The color of the upper left corner.
+    pub fn get_colors_corner_top_left(&self) -> Option<&Color>
+        ensures { option_copied result ≡ class_value (crossings first first) self.now.colors }
+    {
+        self.color(Crossings(First, First))
+    }
+
+    /// The color of the upper right corner.
+    pub fn get_colors_corner_top_right(&self) -> Option<&Color>
+        ensures { option_copied result ≡ class_value (crossings first last) self.now.colors }
+    {
+        self.color(Crossings(First, Last))
+    }
+
+    /// The color of the lower left corner.
+    pub fn get_colors_corner_bottom_left(&self) -> Option<&Color>
+        ensures { option_copied result ≡ class_value (crossings last first) self.now.colors }
+    {
+        self.color(Crossings(Last, First))
+    }
+
+    /// The color of the lower right corner.
+    pub fn get_colors_corner_bottom_right(&self) -> Option<&Color>
+        ensures { option_copied result ≡ class_value (crossings last last) self.now.colors }
+    {
+        self.color(Crossings(Last, Last))
+    }
+
+    /// The color of the crossings on the first horizontal line, the corners aside.
+    pub fn get_colors_intersection_top(&self) -> Option<&Color>
+        ensures { option_copied result ≡ class_value (crossings first inner) self.now.colors }
+    {
+        self.color(Crossings(First, Inner))
+    }
+
+    /// The color of the crossings on the last horizontal line, the corners aside.
+    pub fn get_colors_intersection_bottom(&self) -> Option<&Color>
+        ensures { option_copied result ≡ class_value (crossings last inner) self.now.colors }
+    {
+        self.color(Crossings(Last, Inner))
+    }
+
+    /// The color of the crossings on the first vertical line, the corners aside.
+    pub fn get_colors_intersection_left(&self) -> Option<&Color>
+        ensures { option_copied result ≡ class_value (crossings inner first) self.now.colors }
+    {
+        self.color(Crossings(Inner, First))
+    }
+
+    /// The color of the crossings on the last vertical line, the corners aside.
+    pub fn get_colors_intersection_right(&self) -> Option<&Color>
+        ensures { option_copied result ≡ class_value (crossings inner last) self.now.colors }
+    {
+        self.color(Crossings(Inner, Last))
+    }
+
+    /// The color of the crossings of inner lines.
+    pub fn get_colors_intersection(&self) -> Option<&Color>
+        ensures { option_copied result ≡ class_value (crossings inner inner) self.now.colors }
+    {
+        self.color(Crossings(Inner, Inner))
+    }
+
+    /// The color of the edges of the inner horizontal lines.
+    pub fn get_colors_horizontal(&self) -> Option<&Color>
+        ensures { option_copied result ≡ class_value (edges Horizontal inner) self.now.colors }
+    {
+        self.color(Edges(Horizontal, Inner))
+    }
+
+    /// The color of the edges of the inner vertical lines.
+    pub fn get_colors_vertical(&self) -> Option<&Color>
+        ensures { option_copied result ≡ class_value (edges Vertical inner) self.now.colors }
+    {
+        self.color(Edges(Vertical, Inner))
+    }
+
+    /// Drops the color of the edges of the first horizontal line.
+    pub fn remove_colors_top(&mut self)
+        ensures { self.new ≡ with_color (edges Horizontal first) None self.old }
+    {
+        self.put_color(Edges(Horizontal, First), None);
+    }
+
+    /// Drops the color of the edges of the last horizontal line.
+    pub fn remove_colors_bottom(&mut self)
+        ensures { self.new ≡ with_color (edges Horizontal last) None self.old }
+    {
+        self.put_color(Edges(Horizontal, Last), None);
+    }
+
+    /// Drops the color of the edges of the first vertical line.
+    pub fn remove_colors_left(&mut self)
+        ensures { self.new ≡ with_color (edges Vertical first) None self.old }
+    {
+        self.put_color(Edges(Vertical, First), None);
+    }
+
+    /// Drops the color of the edges of the last vertical line.
+    pub fn remove_colors_right(&mut self)
+        ensures { self.new ≡ with_color (edges Vertical last) None self.old }
+    {
+        self.put_color(Edges(Vertical, Last), None);
+    }
+
+    /// Drops the color of the upper left corner.
+    pub fn remove_colors_corner_top_left(&mut self)
+        ensures { self.new ≡ with_color (crossings first first) None self.old }
+    {
+        self.put_color(Crossings(First, First), None);
+    }
+
+    /// Drops the color of the upper right corner.
+    pub fn remove_colors_corner_top_right(&mut self)
+        ensures { self.new ≡ with_color (crossings first last) None self.old }
+    {
+        self.put_color(Crossings(First, Last), None);
+    }
+
+    /// Drops the color of the lower left corner.
+    pub fn remove_colors_corner_bottom_left(&mut self)
+        ensures { self.new ≡ with_color (crossings last first) None self.old }
+    {
+        self.put_color(Crossings(Last, First), None);
+    }
+
+    /// Drops the color of the lower right corner.
+    pub fn remove_colors_corner_bottom_right(&mut self)
+        ensures { self.new ≡ with_color (crossings last last) None self.old }
+    {
+        self.put_color(Crossings(Last, Last), None);
+    }
+
+    /// Drops the color of the crossings on the first horizontal line, the corners aside.
+    pub fn remove_colors_intersection_top(&mut self)
+        ensures { self.new ≡ with_color (crossings first inner) None self.old }
+    {
+        self.put_color(Crossings(First, Inner), None);
+    }
+
+    /// Drops the color of the crossings on the last horizontal line, the corners aside.
+    pub fn remove_colors_intersection_bottom(&mut self)
+        ensures { self.new ≡ with_color (crossings last inner) None self.old }
+    {
+        self.put_color(Crossings(Last, Inner), None);
+    }
+
+    /// Drops the color of the crossings on the first vertical line, the corners aside.
+    pub fn remove_colors_intersection_left(&mut self)
+        ensures { self.new ≡ with_color (crossings inner first) None self.old }
+    {
+        self.put_color(Crossings(Inner, First), None);
+    }
+
+    /// Drops the color of the crossings on the last vertical line, the corners aside.
+    pub fn remove_colors_intersection_right(&mut self)
+        ensures { self.new ≡ with_color (crossings inner last) None self.old }
+    {
+        self.put_color(Crossings(Inner, Last), None);
+    }
+
+    /// Drops the color of the crossings of inner lines.
+    pub fn remove_colors_intersection(&mut self)
+        ensures { self.new ≡ with_color (crossings inner inner) None self.old }
+    {
+        self.put_color(Crossings(Inner, Inner), None);
+    }
+
+    /// Drops the color of the edges of the inner horizontal lines.
+    pub fn remove_colors_horizontal(&mut self)
+        ensures { self.new ≡ with_color (edges Horizontal inner) None self.old }
+    {
+        self.put_color(Edges(Horizontal, Inner), None);
+    }
+
+    /// Drops the color of the edges of the inner vertical lines.
+    pub fn remove_colors_vertical(&mut self)
+        ensures { self.new ≡ with_color (edges Vertical inner) None self.old }
+    {
+        self.put_color(Edges(Vertical, Inner), None);
+    }
+
+    /// The color of a class.
+    fn color(&self, class: Class) -> Option<&Color>
+        ensures { option_copied result ≡ class_value class self.now.colors }
+    {
+        field(&self.colors, class)
+    }
+
     /// Gives a class this color, or none.
     fn put_color(&mut self, class: Class, color: Option<Color>)
         ensures { self.new ≡ with_color class color self.old }
