@@ -14,12 +14,12 @@ mod option;
 mod records;
 
 use crate::line_map::LineMap;
-use fields::owned;
+use fields::copied;
 use std::alloc::Global;
 use std::marker::Model;
 use tabled_color::Color;
 use tabled_config::ColoredConfig;
-use tabled_grid::{Borders, HorizontalLine, Keep, OutOfMemory, VerticalLine};
+use tabled_grid::{Borders, HorizontalLine, OutOfMemory, VerticalLine};
 use tabled_style::Style;
 
 /// Border characters and border colors of a whole table, and custom lines: those that were set, and beneath them
@@ -39,12 +39,13 @@ impl Drop for Theme {
     fn drop(self) {
         let Theme {
             characters: _,
-            colors: _,
+            colors,
             set_horizontals: _,
             set_verticals: _,
             horizontals_beneath: _,
             verticals_beneath: _,
         } = self;
+        drop(colors);
     }
 }
 
@@ -101,10 +102,16 @@ impl Theme {
     ) -> Result<Self, OutOfMemory>
         ensures { IfOk result (λ theme. theme ≡ of_style style) }
     {
-        let mut theme = Theme::from_borders(alloc, style.get_borders());
-        theme.horizontals_beneath = LineMap::of_list(alloc, style.get_horizontals())?;
-        theme.verticals_beneath = LineMap::of_list(alloc, style.get_verticals())?;
-        Ok(theme)
+        let horizontals_beneath = LineMap::of_list(alloc, style.get_horizontals())?;
+        let verticals_beneath = LineMap::of_list(alloc, style.get_verticals())?;
+        Ok(Theme {
+            characters: style.get_borders(),
+            colors: Borders::empty(),
+            set_horizontals: LineMap::new(alloc),
+            set_verticals: LineMap::new(alloc),
+            horizontals_beneath,
+            verticals_beneath,
+        })
     }
 
     /// What the class level and the custom lines of a configuration draw. The lines are lines that were set; each color
@@ -115,7 +122,7 @@ impl Theme {
         let config = cfg.config();
         let set_horizontals = LineMap::of(config.get_horizontal_lines()?);
         let set_verticals = LineMap::of(config.get_vertical_lines()?);
-        let colors = owned(config.get_color_borders().keep(alloc)?);
+        let colors = copied(alloc, config.get_color_borders())?;
         Ok(Theme {
             characters: *config.get_borders(),
             colors,

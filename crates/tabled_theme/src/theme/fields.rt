@@ -1,81 +1,14 @@
-//! The fields of records, and one of them by its class.
+//! Records changed in many fields.
 
-ghost use Rattle.std.specs.Prelude.{◌≡◌, option_copied, IfOk, option_map};
-ghost use Rattle.tabled_grid.specs.declared.site.Class.{Class as Field};
-ghost use Rattle.tabled_grid.specs.Borders.{with_class};
-ghost use Rattle.tabled_grid.specs.Site.{class_value};
+ghost use Rattle.std.specs.Prelude.{◌≡◌, IfOk, option_map};
 ghost use Rattle.tabled_border.specs.Texts.{Texts};
 ghost use Rattle.tabled_color.specs.Shade.{texts_of, owned_shade};
 ghost use Rattle.tabled_theme.specs.Fields.{each_field, with_frame};
 ghost use Rattle.tabled_theme.specs.Shown.{owned_colors};
 
 use std::alloc::Global;
-use std::mem;
 use tabled_color::Color;
-use tabled_grid::{ANSIBuf, Border, Borders, Class, Direction, OutOfMemory, Rank};
-
-/// What a record has for a class.
-pub(super) fn field<T>(borders: &Borders<T>, class: Class) -> Option<&T>
-    ensures { option_copied result ≡ class_value class borders.now }
-{
-    match class {
-        Class::Edges(Direction::Horizontal, Rank::First) => borders.top.as_ref(),
-        Class::Edges(Direction::Horizontal, Rank::Inner) => borders.horizontal.as_ref(),
-        Class::Edges(Direction::Horizontal, Rank::Last) => borders.bottom.as_ref(),
-        Class::Edges(Direction::Vertical, Rank::First) => borders.left.as_ref(),
-        Class::Edges(Direction::Vertical, Rank::Inner) => borders.vertical.as_ref(),
-        Class::Edges(Direction::Vertical, Rank::Last) => borders.right.as_ref(),
-        Class::Crossings(Rank::First, Rank::First) => borders.top_left.as_ref(),
-        Class::Crossings(Rank::First, Rank::Inner) => borders.top_intersection.as_ref(),
-        Class::Crossings(Rank::First, Rank::Last) => borders.top_right.as_ref(),
-        Class::Crossings(Rank::Inner, Rank::First) => borders.left_intersection.as_ref(),
-        Class::Crossings(Rank::Inner, Rank::Inner) => borders.intersection.as_ref(),
-        Class::Crossings(Rank::Inner, Rank::Last) => borders.right_intersection.as_ref(),
-        Class::Crossings(Rank::Last, Rank::First) => borders.bottom_left.as_ref(),
-        Class::Crossings(Rank::Last, Rank::Inner) => borders.bottom_intersection.as_ref(),
-        Class::Crossings(Rank::Last, Rank::Last) => borders.bottom_right.as_ref(),
-    }
-}
-
-/// Gives a record this for a class, and takes what it had there.
-pub(super) fn exchange<T>(borders: &mut Borders<T>, class: Class, value: Option<T>) -> Option<T>
-    ensures before { result ≡ class_value class borders.old }
-    ensures value { borders.new ≡ with_class class value borders.old }
-{
-    match class {
-        Class::Edges(Direction::Horizontal, Rank::First) => mem::replace(&mut borders.top, value),
-        Class::Edges(Direction::Horizontal, Rank::Inner) => {
-            mem::replace(&mut borders.horizontal, value)
-        }
-        Class::Edges(Direction::Horizontal, Rank::Last) => mem::replace(&mut borders.bottom, value),
-        Class::Edges(Direction::Vertical, Rank::First) => mem::replace(&mut borders.left, value),
-        Class::Edges(Direction::Vertical, Rank::Inner) => mem::replace(
-            &mut borders.vertical,
-            value,
-        ),
-        Class::Edges(Direction::Vertical, Rank::Last) => mem::replace(&mut borders.right, value),
-        Class::Crossings(Rank::First, Rank::First) => mem::replace(&mut borders.top_left, value),
-        Class::Crossings(Rank::First, Rank::Inner) => {
-            mem::replace(&mut borders.top_intersection, value)
-        }
-        Class::Crossings(Rank::First, Rank::Last) => mem::replace(&mut borders.top_right, value),
-        Class::Crossings(Rank::Inner, Rank::First) => {
-            mem::replace(&mut borders.left_intersection, value)
-        }
-        Class::Crossings(Rank::Inner, Rank::Inner) => mem::replace(
-            &mut borders.intersection,
-            value,
-        ),
-        Class::Crossings(Rank::Inner, Rank::Last) => {
-            mem::replace(&mut borders.right_intersection, value)
-        }
-        Class::Crossings(Rank::Last, Rank::First) => mem::replace(&mut borders.bottom_left, value),
-        Class::Crossings(Rank::Last, Rank::Inner) => {
-            mem::replace(&mut borders.bottom_intersection, value)
-        }
-        Class::Crossings(Rank::Last, Rank::Last) => mem::replace(&mut borders.bottom_right, value),
-    }
-}
+use tabled_grid::{ANSIBuf, Border, Borders, Keep, OutOfMemory};
 
 /// The record with this frame, what the frame does not give too.
 pub(super) fn put_frame<T>(borders: Borders<T>, frame: Border<T>) -> Borders<T>
@@ -96,8 +29,18 @@ where
     }
 }
 
+/// Copies of the colors of a record.
+pub(super) fn copied(
+    alloc: Global,
+    borders: &Borders<ANSIBuf>,
+) -> Result<Borders<Color>, OutOfMemory>
+    ensures { IfOk result (λ colors. colors ≡ owned_colors borders.now) }
+{
+    Ok(owned(borders.keep(alloc)?))
+}
+
 /// The colors of a record, each as it owns its texts.
-pub(super) fn owned(borders: Borders<ANSIBuf>) -> Borders<Color>
+fn owned(borders: Borders<ANSIBuf>) -> Borders<Color>
     ensures { result ≡ owned_colors borders }
 {
     Borders {

@@ -28,7 +28,7 @@ impl Theme {
     pub fn set_colors(&mut self, colors: Borders<Color>)
         ensures { self.new ≡ record self.old { colors = colors } }
     {
-        self.colors = colors;
+        drop(mem::replace(&mut self.colors, colors));
     }
 
     /// The class record.
@@ -72,7 +72,7 @@ impl Theme {
     pub fn remove_colors(&mut self)
         ensures { self.new ≡ record self.old { colors = no_borders } }
     {
-        self.colors = Borders::empty();
+        self.set_colors(Borders::empty());
     }
 
     /// Sets the four sides and the four corners of the class record, what the frame does not give too. The
@@ -89,7 +89,7 @@ impl Theme {
         ensures { self.new ≡ record self.old { colors = with_frame frame self.old.colors } }
     {
         let colors = mem::replace(&mut self.colors, Borders::empty());
-        self.colors = put_frame(colors, frame);
+        self.set_colors(put_frame(colors, frame));
     }
 
     /// The four sides and the four corners of the class record.
