@@ -1,117 +1,133 @@
-//! The calls on one field: each is set, read, dropped and read again, and no other field moves.
+//! The calls on one field: each is set, read, dropped and read again, and no other field moves. Fields are numbered in
+//! the order of the tables below.
 
 use std::test::Fail;
 use tabled_color::Color;
 use tabled_grid::Borders;
 use tabled_theme::Theme;
 
-/// A record with a character of its own in each field.
-fn characters() -> Borders<char> {
+/// What a field has: its own character, or the given one where it is the one that was changed.
+fn character(field: usize, own: char, changed: usize, value: Option<char>) -> Option<char> {
+    if field == changed { value } else { Some(own) }
+}
+
+/// A record with a character of its own in each field but one.
+fn characters_with(changed: usize, value: Option<char>) -> Borders<char> {
     Borders {
-        top: Some('a'),
-        bottom: Some('b'),
-        left: Some('c'),
-        right: Some('d'),
-        top_left: Some('e'),
-        top_right: Some('f'),
-        bottom_left: Some('g'),
-        bottom_right: Some('h'),
-        top_intersection: Some('i'),
-        bottom_intersection: Some('j'),
-        left_intersection: Some('k'),
-        right_intersection: Some('l'),
-        intersection: Some('m'),
-        horizontal: Some('n'),
-        vertical: Some('o'),
+        top: character(0, 'a', changed, value),
+        bottom: character(1, 'b', changed, value),
+        left: character(2, 'c', changed, value),
+        right: character(3, 'd', changed, value),
+        top_left: character(4, 'e', changed, value),
+        top_right: character(5, 'f', changed, value),
+        bottom_left: character(6, 'g', changed, value),
+        bottom_right: character(7, 'h', changed, value),
+        top_intersection: character(8, 'i', changed, value),
+        bottom_intersection: character(9, 'j', changed, value),
+        left_intersection: character(10, 'k', changed, value),
+        right_intersection: character(11, 'l', changed, value),
+        intersection: character(12, 'm', changed, value),
+        horizontal: character(13, 'n', changed, value),
+        vertical: character(14, 'o', changed, value),
     }
 }
 
-/// A record with a color in each field.
-fn colors() -> Borders<Color> {
-    Borders {
-        top: Some(Color::BG_BLACK),
-        bottom: Some(Color::BG_BLUE),
-        left: Some(Color::BG_CYAN),
-        right: Some(Color::BG_GREEN),
-        top_left: Some(Color::BG_MAGENTA),
-        top_right: Some(Color::BG_WHITE),
-        bottom_left: Some(Color::BG_YELLOW),
-        bottom_right: Some(Color::FG_BLACK),
-        top_intersection: Some(Color::FG_BLUE),
-        bottom_intersection: Some(Color::FG_CYAN),
-        left_intersection: Some(Color::FG_GREEN),
-        right_intersection: Some(Color::FG_MAGENTA),
-        intersection: Some(Color::FG_WHITE),
-        horizontal: Some(Color::FG_YELLOW),
-        vertical: Some(Color::BOLD),
+/// What a field has: its own color, or the given one where it is the one that was changed.
+fn color(field: usize, own: Color, changed: usize, is_set: bool) -> Option<Color> {
+    if field != changed {
+        Some(own)
+    } else if is_set {
+        Some(Color::FG_RED)
+    } else {
+        None
     }
 }
 
-/// Whether a theme has these colors.
-fn has_colors(theme: &Theme, colors: Borders<Color>) -> bool {
-    *theme.get_borders_colors() == colors
+/// A record with a color of its own in each field but one, which is red or has none.
+fn colors_with(changed: usize, is_set: bool) -> Borders<Color> {
+    Borders {
+        top: color(0, Color::BG_BLACK, changed, is_set),
+        bottom: color(1, Color::BG_BLUE, changed, is_set),
+        left: color(2, Color::BG_CYAN, changed, is_set),
+        right: color(3, Color::BG_GREEN, changed, is_set),
+        top_left: color(4, Color::BG_MAGENTA, changed, is_set),
+        top_right: color(5, Color::BG_WHITE, changed, is_set),
+        bottom_left: color(6, Color::BG_YELLOW, changed, is_set),
+        bottom_right: color(7, Color::FG_BLACK, changed, is_set),
+        top_intersection: color(8, Color::FG_BLUE, changed, is_set),
+        bottom_intersection: color(9, Color::FG_CYAN, changed, is_set),
+        left_intersection: color(10, Color::FG_GREEN, changed, is_set),
+        right_intersection: color(11, Color::FG_MAGENTA, changed, is_set),
+        intersection: color(12, Color::FG_WHITE, changed, is_set),
+        horizontal: color(13, Color::FG_YELLOW, changed, is_set),
+        vertical: color(14, Color::BOLD, changed, is_set),
+    }
+}
+
+/// Whether a field was read as this character, and the theme has it there, and its own elsewhere.
+fn has_character(theme: &Theme, read: Option<char>, field: usize, value: Option<char>) -> bool {
+    read == value && *theme.get_borders() == characters_with(field, value)
+}
+
+/// Whether a field was read as red, or as having no color, and the theme has that there, and its own elsewhere.
+fn has_color(theme: &Theme, read: Option<&Color>, field: usize, is_set: bool) -> bool {
+    let expected = colors_with(field, is_set);
+    let same = *theme.get_borders_colors() == expected;
+    drop(expected);
+    same && read.is_some() == is_set && is_red_if_read(read)
+}
+
+fn is_red_if_read(read: Option<&Color>) -> bool {
+    match read {
+        Some(color) => *color == Color::FG_RED,
+        None => true,
+    }
 }
 
 /// Whether the three calls of a field of the class record do what they say, and move no other field.
 macro_rules! are_calls_on_character {
-    ($theme:expr, $field:ident, $set:ident, $get:ident, $remove:ident) => {{
-        $theme.set_borders(characters());
+    ($theme:expr, $field:expr, $set:ident, $get:ident, $remove:ident) => {{
+        $theme.set_borders(characters_with($field, None));
         $theme.$set('x');
-        let set = Borders {
-            $field: Some('x'),
-            ..characters()
-        };
-        let is_set = $theme.$get() == Some('x') && *$theme.get_borders() == set;
+        let is_set = has_character($theme, $theme.$get(), $field, Some('x'));
         $theme.$remove();
-        let removed = Borders {
-            $field: None,
-            ..characters()
-        };
-        is_set && $theme.$get().is_none() && *$theme.get_borders() == removed
+        is_set && has_character($theme, $theme.$get(), $field, None)
     }};
 }
 
 /// The same for the three calls of a class color.
 macro_rules! are_calls_on_color {
-    ($theme:expr, $field:ident, $set:ident, $get:ident, $remove:ident) => {{
-        $theme.set_colors(colors());
+    ($theme:expr, $field:expr, $set:ident, $get:ident, $remove:ident) => {{
+        $theme.set_colors(colors_with($field, false));
         $theme.$set(Color::FG_RED);
-        let set = Borders {
-            $field: Some(Color::FG_RED),
-            ..colors()
-        };
-        let is_set = $theme.$get() == Some(&Color::FG_RED) && has_colors($theme, set);
+        let is_set = has_color($theme, $theme.$get(), $field, true);
         $theme.$remove();
-        let removed = Borders {
-            $field: None,
-            ..colors()
-        };
-        is_set && $theme.$get().is_none() && has_colors($theme, removed)
+        is_set && has_color($theme, $theme.$get(), $field, false)
     }};
 }
 
 fn sides_have_a_character(theme: &mut Theme) -> bool {
     are_calls_on_character!(
         theme,
-        top,
+        0,
         set_borders_top,
         get_borders_top,
         remove_borders_top
     ) && are_calls_on_character!(
         theme,
-        bottom,
+        1,
         set_borders_bottom,
         get_borders_bottom,
         remove_borders_bottom
     ) && are_calls_on_character!(
         theme,
-        left,
+        2,
         set_borders_left,
         get_borders_left,
         remove_borders_left
     ) && are_calls_on_character!(
         theme,
-        right,
+        3,
         set_borders_right,
         get_borders_right,
         remove_borders_right
@@ -121,25 +137,25 @@ fn sides_have_a_character(theme: &mut Theme) -> bool {
 fn corners_have_a_character(theme: &mut Theme) -> bool {
     are_calls_on_character!(
         theme,
-        top_left,
+        4,
         set_borders_corner_top_left,
         get_borders_corner_top_left,
         remove_borders_corner_top_left
     ) && are_calls_on_character!(
         theme,
-        top_right,
+        5,
         set_borders_corner_top_right,
         get_borders_corner_top_right,
         remove_borders_corner_top_right
     ) && are_calls_on_character!(
         theme,
-        bottom_left,
+        6,
         set_borders_corner_bottom_left,
         get_borders_corner_bottom_left,
         remove_borders_corner_bottom_left
     ) && are_calls_on_character!(
         theme,
-        bottom_right,
+        7,
         set_borders_corner_bottom_right,
         get_borders_corner_bottom_right,
         remove_borders_corner_bottom_right
@@ -149,25 +165,25 @@ fn corners_have_a_character(theme: &mut Theme) -> bool {
 fn intersections_have_a_character(theme: &mut Theme) -> bool {
     are_calls_on_character!(
         theme,
-        top_intersection,
+        8,
         set_borders_intersection_top,
         get_borders_intersection_top,
         remove_borders_intersection_top
     ) && are_calls_on_character!(
         theme,
-        bottom_intersection,
+        9,
         set_borders_intersection_bottom,
         get_borders_intersection_bottom,
         remove_borders_intersection_bottom
     ) && are_calls_on_character!(
         theme,
-        left_intersection,
+        10,
         set_borders_intersection_left,
         get_borders_intersection_left,
         remove_borders_intersection_left
     ) && are_calls_on_character!(
         theme,
-        right_intersection,
+        11,
         set_borders_intersection_right,
         get_borders_intersection_right,
         remove_borders_intersection_right
@@ -177,19 +193,19 @@ fn intersections_have_a_character(theme: &mut Theme) -> bool {
 fn inner_fields_have_a_character(theme: &mut Theme) -> bool {
     are_calls_on_character!(
         theme,
-        intersection,
+        12,
         set_borders_intersection,
         get_borders_intersection,
         remove_borders_intersection
     ) && are_calls_on_character!(
         theme,
-        horizontal,
+        13,
         set_borders_horizontal,
         get_borders_horizontal,
         remove_borders_horizontal
     ) && are_calls_on_character!(
         theme,
-        vertical,
+        14,
         set_borders_vertical,
         get_borders_vertical,
         remove_borders_vertical
@@ -197,55 +213,52 @@ fn inner_fields_have_a_character(theme: &mut Theme) -> bool {
 }
 
 fn sides_have_a_color(theme: &mut Theme) -> bool {
-    are_calls_on_color!(
-        theme,
-        top,
-        set_colors_top,
-        get_colors_top,
-        remove_colors_top
-    ) && are_calls_on_color!(
-        theme,
-        bottom,
-        set_colors_bottom,
-        get_colors_bottom,
-        remove_colors_bottom
-    ) && are_calls_on_color!(
-        theme,
-        left,
-        set_colors_left,
-        get_colors_left,
-        remove_colors_left
-    ) && are_calls_on_color!(
-        theme,
-        right,
-        set_colors_right,
-        get_colors_right,
-        remove_colors_right
-    )
+    are_calls_on_color!(theme, 0, set_colors_top, get_colors_top, remove_colors_top)
+        && are_calls_on_color!(
+            theme,
+            1,
+            set_colors_bottom,
+            get_colors_bottom,
+            remove_colors_bottom
+        )
+        && are_calls_on_color!(
+            theme,
+            2,
+            set_colors_left,
+            get_colors_left,
+            remove_colors_left
+        )
+        && are_calls_on_color!(
+            theme,
+            3,
+            set_colors_right,
+            get_colors_right,
+            remove_colors_right
+        )
 }
 
 fn corners_have_a_color(theme: &mut Theme) -> bool {
     are_calls_on_color!(
         theme,
-        top_left,
+        4,
         set_colors_corner_top_left,
         get_colors_corner_top_left,
         remove_colors_corner_top_left
     ) && are_calls_on_color!(
         theme,
-        top_right,
+        5,
         set_colors_corner_top_right,
         get_colors_corner_top_right,
         remove_colors_corner_top_right
     ) && are_calls_on_color!(
         theme,
-        bottom_left,
+        6,
         set_colors_corner_bottom_left,
         get_colors_corner_bottom_left,
         remove_colors_corner_bottom_left
     ) && are_calls_on_color!(
         theme,
-        bottom_right,
+        7,
         set_colors_corner_bottom_right,
         get_colors_corner_bottom_right,
         remove_colors_corner_bottom_right
@@ -255,25 +268,25 @@ fn corners_have_a_color(theme: &mut Theme) -> bool {
 fn intersections_have_a_color(theme: &mut Theme) -> bool {
     are_calls_on_color!(
         theme,
-        top_intersection,
+        8,
         set_colors_intersection_top,
         get_colors_intersection_top,
         remove_colors_intersection_top
     ) && are_calls_on_color!(
         theme,
-        bottom_intersection,
+        9,
         set_colors_intersection_bottom,
         get_colors_intersection_bottom,
         remove_colors_intersection_bottom
     ) && are_calls_on_color!(
         theme,
-        left_intersection,
+        10,
         set_colors_intersection_left,
         get_colors_intersection_left,
         remove_colors_intersection_left
     ) && are_calls_on_color!(
         theme,
-        right_intersection,
+        11,
         set_colors_intersection_right,
         get_colors_intersection_right,
         remove_colors_intersection_right
@@ -283,19 +296,19 @@ fn intersections_have_a_color(theme: &mut Theme) -> bool {
 fn inner_fields_have_a_color(theme: &mut Theme) -> bool {
     are_calls_on_color!(
         theme,
-        intersection,
+        12,
         set_colors_intersection,
         get_colors_intersection,
         remove_colors_intersection
     ) && are_calls_on_color!(
         theme,
-        horizontal,
+        13,
         set_colors_horizontal,
         get_colors_horizontal,
         remove_colors_horizontal
     ) && are_calls_on_color!(
         theme,
-        vertical,
+        14,
         set_colors_vertical,
         get_colors_vertical,
         remove_colors_vertical

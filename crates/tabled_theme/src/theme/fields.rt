@@ -1,12 +1,13 @@
 //! Records changed in many fields.
 
-ghost use Rattle.std.specs.Prelude.{◌≡◌, IfOk, option_map};
+ghost use Rattle.std.specs.Prelude.{◌≡◌, IfOk, OnOk, option_map};
 ghost use Rattle.tabled_border.specs.Texts.{Texts};
 ghost use Rattle.tabled_color.specs.Shade.{texts_of, owned_shade};
 ghost use Rattle.tabled_theme.specs.Fields.{each_field, with_frame};
 ghost use Rattle.tabled_theme.specs.Shown.{owned_colors};
 
 use std::alloc::Global;
+use std::mem;
 use tabled_color::Color;
 use tabled_grid::{ANSIBuf, Border, Borders, Keep, OutOfMemory};
 
@@ -76,78 +77,65 @@ fn owned_color(color: Option<ANSIBuf>) -> Option<Color>
 pub(super) fn texts(alloc: Global, colors: &Borders<Color>) -> Result<Borders<ANSIBuf>, OutOfMemory>
     ensures { IfOk result (λ texts. texts ≡ each_field texts_of colors.now) }
 {
-    let edges = five_texts(
-        alloc,
-        &colors.top,
-        &colors.bottom,
-        &colors.left,
-        &colors.right,
-        &colors.horizontal,
-    )?;
-    let corners = five_texts(
-        alloc,
-        &colors.top_left,
-        &colors.top_right,
-        &colors.bottom_left,
-        &colors.bottom_right,
-        &colors.vertical,
-    )?;
-    let inner = five_texts(
-        alloc,
-        &colors.top_intersection,
-        &colors.bottom_intersection,
-        &colors.left_intersection,
-        &colors.right_intersection,
-        &colors.intersection,
-    )?;
-    Ok(Borders {
-        top: edges.0,
-        bottom: edges.1,
-        left: edges.2,
-        right: edges.3,
-        top_left: corners.0,
-        top_right: corners.1,
-        bottom_left: corners.2,
-        bottom_right: corners.3,
-        top_intersection: inner.0,
-        bottom_intersection: inner.1,
-        left_intersection: inner.2,
-        right_intersection: inner.3,
-        horizontal: edges.4,
-        vertical: corners.4,
-        intersection: inner.4,
-    })
-}
-
-/// The texts of one color, where it is given.
-type Given = Option<ANSIBuf>;
-
-/// Copies of the texts of five colors, or of none.
-fn five_texts(
-    alloc: Global,
-    first: &Option<Color>,
-    second: &Option<Color>,
-    third: &Option<Color>,
-    fourth: &Option<Color>,
-    fifth: &Option<Color>,
-) -> Result<(Given, Given, Given, Given, Given), OutOfMemory>
-    ensures { IfOk result (λ copies. copies ≡ (option_map texts_of first.now, option_map texts_of second.now, option_map texts_of third.now, option_map texts_of fourth.now, option_map texts_of fifth.now)) }
-{
-    Ok((
-        one_text(alloc, first)?,
-        one_text(alloc, second)?,
-        one_text(alloc, third)?,
-        one_text(alloc, fourth)?,
-        one_text(alloc, fifth)?,
-    ))
-}
-
-/// A copy of the texts of a color, where it is given.
-fn one_text(alloc: Global, color: &Option<Color>) -> Result<Given, OutOfMemory>
-    ensures { IfOk result (λ copy. copy ≡ option_map texts_of color.now) }
-{
-    match color {
-        Some(color) => Ok(Some(ANSIBuf::new(alloc, color.get_prefix(), color.get_suffix())?)),
-        None => Ok(None),
+    let mut texts = Borders::empty();
+    match put_texts(alloc, &mut texts, colors) {
+        Ok(()) => Ok(texts),
+        Err(refused) => {
+            drop(texts);
+            Err(refused)
+        }
     }
+}
+
+/// Puts copies of the texts of the colors of a record into another.
+fn put_texts(
+    alloc: Global,
+    texts: &mut Borders<ANSIBuf>,
+    colors: &Borders<Color>,
+) -> Result<(), OutOfMemory>
+    ensures { OnOk result (texts.new ≡ each_field texts_of colors.now) }
+{
+    put_text(alloc, &mut texts.top, &colors.top)?;
+    put_text(alloc, &mut texts.bottom, &colors.bottom)?;
+    put_text(alloc, &mut texts.left, &colors.left)?;
+    put_text(alloc, &mut texts.right, &colors.right)?;
+    put_text(alloc, &mut texts.top_left, &colors.top_left)?;
+    put_text(alloc, &mut texts.top_right, &colors.top_right)?;
+    put_text(alloc, &mut texts.bottom_left, &colors.bottom_left)?;
+    put_text(alloc, &mut texts.bottom_right, &colors.bottom_right)?;
+    put_text(alloc, &mut texts.top_intersection, &colors.top_intersection)?;
+    put_text(
+        alloc,
+        &mut texts.bottom_intersection,
+        &colors.bottom_intersection,
+    )?;
+    put_text(
+        alloc,
+        &mut texts.left_intersection,
+        &colors.left_intersection,
+    )?;
+    put_text(
+        alloc,
+        &mut texts.right_intersection,
+        &colors.right_intersection,
+    )?;
+    put_text(alloc, &mut texts.horizontal, &colors.horizontal)?;
+    put_text(alloc, &mut texts.vertical, &colors.vertical)?;
+    put_text(alloc, &mut texts.intersection, &colors.intersection)
+}
+
+/// Puts a copy of the texts of a color, where it is given.
+fn put_text(
+    alloc: Global,
+    text: &mut Option<ANSIBuf>,
+    color: &Option<Color>,
+) -> Result<(), OutOfMemory>
+    ensures { OnOk result (text.new ≡ option_map texts_of color.now) }
+{
+    let copy = match color {
+        Some(color) => Some(ANSIBuf::new(alloc, color.get_prefix(), color.get_suffix())?),
+        None => None,
+    };
+    drop(mem::replace(text, copy));
+    Ok(())
 }
