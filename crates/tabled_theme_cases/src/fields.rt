@@ -91,7 +91,7 @@ macro_rules! are_calls_on_character {
         $theme.$set('x');
         let is_set = has_character($theme, $theme.$get(), $field, Some('x'));
         $theme.$remove();
-        is_set && has_character($theme, $theme.$get(), $field, None)
+        is_set & has_character($theme, $theme.$get(), $field, None)
     }};
 }
 
@@ -102,7 +102,7 @@ macro_rules! are_calls_on_color {
         $theme.$set(Color::FG_RED);
         let is_set = has_color($theme, $theme.$get(), $field, true);
         $theme.$remove();
-        is_set && has_color($theme, $theme.$get(), $field, false)
+        is_set & has_color($theme, $theme.$get(), $field, false)
     }};
 }
 
@@ -113,19 +113,19 @@ fn sides_have_a_character(theme: &mut Theme) -> bool {
         set_borders_top,
         get_borders_top,
         remove_borders_top
-    ) && are_calls_on_character!(
+    ) & are_calls_on_character!(
         theme,
         1,
         set_borders_bottom,
         get_borders_bottom,
         remove_borders_bottom
-    ) && are_calls_on_character!(
+    ) & are_calls_on_character!(
         theme,
         2,
         set_borders_left,
         get_borders_left,
         remove_borders_left
-    ) && are_calls_on_character!(
+    ) & are_calls_on_character!(
         theme,
         3,
         set_borders_right,
@@ -141,19 +141,19 @@ fn corners_have_a_character(theme: &mut Theme) -> bool {
         set_borders_corner_top_left,
         get_borders_corner_top_left,
         remove_borders_corner_top_left
-    ) && are_calls_on_character!(
+    ) & are_calls_on_character!(
         theme,
         5,
         set_borders_corner_top_right,
         get_borders_corner_top_right,
         remove_borders_corner_top_right
-    ) && are_calls_on_character!(
+    ) & are_calls_on_character!(
         theme,
         6,
         set_borders_corner_bottom_left,
         get_borders_corner_bottom_left,
         remove_borders_corner_bottom_left
-    ) && are_calls_on_character!(
+    ) & are_calls_on_character!(
         theme,
         7,
         set_borders_corner_bottom_right,
@@ -169,19 +169,19 @@ fn intersections_have_a_character(theme: &mut Theme) -> bool {
         set_borders_intersection_top,
         get_borders_intersection_top,
         remove_borders_intersection_top
-    ) && are_calls_on_character!(
+    ) & are_calls_on_character!(
         theme,
         9,
         set_borders_intersection_bottom,
         get_borders_intersection_bottom,
         remove_borders_intersection_bottom
-    ) && are_calls_on_character!(
+    ) & are_calls_on_character!(
         theme,
         10,
         set_borders_intersection_left,
         get_borders_intersection_left,
         remove_borders_intersection_left
-    ) && are_calls_on_character!(
+    ) & are_calls_on_character!(
         theme,
         11,
         set_borders_intersection_right,
@@ -197,13 +197,13 @@ fn inner_fields_have_a_character(theme: &mut Theme) -> bool {
         set_borders_intersection,
         get_borders_intersection,
         remove_borders_intersection
-    ) && are_calls_on_character!(
+    ) & are_calls_on_character!(
         theme,
         13,
         set_borders_horizontal,
         get_borders_horizontal,
         remove_borders_horizontal
-    ) && are_calls_on_character!(
+    ) & are_calls_on_character!(
         theme,
         14,
         set_borders_vertical,
@@ -214,21 +214,21 @@ fn inner_fields_have_a_character(theme: &mut Theme) -> bool {
 
 fn sides_have_a_color(theme: &mut Theme) -> bool {
     are_calls_on_color!(theme, 0, set_colors_top, get_colors_top, remove_colors_top)
-        && are_calls_on_color!(
+        & are_calls_on_color!(
             theme,
             1,
             set_colors_bottom,
             get_colors_bottom,
             remove_colors_bottom
         )
-        && are_calls_on_color!(
+        & are_calls_on_color!(
             theme,
             2,
             set_colors_left,
             get_colors_left,
             remove_colors_left
         )
-        && are_calls_on_color!(
+        & are_calls_on_color!(
             theme,
             3,
             set_colors_right,
@@ -244,19 +244,19 @@ fn corners_have_a_color(theme: &mut Theme) -> bool {
         set_colors_corner_top_left,
         get_colors_corner_top_left,
         remove_colors_corner_top_left
-    ) && are_calls_on_color!(
+    ) & are_calls_on_color!(
         theme,
         5,
         set_colors_corner_top_right,
         get_colors_corner_top_right,
         remove_colors_corner_top_right
-    ) && are_calls_on_color!(
+    ) & are_calls_on_color!(
         theme,
         6,
         set_colors_corner_bottom_left,
         get_colors_corner_bottom_left,
         remove_colors_corner_bottom_left
-    ) && are_calls_on_color!(
+    ) & are_calls_on_color!(
         theme,
         7,
         set_colors_corner_bottom_right,
@@ -272,19 +272,19 @@ fn intersections_have_a_color(theme: &mut Theme) -> bool {
         set_colors_intersection_top,
         get_colors_intersection_top,
         remove_colors_intersection_top
-    ) && are_calls_on_color!(
+    ) & are_calls_on_color!(
         theme,
         9,
         set_colors_intersection_bottom,
         get_colors_intersection_bottom,
         remove_colors_intersection_bottom
-    ) && are_calls_on_color!(
+    ) & are_calls_on_color!(
         theme,
         10,
         set_colors_intersection_left,
         get_colors_intersection_left,
         remove_colors_intersection_left
-    ) && are_calls_on_color!(
+    ) & are_calls_on_color!(
         theme,
         11,
         set_colors_intersection_right,
@@ -300,13 +300,13 @@ fn inner_fields_have_a_color(theme: &mut Theme) -> bool {
         set_colors_intersection,
         get_colors_intersection,
         remove_colors_intersection
-    ) && are_calls_on_color!(
+    ) & are_calls_on_color!(
         theme,
         13,
         set_colors_horizontal,
         get_colors_horizontal,
         remove_colors_horizontal
-    ) && are_calls_on_color!(
+    ) & are_calls_on_color!(
         theme,
         14,
         set_colors_vertical,
