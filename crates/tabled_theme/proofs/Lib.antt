@@ -1,0 +1,4 @@
+pub mod LineMaps
+pub mod Left
+pub mod Applying
+pub mod Decided

@@ -1,0 +1,15 @@
+//! Single cases of themes: each expected text is drawn by hand.
+#![tactic(auto)]
+
+#[cfg(test)]
+mod fields;
+#[cfg(test)]
+mod lines;
+#[cfg(test)]
+mod readme;
+#[cfg(test)]
+mod records;
+#[cfg(test)]
+mod styles;
+#[cfg(test)]
+mod tables;

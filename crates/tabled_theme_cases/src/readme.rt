@@ -1,0 +1,37 @@
+//! The theme of the README, word for word.
+
+use crate::tables::prints_at_widths;
+use std::test::Fail;
+use tabled_style::{HorizontalLine, Style};
+use tabled_theme::Theme;
+
+#[test]
+#[rattlefmt::skip]
+fn the_theme_of_the_readme_is_drawn(rt: HostRuntime) -> Result<(), Fail> {
+    let alloc = rt.alloc();
+
+    let mut theme = Theme::from_style(alloc, Style::rounded())?;
+    theme.set_borders_vertical(':');
+    theme.set_borders_corner_bottom_right('◢');
+    theme.insert_horizontal_line(3, HorizontalLine::full('═', '╪', '╞', '╡').into_inner())?;
+
+    let rows: &[&[&str]] = &[
+        &[" Item  ", " Price "],
+        &[" bread ", " 3     "],
+        &[" milk  ", " 2     "],
+        &[" sum   ", " 5     "],
+    ];
+    let text = concat!(
+        "╭───────┬───────╮\n",
+        "│ Item  : Price │\n",
+        "├───────┼───────┤\n",
+        "│ bread : 3     │\n",
+        "│ milk  : 2     │\n",
+        "╞═══════╪═══════╡\n",
+        "│ sum   : 5     │\n",
+        "╰───────┴───────◢",
+    );
+    let widths = vec![in alloc; 7usize; 2]?;
+    assert!(rt; prints_at_widths(alloc, theme, rows, widths, text)?);
+    Ok(())
+}
