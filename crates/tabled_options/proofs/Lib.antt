@@ -1,0 +1,2 @@
+pub mod LineCharLemmas
+pub mod Applying

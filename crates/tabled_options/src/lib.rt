@@ -1,0 +1,11 @@
+//! Options that write on the lines of a table: single characters, and texts.
+//!
+//! `docs/DEFINITIONS.md` explains the words of the contracts.
+#![tactic(auto)]
+
+mod alignment;
+mod line_char;
+mod written;
+
+pub use alignment::Alignment;
+pub use line_char::LineChar;
