@@ -1,2 +1,5 @@
 pub mod Alignment
 pub mod LineChar
+pub mod TextStart
+pub mod LineText
+pub mod Laying

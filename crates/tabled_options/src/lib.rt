@@ -5,7 +5,9 @@
 
 mod alignment;
 mod line_char;
+mod line_text;
 mod written;
 
 pub use alignment::Alignment;
 pub use line_char::LineChar;
+pub use line_text::LineText;
