@@ -1,6 +1,6 @@
 -- How a text is laid along a line, piece by piece. Only private calls cite this.
-use Rattle.std.specs.Prelude.{◌≡◌, ℕ, ◌+◌, ◌-◌, Bool, List, ◌∷◌, [], ◌++◌, map, length, drop}
-use Rattle.std.specs.List.{flat_map, zip}
+use Rattle.std.specs.Prelude.{ℕ, Bool, List, ◌++◌, map}
+use Rattle.std.specs.List.{flat_map}
 use Rattle.tabled_grid.specs.declared.place.LineOf.{LineOf}
 use Rattle.tabled_grid.specs.declared.place.Place.{Place}
 use Rattle.tabled_object.specs.Entities.{below}

@@ -1,5 +1,6 @@
 pub mod Alignment
 pub mod LineChar
+pub mod NamedLine
 pub mod TextStart
 pub mod LineText
 pub mod Laying

@@ -6,6 +6,8 @@
 mod alignment;
 mod line_char;
 mod line_text;
+mod named_line;
+mod text_start;
 mod written;
 
 pub use alignment::Alignment;
