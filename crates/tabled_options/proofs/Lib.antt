@@ -1,2 +1,5 @@
 pub mod LineCharLemmas
 pub mod Applying
+pub mod Zipping
+pub mod PassingLemmas
+pub mod LineLemmas

@@ -1,11 +1,22 @@
 -- How a text is laid along a line, piece by piece. Only private calls cite this.
-use Rattle.std.specs.Prelude.{ℕ, Bool, List, ◌++◌, map}
+use Rattle.std.specs.Prelude.{ℕ, Bool, not, ◌&&◌, nat_le, List, ◌++◌, map}
 use Rattle.std.specs.List.{flat_map}
 use Rattle.tabled_grid.specs.declared.place.LineOf.{LineOf}
 use Rattle.tabled_grid.specs.declared.place.Place.{Place}
 use Rattle.tabled_object.specs.Entities.{below}
-use Rattle.tabled_config.specs.Along.{crossing_at}
-use Rattle.tabled_config.specs.Picture.{Look}
+use Rattle.tabled_config.specs.Along.{is_empty, crossing_at}
+use Rattle.tabled_config.specs.Configuration.{all_writes}
+use Rattle.tabled_config.specs.Picture.{Look, look}
+use Rattle.tabled_options.specs.declared.table_line.TableLine.{TableLine}
+
+-- how the table of a line looks, where these give the sizes
+abbrev pub looked : {D : Type 0} → (D → ℕ → ℕ) → (D → ℕ → ℕ) → TableLine D → Look
+looked width_of height_of line = look (all_writes line.cfg.now) line.shape (width_of line.dims.now) (height_of line.dims.now)
+
+-- whether the table has places, and the line is none past the last one
+abbrev pub exists : ℕ × ℕ → LineOf → Bool
+exists shape (LineOf.Horizontal r) = not (is_empty shape) && nat_le r shape.0
+exists shape (LineOf.Vertical c) = not (is_empty shape) && nat_le c shape.1
 
 -- how many columns or rows a line is long, how many places each has, and which lines of the other direction cross it
 abbrev pub pieces_of : Look → LineOf → ℕ

@@ -4,3 +4,4 @@ pub mod NamedLine
 pub mod TextStart
 pub mod LineText
 pub mod Laying
+pub mod Passing

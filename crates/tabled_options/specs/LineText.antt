@@ -1,5 +1,5 @@
 -- A text on a line.
-use Rattle.std.specs.Prelude.{ℕ, ◌-◌, ◌^◌, Bool, true, is_some, Option, Some, None, option_map, List, [], ◌++◌, map, length, take, drop}
+use Rattle.std.specs.Prelude.{ℕ, ◌-◌, ◌^◌, min, Bool, true, is_some, Option, Some, None, option_map, List, [], ◌++◌, map, length, take, drop}
 use Rattle.std.specs.List.{filter, zip}
 use Rattle.tabled_border.specs.Texts.{Texts}
 use Rattle.tabled_grid.specs.declared.offset.Offset.{Offset}
@@ -29,9 +29,13 @@ pub record Lettering (L : Type 0) : Type 0 where
   pub color : Option Shade
   pub limit : Option ℕ
 
--- the places along a line of a table that looks like this, in order, as far as their numbers reach
+-- of these places the first ones, as many as a number can count
+abbrev pub countable : List Place → List Place
+countable places = take (min (length places) (2 ^ 64 - 1)) places
+
+-- the places along a line of a table that looks like this, in order
 unfoldable pub places_along : Look → LineOf → List Place
-places_along view line = take (2 ^ 64 - 1) (along view.horizontal view.vertical view.shape view.widths view.heights line)
+places_along view line = countable (along view.horizontal view.vertical view.shape view.widths view.heights line)
 
 -- the places that a text takes from its start on, each with its character: one for each character, as long as there are
 -- places; without a start there are none

@@ -7,6 +7,8 @@ mod alignment;
 mod line_char;
 mod line_text;
 mod named_line;
+mod pen;
+mod table_line;
 mod text_start;
 mod written;
 
