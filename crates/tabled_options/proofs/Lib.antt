@@ -3,3 +3,4 @@ pub mod Applying
 pub mod Zipping
 pub mod PassingLemmas
 pub mod LineLemmas
+pub mod WrittenLemmas
