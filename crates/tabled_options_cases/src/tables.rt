@@ -112,7 +112,7 @@ fn row_of(alloc: Global, row: &[&str]) -> Result<Vec<String>, OutOfMemory> {
 }
 
 /// The texts of rows.
-fn texts(alloc: Global, rows: &[&[&str]]) -> Result<Vec<Vec<String>>, OutOfMemory> {
+pub(crate) fn texts(alloc: Global, rows: &[&[&str]]) -> Result<Vec<Vec<String>>, OutOfMemory> {
     let mut cells = Vec::new(alloc);
     for row in rows {
         cells.push(row_of(alloc, row)?)?;
