@@ -84,9 +84,9 @@ impl<Line> LineText<Line> {
         self
     }
 
-    /// By how many places the text is moved from where its alignment puts it: by a start forth where that counts from the
-    /// start and back where it counts from the end, by an end the other way, at most to the first or the last place.
-    /// Without an alignment along the line, where the text begins.
+    /// By how many places the text is moved from where its alignment puts it. Where that counts from the start (left, top,
+    /// in the middle), a start moves it on and an end back, at most to the first place. Where it counts from the end (right,
+    /// bottom), a start moves it back and an end on. Without an alignment along the line, the place where it begins.
     pub fn offset(mut self, offset: Offset) -> Self
         ensures { result ≡ record self { offset = offset } }
     {
