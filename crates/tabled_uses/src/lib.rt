@@ -4,5 +4,9 @@
 #![tactic(auto)]
 
 mod examples;
+mod lettered;
 
 pub use examples::{drawn_lines, lines_of_their_own, places_along_lines, places_and_levels};
+pub use lettered::{
+    marks_on_edges, texts_along_the_top, texts_on_other_lines, texts_over_crossings,
+};
