@@ -182,3 +182,27 @@ fn a_text_on_an_empty_table_is_none(rt: HostRuntime) -> Result<(), Fail> {
     assert!(rt; shown);
     Ok(())
 }
+
+/// Whether a text ends a line of the largest number of places, on its last edge place and its last crossing.
+fn is_written_far_away(alloc: Global) -> Result<bool, OutOfMemory> {
+    let width = usize::MAX - 2;
+    let text = LineText::new(alloc, "AB", Rows::first())?.align(Alignment::right());
+    let mut table = Table::new(alloc, &[width], &[&[""]])?;
+    let end = Place::Horizontal {
+        row: 0,
+        col: 0,
+        at: width - 1,
+    };
+    Ok(
+        table.with(Style::ascii())
+            && table.with(text)
+            && table.char_at(end) == Some('A')
+            && table.char_at(MIDDLE) == Some('B'),
+    )
+}
+
+#[test]
+fn a_text_ends_a_line_of_the_largest_number_of_places(rt: HostRuntime) -> Result<(), Fail> {
+    assert!(rt; is_written_far_away(rt.alloc())?);
+    Ok(())
+}
