@@ -8,6 +8,7 @@ ghost use Rattle.tabled_grid.specs.Site.{class_value};
 ghost use Rattle.tabled_theme.specs.Changing.{with_color};
 
 use super::Theme;
+use super::fields::put;
 use tabled_color::Color;
 
 impl Theme {
@@ -15,105 +16,105 @@ impl Theme {
     pub fn set_colors_top(&mut self, color: Color)
         ensures { self.new ≡ with_color (edges Horizontal first) (Some color) self.old }
     {
-        self.colors.top = Some(color);
+        put(&mut self.colors.top, Some(color));
     }
 
     /// Sets the color of the edges of the last horizontal line.
     pub fn set_colors_bottom(&mut self, color: Color)
         ensures { self.new ≡ with_color (edges Horizontal last) (Some color) self.old }
     {
-        self.colors.bottom = Some(color);
+        put(&mut self.colors.bottom, Some(color));
     }
 
     /// Sets the color of the edges of the first vertical line.
     pub fn set_colors_left(&mut self, color: Color)
         ensures { self.new ≡ with_color (edges Vertical first) (Some color) self.old }
     {
-        self.colors.left = Some(color);
+        put(&mut self.colors.left, Some(color));
     }
 
     /// Sets the color of the edges of the last vertical line.
     pub fn set_colors_right(&mut self, color: Color)
         ensures { self.new ≡ with_color (edges Vertical last) (Some color) self.old }
     {
-        self.colors.right = Some(color);
+        put(&mut self.colors.right, Some(color));
     }
 
     /// Sets the color of the upper left corner.
     pub fn set_colors_corner_top_left(&mut self, color: Color)
         ensures { self.new ≡ with_color (crossings first first) (Some color) self.old }
     {
-        self.colors.top_left = Some(color);
+        put(&mut self.colors.top_left, Some(color));
     }
 
     /// Sets the color of the upper right corner.
     pub fn set_colors_corner_top_right(&mut self, color: Color)
         ensures { self.new ≡ with_color (crossings first last) (Some color) self.old }
     {
-        self.colors.top_right = Some(color);
+        put(&mut self.colors.top_right, Some(color));
     }
 
     /// Sets the color of the lower left corner.
     pub fn set_colors_corner_bottom_left(&mut self, color: Color)
         ensures { self.new ≡ with_color (crossings last first) (Some color) self.old }
     {
-        self.colors.bottom_left = Some(color);
+        put(&mut self.colors.bottom_left, Some(color));
     }
 
     /// Sets the color of the lower right corner.
     pub fn set_colors_corner_bottom_right(&mut self, color: Color)
         ensures { self.new ≡ with_color (crossings last last) (Some color) self.old }
     {
-        self.colors.bottom_right = Some(color);
+        put(&mut self.colors.bottom_right, Some(color));
     }
 
     /// Sets the color of the crossings on the first horizontal line, the corners aside.
     pub fn set_colors_intersection_top(&mut self, color: Color)
         ensures { self.new ≡ with_color (crossings first inner) (Some color) self.old }
     {
-        self.colors.top_intersection = Some(color);
+        put(&mut self.colors.top_intersection, Some(color));
     }
 
     /// Sets the color of the crossings on the last horizontal line, the corners aside.
     pub fn set_colors_intersection_bottom(&mut self, color: Color)
         ensures { self.new ≡ with_color (crossings last inner) (Some color) self.old }
     {
-        self.colors.bottom_intersection = Some(color);
+        put(&mut self.colors.bottom_intersection, Some(color));
     }
 
     /// Sets the color of the crossings on the first vertical line, the corners aside.
     pub fn set_colors_intersection_left(&mut self, color: Color)
         ensures { self.new ≡ with_color (crossings inner first) (Some color) self.old }
     {
-        self.colors.left_intersection = Some(color);
+        put(&mut self.colors.left_intersection, Some(color));
     }
 
     /// Sets the color of the crossings on the last vertical line, the corners aside.
     pub fn set_colors_intersection_right(&mut self, color: Color)
         ensures { self.new ≡ with_color (crossings inner last) (Some color) self.old }
     {
-        self.colors.right_intersection = Some(color);
+        put(&mut self.colors.right_intersection, Some(color));
     }
 
     /// Sets the color of the crossings of inner lines.
     pub fn set_colors_intersection(&mut self, color: Color)
         ensures { self.new ≡ with_color (crossings inner inner) (Some color) self.old }
     {
-        self.colors.intersection = Some(color);
+        put(&mut self.colors.intersection, Some(color));
     }
 
     /// Sets the color of the edges of the inner horizontal lines.
     pub fn set_colors_horizontal(&mut self, color: Color)
         ensures { self.new ≡ with_color (edges Horizontal inner) (Some color) self.old }
     {
-        self.colors.horizontal = Some(color);
+        put(&mut self.colors.horizontal, Some(color));
     }
 
     /// Sets the color of the edges of the inner vertical lines.
     pub fn set_colors_vertical(&mut self, color: Color)
         ensures { self.new ≡ with_color (edges Vertical inner) (Some color) self.old }
     {
-        self.colors.vertical = Some(color);
+        put(&mut self.colors.vertical, Some(color));
     }
 
     /// The color of the edges of the first horizontal line.
@@ -225,104 +226,104 @@ impl Theme {
     pub fn remove_colors_top(&mut self)
         ensures { self.new ≡ with_color (edges Horizontal first) None self.old }
     {
-        self.colors.top = None;
+        put(&mut self.colors.top, None);
     }
 
     /// Drops the color of the edges of the last horizontal line.
     pub fn remove_colors_bottom(&mut self)
         ensures { self.new ≡ with_color (edges Horizontal last) None self.old }
     {
-        self.colors.bottom = None;
+        put(&mut self.colors.bottom, None);
     }
 
     /// Drops the color of the edges of the first vertical line.
     pub fn remove_colors_left(&mut self)
         ensures { self.new ≡ with_color (edges Vertical first) None self.old }
     {
-        self.colors.left = None;
+        put(&mut self.colors.left, None);
     }
 
     /// Drops the color of the edges of the last vertical line.
     pub fn remove_colors_right(&mut self)
         ensures { self.new ≡ with_color (edges Vertical last) None self.old }
     {
-        self.colors.right = None;
+        put(&mut self.colors.right, None);
     }
 
     /// Drops the color of the upper left corner.
     pub fn remove_colors_corner_top_left(&mut self)
         ensures { self.new ≡ with_color (crossings first first) None self.old }
     {
-        self.colors.top_left = None;
+        put(&mut self.colors.top_left, None);
     }
 
     /// Drops the color of the upper right corner.
     pub fn remove_colors_corner_top_right(&mut self)
         ensures { self.new ≡ with_color (crossings first last) None self.old }
     {
-        self.colors.top_right = None;
+        put(&mut self.colors.top_right, None);
     }
 
     /// Drops the color of the lower left corner.
     pub fn remove_colors_corner_bottom_left(&mut self)
         ensures { self.new ≡ with_color (crossings last first) None self.old }
     {
-        self.colors.bottom_left = None;
+        put(&mut self.colors.bottom_left, None);
     }
 
     /// Drops the color of the lower right corner.
     pub fn remove_colors_corner_bottom_right(&mut self)
         ensures { self.new ≡ with_color (crossings last last) None self.old }
     {
-        self.colors.bottom_right = None;
+        put(&mut self.colors.bottom_right, None);
     }
 
     /// Drops the color of the crossings on the first horizontal line, the corners aside.
     pub fn remove_colors_intersection_top(&mut self)
         ensures { self.new ≡ with_color (crossings first inner) None self.old }
     {
-        self.colors.top_intersection = None;
+        put(&mut self.colors.top_intersection, None);
     }
 
     /// Drops the color of the crossings on the last horizontal line, the corners aside.
     pub fn remove_colors_intersection_bottom(&mut self)
         ensures { self.new ≡ with_color (crossings last inner) None self.old }
     {
-        self.colors.bottom_intersection = None;
+        put(&mut self.colors.bottom_intersection, None);
     }
 
     /// Drops the color of the crossings on the first vertical line, the corners aside.
     pub fn remove_colors_intersection_left(&mut self)
         ensures { self.new ≡ with_color (crossings inner first) None self.old }
     {
-        self.colors.left_intersection = None;
+        put(&mut self.colors.left_intersection, None);
     }
 
     /// Drops the color of the crossings on the last vertical line, the corners aside.
     pub fn remove_colors_intersection_right(&mut self)
         ensures { self.new ≡ with_color (crossings inner last) None self.old }
     {
-        self.colors.right_intersection = None;
+        put(&mut self.colors.right_intersection, None);
     }
 
     /// Drops the color of the crossings of inner lines.
     pub fn remove_colors_intersection(&mut self)
         ensures { self.new ≡ with_color (crossings inner inner) None self.old }
     {
-        self.colors.intersection = None;
+        put(&mut self.colors.intersection, None);
     }
 
     /// Drops the color of the edges of the inner horizontal lines.
     pub fn remove_colors_horizontal(&mut self)
         ensures { self.new ≡ with_color (edges Horizontal inner) None self.old }
     {
-        self.colors.horizontal = None;
+        put(&mut self.colors.horizontal, None);
     }
 
     /// Drops the color of the edges of the inner vertical lines.
     pub fn remove_colors_vertical(&mut self)
         ensures { self.new ≡ with_color (edges Vertical inner) None self.old }
     {
-        self.colors.vertical = None;
+        put(&mut self.colors.vertical, None);
     }
 }

@@ -11,6 +11,13 @@ use std::mem;
 use tabled_color::Color;
 use tabled_grid::{ANSIBuf, Border, Borders, Keep, OutOfMemory};
 
+/// Puts a value in place of what stood there, which is let go in one call.
+pub(super) fn put<T: Drop>(slot: &mut Option<T>, value: Option<T>)
+    ensures { slot.new ≡ value }
+{
+    drop(mem::replace(slot, value));
+}
+
 /// The record with this frame, what the frame does not give too.
 pub(super) fn put_frame<T>(borders: Borders<T>, frame: Border<T>) -> Borders<T>
 where
@@ -136,6 +143,6 @@ fn put_text(
         Some(color) => Some(ANSIBuf::new(alloc, color.get_prefix(), color.get_suffix())?),
         None => None,
     };
-    drop(mem::replace(text, copy));
+    put(text, copy);
     Ok(())
 }
