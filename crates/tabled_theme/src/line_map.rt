@@ -1,6 +1,6 @@
 //! Custom lines of one direction, each under its index.
 
-ghost use Rattle.std.specs.Prelude.{◌≡◌, ◌++◌, OnOk, OnErr, IfOk, None, option_copied, take};
+ghost use Rattle.std.specs.Prelude.{◌≡◌, [], IsOk, ◌++◌, OnOk, OnErr, IfOk, None, option_copied, take};
 ghost use Rattle.std.specs.Ordering.{nat_cmp};
 ghost use Rattle.std.specs.FinMap as map;
 ghost use Rattle.std.specs.BTreeMap.{insert_entry};
@@ -89,7 +89,8 @@ impl<L> LineMap<L> {
 impl<L: Copy + Drop> LineMap<L> {
     /// The lines of a list, the last one of each index.
     pub(crate) fn of_list(alloc: Global, list: &[(usize, L)]) -> Result<Self, OutOfMemory>
-        ensures { IfOk result (λ lines. lines ≡ last_under list.now) }
+        ensures lines { IfOk result (λ lines. lines ≡ last_under list.now) }
+        ensures without_lines { list.now ≡ [] → IsOk result }
     {
         let mut lines = LineMap::new(alloc);
         for line in list {

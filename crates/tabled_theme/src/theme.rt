@@ -1,6 +1,6 @@
 //! A theme: what a style draws, to be changed field by field.
 
-ghost use Rattle.std.specs.Prelude.{◌≡◌, IfOk};
+ghost use Rattle.std.specs.Prelude.{◌≡◌, [], IfOk, IsOk};
 ghost use Rattle.std.specs.FinMap as map;
 ghost use Rattle.tabled_grid.specs.CustomLines.{no_borders};
 ghost use Rattle.tabled_theme.specs.Shown.{of_borders, of_style, of_configuration};
@@ -96,11 +96,13 @@ impl Theme {
     }
 
     /// What a style draws. Its custom lines lie beneath: of two at one index the later one counts.
+    /// Without custom lines it takes no memory and answers Ok.
     pub fn from_style<T, B, L, R, H, V, const HN: usize, const VN: usize>(
         alloc: Global,
         style: Style<T, B, L, R, H, V, HN, VN>,
     ) -> Result<Self, OutOfMemory>
-        ensures { IfOk result (λ theme. theme ≡ of_style style) }
+        ensures theme { IfOk result (λ theme. theme ≡ of_style style) }
+        ensures without_lines { style.horizontals ≡ [] → style.verticals ≡ [] → IsOk result }
     {
         let horizontals_beneath = LineMap::of_list(alloc, style.get_horizontals())?;
         let verticals_beneath = LineMap::of_list(alloc, style.get_verticals())?;
