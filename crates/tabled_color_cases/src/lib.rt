@@ -14,4 +14,6 @@ mod constants;
 #[cfg(test)]
 mod options;
 #[cfg(test)]
+mod readme;
+#[cfg(test)]
 mod settings;
