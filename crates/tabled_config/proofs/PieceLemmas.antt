@@ -41,10 +41,10 @@ taken_apart text false e =
     none_there zero = refl
     none_there (suc k) = refl
 
-first_of_pieces : (text : List ℕ) → get_or (pieces text) 0 [] ≡ first_piece text
+pub first_of_pieces : (text : List ℕ) → get_or (pieces text) 0 [] ≡ first_piece text
 first_of_pieces text = (taken_apart text _ refl).0
 
-rest_of_pieces : (text : List ℕ) (k : ℕ) → get_or (pieces (after_first_piece text)) k [] ≡ get_or (pieces text) (k + 1) []
+pub rest_of_pieces : (text : List ℕ) (k : ℕ) → get_or (pieces (after_first_piece text)) k [] ≡ get_or (pieces text) (k + 1) []
 rest_of_pieces text k = (taken_apart text _ refl).1 k
 
 module _ (n : ℕ) (old : List (List ℕ)) (rests : List (Bor (List ℕ))) (d : Bor (List ℕ)) where

@@ -1,0 +1,108 @@
+-- What is measured of texts, row by row.
+use Rattle.std.proofs.Common.{◌≡◌, ℕ, ◌+◌, ◌<◌, ◌≤◌, max, fold, suc, Bool, true, false, not, cond, ltb, ◌==◌, if◌then◌else◌, Option, Some, None, List, [], ◌∷◌, ◌++◌, map, length, take, get_or, unwrap_or, refl, sym, ap, ◌∙◌, arith, String, string_bytes, Vec}
+use Rattle.std.specs.List.{reduce, position_or_len}
+use Rattle.std.proofs.lemmas.List.{length-map, map-append, take_more, take_all, get_or-map, get_or_past}
+use Rattle.std.proofs.lemmas.List.FromFn.{fill_by_all}
+use Rattle.std.proofs.lemmas.Bool.{ltb-true, ltb-false, lt-ltb, le-ltb}
+use Rattle.std.proofs.lemmas.Str.{chars-nil}
+use Rattle.unicode_width.specs.Width.{str_width}
+use Rattle.tabled_config.specs.Texts.{texts}
+use Rattle.tabled_text.specs.Sizes.{cell, column_count, column_width, column_widths, first_unequal, greatest, width_asked}
+
+-- the greatest of a walk is the greatest of the list
+pub greatest_found : (ns : List ℕ) → unwrap_or (reduce max ns) 0 ≡ greatest ns
+greatest_found [] = refl
+greatest_found (n ∷ ns) = let same : n ≡ max 0 n = omega arith in ap (λ m. fold max m ns) same
+
+-- a map of a map
+pub mapped_twice : {A B C : Type 0} (f : B → C) (g : A → B) (xs : List A) → map (λ x. f (g x)) xs ≡ map f (map g xs)
+mapped_twice f g [] = refl
+mapped_twice f g (x ∷ xs) = ap (λ rest. f (g x) ∷ rest) (mapped_twice f g xs)
+
+-- one more number
+pub fold-max-more : (start : ℕ) (ns : List ℕ) (n : ℕ) → fold max start (ns ++ n ∷ []) ≡ max (fold max start ns) n
+fold-max-more start [] n = refl
+fold-max-more start (m ∷ ns) n = fold-max-more (max start m) ns n
+
+-- what a walk over rows has made of the first of them, and of one more
+pub rows_so_far : {A Z W : Type 0} (f : List (List ℕ) → A) (old new : List A) (rows : List (Vec (String Z) W)) (at : ℕ) (row : List (List ℕ)) (x : A)
+    → old ≡ map f (take at (texts rows)) → at < length rows → get_or (texts rows) at [] ≡ row → x ≡ f row → new ≡ old ++ x ∷ []
+    → new ≡ map f (take (at + 1) (texts rows))
+rows_so_far f old new rows at row x made within here is pushed =
+    pushed ∙ ap (λ front. front ++ x ∷ []) made ∙ ap (λ y. map f (take at (texts rows)) ++ y ∷ []) (is ∙ ap f (sym here))
+    ∙ sym (map-append f (take at (texts rows)) (get_or (texts rows) at [] ∷ []))
+    ∙ ap (map f) (sym (take_more (texts rows) at [] (rw length-map within)))
+
+pub rows_all : {A Z W : Type 0} (f : List (List ℕ) → A) (rows : List (Vec (String Z) W)) (at : ℕ) → length rows ≤ at → map f (take at (texts rows)) ≡ map f (texts rows)
+rows_all f rows at all = ap (map f) (take_all at (texts rows) (rw length-map all))
+
+-- the row at a place, by its cells
+pub row_at : {Z W : Type 0} (rows : List (Vec (String Z) W)) (at : ℕ) (row : Vec (String Z) W) → at < length rows → row ≡ get_or rows at row
+    → get_or (texts rows) at [] ≡ map string_bytes row.items
+row_at rows at row within read = get_or-map (λ v. map string_bytes v.items) rows at row [] within ∙ ap (λ v. map string_bytes v.items) (sym read)
+
+-- how wide the first rows make a column
+abbrev pub widened : {Z W : Type 0} → List (Vec (String Z) W) → ℕ → ℕ → ℕ
+widened rows at col = greatest (map (λ row. width_asked (cell row col)) (take at (texts rows)))
+
+pub widened_more : {Z W : Type 0} (rows : List (Vec (String Z) W)) (at col old new : ℕ) (row : List (List ℕ))
+    → old ≡ widened rows at col → at < length rows → get_or (texts rows) at [] ≡ row → new ≡ max old (width_asked (cell row col))
+    → new ≡ widened rows (at + 1) col
+widened_more rows at col old new row made within here is =
+    let asked : List (List ℕ) → ℕ = λ cells. width_asked (cell cells col) in
+    is ∙ ap (λ n. max n (asked row)) made ∙ ap (λ cells. max (widened rows at col) (asked cells)) (sym here)
+    ∙ sym (fold-max-more 0 (map asked (take at (texts rows))) (asked (get_or (texts rows) at [])))
+    ∙ ap greatest (sym (map-append asked (take at (texts rows)) (get_or (texts rows) at [] ∷ [])) ∙ ap (map asked) (sym (take_more (texts rows) at [] (rw length-map within))))
+
+-- once all rows have, the widths are those of the columns
+pub widened_all : {Z W : Type 0} (rows : List (Vec (String Z) W)) (at : ℕ) (widths : List ℕ) → length rows ≤ at → length widths ≡ column_count (texts rows)
+    → ((col : ℕ) → col < length widths → get_or widths col 0 ≡ widened rows at col) → widths ≡ column_widths (texts rows)
+unfolding column_widths
+widened_all rows at widths all count made =
+    fill_by_all (column_width (texts rows)) widths (column_count (texts rows)) 0 count
+    (λ col inside. made col (omega arith) ∙ ap greatest (rows_all (λ row. width_asked (cell row col)) rows at all))
+
+-- the cell of a row at a place
+pub cell_at : {Z : Type 0} (row : List (String Z)) (col : ℕ) (text : String Z) → col < length row → text ≡ get_or row col text → cell (map string_bytes row) col ≡ string_bytes text
+cell_at row col text within read = get_or-map string_bytes row col text [] within ∙ ap string_bytes (sym read)
+
+-- past the end of a row stands the empty text, which asks for two spaces
+pub nothing_asked : {Z : Type 0} (row : List (String Z)) (col : ℕ) → length row ≤ col → 2 ≡ width_asked (cell (map string_bytes row) col)
+unfolding width_asked str_width
+nothing_asked row col past =
+    ap (λ cs. max 0 (str_width false cs) + 2) (sym chars-nil)
+    ∙ sym (ap width_asked (get_or_past (map string_bytes row) col [] (rw length-map past)))
+
+-- a place that is counted from one later
+shift : (start n count : ℕ) (inside : Bool) → ltb n count ≡ inside
+    → (if ltb (1 + n) (suc count) then Some (start + (1 + n)) else None) ≡ (if ltb n count then Some ((start + 1) + n) else None)
+shift start n count true e =
+    ap (λ b. if b then Some (start + (1 + n)) else None) (lt-ltb (1 + n) (suc count) (let h = ltb-true n count e in omega arith))
+    ∙ ap Some (omega arith) ∙ sym (ap (λ b. if b then Some ((start + 1) + n) else None) e)
+shift start n count false e =
+    ap (λ b. if b then Some (start + (1 + n)) else None) (le-ltb (1 + n) (suc count) (let h = ltb-false n count e in omega arith))
+    ∙ sym (ap (λ b. if b then Some ((start + 1) + n) else None) e)
+
+-- the first row with another number of cells, by where it stands among the rows from `start` on
+module _ {Z W : Type 0} (columns : ℕ) where
+  abbrev pub differs : Vec (String Z) W → Bool
+  differs row = not (length row.items == columns)
+
+  abbrev first_that_differs : ℕ → List (Vec (String Z) W) → Option ℕ
+  first_that_differs start rows = if ltb (position_or_len differs rows) (length rows) then Some (start + position_or_len differs rows) else None
+
+  step : (start : ℕ) (row : Vec (String Z) W) (rows : List (Vec (String Z) W)) (same : Bool) → (length row.items == columns) ≡ same
+      → first_that_differs (start + 1) rows ≡ first_unequal columns (start + 1) (texts rows)
+      → first_that_differs start (row ∷ rows) ≡ (if same then first_unequal columns (start + 1) (texts rows) else Some start)
+  step start row rows true e rest =
+      ap (λ b. let at = cond (not (not b)) (1 + position_or_len differs rows) 0 in if ltb at (suc (length rows)) then Some (start + at) else None) e
+      ∙ shift start (position_or_len differs rows) (length rows) _ refl ∙ rest
+  step start row rows false e rest =
+      ap (λ b. let at = cond (not (not b)) (1 + position_or_len differs rows) 0 in if ltb at (suc (length rows)) then Some (start + at) else None) e
+      ∙ ap (λ b. if b then Some (start + 0) else None) (lt-ltb 0 (suc (length rows)) (omega arith)) ∙ ap Some (omega arith)
+
+  pub first_found : (start : ℕ) (rows : List (Vec (String Z) W)) → first_that_differs start rows ≡ first_unequal columns start (texts rows)
+  first_found start [] = refl
+  first_found start (row ∷ rows) =
+      step start row rows _ refl (first_found (start + 1) rows)
+      ∙ ap (λ n. if n == columns then first_unequal columns (start + 1) (texts rows) else Some start) (sym (length-map row.items string_bytes))

@@ -1,0 +1,18 @@
+-- The highest cell is found by a walk over the cells.
+use Rattle.std.proofs.Common.{rules, tests, map, unwrap_or, ap, sym, ◌∙◌, string_bytes}
+use Rattle.std.proofs.lemmas.Iterator.{YieldsList-from_map, YieldsList-from_slice}
+use Rattle.std.proofs.lemmas.Iterator.Adapters.{option_map_id}
+use Rattle.std.proofs.lemmas.Iterator.Consumers.{max_from_yields_List}
+use Rattle.tabled_text.specs.Sizes.{greatest, height_asked, row_height}
+use Rattle.tabled_text.proofs.Measuring.{greatest_found, mapped_twice}
+use Rattle.tabled_text.proofs.measure.row_height.Goals as goal
+
+pub returns : goal.returns
+unfolding row_height
+returns c =
+    c.unwrap_or.ensures
+    ∙ ap (λ found. unwrap_or found 0) (sym (option_map_id c.max.result)
+    ∙ max_from_yields_List c.map.result c.max.result c.max.ensures.ran
+    (YieldsList-from_map _ (λ text. height_asked (string_bytes text)) (YieldsList-from_slice c.args.row.now cc) c.map.ensures.closure (λ x r q k. search (rules, tests))))
+    ∙ greatest_found (map (λ text. height_asked (string_bytes text)) c.args.row.now)
+    ∙ ap greatest (mapped_twice height_asked string_bytes c.args.row.now)

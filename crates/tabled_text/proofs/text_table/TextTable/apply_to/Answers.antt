@@ -1,0 +1,23 @@
+-- The counts of the shape are those of the texts.
+use Rattle.std.proofs.Common.{ℕ, List, map, take, length, subst, OnOk}
+use Rattle.std.specs.Prelude.{OnErr}
+use Rattle.tabled_config.specs.Colored.{Changes}
+use Rattle.tabled_config.specs.Configuration.{ConfigEvent}
+use Rattle.tabled_config.specs.Options.{MakesInTurn}
+use Rattle.tabled_text.specs.Sizes.{column_count}
+use Rattle.tabled_text.specs.TextTable.{shape_of}
+use Rattle.tabled_text.proofs.text_table.TextTable.apply_to.Goals as goal
+
+pub returns-clause-config : goal.returns-clause-config
+returns-clause-config g c =
+    subst (λ table. OnOk c.modify.result ((made : List ConfigEvent) × MakesInTurn Changes (map (g.P.CellOption.makes c.args.option.now (shape_of table.texts))
+    (g.O.Object.listing c.args.object.now (length table.texts) (column_count table.texts))) made table.config c.modify.new.cfg)) c.self.view_is
+    (subst (λ shape. OnOk c.modify.result ((made : List ConfigEvent) × MakesInTurn Changes (map (g.P.CellOption.makes c.args.option.now shape)
+    (g.O.Object.listing c.args.object.now shape.rows shape.cols)) made c.self.inside.config c.modify.new.cfg)) c.self.invariant.1 c.modify.ensures.ok)
+
+pub returns-clause-err : goal.returns-clause-err
+returns-clause-err g c =
+    subst (λ table. OnErr c.modify.result ((count : ℕ) × (made : List ConfigEvent) × MakesInTurn Changes (map (g.P.CellOption.makes c.args.option.now (shape_of table.texts))
+    (take count (g.O.Object.listing c.args.object.now (length table.texts) (column_count table.texts)))) made table.config c.modify.new.cfg)) c.self.view_is
+    (subst (λ shape. OnErr c.modify.result ((count : ℕ) × (made : List ConfigEvent) × MakesInTurn Changes (map (g.P.CellOption.makes c.args.option.now shape)
+    (take count (g.O.Object.listing c.args.object.now shape.rows shape.cols))) made c.self.inside.config c.modify.new.cfg)) c.self.invariant.1 c.modify.ensures.err)

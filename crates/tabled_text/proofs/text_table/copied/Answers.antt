@@ -1,0 +1,12 @@
+-- One row more.
+use Rattle.std.proofs.Common.{[], map, string_bytes, sym, ◌∙◌}
+use Rattle.std.proofs.lemmas.List.{length-map, get_or-map}
+use Rattle.tabled_config.specs.Pieces.{lent}
+use Rattle.tabled_text.specs.TextTable.{lent_rows}
+use Rattle.tabled_text.proofs.PaddingLemmas.{copied_more}
+use Rattle.tabled_text.proofs.text_table.copied.Goals as goal
+
+pub loop-row-preserved : goal.loop-row-preserved
+loop-row-preserved c =
+    copied_more (λ row. map string_bytes row.items) _ _ _ (lent_rows c.args.rows.now) c.loop-row.row-index [] c.in_ok-push.ensures.items c.loop-row.invariant (rw length-map c.loop-row-test.true)
+    (c.in_ok-copied_row.ensures ∙ sym (get_or-map (λ row. lent row.now) c.args.rows.now c.loop-row.row-index _ [] c.loop-row-test.true))

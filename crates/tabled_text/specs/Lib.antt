@@ -1,0 +1,4 @@
+pub mod Sizes
+pub mod Padded
+pub mod Refusal
+pub mod TextTable

@@ -1,0 +1,14 @@
+-- The refusals of a table of texts.
+use Rattle.tabled_config.specs.declared.print_error.PrintError.{PrintError}
+use Rattle.tabled_config.specs.declared.print_error.PrintError.TheVariants as print
+use Rattle.tabled_text.specs.declared.table_error.TableError.{TableError}
+use Rattle.tabled_text.specs.declared.table_error.TableError.TheVariants.{OutOfMemory, Print}
+
+-- what a refusal of the printer is for a table of texts: want of memory is want of memory
+abbrev pub of_printer : PrintError → TableError
+of_printer print.OutOfMemory = OutOfMemory
+of_printer print.Spans = Print print.Spans
+of_printer print.RowCount = Print print.RowCount
+of_printer (print.ColumnCount row) = Print (print.ColumnCount row)
+of_printer (print.Height row col) = Print (print.Height row col)
+of_printer (print.Width row col) = Print (print.Width row col)

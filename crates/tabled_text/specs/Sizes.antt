@@ -1,0 +1,50 @@
+-- How large a table of texts is: its rows and columns, and the width and the height that its cells ask for.
+use Rattle.std.specs.Prelude.{ℕ, ◌+◌, ◌==◌, max, fold, if◌then◌else◌, Option, Some, None, List, [], ◌∷◌, map, length, slice_index_or}
+use Rattle.tabled_object.specs.Entities.{below}
+use Rattle.tabled_config.specs.Texts.{Table, pieces, width_of_text}
+
+-- how many columns a table has: as its first row has cells
+abbrev pub column_count : Table → ℕ
+column_count [] = 0
+column_count (row ∷ rows) = length row
+
+-- the number of the first row that has not that many cells, where rows are counted from `row`
+abbrev pub first_unequal : ℕ → ℕ → Table → Option ℕ
+first_unequal columns row [] = None
+first_unequal columns row (cells ∷ rows) = if length cells == columns then first_unequal columns (row + 1) rows else Some row
+
+-- the first row of a table that has more or fewer cells than its first
+abbrev pub unequal_row : Table → Option ℕ
+unequal_row table = first_unequal (column_count table) 0 table
+
+-- the cell of a row in a column, the empty text past its end
+abbrev pub cell : List (List ℕ) → ℕ → List ℕ
+cell row col = slice_index_or row col []
+
+-- the greatest of some numbers, 0 of none
+abbrev pub greatest : List ℕ → ℕ
+greatest = fold max 0
+
+-- how many terminal columns a cell asks for: those of its widest line, and one for a space on each side
+unfoldable pub width_asked : List ℕ → ℕ
+width_asked text = greatest (map width_of_text (pieces text)) + 2
+
+-- how many lines a cell asks for
+abbrev pub height_asked : List ℕ → ℕ
+height_asked text = length (pieces text)
+
+-- how wide a column is: as wide as any of its cells asks for
+abbrev pub column_width : Table → ℕ → ℕ
+column_width table col = greatest (map (λ row. width_asked (cell row col)) table)
+
+-- how wide each column is
+unfoldable pub column_widths : Table → List ℕ
+column_widths table = map (column_width table) (below (column_count table))
+
+-- how high a row is: as high as any of its cells asks for
+unfoldable pub row_height : List (List ℕ) → ℕ
+row_height row = greatest (map height_asked row)
+
+-- how high each row is
+abbrev pub row_heights : Table → List ℕ
+row_heights table = map row_height table

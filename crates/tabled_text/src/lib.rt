@@ -1,0 +1,12 @@
+//! A table of texts: it measures and pads its cells, takes options, and prints.
+//!
+//! `docs/DEFINITIONS.md` explains the words of the contracts.
+#![tactic(auto)]
+
+mod measure;
+mod padding;
+mod table_error;
+mod text_table;
+
+pub use table_error::TableError;
+pub use text_table::TextTable;

@@ -1,0 +1,270 @@
+//! A table of texts.
+
+ghost use Rattle.std.specs.Prelude.{◌≡◌, map, string_bytes, IfOk};
+ghost use Rattle.tabled_config.specs.Pieces.{lent};
+ghost use Rattle.tabled_config.specs.Texts.{texts};
+ghost use Rattle.tabled_text.specs.Sizes.{column_widths, row_heights};
+ghost use Rattle.tabled_text.specs.TextTable.{lent_rows};
+
+use crate::TableError;
+use crate::measure::{column_count, column_widths, row_heights, unequal_row};
+use crate::padding::padded_rows;
+use std::alloc::{AllocError, Global};
+use std::fmt;
+use std::marker::Model;
+use tabled_config::{
+    CellOption, ColoredConfig, PrintError, SpannedConfig, TableOption, modify, print_plain,
+};
+use tabled_grid::{FixedDimension, Object, OutOfMemory, Shape};
+
+/// A table of texts with its sizes and its configuration: options draw its borders, and it prints itself.
+///
+/// Each column is as wide as its widest cell and two more columns of the terminal, for a space on each side of a cell; each
+/// row is as high as its highest cell has lines. Indices are counted from 0.
+#[derive(Debug, Drop)]
+pub struct TextTable {
+    cells: Vec<Vec<String>>,
+    shape: Shape,
+    sizes: FixedDimension,
+    config: ColoredConfig,
+}
+
+impl Model for TextTable {
+    ghost use Rattle.std.specs.Prelude.{◌≡◌, None};
+    ghost use Rattle.tabled_config.specs.Texts.{texts};
+    ghost use Rattle.tabled_text.specs.Sizes.{column_widths, row_heights, unequal_row};
+    ghost use Rattle.tabled_text.specs.TextTable.{Drawing, drawing_code, shape_of};
+
+    ghost Value = { Drawing };
+
+    ghost coded = { drawing_code };
+
+    ghost view = { λ table. record { texts = texts table.cells.items; sizes = table.sizes; config = table.config } };
+
+    ghost invariant = { λ table.
+        (unequal_row (texts table.cells.items) ≡ None)
+        × (table.shape ≡ shape_of (texts table.cells.items))
+        × (table.sizes.widths.items ≡ column_widths (texts table.cells.items))
+        × (table.sizes.heights.items ≡ row_heights (texts table.cells.items)) };
+}
+
+impl TextTable {
+    ghost use Rattle.std.specs.Prelude.{◌≡◌, ℕ, List, [], ◌++◌, ◌⊎◌, None, Err, map, length, take, string_bytes, slice_get, IfOk, OnOk, OnErr, MatchOption, IsOkUnless};
+    ghost use Rattle.std.specs.Borrow.{Lends, sem};
+    ghost use Rattle.tabled_config.specs.Colored.{Shows, Changes};
+    ghost use Rattle.tabled_config.specs.Configuration.{ConfigEvent};
+    ghost use Rattle.tabled_config.specs.Configuration as borders;
+    ghost use Rattle.tabled_config.specs.Options.{MakesInTurn};
+    ghost use Rattle.tabled_config.specs.Pieces.{lent};
+    ghost use Rattle.tabled_config.specs.Refusal.{span_faults};
+    ghost use Rattle.tabled_config.specs.Texts.{texts};
+    ghost use Rattle.tabled_config.specs.declared.print_error.PrintError.{PrintError as Fault};
+    ghost use Rattle.tabled_text.specs.Sizes.{column_count, column_widths, row_heights, unequal_row};
+    ghost use Rattle.tabled_text.specs.TextTable.{lent_rows, shape_of, text_of};
+    ghost use Rattle.tabled_text.specs.declared.table_error.TableError.{TableError as Refusal};
+    ghost use Rattle.tabled_text.specs.contracts.text_table.TextTable.{the_row};
+    ghost use Rattle.tabled_config.specs.contracts.colored_config.ColoredConfig.{the_row as config_row};
+
+    /// A table of these rows of texts, which are copied. Refused as by `from_rows`.
+    pub fn new(alloc: Global, rows: &[&[&str]]) -> Result<Self, TableError>
+        ensures texts { IfOk result (λ table. table.texts ≡ lent_rows rows.now) }
+        ensures config { IfOk result (λ table. Shows [] table.config) }
+        ensures refusal { MatchOption (unequal_row (lent_rows rows.now)) (IsOkUnless result Refusal.OutOfMemory) (λ row. (result ≡ Err Refusal.OutOfMemory) ⊎ (result ≡ Err (Refusal.UnequalRows row))) }
+    {
+        let rows = copied(alloc, rows)?;
+        let table = TextTable::from_rows(alloc, rows)?;
+        Ok(table)
+    }
+
+    /// A table of these rows of texts. Refused where a row has more or fewer cells than row 0, with the number of the first
+    /// such row, or where memory is refused.
+    pub fn from_rows(alloc: Global, rows: Vec<Vec<String>>) -> Result<Self, TableError>
+        ensures texts { IfOk result (λ table. table.texts ≡ texts rows.items) }
+        ensures config { IfOk result (λ table. Shows [] table.config) }
+        ensures refusal { MatchOption (unequal_row (texts rows.items)) (IsOkUnless result Refusal.OutOfMemory) (λ row. result ≡ Err (Refusal.UnequalRows row)) }
+    {
+        if let Some(row) = unequal_row(&rows) {
+            return Err(TableError::UnequalRows(row));
+        }
+        let table = TextTable::of_equal_rows(alloc, rows)?;
+        Ok(table)
+    }
+
+    /// A table of rows that have as many cells each.
+    fn of_equal_rows(alloc: Global, rows: Vec<Vec<String>>) -> Result<Self, OutOfMemory>
+        requires { unequal_row (texts rows.items) ≡ None }
+        ensures texts { IfOk result (λ table. table.texts ≡ texts rows.items) }
+        ensures config { IfOk result (λ table. Shows [] table.config) }
+    {
+        let sizes = measured(alloc, &rows)?;
+        let shape = Shape {
+            rows: rows.len(),
+            cols: column_count(&rows),
+        };
+        Ok(TextTable {
+            cells: rows,
+            shape,
+            sizes,
+            config: ColoredConfig::new(SpannedConfig::new(alloc)),
+        })
+    }
+
+    /// Applies an option to the whole table, and lends the table for a further call. Where memory is refused the table is as it
+    /// was, as after `apply`.
+    pub fn with<P>(&mut self, option: P) -> Result<&mut Self, OutOfMemory>
+    where
+        P: TableOption<Shape, ColoredConfig, FixedDimension>,
+        ensures config { IfOk result (λ table. Changes (P.makes option (shape_of self.old.texts) self.old.sizes self.old.config) self.old.config table.now.config) }
+        ensures texts { IfOk result (λ table. table.now.texts ≡ self.old.texts) }
+        ensures sizes { IfOk result (λ table. table.now.sizes ≡ self.old.sizes) }
+        ensures same_reference { IfOk result (λ table. table.ghost_name ≡ self.entry.ghost_name) }
+    {
+        self.apply(option)?;
+        Ok(self)
+    }
+
+    /// Applies an option to the cells of an object, and lends the table for a further call. Where memory is refused some cells
+    /// may have been changed, as after `apply_to`.
+    pub fn modify<O, P>(&mut self, object: O, option: P) -> Result<&mut Self, OutOfMemory>
+    where
+        O: Object<Shape> + Drop,
+        O::Iter: Drop,
+        P: CellOption<Shape, ColoredConfig> + Drop,
+        ensures config { IfOk result (λ table. (made : List ConfigEvent) × MakesInTurn Changes (map (P.makes option (shape_of self.old.texts))
+            (O.listing object (length self.old.texts) (column_count self.old.texts))) made self.old.config table.now.config) }
+        ensures texts { IfOk result (λ table. table.now.texts ≡ self.old.texts) }
+        ensures sizes { IfOk result (λ table. table.now.sizes ≡ self.old.sizes) }
+        ensures same_reference { IfOk result (λ table. table.ghost_name ≡ self.entry.ghost_name) }
+    {
+        self.apply_to(&object, &option)?;
+        Ok(self)
+    }
+
+    /// Applies an option to the whole table: its configuration changes by the option's events and by nothing else. Where memory
+    /// is refused the table is as it was.
+    pub fn apply<P>(&mut self, option: P) -> Result<(), OutOfMemory>
+    where
+        P: TableOption<Shape, ColoredConfig, FixedDimension>,
+        ensures config { OnOk result (Changes (P.makes option (shape_of self.old.texts) self.old.sizes self.old.config) self.old.config self.new.config) }
+        ensures texts { self.new.texts ≡ self.old.texts }
+        ensures sizes { self.new.sizes ≡ self.old.sizes }
+        ensures err { OnErr result (self.new ≡ self.old) }
+    {
+        option.change(&mut self.shape, &mut self.config, &mut self.sizes)
+    }
+
+    /// Applies an option to the cells of each entity that an object lists, in turn. Where memory is refused the option may have
+    /// been applied to the first ones of them, to each whole.
+    pub fn apply_to<O, P>(&mut self, object: &O, option: &P) -> Result<(), OutOfMemory>
+    where
+        O: Object<Shape>,
+        O::Iter: Drop,
+        P: CellOption<Shape, ColoredConfig>,
+        ensures config { OnOk result ((made : List ConfigEvent) × MakesInTurn Changes (map (P.makes option.now (shape_of self.old.texts))
+            (O.listing object.now (length self.old.texts) (column_count self.old.texts))) made self.old.config self.new.config) }
+        ensures err { OnErr result ((count : ℕ) × (made : List ConfigEvent) × MakesInTurn Changes (map (P.makes option.now (shape_of self.old.texts))
+            (take count (O.listing object.now (length self.old.texts) (column_count self.old.texts)))) made self.old.config self.new.config) }
+        ensures texts { self.new.texts ≡ self.old.texts }
+        ensures sizes { self.new.sizes ≡ self.old.sizes }
+    {
+        let alloc = self.config.config().allocator();
+        modify(alloc, &mut self.shape, &mut self.config, object, option)
+    }
+
+    /// The configuration that options change.
+    pub fn config(&self) -> &ColoredConfig
+        ensures { result.now ≡ self.now.config }
+    {
+        &self.config
+    }
+
+    /// The configuration, to be changed by its own calls.
+    pub fn config_mut(&mut self) -> &mut ColoredConfig
+        ensures* writes_back { sem 𝓛 (Lends the_row config_row self.entry result (λ config. record self.old { config = config })) }
+        ensures value { result.now ≡ self.old.config }
+    {
+        &mut self.config
+    }
+
+    /// How many rows and columns the table has.
+    pub fn shape(&self) -> Shape
+        ensures { result ≡ shape_of self.now.texts }
+    {
+        self.shape
+    }
+
+    /// How wide the columns are and how high the rows, with the spaces around cells.
+    pub fn sizes(&self) -> &FixedDimension
+        ensures value { result.now ≡ self.now.sizes }
+        ensures widths { result.now.widths.items ≡ column_widths self.now.texts }
+        ensures heights { result.now.heights.items ≡ row_heights self.now.texts }
+    {
+        &self.sizes
+    }
+
+    /// The text of the table: its cells padded, and around them what was applied. It is refused where memory is, and by
+    /// nothing else as long as no span is set.
+    pub fn to_text(&self) -> Result<String, PrintError>
+        ensures text { (es : List ConfigEvent) → borders.Shows es self.now.config.spanned → IfOk result (λ text. string_bytes text ≡ text_of es self.now.texts) }
+        ensures refusal { MatchOption (slice_get (span_faults self.now.config.spanned) 0) (IsOkUnless result Fault.OutOfMemory) (λ e. result ≡ Err e) }
+    {
+        let mut text = String::new(self.config.config().allocator());
+        self.append_to(&mut text)?;
+        Ok(text)
+    }
+
+    /// Writes the text of the table to a writer, in one call of it. Where it is refused by `to_text` nothing is written; where
+    /// the writer fails some of the text may be.
+    pub fn write_to<W: fmt::Write>(&self, out: &mut W) -> Result<(), TableError>
+        ensures text { (es : List ConfigEvent) → borders.Shows es self.now.config.spanned → OnOk result (W.write_str_gives out.old (text_of es self.now.texts) out.new) }
+        ensures unwritten { result ≡ Err Refusal.OutOfMemory → out.new ≡ out.old }
+    {
+        let text = self.to_text()?;
+        out.write_str(text.as_str())?;
+        Ok(())
+    }
+
+    /// Writes the text of the table after what `out` has. Where it is refused, as by `to_text`, `out` is as before.
+    pub fn append_to(&self, out: &mut String) -> Result<(), PrintError>
+        ensures text { (es : List ConfigEvent) → borders.Shows es self.now.config.spanned → OnOk result (string_bytes out.new ≡ string_bytes out.old ++ text_of es self.now.texts) }
+        ensures unchanged { OnErr result (string_bytes out.new ≡ string_bytes out.old) }
+        ensures refusal { MatchOption (slice_get (span_faults self.now.config.spanned) 0) (IsOkUnless result Fault.OutOfMemory) (λ e. result ≡ Err e) }
+    {
+        let cfg = self.config.config();
+        let cells = padded_rows(cfg.allocator(), &self.cells, &self.sizes)?;
+        let shape = (self.shape.rows, self.shape.cols);
+        print_plain(out, cfg, &self.sizes, shape, &cells)
+    }
+}
+
+/// The texts of rows, copied.
+fn copied(alloc: Global, rows: &[&[&str]]) -> Result<Vec<Vec<String>>, AllocError>
+    ensures { IfOk result (λ copies. texts copies.items ≡ lent_rows rows.now) }
+{
+    let mut copies = Vec::with_capacity(alloc, rows.len())?;
+    for row in rows {
+        copies.push(copied_row(alloc, row)?)?;
+    }
+    Ok(copies)
+}
+
+/// The texts of a row, copied.
+fn copied_row(alloc: Global, row: &[&str]) -> Result<Vec<String>, AllocError>
+    ensures { IfOk result (λ copies. map string_bytes copies.items ≡ lent row.now) }
+{
+    let mut copies = Vec::with_capacity(alloc, row.len())?;
+    for text in row {
+        copies.push(String::from_str(alloc, text)?)?;
+    }
+    Ok(copies)
+}
+
+/// How large the columns and rows are.
+fn measured(alloc: Global, rows: &[Vec<String>]) -> Result<FixedDimension, OutOfMemory>
+    ensures widths { IfOk result (λ sizes. sizes.widths.items ≡ column_widths (texts rows.now)) }
+    ensures heights { IfOk result (λ sizes. sizes.heights.items ≡ row_heights (texts rows.now)) }
+{
+    let widths = column_widths(alloc, rows)?;
+    let heights = row_heights(alloc, rows)?;
+    Ok(FixedDimension::new(widths, heights))
+}
