@@ -21,12 +21,27 @@ use tabled_grid::{FixedDimension, Object, OutOfMemory, Shape};
 ///
 /// Each column is as wide as its widest cell and two more columns of the terminal, for a space on each side of a cell; each
 /// row is as high as its highest cell has lines. Indices are counted from 0.
-#[derive(Debug, Drop)]
+#[derive(Debug)]
 pub struct TextTable {
     cells: Vec<Vec<String>>,
     shape: Shape,
     sizes: FixedDimension,
     config: ColoredConfig,
+}
+
+/// Written out, so that letting a table go is one call wherever it ends.
+impl Drop for TextTable {
+    fn drop(self) {
+        let TextTable {
+            cells,
+            shape: _,
+            sizes,
+            config,
+        } = self;
+        drop(cells);
+        drop(sizes);
+        drop(config);
+    }
 }
 
 impl Model for TextTable {

@@ -5,6 +5,7 @@
 
 mod examples;
 mod lettered;
+mod recipes;
 
 pub use examples::{drawn_lines, lines_of_their_own, places_along_lines, places_and_levels};
 pub use lettered::{

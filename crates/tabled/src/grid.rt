@@ -1,0 +1,6 @@
+//! Configurations, the store of borders behind them, and what they are made of.
+
+pub mod ansi;
+pub mod config;
+pub mod dimension;
+pub mod records;

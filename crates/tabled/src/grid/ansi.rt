@@ -1,0 +1,3 @@
+//! The texts of colors.
+
+pub use tabled_grid::{ANSIBuf, ANSIFmt, ANSIStr, AnsiText};

@@ -1,0 +1,24 @@
+//! Borders, styles and themes around text tables, proved.
+//!
+//! A table of texts is a `TextTable`: it measures and pads its cells, takes options, and prints itself.
+//!
+//! ```text
+//! let mut table = TextTable::new(alloc, &[&["name", "age"], &["Alice", "30"]])?;
+//! table.with(Style::rounded())?;
+//! table.to_text()?
+//!
+//! ╭───────┬─────╮
+//! │ name  │ age │
+//! ├───────┼─────┤
+//! │ Alice │ 30  │
+//! ╰───────┴─────╯
+//! ```
+//!
+//! Modules stand where the Rust crate `tabled` has them, so that a line of imports that was written for it names the same
+//! things here, as far as they are ported. Nothing is defined in this crate: it passes on what the crates below it have.
+#![tactic(auto)]
+
+pub mod grid;
+pub mod settings;
+
+pub use tabled_text::{TableError, TextTable};

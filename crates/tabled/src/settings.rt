@@ -1,0 +1,11 @@
+//! Options, and the objects that they are applied to.
+
+pub mod object;
+pub mod style;
+pub mod themes;
+
+pub use tabled_color::Color;
+pub use tabled_config::{CellOption, TableOption, modify};
+pub use tabled_options::Alignment;
+pub use tabled_style::{Border, Style};
+pub use tabled_theme::Theme;

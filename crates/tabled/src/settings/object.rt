@@ -1,0 +1,6 @@
+//! Objects: which rows, columns and cells an option is applied to.
+
+pub use tabled_grid::{
+    Cell, Column, Columns, Combine, Difference, Entity, FirstColumn, FirstRow, LastColumn,
+    LastColumnOffset, LastRow, LastRowOffset, Object, Row, Rows, Segment, SegmentAll, Union,
+};

@@ -1,0 +1,3 @@
+//! Themes.
+
+pub use tabled_theme::Theme;
