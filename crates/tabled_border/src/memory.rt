@@ -1,6 +1,11 @@
 //! The one refusal that every call may meet which needs memory.
 
+ghost use Rattle.std.specs.Prelude.{◌≡◌};
+ghost use Rattle.std.specs.IoError.{error_kind};
+ghost use Rattle.std.specs.declared.io.ErrorKind.TheVariants.{OutOfMemory as memory_refused};
+
 use std::alloc::{AllocError, AllocFailed};
+use std::io;
 
 /// Memory was asked for and refused. What the call was to change is as it was before.
 #[derive(Clone, Copy, Debug, PartialEq, Eq)]
@@ -15,5 +20,22 @@ impl From<AllocError> for OutOfMemory {
 impl<T: Drop> From<AllocFailed<T>> for OutOfMemory {
     fn from(_refused: AllocFailed<T>) -> OutOfMemory {
         OutOfMemory
+    }
+}
+
+/// So that a function which returns the allocator's error takes this one by `?`.
+impl From<OutOfMemory> for AllocError {
+    fn from(_refused: OutOfMemory) -> AllocError {
+        AllocError
+    }
+}
+
+/// So that a function which returns an error of input and output takes this one by `?`: it is the one that the
+/// allocator's error becomes.
+impl From<OutOfMemory> for io::Error {
+    ghost from_gives = { λ _ error. error_kind error ≡ memory_refused };
+
+    fn from(_refused: OutOfMemory) -> io::Error {
+        io::Error::from(AllocError)
     }
 }

@@ -19,4 +19,6 @@ mod offsets;
 #[cfg(test)]
 mod replay;
 #[cfg(test)]
+mod single;
+#[cfg(test)]
 mod stores;

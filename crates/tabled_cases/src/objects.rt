@@ -92,6 +92,48 @@ fn what_has_a_name_in_any_table_lists_itself(rt: HostRuntime) -> Result<(), Fail
     Ok(())
 }
 
+/// Whether entities list themselves, one, several in an array or a slice, and with repeats; and a lent object as the
+/// object does.
+fn chosen_ones_list_themselves(alloc: Global, shape: Shape) -> Result<bool, OutOfMemory> {
+    let chosen = [Entity::Row(5), Entity::Cell(7, 1), Entity::Row(5)];
+    Ok(
+        lists(alloc, &Entity::Column(5), shape, &[Entity::Column(5)])?
+            && lists(alloc, &chosen, shape, &chosen)?
+            && lists(alloc, &chosen.as_slice(), shape, &chosen)?
+            && lists(alloc, &&Rows::one(5), shape, &[Entity::Row(5)])?,
+    )
+}
+
+#[test]
+fn what_is_chosen_at_run_time_lists_itself(rt: HostRuntime) -> Result<(), Fail> {
+    for shape in [TABLE, EMPTY] {
+        assert!(rt; chosen_ones_list_themselves(rt.alloc(), shape)?);
+    }
+    Ok(())
+}
+
+#[test]
+fn chosen_entities_combine_with_objects(rt: HostRuntime) -> Result<(), Fail> {
+    let chosen = [Entity::Row(0), Entity::Cell(2, 1)];
+    let last = Rows::last();
+    let object = chosen.as_slice().not(Entity::Column(1)).and(&last);
+    let wanted = [
+        Entity::Cell(0, 0),
+        Entity::Cell(0, 2),
+        Entity::Cell(0, 3),
+        Entity::Row(2),
+    ];
+    assert!(rt; lists(rt.alloc(), &object, TABLE, &wanted)?);
+    Ok(())
+}
+
+#[test]
+fn a_shape_is_a_pair_of_rows_and_columns(rt: HostRuntime) {
+    let pair: (usize, usize) = TABLE.into();
+    assert!(rt; pair == (3, 4));
+    assert!(rt; Shape::from(pair) == TABLE);
+}
+
 #[test]
 fn two_objects_are_listed_in_a_row(rt: HostRuntime) -> Result<(), Fail> {
     let object = Rows::last().and((0, 0)).and(Columns::one(9)).and((0, 0));

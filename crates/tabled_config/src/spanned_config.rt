@@ -21,7 +21,7 @@ mod settings;
 
 use std::alloc::Global;
 use std::marker::Model;
-use tabled_grid::{ANSIBuf, Borders, Layers, LineOf, Place, Probes};
+use tabled_grid::{ANSIBuf, Borders, Layers, LineOf, Place, Probes, Target};
 use tabled_settings::CellSettings;
 
 /// What a table keeps for its borders, and what is set for its cells.
@@ -58,7 +58,8 @@ impl SpannedConfig {
     ghost use Rattle.tabled_grid.specs.Value.{value};
     ghost use Rattle.tabled_grid.specs.Drawn.{Drawn};
     ghost use Rattle.tabled_grid.specs.Probing.{IsRaised};
-    ghost use Rattle.tabled_grid.specs.Calls.{default_set, cell_erased};
+    ghost use Rattle.tabled_grid.specs.Calls.{default_set, default_erased, cell_erased, spot_of};
+    ghost use Rattle.std.specs.FinMap.{get};
     ghost use Rattle.tabled_config.specs.Configuration.{Shows, Changes, by_characters, borders_set, borders_removed};
 
     /// A configuration in which nothing was set. It keeps the allocator for the calls that need memory.
@@ -96,6 +97,28 @@ impl SpannedConfig {
         ensures { Changes (by_characters (default_set character)) self.old self.new }
     {
         self.characters.set_default(character);
+    }
+
+    /// The default border character, if one is set.
+    pub fn get_border_default(&self) -> Option<char>
+        ensures { result ≡ self.now.characters.default_value }
+    {
+        self.characters.get_default().copied()
+    }
+
+    /// Erases the default border character alone.
+    pub fn remove_border_default(&mut self)
+        ensures { Changes (by_characters default_erased) self.old self.new }
+    {
+        self.characters.erase_default();
+    }
+
+    /// The character that is kept at the cell level of one edge or one crossing, whatever other levels have; for an
+    /// edge `at` is not read.
+    pub fn get_char(&self, place: Place) -> Option<char>
+        ensures { result ≡ get self.now.characters.cells (spot_of place) }
+    {
+        self.characters.kept_at(Target::Cell(place)).copied()
     }
 
     /// Erases the cell character of one edge or one crossing; for an edge `at` is not read.

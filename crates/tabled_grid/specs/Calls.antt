@@ -20,6 +20,10 @@ use Rattle.tabled_grid.specs.Lines as lines
 abbrev pub default_set : {T : Type 0} → T → List (Event T)
 default_set value = write the_default (sign value) ∷ []
 
+-- the default cleared
+abbrev pub default_erased : {T : Type 0} → List (Event T)
+default_erased = erase (level_sites 0) ∷ []
+
 -- a custom line put at its index, and removed
 abbrev pub line_set_horizontal : {T : Type 0} → ℕ → HorizontalLine T → List (Event T)
 line_set_horizontal n line = lines.horizontal_line_set n line
@@ -126,6 +130,10 @@ abbrev pub offset_set : {T : Type 0} → Place → Offset → T → List (Event 
 offset_set (Place.Horizontal r c k) offset value = edge_offset Horizontal r c offset value
 offset_set (Place.Vertical r c k) offset value = edge_offset Vertical r c offset value
 offset_set (Place.Cross r c) offset value = []
+
+-- a numbered place of an edge cleared
+abbrev pub offset_erased : {T : Type 0} → Direction → ℕ → ℕ → Offset → List (Event T)
+offset_erased d r c offset = erase (one_site (at_offset d r c offset)) ∷ []
 
 -- the offsets on the edges of one direction cleared
 abbrev pub offsets_erased : {T : Type 0} → Direction → List (Event T)

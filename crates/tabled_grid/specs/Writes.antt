@@ -1,11 +1,12 @@
 -- Lists of writes: what they write, and what puts that back.
 use Rattle.std.specs.Prelude.{◌≡◌, IsSome, if◌then◌else◌, Option, Some, None, option_map, List, [], ◌∷◌}
 use Rattle.std.specs.List.{filter_map}
+use Rattle.std.specs.FinMap.{get}
 use Rattle.tabled_grid.specs.declared.writes.Target.{Target}
 use Rattle.tabled_grid.specs.declared.writes.Write.{Write}
 use Rattle.tabled_grid.specs.Site.{Horizontal, Vertical, Site, at_spot, at_offset, same_site}
 use Rattle.tabled_grid.specs.Event.{sign, Written, Event, write}
-use Rattle.tabled_grid.specs.State.{State, state_at}
+use Rattle.tabled_grid.specs.State.{State, state_at, edge_place}
 use Rattle.tabled_grid.specs.Calls.{spot_of}
 
 -- the site that a target names
@@ -13,6 +14,12 @@ abbrev pub site_of : Target → Site
 site_of (Target.Cell place) = at_spot (spot_of place)
 site_of (Target.Horizontal pos offset) = at_offset Horizontal pos.row pos.col offset
 site_of (Target.Vertical pos offset) = at_offset Vertical pos.row pos.col offset
+
+-- what is kept there
+abbrev pub kept_at : {T : Type 0} → State T → Target → Option T
+kept_at state (Target.Cell place) = get state.cells (spot_of place)
+kept_at state (Target.Horizontal pos offset) = get state.horizontal_offsets (edge_place pos.row pos.col offset)
+kept_at state (Target.Vertical pos offset) = get state.vertical_offsets (edge_place pos.row pos.col offset)
 
 -- a value written at a target, where both are given
 abbrev pub given_event : {T : Type 0} → Option Target → Option T → Option (Event T)

@@ -10,6 +10,7 @@ ghost use Rattle.tabled_grid.specs.Probing.{IsCounted, IsRaised};
 use crate::{Keep, OutOfMemory, Probes};
 use std::alloc::Global;
 use std::collections::BTreeMap;
+use std::collections::btree_map::Iter;
 use std::marker::Model;
 
 /// A key of a kept map.
@@ -56,6 +57,13 @@ impl<K: Key, V> CountedMap<K, V> {
     {
         probes.raise();
         self.entries.get(&key)
+    }
+
+    /// The entries, in the order of their keys.
+    pub(crate) fn iter(&self) -> Iter<'_, K, V>
+        ensures { result ≡ map.entries (table K.cmp self.now) }
+    {
+        self.entries.iter()
     }
 
     /// Whether nothing is kept.

@@ -27,6 +27,9 @@ listed entities rows cols cell = is_inside rows cols cell && covered entities ce
 abbrev pub all_cells : List Entity
 all_cells = Global ∷ []
 
+abbrev pub one_entity : Entity → List Entity
+one_entity entity = entity ∷ []
+
 abbrev pub one_cell : ℕ → ℕ → List Entity
 one_cell row col = Cell row col ∷ []
 

@@ -9,6 +9,8 @@ mod columns;
 mod combined;
 mod covering;
 mod difference;
+mod entities;
+mod lent;
 mod rows;
 mod segment;
 

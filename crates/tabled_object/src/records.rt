@@ -46,3 +46,20 @@ impl ExactRecords for Shape {
         self.rows
     }
 }
+
+impl From<(usize, usize)> for Shape {
+    ghost from_gives = { λ pair result. (result.rows ≡ pair.0) × (result.cols ≡ pair.1) };
+
+    fn from(pair: (usize, usize)) -> Self {
+        let (rows, cols) = pair;
+        Shape { rows, cols }
+    }
+}
+
+impl From<Shape> for (usize, usize) {
+    ghost from_gives = { λ shape result. (result.0 ≡ shape.rows) × (result.1 ≡ shape.cols) };
+
+    fn from(shape: Shape) -> Self {
+        (shape.rows, shape.cols)
+    }
+}

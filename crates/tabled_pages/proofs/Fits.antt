@@ -20,7 +20,7 @@ use Rattle.tabled_config.specs.declared.print_error.PrintError.TheVariants.{RowC
 use Rattle.tabled_pages.specs.declared.bytes.TheConstants.{SPACE, LINE_FEED}
 use Rattle.tabled_pages.specs.Input.{cells_of, rows_of, column_count}
 use Rattle.tabled_pages.specs.Page.{framed_table, framed_page, page}
-use Rattle.tabled_pages.specs.declared.styles.ReadyStyle.{ReadyStyle}
+use Rattle.tabled_style.specs.declared.ready_style.ReadyStyle.{ReadyStyle}
 use Rattle.tabled_pages.specs.Style.{styled}
 use Rattle.tabled_config.specs.Picture.{printed}
 use Rattle.tabled_pages.specs.Table.{cell, spaced, padded, padded_row, padded_rows, column_width, column_widths, texts}

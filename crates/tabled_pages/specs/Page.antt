@@ -2,7 +2,7 @@
 use Rattle.std.specs.Prelude.{ℕ, List, [], ◌∷◌, ◌++◌, length, slice_index}
 use Rattle.tabled_config.specs.Picture.{printed}
 use Rattle.tabled_pages.specs.declared.bytes.TheConstants.{LINE_FEED}
-use Rattle.tabled_pages.specs.declared.styles.ReadyStyle.{ReadyStyle}
+use Rattle.tabled_style.specs.declared.ready_style.ReadyStyle.{ReadyStyle}
 use Rattle.tabled_pages.specs.Style.{styled}
 use Rattle.tabled_pages.specs.Input.{rows_of, column_count}
 use Rattle.tabled_pages.specs.Table.{column_widths, padded_rows}

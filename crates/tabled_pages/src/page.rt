@@ -14,11 +14,12 @@ use crate::bytes::LINE_FEED;
 use crate::error::ShowError;
 use crate::faults::test_input;
 use crate::read::INPUT_LIMIT;
-use crate::styles::{ReadyStyle, configured};
+use crate::styles::configured;
 use crate::table::{measure, padded_rows};
 use std::alloc::Global;
 use tabled_config::{PrintError, SpannedConfig, print_plain};
 use tabled_grid::Dimension;
+use tabled_style::ReadyStyle;
 
 /// The widths of a table's columns. Each row is one line high.
 #[derive(Drop)]

@@ -1,3 +1,4 @@
 pub mod InPlace
 pub mod Inherited
 pub mod Decided
+pub mod Naming

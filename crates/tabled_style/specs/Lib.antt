@@ -7,3 +7,4 @@ pub mod LineCalls
 pub mod Frame
 pub mod Ready
 pub mod Deciding
+pub mod Named

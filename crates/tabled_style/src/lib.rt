@@ -6,6 +6,7 @@ mod builder;
 mod horizontal_line;
 mod laws;
 mod on;
+mod ready_style;
 mod vertical_line;
 
 pub use border::{Border, EmptyBorder};
@@ -13,4 +14,5 @@ pub use builder::Style;
 pub use horizontal_line::HorizontalLine;
 pub use laws::{inherited_again, style_alone_decides, turned_and_back};
 pub use on::On;
+pub use ready_style::{ReadyStyle, UnknownStyle};
 pub use vertical_line::VerticalLine;

@@ -10,6 +10,8 @@ mod copies;
 #[cfg(test)]
 mod crossings;
 #[cfg(test)]
+mod errors;
+#[cfg(test)]
 mod levels;
 #[cfg(test)]
 mod markers;
@@ -23,6 +25,10 @@ mod pages;
 mod printing;
 #[cfg(test)]
 mod readme;
+#[cfg(test)]
+mod ready;
+#[cfg(test)]
+mod single;
 #[cfg(test)]
 mod styles;
 #[cfg(test)]

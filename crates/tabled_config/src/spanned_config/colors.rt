@@ -3,12 +3,13 @@
 ghost use Rattle.std.specs.Prelude.{◌≡◌, option_copied};
 ghost use Rattle.tabled_grid.specs.Value.{value};
 ghost use Rattle.tabled_grid.specs.Probing.{IsRaised};
-ghost use Rattle.tabled_grid.specs.Calls.{cell_erased};
+ghost use Rattle.tabled_grid.specs.Calls.{default_erased, cell_erased, spot_of};
+ghost use Rattle.std.specs.FinMap.{get};
 ghost use Rattle.tabled_grid.specs.State.{state_at, class_record_set};
 ghost use Rattle.tabled_config.specs.Configuration.{Changes, by_colors, all_but_offsets, default_color_set};
 
 use super::{SpannedConfig, erase_below_offsets};
-use tabled_grid::{ANSIBuf, Borders, Place, Probes};
+use tabled_grid::{ANSIBuf, Borders, Place, Probes, Target};
 
 impl SpannedConfig {
     /// Sets the record of class colors whole: what it had before is gone, also where the new record has
@@ -34,6 +35,28 @@ impl SpannedConfig {
         self.colors.set_default(color);
         self.colors.erase_class();
         self.colors.erase_cells();
+    }
+
+    /// The default border color, if one is set.
+    pub fn get_border_color_default(&self) -> Option<&ANSIBuf>
+        ensures { option_copied result ≡ self.now.colors.default_value }
+    {
+        self.colors.get_default()
+    }
+
+    /// Erases the default border color alone.
+    pub fn remove_border_color_default(&mut self)
+        ensures { Changes (by_colors default_erased) self.old self.new }
+    {
+        self.colors.erase_default();
+    }
+
+    /// The color that is kept at the cell level of one edge or one crossing, whatever other levels have; for an edge
+    /// `at` is not read.
+    pub fn get_char_color(&self, place: Place) -> Option<&ANSIBuf>
+        ensures { option_copied result ≡ get self.now.colors.cells (spot_of place) }
+    {
+        self.colors.kept_at(Target::Cell(place))
     }
 
     /// Erases every border color, the offset colors aside.

@@ -13,6 +13,7 @@ ghost use Rattle.tabled_config.specs.Configuration.{Changes, by_characters};
 
 use super::SpannedConfig;
 use std::collections::BTreeMap;
+use std::collections::btree_map::Iter;
 use tabled_grid::{HorizontalLine, OutOfMemory, VerticalLine};
 
 impl SpannedConfig {
@@ -35,6 +36,14 @@ impl SpannedConfig {
         ensures { option_copied result ≡ map.get self.now.characters.horizontal_lines line }
     {
         self.characters.get_hline(line)
+    }
+
+    /// The custom horizontal lines, each with the index at which it stands, in rising order. They are lent, so no
+    /// memory is asked for.
+    pub fn horizontal_lines(&self) -> Iter<'_, usize, HorizontalLine<char>>
+        ensures { result ≡ map.entries self.now.characters.horizontal_lines }
+    {
+        self.characters.iter_hlines()
     }
 
     /// A copy of all custom horizontal lines, each under the index at which it stands.
@@ -70,6 +79,14 @@ impl SpannedConfig {
         ensures { option_copied result ≡ map.get self.now.characters.vertical_lines line }
     {
         self.characters.get_vline(line)
+    }
+
+    /// The custom vertical lines, each with the index at which it stands, in rising order. They are lent, so no
+    /// memory is asked for.
+    pub fn vertical_lines(&self) -> Iter<'_, usize, VerticalLine<char>>
+        ensures { result ≡ map.entries self.now.characters.vertical_lines }
+    {
+        self.characters.iter_vlines()
     }
 
     /// A copy of all custom vertical lines, each under the index at which it stands.

@@ -1,15 +1,16 @@
 //! Characters and colors at numbered places of an edge.
 
-ghost use Rattle.std.specs.Prelude.{◌≡◌, None, OnOk, OnErr};
+ghost use Rattle.std.specs.Prelude.{◌≡◌, None, OnOk, OnErr, option_copied};
 ghost use Rattle.tabled_grid.specs.declared.site.Direction.TheVariants.{Horizontal, Vertical};
-ghost use Rattle.tabled_grid.specs.Calls.{edge_offset, offsets_erased};
+ghost use Rattle.tabled_grid.specs.Calls.{edge_offset, offset_erased, offsets_erased};
+ghost use Rattle.std.specs.FinMap.{get};
 ghost use Rattle.tabled_grid.specs.declared.site.Site.TheVariants.{Offset as at_offset};
-ghost use Rattle.tabled_grid.specs.State.{state_at};
+ghost use Rattle.tabled_grid.specs.State.{state_at, edge_place};
 ghost use Rattle.tabled_grid.specs.declared.place.Place.{Place as Spot};
 ghost use Rattle.tabled_config.specs.Configuration.{Changes, by_characters, by_colors};
 
 use super::SpannedConfig;
-use tabled_grid::{ANSIBuf, Offset, OutOfMemory, Place, Position};
+use tabled_grid::{ANSIBuf, Offset, OutOfMemory, Place, Position, Target};
 
 impl SpannedConfig {
     /// Writes a character at a numbered place of the edge of horizontal line `pos.row` over column `pos.col`,
@@ -76,6 +77,74 @@ impl SpannedConfig {
         ensures absent { OnErr result (state_at self.old.colors (at_offset Vertical pos.row pos.col offset) ≡ None) }
     {
         self.colors.set_offset(vertical_at(pos), offset, color)
+    }
+
+    /// The character that is kept at a numbered place of the edge of horizontal line `pos.row` over column `pos.col`,
+    /// counted from its start or back from its end, whatever other levels have.
+    pub fn get_horizontal_char(&self, pos: Position, offset: Offset) -> Option<char>
+        ensures { result ≡ get self.now.characters.horizontal_offsets (edge_place pos.row pos.col offset) }
+    {
+        self.characters
+            .kept_at(Target::Horizontal(pos, offset))
+            .copied()
+    }
+
+    /// Erases the character at one numbered place of the edge of horizontal line `pos.row` over column `pos.col`,
+    /// counted from its start or back from its end.
+    pub fn remove_horizontal_char(&mut self, pos: Position, offset: Offset)
+        ensures { Changes (by_characters (offset_erased Horizontal pos.row pos.col offset)) self.old self.new }
+    {
+        self.characters.erase_at(Target::Horizontal(pos, offset));
+    }
+
+    /// The character that is kept at a numbered place of the edge of vertical line `pos.col` beside row `pos.row`,
+    /// counted from its start or back from its end, whatever other levels have.
+    pub fn get_vertical_char(&self, pos: Position, offset: Offset) -> Option<char>
+        ensures { result ≡ get self.now.characters.vertical_offsets (edge_place pos.row pos.col offset) }
+    {
+        self.characters
+            .kept_at(Target::Vertical(pos, offset))
+            .copied()
+    }
+
+    /// Erases the character at one numbered place of the edge of vertical line `pos.col` beside row `pos.row`,
+    /// counted from its start or back from its end.
+    pub fn remove_vertical_char(&mut self, pos: Position, offset: Offset)
+        ensures { Changes (by_characters (offset_erased Vertical pos.row pos.col offset)) self.old self.new }
+    {
+        self.characters.erase_at(Target::Vertical(pos, offset));
+    }
+
+    /// The color that is kept at a numbered place of the edge of horizontal line `pos.row` over column `pos.col`,
+    /// counted from its start or back from its end, whatever other levels have.
+    pub fn get_horizontal_char_color(&self, pos: Position, offset: Offset) -> Option<&ANSIBuf>
+        ensures { option_copied result ≡ get self.now.colors.horizontal_offsets (edge_place pos.row pos.col offset) }
+    {
+        self.colors.kept_at(Target::Horizontal(pos, offset))
+    }
+
+    /// Erases the color at one numbered place of the edge of horizontal line `pos.row` over column `pos.col`,
+    /// counted from its start or back from its end.
+    pub fn remove_horizontal_char_color(&mut self, pos: Position, offset: Offset)
+        ensures { Changes (by_colors (offset_erased Horizontal pos.row pos.col offset)) self.old self.new }
+    {
+        self.colors.erase_at(Target::Horizontal(pos, offset));
+    }
+
+    /// The color that is kept at a numbered place of the edge of vertical line `pos.col` beside row `pos.row`,
+    /// counted from its start or back from its end, whatever other levels have.
+    pub fn get_vertical_char_color(&self, pos: Position, offset: Offset) -> Option<&ANSIBuf>
+        ensures { option_copied result ≡ get self.now.colors.vertical_offsets (edge_place pos.row pos.col offset) }
+    {
+        self.colors.kept_at(Target::Vertical(pos, offset))
+    }
+
+    /// Erases the color at one numbered place of the edge of vertical line `pos.col` beside row `pos.row`,
+    /// counted from its start or back from its end.
+    pub fn remove_vertical_char_color(&mut self, pos: Position, offset: Offset)
+        ensures { Changes (by_colors (offset_erased Vertical pos.row pos.col offset)) self.old self.new }
+    {
+        self.colors.erase_at(Target::Vertical(pos, offset));
     }
 
     /// Erases all offset characters on the edges of horizontal lines.

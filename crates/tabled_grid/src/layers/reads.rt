@@ -16,14 +16,17 @@ use crate::counted_map::CountedMap;
 use crate::keys::EdgePlace;
 use crate::number::Number;
 use crate::{
-    Borders, HorizontalLine, Keep, LineOf, Offset, OutOfMemory, Place, Probes, Spot, VerticalLine,
+    Borders, HorizontalLine, Keep, LineOf, Offset, OutOfMemory, Place, Probes, Spot, Target,
+    VerticalLine,
 };
 use std::collections::BTreeMap;
+use std::collections::btree_map::Iter;
 
 impl<T> Layers<T> {
     ghost use Rattle.tabled_grid.specs.Value.{value, plain_value};
     ghost use Rattle.tabled_grid.specs.Drawn.{Drawn};
     ghost use Rattle.tabled_grid.specs.State.{state_at, HasNoOffsets};
+    ghost use Rattle.tabled_grid.specs.Writes.{kept_at};
     ghost use Rattle.tabled_grid.specs.Reading.{main_of, offset_of, plain_edge, plain_crossing, edge_shown};
 
     /// The class record.
@@ -45,6 +48,48 @@ impl<T> Layers<T> {
         ensures { option_copied result ≡ map.get self.now.vertical_lines line }
     {
         self.vertical_lines.read(line, &mut Probes::new())
+    }
+
+    /// The custom horizontal lines, each with the index at which it stands, in rising order. They are lent, so no
+    /// memory is asked for.
+    pub fn iter_hlines(&self) -> Iter<'_, usize, HorizontalLine<T>>
+        ensures { result ≡ map.entries self.now.horizontal_lines }
+    {
+        self.horizontal_lines.iter()
+    }
+
+    /// The custom vertical lines, each with the index at which it stands, in rising order. They are lent, so no
+    /// memory is asked for.
+    pub fn iter_vlines(&self) -> Iter<'_, usize, VerticalLine<T>>
+        ensures { result ≡ map.entries self.now.vertical_lines }
+    {
+        self.vertical_lines.iter()
+    }
+
+    /// The default, if one is set.
+    pub fn get_default(&self) -> Option<&T>
+        ensures { option_copied result ≡ self.now.default_value }
+    {
+        self.default_value.as_ref()
+    }
+
+    /// What is kept at a target: at the cell level of a place, whose `at` is not read for an edge, or at a numbered
+    /// place of an edge. What other levels keep there plays no part.
+    pub fn kept_at(&self, target: Target) -> Option<&T>
+        ensures { option_copied result ≡ kept_at self.now target }
+    {
+        let mut probes = Probes::new();
+        match target {
+            Target::Cell(place) => self.cells.read(place.spot(), &mut probes),
+            Target::Horizontal(pos, offset) => {
+                let line = LineOf::Horizontal(pos.row);
+                self.offset_of(line, pos.col, offset, &mut probes)
+            }
+            Target::Vertical(pos, offset) => {
+                let line = LineOf::Vertical(pos.col);
+                self.offset_of(line, pos.row, offset, &mut probes)
+            }
+        }
     }
 
     /// A copy of all custom horizontal lines, each under the index at which it stands. Its memory comes from

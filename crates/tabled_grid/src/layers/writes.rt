@@ -213,8 +213,8 @@ impl<T> Layers<T> {
         }
     }
 
-    /// Erases what stands at a target.
-    fn erase_at(&mut self, target: Target)
+    /// Erases what stands at a target, and nothing else.
+    pub fn erase_at(&mut self, target: Target)
     where
         T: Drop,
         ensures { Changes (erase (one_site (site_of target)) ∷ []) (state_at self.old) (state_at self.new) }

@@ -1,0 +1,130 @@
+//! What a store keeps at single places and lines, whatever its other levels have.
+
+use std::alloc::Global;
+use std::collections::btree_map::Iter;
+use std::test::Fail;
+use tabled_grid::{
+    HorizontalLine, Layers, Offset, OutOfMemory, Place, Position, Target, VerticalLine,
+};
+
+const CELL: Position = Position { row: 0, col: 0 };
+
+const UPPER: Place = Place::Horizontal {
+    row: 0,
+    col: 0,
+    at: 2,
+};
+
+const TARGETS: [Target; 3] = [
+    Target::Cell(UPPER),
+    Target::Horizontal(CELL, Offset::Start(2)),
+    Target::Vertical(CELL, Offset::End(0)),
+];
+
+/// Writes at each of the targets, and the default.
+fn write_each(store: &mut Layers<char>) -> Result<(), OutOfMemory> {
+    let left = Place::Vertical {
+        row: 0,
+        col: 0,
+        at: 0,
+    };
+    store.set_default('.');
+    store.set_cell(UPPER, '0')?;
+    store.set_offset(UPPER, Offset::Start(2), '1')?;
+    store.set_offset(left, Offset::End(0), '2')
+}
+
+/// What is kept at each of the targets.
+fn kept(store: &Layers<char>) -> [Option<char>; 3] {
+    let [cell, horizontal, vertical] = TARGETS;
+    [
+        store.kept_at(cell).copied(),
+        store.kept_at(horizontal).copied(),
+        store.kept_at(vertical).copied(),
+    ]
+}
+
+#[test]
+fn each_target_is_read_by_itself(rt: HostRuntime) -> Result<(), Fail> {
+    let mut store = Layers::new(rt.alloc());
+    let none = kept(&store);
+    let made = write_each(&mut store);
+    let all = kept(&store);
+    drop(store);
+    made?;
+    assert!(rt; none == [None, None, None]);
+    assert!(rt; all == [Some('0'), Some('1'), Some('2')]);
+    Ok(())
+}
+
+#[test]
+fn each_target_is_erased_by_itself(rt: HostRuntime) -> Result<(), Fail> {
+    let wanted = [
+        [None, Some('1'), Some('2')],
+        [Some('0'), None, Some('2')],
+        [Some('0'), Some('1'), None],
+    ];
+    for (target, left) in TARGETS.into_iter().zip(wanted) {
+        let mut store = Layers::new(rt.alloc());
+        let made = write_each(&mut store);
+        store.erase_at(target);
+        let kept = kept(&store);
+        drop(store);
+        made?;
+        assert!(rt; kept == left);
+    }
+    Ok(())
+}
+
+#[test]
+fn the_default_is_read_by_itself(rt: HostRuntime) -> Result<(), Fail> {
+    let mut store = Layers::new(rt.alloc());
+    let made = write_each(&mut store);
+    let default = store.get_default().copied();
+    store.erase_default();
+    let erased = store.get_default().is_none();
+    drop(store);
+    made?;
+    assert!(rt; default == Some('.'));
+    assert!(rt; erased);
+    Ok(())
+}
+
+/// Puts horizontal lines, and vertical ones behind them.
+fn put_lines(store: &mut Layers<char>) -> Result<(), OutOfMemory> {
+    for line in [7, 0, 3] {
+        store.insert_hline(line, HorizontalLine::empty())?;
+        store.insert_vline(line + 1, VerticalLine::empty())?;
+    }
+    Ok(())
+}
+
+/// The indices of lent lines, in their order.
+fn indices<L>(alloc: Global, lines: Iter<'_, usize, L>) -> Result<Vec<usize>, OutOfMemory> {
+    let mut found = Vec::new(alloc);
+    for (line, _) in lines {
+        found.push(*line)?;
+    }
+    Ok(found)
+}
+
+/// Whether the lines of both directions are lent in rising order.
+fn lends_in_order(alloc: Global, store: &Layers<char>) -> Result<bool, OutOfMemory> {
+    let horizontal = indices(alloc, store.iter_hlines())?;
+    let vertical = indices(alloc, store.iter_vlines())?;
+    Ok(
+        horizontal.as_slice() == [0usize, 3, 7].as_slice()
+            && vertical.as_slice() == [1usize, 4, 8].as_slice(),
+    )
+}
+
+#[test]
+fn lines_are_lent_in_rising_order(rt: HostRuntime) -> Result<(), Fail> {
+    let mut store = Layers::new(rt.alloc());
+    let made = put_lines(&mut store);
+    let in_order = lends_in_order(rt.alloc(), &store);
+    drop(store);
+    made?;
+    assert!(rt; in_order?);
+    Ok(())
+}
