@@ -16,36 +16,33 @@ pub fn people(alloc: Global) -> Result<TextTable, TableError> {
 }
 
 /// Whether a text is a picture, which stands between two line feeds.
-fn is_picture(text: &str, picture: &str) -> bool {
+pub(crate) fn is_picture(text: &str, picture: &str) -> bool {
     picture
         .strip_prefix('\n')
         .and_then(|rest| rest.strip_suffix('\n'))
         == Some(text)
 }
 
-/// A ready style.
-pub fn ready_style(alloc: Global) -> Result<String, TableError> {
-    let mut table = people(alloc)?;
+/// A table in a ready style.
+pub fn first_table(alloc: Global) -> Result<String, TableError> {
+    let rows: &[&[&str]] = &[&["name", "age"], &["Alice", "30"], &["Bob", "7"]];
+    let mut table = TextTable::new(alloc, rows)?;
     table.with(Style::rounded())?;
     Ok(table.to_text()?)
 }
 
 #[test]
-fn ready_style_is_drawn(rt: HostRuntime) -> Result<(), Fail> {
-    let text = ready_style(rt.alloc())?;
-    assert!(rt;
-        is_picture(
-            text.as_str(),
-            "
+fn first_table_is_drawn(rt: HostRuntime) -> Result<(), Fail> {
+    let text = first_table(rt.alloc())?;
+    let picture = "
 ╭───────┬─────╮
 │ name  │ age │
 ├───────┼─────┤
 │ Alice │ 30  │
 │ Bob   │ 7   │
 ╰───────┴─────╯
-"
-        )
-    );
+";
+    assert!(rt; is_picture(text.as_str(), picture));
     Ok(())
 }
 
@@ -60,19 +57,15 @@ pub fn line_below_the_header(alloc: Global) -> Result<String, TableError> {
 #[test]
 fn line_below_the_header_is_drawn(rt: HostRuntime) -> Result<(), Fail> {
     let text = line_below_the_header(rt.alloc())?;
-    assert!(rt;
-        is_picture(
-            text.as_str(),
-            "
+    let picture = "
 +-------+-----+
 | name  | age |
 +=======+=====+
 | Alice | 30  |
 | Bob   | 7   |
 +-------+-----+
-"
-        )
-    );
+";
+    assert!(rt; is_picture(text.as_str(), picture));
     Ok(())
 }
 
@@ -89,10 +82,7 @@ pub fn borders_on_cells(alloc: Global) -> Result<String, TableError> {
 #[test]
 fn borders_on_cells_are_drawn(rt: HostRuntime) -> Result<(), Fail> {
     let text = borders_on_cells(rt.alloc())?;
-    assert!(rt;
-        is_picture(
-            text.as_str(),
-            "
+    let picture = "
 +-------+-----+
 | name  # age #
 +-------+-----+
@@ -100,9 +90,8 @@ fn borders_on_cells_are_drawn(rt: HostRuntime) -> Result<(), Fail> {
 +-------+-----+
 # Bob   # 7   #
 @-------+-----+
-"
-        )
-    );
+";
+    assert!(rt; is_picture(text.as_str(), picture));
     Ok(())
 }
 
@@ -119,10 +108,7 @@ pub fn title_in_the_top_line(alloc: Global) -> Result<String, TableError> {
 #[test]
 fn title_in_the_top_line_is_drawn(rt: HostRuntime) -> Result<(), Fail> {
     let text = title_in_the_top_line(rt.alloc())?;
-    assert!(rt;
-        is_picture(
-            text.as_str(),
-            "
+    let picture = "
 ┌─── staff ───┐
 │ name  │ age │
 ├───────┼─────┤
@@ -130,8 +116,7 @@ fn title_in_the_top_line_is_drawn(rt: HostRuntime) -> Result<(), Fail> {
 ├───────┼─────┤
 │ Bob   │ 7   │
 └───────┴─────┘
-"
-        )
-    );
+";
+    assert!(rt; is_picture(text.as_str(), picture));
     Ok(())
 }
