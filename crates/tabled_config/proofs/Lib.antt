@@ -8,3 +8,4 @@ pub mod TextLemmas
 pub mod PieceLemmas
 pub mod InTurn
 pub mod Replacing
+pub mod SecondTime

@@ -16,7 +16,7 @@ ghost use Rattle.tabled_grid.specs.State.{state_at};
 ghost use Rattle.tabled_grid.specs.Value.{value};
 ghost use Rattle.tabled_grid.specs.Drawn.{Drawn, drawn};
 ghost use Rattle.tabled_config.specs.CellColors.{given, changed, no_color, colors_after};
-ghost use Rattle.tabled_config.specs.Configuration.{ConfigEvent, of_cell_colors, characters_of, colors_of, cell_colors_of};
+ghost use Rattle.tabled_config.specs.Configuration.{ConfigEvent, of_cell_colors, characters_of, colors_of, settings_of, cell_colors_of};
 ghost use Rattle.tabled_config.specs.Configuration as borders;
 ghost use Rattle.tabled_config.specs.Colored.{Colored, Shows, Changes, all_writes};
 ghost use Rattle.tabled_config.specs.Options.{MakesInTurn};
@@ -56,6 +56,18 @@ pub fn changes_in_a_row()
         → borders.Changes es old between → borders.Changes fs between new → borders.Changes (es ++ fs) old new }
     ensures colored { (es fs : List ConfigEvent) (old between new : Colored)
         → Changes es old between → Changes fs between new → Changes (es ++ fs) old new }
+{}
+
+/// Events that are made a second time in a row change nothing more of what is kept for borders; where none of them is of
+/// settings, or of the colors of cells, nothing at all.
+pub fn second_time_changes_nothing()
+    ensures borders { (es : List ConfigEvent) (old between new : borders.Configuration)
+        → borders.Changes es old between → borders.Changes es between new
+        → (new.characters ≡ between.characters) × (new.colors ≡ between.colors) }
+    ensures spanned { (es : List ConfigEvent) (old between new : borders.Configuration)
+        → settings_of es ≡ [] → borders.Changes es old between → borders.Changes es between new → new ≡ between }
+    ensures colored { (es : List ConfigEvent) (old between new : Colored)
+        → settings_of es ≡ [] → cell_colors_of es ≡ [] → Changes es old between → Changes es between new → new ≡ between }
 {}
 
 /// Any list of steps, each of which may read what stands before it, is the change by the events of them all, in order; for

@@ -21,7 +21,8 @@ pub use colored_config::ColoredConfig;
 pub use configured::{BorderEvent, Configured};
 pub use laws::{
     any_list, cell_colors_by_entity, changes_in_a_row, equal_where_same_is_kept,
-    shown_after_change, shows_its_writes, shows_when_new, steps_in_turn,
+    second_time_changes_nothing, shown_after_change, shows_its_writes, shows_when_new,
+    steps_in_turn,
 };
 pub use print::print_plain;
 pub use print_error::PrintError;

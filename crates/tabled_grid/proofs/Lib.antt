@@ -25,3 +25,4 @@ pub mod Clearing
 pub mod WritingAnew
 pub mod WritesLemmas
 pub mod SixLines
+pub mod Leaving

@@ -14,7 +14,7 @@ use Rattle.tabled_object.proofs.Coverings.{or_false}
 abbrev pub is_here : Position → Position → Bool
 is_here cell other = (cell.row == other.row) && (cell.col == other.col)
 
-any_map : {A B : Type 0} (p : B → Bool) (f : A → B) (xs : List A) → list_any p (map f xs) ≡ list_any (λ x. p (f x)) xs
+pub any_map : {A B : Type 0} (p : B → Bool) (f : A → B) (xs : List A) → list_any p (map f xs) ≡ list_any (λ x. p (f x)) xs
 any_map p f [] = refl
 any_map p f (x ∷ xs) = ap (λ b. p (f x) || b) (any_map p f xs)
 
@@ -51,7 +51,7 @@ any_from n a (suc count) = ap (λ b. (n == a) || b) (any_from n (a + 1) count) �
 from_zero : (n count : ℕ) → (not (nat_lt n 0) && nat_lt n (0 + count)) ≡ nat_lt n count
 from_zero n count = grind (arith, nat_tests)
 
-any_below : (n count : ℕ) → list_any (λ m. n == m) (below count) ≡ nat_lt n count
+pub any_below : (n count : ℕ) → list_any (λ m. n == m) (below count) ≡ nat_lt n count
 any_below n count = any_from n 0 count ∙ from_zero n count
 
 row_inside : (a b c : Bool) → (a && b) ≡ true → (a && c) ≡ c
@@ -64,19 +64,19 @@ col_inside true b false h = refl
 col_inside false b c h = absurd (cc)
 
 -- of the cells inside, those of an entity are those that it covers
-any_named : (entity : Entity) (rows cols : ℕ) (cell : Position) → is_inside rows cols cell ≡ true → list_any (is_here cell) (cells_of entity rows cols) ≡ covers entity cell
+pub any_named : (entity : Entity) (rows cols : ℕ) (cell : Position) → is_inside rows cols cell ≡ true → list_any (is_here cell) (cells_of entity rows cols) ≡ covers entity cell
 any_named Global rows cols cell h = any_here cell (below rows) (below cols) ∙ (λ i. any_below cell.row rows i && any_below cell.col cols i) ∙ h
 any_named (Column col) rows cols cell h = any_here cell (below rows) (col ∷ []) ∙ (λ i. any_below cell.row rows i && or_false (cell.col == col) i) ∙ row_inside (nat_lt cell.row rows) (nat_lt cell.col cols) (cell.col == col) h
 any_named (Row row) rows cols cell h = any_here cell (row ∷ []) (below cols) ∙ (λ i. or_false (cell.row == row) i && any_below cell.col cols i) ∙ col_inside (nat_lt cell.row rows) (nat_lt cell.col cols) (cell.row == row) h
 any_named (Cell row col) rows cols cell h = any_here cell (row ∷ []) (col ∷ []) ∙ (λ i. or_false (cell.row == row) i && or_false (cell.col == col) i)
 
-here_itself : (cell : Position) → is_here cell cell ≡ true
+pub here_itself : (cell : Position) → is_here cell cell ≡ true
 here_itself cell = grind (arith, nat_tests)
 
 rows_same : (a b c d : ℕ) → ((a == b) && (c == d)) ≡ true → (a ≡ b) × (c ≡ d)
 rows_same a b c d h = (grind (arith, nat_tests), grind (arith, nat_tests))
 
-same_here : (cell other : Position) → is_here cell other ≡ true → other ≡ cell
+pub same_here : (cell other : Position) → is_here cell other ≡ true → other ≡ cell
 same_here cell other h = let e = rows_same cell.row other.row cell.col other.col h in λ i. record { row = sym e.0 i; col = sym e.1 i }
 
 pub among_from_any : (cell : Position) (cells : List Position) → list_any (is_here cell) cells ≡ true → Contains cells cell

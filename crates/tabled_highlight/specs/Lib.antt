@@ -1,0 +1,4 @@
+pub mod Outline
+pub mod Meeting
+pub mod Highlighting
+pub mod Around

@@ -1,0 +1,95 @@
+-- The outline of a set of cells: what is written at the edges and the crossings around it.
+use Rattle.std.specs.Prelude.{ℕ, zero, suc, ◌+◌, Bool, true, false, Option, None, option_map, List, ◌++◌, map}
+use Rattle.std.specs.List.{Contains, filter_map, flat_map}
+use Rattle.std.specs.Option.{option_or}
+use Rattle.tabled_border.specs.declared.border.Border.{Border}
+use Rattle.tabled_object.specs.declared.position.Position.{Position}
+use Rattle.tabled_object.specs.Entities.{position, below}
+use Rattle.tabled_grid.specs.declared.place.LineOf.{LineOf}
+use Rattle.tabled_grid.specs.declared.site.Direction.TheVariants.{Horizontal, Vertical}
+use Rattle.tabled_grid.specs.declared.site.Site.{Site}
+use Rattle.tabled_grid.specs.declared.site.Spot.{Spot}
+use Rattle.tabled_grid.specs.declared.site.Spot.TheVariants.{Edge, Crossing}
+use Rattle.tabled_grid.specs.declared.site.Site.TheVariants.{Cell as at_spot}
+use Rattle.tabled_grid.specs.declared.event.Written.TheVariants.{Sign as sign}
+use Rattle.tabled_grid.specs.declared.event.Event.{Event}
+use Rattle.tabled_grid.specs.declared.event.Event.TheVariants.{Write as write}
+use Rattle.tabled_grid.specs.Calls.{line_spots, edge_of}
+
+-- which cells are in the set
+abbrev pub CellSet : Type 0
+CellSet = Position → Bool
+
+-- what is true of the number before one; nothing is before 0
+abbrev pub before : (ℕ → Bool) → ℕ → Bool
+before test zero = false
+before test (suc n) = test n
+
+module _ (cells : CellSet) (r c : ℕ) where
+  -- whether the four cells around the crossing of lines r and c are in the set: the two above it, left and right, and the
+  -- two below; a cell that is not there is not
+  abbrev pub upper_left : Bool
+  upper_left = before (λ row. before (λ col. cells (position row col)) c) r
+
+  abbrev pub upper_right : Bool
+  upper_right = before (λ row. cells (position row c)) r
+
+  abbrev pub lower_left : Bool
+  lower_left = before (λ col. cells (position r col)) c
+
+  abbrev pub lower_right : Bool
+  lower_right = cells (position r c)
+
+module _ {T : Type 0} (border : Border T) where
+  -- at an edge of a horizontal line, by whether the cell above it and the cell below it are in the set
+  abbrev pub across_value : Bool → Bool → Option T
+  across_value false true = border.top
+  across_value true false = border.bottom
+  across_value false false = None
+  across_value true true = None
+
+  -- at an edge of a vertical line, by the cell on its left and the cell on its right
+  abbrev pub down_value : Bool → Bool → Option T
+  down_value false true = border.left
+  down_value true false = border.right
+  down_value false false = None
+  down_value true true = None
+
+  -- at a crossing, by the two cells above it, left and right, and the two below
+  abbrev pub crossing_value : Bool × Bool → Bool × Bool → Option T
+  crossing_value (false, false) (false, true) = border.left_top_corner
+  crossing_value (false, false) (true, false) = border.right_top_corner
+  crossing_value (false, true) (false, false) = border.left_bottom_corner
+  crossing_value (true, false) (false, false) = border.right_bottom_corner
+  crossing_value (false, false) (true, true) = border.top
+  crossing_value (true, true) (false, false) = border.bottom
+  crossing_value (false, true) (false, true) = border.left
+  crossing_value (true, false) (true, false) = border.right
+  crossing_value (true, false) (false, true) = option_or border.left_top_corner border.right_bottom_corner
+  crossing_value (false, true) (true, false) = option_or border.right_top_corner border.left_bottom_corner
+  crossing_value (false, true) (true, true) = border.right_bottom_corner
+  crossing_value (true, false) (true, true) = border.left_bottom_corner
+  crossing_value (true, true) (false, true) = border.right_top_corner
+  crossing_value (true, true) (true, false) = border.left_top_corner
+  crossing_value (false, false) (false, false) = None
+  crossing_value (true, true) (true, true) = None
+
+-- what the outline has at an edge or a crossing
+abbrev pub outline_value : {T : Type 0} → CellSet → Border T → Spot → Option T
+outline_value cells border (Edge Horizontal r c) = across_value border (upper_right cells r c) (lower_right cells r c)
+outline_value cells border (Edge Vertical r c) = down_value border (lower_left cells r c) (lower_right cells r c)
+outline_value cells border (Crossing r c) = crossing_value border (upper_left cells r c, upper_right cells r c) (lower_left cells r c, lower_right cells r c)
+
+-- every edge and every crossing of a table of so many rows and columns, once
+abbrev pub every_spot : ℕ × ℕ → List Spot
+every_spot (rows, cols) =
+    flat_map (λ line. line_spots (LineOf.Horizontal line) cols) (below (rows + 1))
+    ++ flat_map (λ line. map (edge_of (LineOf.Vertical line)) (below rows)) (below (cols + 1))
+
+-- the outline of a set of cells in such a table, with what a border gives
+unfoldable pub outline : {T : Type 0} → ℕ × ℕ → CellSet → Border T → List (Event T)
+outline shape cells border = filter_map (λ spot. option_map (λ value. write (at_spot spot) (sign value)) (outline_value cells border spot)) (every_spot shape)
+
+-- the sites of the edges and the crossings of such a table, at the level of cells
+abbrev pub IsSpotOf : ℕ × ℕ → Site → Type 0
+IsSpotOf shape site = Contains (map at_spot (every_spot shape)) site

@@ -1,0 +1,215 @@
+//! An outline around cells of a table.
+
+ghost use Rattle.std.specs.Prelude.{◌≡◌, Some, None, IfOk, OnOk, OnErr, option_copied, option_map};
+ghost use Rattle.tabled_grid.specs.Writes.{writes_made};
+ghost use Rattle.tabled_config.specs.Configuration as borders;
+ghost use Rattle.tabled_config.specs.Colored.{Changes};
+ghost use Rattle.tabled_color.specs.BorderColors.{full_border, border_texts};
+ghost use Rattle.tabled_highlight.specs.Around.{written_around};
+ghost use Rattle.tabled_highlight.specs.Highlighting.{highlight_events};
+
+use crate::around::outline_writes;
+use crate::cells::{cells_inside, listed_entities};
+use std::alloc::Global;
+use std::collections::BTreeSet;
+use std::marker::Model;
+use tabled_border::{ANSIBuf, Border as GridBorder, OutOfMemory};
+use tabled_color::{BorderColor, Color};
+use tabled_config::{ColoredConfig, SpannedConfig, TableOption};
+use tabled_grid::Write;
+use tabled_object::{Entity, ExactRecords, Object, Position, Records};
+use tabled_style::Border;
+
+/// An outline around the cells that an object names: characters and colors along the border of the whole set of them.
+///
+/// In which order the object lists the cells, and how often, plays no part. Here the cells (0, 0), (0, 1) and (1, 1) of a
+/// table of two rows and two columns are outlined:
+///
+/// ```text
+/// *********
+/// * a   b *
+/// *****   *
+///   c * d *
+///     *****
+/// ```
+#[derive(Debug, Drop)]
+pub struct Highlight<O> {
+    target: O,
+    border: Option<GridBorder<char>>,
+    color: Option<BorderColor>,
+}
+
+impl<O> Model for Highlight<O> {
+    ghost use Rattle.std.specs.Coded.{codes};
+    ghost use Rattle.tabled_highlight.specs.Highlighting.{Highlighting};
+
+    ghost Value = { Highlighting O };
+
+    ghost coded = { Prim.hlevel (codes, O.code) };
+
+    ghost view = { λ given. record { target = given.target; border = given.border; color = given.color } };
+}
+
+impl<O> Highlight<O> {
+    /// The cells that the object names, with neither characters nor colors yet: as it is it changes nothing.
+    pub fn new(target: O) -> Self
+        ensures { result ≡ record { target = target; border = None; color = None } }
+    {
+        Highlight {
+            target,
+            border: None,
+            color: None,
+        }
+    }
+
+    /// An outline of one character, on all sides and corners.
+    ///
+    /// ```text
+    /// *****
+    /// * a * b
+    /// *****
+    ///   c   d
+    /// ```
+    pub fn outline(target: O, c: char) -> Self
+        ensures { result ≡ record { target = target; border = Some (full_border c c c c c c c c); color = None } }
+    {
+        Highlight {
+            target,
+            border: Some(GridBorder::filled(c)),
+            color: None,
+        }
+    }
+
+    /// An outline of one color, on all sides and corners, which is copied for them. The characters stay as they are.
+    /// Memory may be refused for the copies.
+    pub fn colored(alloc: Global, target: O, color: Color) -> Result<Self, OutOfMemory>
+    where
+        O: Drop,
+        ensures { IfOk result (λ given. given ≡ record { target = target; border = None; color = Some (full_border color color color color color color color color) }) }
+    {
+        let color = BorderColor::filled(alloc, color)?;
+        Ok(Highlight {
+            target,
+            border: None,
+            color: Some(color),
+        })
+    }
+
+    /// The characters of the sides and corners. What the border does not give is not written. Here it gives `^` as its upper
+    /// side alone, around the cell (0, 1):
+    ///
+    /// ```text
+    ///    ^^^
+    ///  a  b
+    ///  c  d
+    /// ```
+    pub fn border<T, B, L, R>(self, border: Border<T, B, L, R>) -> Self
+        ensures { result ≡ record self { border = Some border } }
+    {
+        Highlight {
+            target: self.target,
+            border: Some(border.into_inner()),
+            color: self.color,
+        }
+    }
+
+    /// The colors of the sides and corners. What is not given is not written.
+    pub fn color(self, color: BorderColor) -> Self
+        ensures { result ≡ record self { color = Some color } }
+    {
+        Highlight {
+            target: self.target,
+            border: self.border,
+            color: Some(color),
+        }
+    }
+
+    /// Writes the outline on a configuration.
+    fn outline_on<R>(&self, records: &R, config: &mut SpannedConfig) -> Result<(), OutOfMemory>
+    where
+        R: Records + ExactRecords,
+        O: Object<R>,
+        ensures ok { OnOk result (borders.Changes (highlight_events (R.row_count records.now, R.column_count records.now)
+            (O.listing self.now.target (R.row_count records.now) (R.column_count records.now)) self.now.border self.now.color) config.old config.new) }
+        ensures err { OnErr result (config.new ≡ config.old) }
+    {
+        let shape = (records.count_rows(), records.count_columns());
+        let entities = listed_entities(config.allocator(), records, &self.target)?;
+        outline_cells(
+            config,
+            &entities,
+            shape,
+            self.border.as_ref(),
+            self.color.as_ref(),
+        )
+    }
+}
+
+impl<R, D, O> TableOption<R, ColoredConfig, D> for Highlight<O>
+where
+    R: Records + ExactRecords,
+    O: Object<R> + Drop,
+{
+    ghost makes = { λ given records dims old. highlight_events (R.row_count records, R.column_count records)
+        (O.listing given.target (R.row_count records) (R.column_count records)) given.border given.color };
+
+    ghost hinted = { λ given. None };
+
+    /// Writes the outline of the cells of the table that the object names: what the border and the colors give at each edge with
+    /// exactly one of these cells beside it, and at the crossings where such edges meet. Cells outside the table are passed
+    /// over. Without border and colors nothing changes. Where memory is refused nothing changes, neither characters nor
+    /// colors.
+    fn change(
+        self,
+        records: &mut R,
+        cfg: &mut ColoredConfig,
+        _dims: &mut D,
+    ) -> Result<(), OutOfMemory>
+        ensures ok { OnOk result (Changes (highlight_events (R.row_count records.old, R.column_count records.old)
+            (O.listing self.target (R.row_count records.old) (R.column_count records.old)) self.border self.color) cfg.old cfg.new) }
+        ensures err { OnErr result (cfg.new ≡ cfg.old) }
+        ensures records { records.new ≡ records.old }
+        ensures sizes { _dims.new ≡ _dims.old }
+    {
+        self.outline_on(records, cfg.config_mut())
+    }
+
+    fn hint_change(&self) -> Option<Entity> {
+        None
+    }
+}
+
+/// Writes the outline of the cells of a table that entities name, with characters and with colors, where they are given.
+fn outline_cells(
+    config: &mut SpannedConfig,
+    entities: &BTreeSet<Entity>,
+    shape: (usize, usize),
+    border: Option<&GridBorder<char>>,
+    color: Option<&BorderColor>,
+) -> Result<(), OutOfMemory>
+    ensures ok { OnOk result (borders.Changes (highlight_events shape entities.now.keys (option_copied border.entry) (option_copied color.entry)) config.old config.new) }
+    ensures err { OnErr result (config.new ≡ config.old) }
+{
+    let alloc = config.allocator();
+    let cells = cells_inside(alloc, entities, shape)?;
+    let characters = outline_writes(alloc, &cells, border)?;
+    let colors = color_writes(alloc, &cells, color)?;
+    config.apply(characters, colors)
+}
+
+/// The writes of the outline of a set of cells, with colors, if they are given.
+fn color_writes(
+    alloc: Global,
+    cells: &BTreeSet<Position>,
+    color: Option<&BorderColor>,
+) -> Result<Vec<Write<ANSIBuf>>, OutOfMemory>
+    ensures { IfOk result (λ writes. writes_made writes.items ≡ written_around cells.now.keys (option_map border_texts (option_copied color.entry))) }
+{
+    match color {
+        Some(color) => {
+            let texts = color.to_ansi(alloc)?;
+            outline_writes(alloc, cells, Some(&texts))
+        }
+        None => Ok(Vec::new(alloc)),
+    }
+}
