@@ -23,15 +23,15 @@ impl<T: Drop> From<AllocFailed<T>> for OutOfMemory {
     }
 }
 
-/// So that a function which returns the allocator's error takes this one by `?`.
+/// So that a function which returns the allocator's error takes this one by `?`. Its crate lists `tabled_border`.
 impl From<OutOfMemory> for AllocError {
     fn from(_refused: OutOfMemory) -> AllocError {
         AllocError
     }
 }
 
-/// So that a function which returns an error of input and output takes this one by `?`: it is the one that the
-/// allocator's error becomes.
+/// So that a function which returns an error of input and output takes this one by `?`, as it takes the allocator's.
+/// Its crate lists `tabled_border`.
 impl From<OutOfMemory> for io::Error {
     ghost from_gives = { λ _ error. error_kind error ≡ memory_refused };
 

@@ -17,7 +17,7 @@ impl<R: Records + ExactRecords> CellOption<R, ColoredConfig> for Border<char> {
 
     /// Writes the given sides and corners of each cell of the entity that lies in the table, row by row: for
     /// what two cells share the later one counts. What is not given stays as it is. Without a cell inside it takes no
-    /// memory and answers Ok.
+    /// memory and returns Ok.
     fn change(
         &self,
         records: &mut R,
@@ -46,7 +46,7 @@ impl<R, D> TableOption<R, ColoredConfig, D> for Border<char> {
     /// Sets the frame of the class record to this border, what it does not give too. Where the record has
     /// something between the columns, the crossings on the outer horizontal lines become as these lines, and
     /// where it has something between the rows, those on the outer vertical lines. What is kept for cells,
-    /// custom lines and offsets stays. It takes no memory and answers Ok.
+    /// custom lines and offsets stays. It takes no memory and returns Ok.
     #[tactic(auto, unfolding(crate::specs::Options::table_bordered))]
     fn change(
         self,

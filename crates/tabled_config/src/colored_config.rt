@@ -137,7 +137,7 @@ impl<R, D> TableOption<R, ColoredConfig, D> for Borders<char> {
     ghost hinted = { λ borders. Some cells.Global };
 
     /// Erases every border character and color of every level, offsets too, and sets the class record: as a
-    /// style without custom lines. It takes no memory and answers Ok.
+    /// style without custom lines. It takes no memory and returns Ok.
     fn change(
         self,
         _records: &mut R,

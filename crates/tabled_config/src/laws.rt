@@ -42,7 +42,7 @@ pub fn shows_when_new()
         → borders.Shows es config → Shows (es ++ of_cell_colors (given colors) ∷ []) (record { spanned = config; cell_colors = Some colors }) }
 {}
 
-/// After any list of writes and removals by entity there are colors just where one of them was a write, and then the color of
+/// After any list of writes and removals by entity there are colors exactly where one of them was a write, and then the color of
 /// each cell is that of the last one that covers it: a removal, and no event, gives the color without texts.
 pub fn cell_colors_by_entity()
     ensures { (events : List (EntityEvent Texts)) (cell : At)
@@ -108,7 +108,7 @@ pub fn shows_its_writes()
     ensures colored { (es : List ConfigEvent) (cfg : Colored) → Shows es cfg → Shows (all_writes cfg) cfg }
 {}
 
-/// Two configurations are equal by `==` just where they keep the same.
+/// Two configurations are equal by `==` exactly where they keep the same.
 pub fn equal_where_same_is_kept()
     ensures spanned { (a b : borders.Configuration) → IsTrue (⟦<SpannedConfig as PartialEq>⟧.eq a b) ↔ (a ≡ b) }
     ensures colored { (a b : Colored) → IsTrue (⟦<ColoredConfig as PartialEq>⟧.eq a b) ↔ (a ≡ b) }

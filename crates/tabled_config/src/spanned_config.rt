@@ -79,6 +79,15 @@ impl SpannedConfig {
     }
 
     /// Sets the class record whole: what it had before is gone, also where the new record has nothing.
+    ///
+    /// A record with `top` and `bottom` `=` and `vertical` `|` alone. Nothing is set where they cross:
+    ///
+    /// ```text
+    /// === ===
+    ///  a | b
+    ///  c | d
+    /// === ===
+    /// ```
     pub fn set_borders(&mut self, borders: Borders<char>)
         ensures { Changes (borders_set borders) self.old self.new }
     {
@@ -93,6 +102,16 @@ impl SpannedConfig {
     }
 
     /// Sets the default border character, the weakest level, which shows wherever no other has something.
+    ///
+    /// A full stop, where nothing else is set:
+    ///
+    /// ```text
+    /// .........
+    /// . a . b .
+    /// .........
+    /// . c . d .
+    /// .........
+    /// ```
     pub fn set_border_default(&mut self, character: char)
         ensures { Changes (by_characters (default_set character)) self.old self.new }
     {

@@ -12,7 +12,7 @@ use crate::counted_map::CountedMap;
 use crate::counter::{add, remove};
 use crate::{LineOf, OutOfMemory, Spot};
 
-/// Puts a value at a spot, and answers the one that stood there. Where memory is refused nothing changes, and nothing
+/// Puts a value at a spot, and returns the one that stood there. Where memory is refused nothing changes, and nothing
 /// stood there.
 pub(crate) fn put_cell<T: Drop>(
     values: &mut CountedMap<Spot, T>,

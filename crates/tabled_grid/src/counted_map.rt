@@ -73,7 +73,7 @@ impl<K: Key, V> CountedMap<K, V> {
         self.entries.is_empty()
     }
 
-    /// Keeps a value under a key, and answers the one that was there. Only a new key needs memory; where
+    /// Keeps a value under a key, and returns the one that was there. Only a new key needs memory; where
     /// that is refused nothing changes.
     pub(crate) fn insert(&mut self, key: K, value: V) -> Result<Option<V>, OutOfMemory>
     where

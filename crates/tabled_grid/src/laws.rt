@@ -39,8 +39,8 @@ pub fn shows_its_writes<T>()
     ensures { (state : State T) → Shows (writes_of state) (state_at state) }
 {}
 
-/// Two stores are equal by `==` just where at every site both keep nothing, or what they keep is equal; and
-/// where `==` of the values is true of equal values alone, just where they keep the same.
+/// Two stores are equal by `==` exactly where at every site both keep nothing, or what they keep is equal; and
+/// where `==` of the values is true of equal values alone, exactly where they keep the same.
 pub fn equal_where_same_is_kept<T: PartialEq>()
     ensures sites { (a b : State T) → IsTrue (⟦<Layers<T> as PartialEq>⟧.eq a b)
         ↔ ((site : Site) → IsTrue (option_eq (same_written T.eq) (state_at a site) (state_at b site))) }

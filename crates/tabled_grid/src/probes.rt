@@ -3,7 +3,7 @@
 ghost use Rattle.std.specs.Prelude.{◌≡◌, ℕ};
 
 /// How many readings of a store were made: readings of a kept map, of a count, of the class record
-/// or of the default. It stands still at `u64::MAX`.
+/// or of the default. It saturates at `u64::MAX`.
 #[derive(Debug, Drop)]
 pub struct Probes {
     made: u64,

@@ -22,7 +22,7 @@ pub enum Entity {
 }
 
 impl Entity {
-    /// The cells of the entity in a table of so many rows and columns, in row order. A column, a row or a cell
+    /// The cells of the entity in a table of the given numbers of rows and columns, in row order. A column, a row or a cell
     /// that is named outside the table is given all the same: its callers pass over what lies outside.
     pub fn iter(&self, count_rows: usize, count_cols: usize) -> EntityIterator
         ensures { result ≡ cells_of self.now count_rows count_cols }
@@ -69,7 +69,7 @@ impl Model for EntityIterator {
 }
 
 impl EntityIterator {
-    /// The positions of so many rows and so many columns, each from a first one on.
+    /// The positions of the given numbers of rows and columns, each from a first one on.
     fn rectangle(rows: (usize, usize), cols: (usize, usize)) -> Self
         requires rows_fit { rows.0 + rows.1 ≤ 2 ^ 64 }
         requires cols_fit { cols.0 + cols.1 ≤ 2 ^ 64 }

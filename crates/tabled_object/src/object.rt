@@ -29,7 +29,7 @@ pub trait Object<R: Records + ExactRecords> {
     /// What gives the entities, one by one.
     type Iter: Iterator<Item = Entity>;
 
-    /// What the object lists, in order, in a table of so many rows and so many columns.
+    /// What the object lists, in order, in a table of the given numbers of rows and columns.
     ghost listing: { Self → ℕ → ℕ → List Entity };
 
     /// That listing the object takes no memory.

@@ -47,6 +47,7 @@ impl ExactRecords for Shape {
     }
 }
 
+/// The number of rows, and then that of columns.
 impl From<(usize, usize)> for Shape {
     ghost from_gives = { λ pair result. (result.rows ≡ pair.0) × (result.cols ≡ pair.1) };
 
@@ -56,6 +57,7 @@ impl From<(usize, usize)> for Shape {
     }
 }
 
+/// The number of rows, and then that of columns. A crate that uses it lists `tabled_object`.
 impl From<Shape> for (usize, usize) {
     ghost from_gives = { λ shape result. (result.0 ≡ shape.rows) × (result.1 ≡ shape.cols) };
 

@@ -68,7 +68,7 @@ impl<T, B, I> VerticalLine<T, B, I> {
         VerticalLine::update(style.get_borders().vertical_line(Rank::First))
     }
 
-    /// The line that a style draws behind the last column.
+    /// The line that a style draws after the last column.
     pub fn inherit_right<L, V, const HN: usize, const VN: usize>(
         style: Style<T, B, L, On, I, V, HN, VN>,
     ) -> Self

@@ -16,6 +16,16 @@ impl SpannedConfig {
     /// Writes the given sides and corners of a cell, whatever the shape of the table; what is not given
     /// stays as it is. Where memory is refused nothing changes; where each of these places had a character
     /// of its own, none is asked for.
+    ///
+    /// A border with `top` and `bottom` `=` on the cell (0, 1), in a table of the style `ascii`:
+    ///
+    /// ```text
+    /// +---+===+
+    /// | a | b |
+    /// +---+===+
+    /// | c | d |
+    /// +---+---+
+    /// ```
     pub fn set_border(&mut self, pos: Position, border: Border<char>) -> Result<(), OutOfMemory>
         ensures ok { OnOk result (Changes (by_characters (border_set pos border)) self.old self.new) }
         ensures err { OnErr result (self.new ≡ self.old) }

@@ -19,6 +19,16 @@ use tabled_grid::{HorizontalLine, OutOfMemory, VerticalLine};
 impl SpannedConfig {
     /// Puts a custom horizontal line at index `line`, in place of the one that stood there. Only a line at
     /// an index where none stood needs memory; where that is refused nothing changes.
+    ///
+    /// Line 1 of `=`, with `*` at crossings and `<` and `>` at its ends, in a table of the style `ascii`:
+    ///
+    /// ```text
+    /// +---+---+
+    /// | a | b |
+    /// <===*===>
+    /// | c | d |
+    /// +---+---+
+    /// ```
     pub fn insert_horizontal_line(
         &mut self,
         line: usize,
@@ -62,6 +72,16 @@ impl SpannedConfig {
 
     /// Puts a custom vertical line at index `line`, in place of the one that stood there. Only a line at
     /// an index where none stood needs memory; where that is refused nothing changes.
+    ///
+    /// Line 1 of `#`, with `*` at crossings and `v` and `^` at its ends, in a table of the style `ascii`:
+    ///
+    /// ```text
+    /// +---v---+
+    /// | a # b |
+    /// +---*---+
+    /// | c # d |
+    /// +---^---+
+    /// ```
     pub fn insert_vertical_line(
         &mut self,
         line: usize,

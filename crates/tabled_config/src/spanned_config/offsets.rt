@@ -16,6 +16,16 @@ impl SpannedConfig {
     /// Writes a character at a numbered place of the edge of horizontal line `pos.row` over column `pos.col`,
     /// counted from its start or back from its end. Only a place that has none needs memory; where that is
     /// refused nothing changes.
+    ///
+    /// `x` at start 0 and `y` at end 0 of the position (0, 0), in a table of the style `ascii`:
+    ///
+    /// ```text
+    /// +x-y+---+
+    /// | a | b |
+    /// +---+---+
+    /// | c | d |
+    /// +---+---+
+    /// ```
     pub fn set_horizontal_char(
         &mut self,
         pos: Position,
@@ -33,6 +43,16 @@ impl SpannedConfig {
     /// Writes a character at a numbered place of the edge of vertical line `pos.col` beside row `pos.row`,
     /// counted from its start or back from its end. Only a place that has none needs memory; where that is
     /// refused nothing changes.
+    ///
+    /// `x` at start 0 of the position (1, 1), in a table of the style `ascii`:
+    ///
+    /// ```text
+    /// +---+---+
+    /// | a | b |
+    /// +---+---+
+    /// | c x d |
+    /// +---+---+
+    /// ```
     pub fn set_vertical_char(
         &mut self,
         pos: Position,

@@ -63,7 +63,7 @@ impl<T> Layers<T> {
     }
 
     /// What shows at the sides and the corners of a cell in a table of `shape.0` rows and `shape.1` columns,
-    /// without the offsets: each as `plain_at` answers it. A cell outside has nothing.
+    /// without the offsets: each as `plain_at` returns it. A cell outside has nothing.
     #[tactic(auto, unfolding(crate::specs::CellBorder::border_shown))]
     pub fn get_border(&self, pos: Position, shape: (usize, usize)) -> Border<&T>
         ensures { record {

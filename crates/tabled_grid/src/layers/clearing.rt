@@ -53,7 +53,7 @@ impl<T> Layers<T> {
         self.erase_line(LineOf::Vertical(cols), rows);
     }
 
-    /// Erases a line that is so many columns or rows long.
+    /// Erases a line that is the given number of columns or rows long.
     fn erase_line(&mut self, line: LineOf, length: usize)
     where
         T: Drop,

@@ -143,7 +143,7 @@ impl<T> Layers<T> {
 
     /// What an edge or a crossing shows without its offsets, in a table of `shape.0` rows and `shape.1`
     /// columns: what is kept at the highest level below them that has something there. `at` of an edge
-    /// is not read, so an edge of length 0 is answered too. An edge or a crossing outside has nothing.
+    /// is not read, so an edge of length 0 has a value too. An edge or a crossing outside has nothing.
     pub fn plain_at(&self, place: Place, shape: (usize, usize)) -> Option<&T>
         ensures { option_copied result ≡ plain_value (state_at self.now) shape place }
     {

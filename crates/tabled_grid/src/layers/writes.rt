@@ -191,7 +191,7 @@ impl<T> Layers<T> {
         Ok(())
     }
 
-    /// Writes at a target, and answers what was there before. Only where nothing was there can memory be refused.
+    /// Writes at a target, and returns what was there before. Only where nothing was there can memory be refused.
     pub(super) fn replace(&mut self, target: Target, value: T) -> Result<Option<T>, OutOfMemory>
     where
         T: Drop,

@@ -78,7 +78,7 @@ impl Combine for FirstColumn {}
 pub struct LastColumn;
 
 impl LastColumn {
-    /// The column that has so many columns at its right.
+    /// The column that has the given number of columns at its right.
     pub fn offset(self, offset: usize) -> LastColumnOffset
         ensures { result.offset ≡ offset }
     {

@@ -78,7 +78,7 @@ impl Combine for FirstRow {}
 pub struct LastRow;
 
 impl LastRow {
-    /// The row that has so many rows below it.
+    /// The row that has the given number of rows below it.
     pub fn offset(self, offset: usize) -> LastRowOffset
         ensures { result.offset ≡ offset }
     {

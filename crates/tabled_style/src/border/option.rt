@@ -19,7 +19,17 @@ impl<T, B, L, R, Data: Records + ExactRecords> CellOption<Data, ColoredConfig>
 
     /// Writes the given sides and corners of each cell of the entity that lies in the table, row by row: for what
     /// two cells share the later one counts. What is not given stays as it is. Without a cell inside it takes no memory
-    /// and answers Ok.
+    /// and returns Ok.
+    ///
+    /// `Border::filled('#')` on the cell (0, 0), in a table of the style `ascii`:
+    ///
+    /// ```text
+    /// #####---+
+    /// # a # b |
+    /// #####---+
+    /// | c | d |
+    /// +---+---+
+    /// ```
     fn change(
         &self,
         records: &mut Data,
@@ -47,7 +57,17 @@ impl<T, B, L, R, Data, Dims> TableOption<Data, ColoredConfig, Dims> for Border<T
     /// Sets the frame of the class record to this border, what it does not give too. Where the record has something
     /// between the columns, the crossings on the outer horizontal lines become as these lines, and where it has
     /// something between the rows, those on the outer vertical lines. What is kept for cells, custom lines and
-    /// offsets stays. It takes no memory and answers Ok.
+    /// offsets stays. It takes no memory and returns Ok.
+    ///
+    /// `Border::filled('#')` on a table of the style `ascii`:
+    ///
+    /// ```text
+    /// #########
+    /// # a | b #
+    /// #---+---#
+    /// # c | d #
+    /// #########
+    /// ```
     fn change(
         self,
         records: &mut Data,
@@ -73,7 +93,17 @@ impl<Data: Records + ExactRecords> CellOption<Data, ColoredConfig> for EmptyBord
     ghost hinted = { λ border. Some cells.Global };
 
     /// Erases the cell characters of the sides and corners of each cell of the entity that lies in the table, also
-    /// of those that it shares with cells beside it. It takes no memory and answers Ok.
+    /// of those that it shares with cells beside it. It takes no memory and returns Ok.
+    ///
+    /// A cell with a border of its own, in a table of the style `ascii`, before and after:
+    ///
+    /// ```text
+    /// #####---+      +---+---+
+    /// # a # b |      | a | b |
+    /// #####---+      +---+---+
+    /// | c | d |      | c | d |
+    /// +---+---+      +---+---+
+    /// ```
     fn change(
         &self,
         records: &mut Data,
@@ -101,7 +131,15 @@ impl<Data: Records + ExactRecords, Dims> TableOption<Data, ColoredConfig, Dims> 
 
     /// Removes the frame of the table: the class record keeps what lies inside, and the cell characters on the outer
     /// lines are erased. Custom lines, offset characters and colors stay. A table without rows or columns has no
-    /// frame. It takes no memory and answers Ok.
+    /// frame. It takes no memory and returns Ok.
+    ///
+    /// On a table of the style `ascii`:
+    ///
+    /// ```text
+    ///  a | b
+    /// ---+---
+    ///  c | d
+    /// ```
     fn change(
         self,
         records: &mut Data,

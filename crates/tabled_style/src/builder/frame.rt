@@ -44,6 +44,16 @@ impl<T, B, L, R, H, V, const HN: usize, const VN: usize> Style<T, B, L, R, H, V,
     /// First the border is corrected. A side of which only a corner is given becomes a space; then each missing
     /// corner between two sides that the border has becomes a space. The custom horizontal lines take the left and
     /// the right side as their ends, the vertical ones the top and the bottom, where they are given.
+    ///
+    /// `Style::ascii().frame(Border::filled('#'))`:
+    ///
+    /// ```text
+    /// ####+####
+    /// # a | b #
+    /// +---+---+
+    /// # c | d #
+    /// ####+####
+    /// ```
     #[tactic(auto, unfolding(crate::specs::Frame::corrected, crate::specs::Frame::with_frame))]
     pub fn frame<Top, Bottom, Left, Right>(
         mut self,

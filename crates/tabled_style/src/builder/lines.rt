@@ -94,6 +94,16 @@ fn settled_vertical(line: VLine<char>, between: Borders<char>) -> Borders<char>
 
 impl<T, B, L, R, H, V, const HN: usize, const VN: usize> Style<T, B, L, R, H, V, HN, VN> {
     /// Replaces the custom horizontal lines by these, each with its index. A later one of the same index counts.
+    ///
+    /// `Style::rounded().horizontals([(1, HorizontalLine::filled('='))])`:
+    ///
+    /// ```text
+    /// ╭───┬───╮
+    /// │ a │ b │
+    /// =========
+    /// │ c │ d │
+    /// ╰───┴───╯
+    /// ```
     pub fn horizontals<const SIZE: usize>(
         self,
         list: [(usize, HorizontalLine<L, R, V>); SIZE],
@@ -104,6 +114,16 @@ impl<T, B, L, R, H, V, const HN: usize, const VN: usize> Style<T, B, L, R, H, V,
     }
 
     /// Replaces the custom vertical lines by these, each with its index. A later one of the same index counts.
+    ///
+    /// `Style::modern().remove_horizontal()` with
+    /// `verticals([(1, VerticalLine::new('#').top('*').bottom('*'))])`:
+    ///
+    /// ```text
+    /// ┌───*───┐
+    /// │ a # b │
+    /// │ c # d │
+    /// └───*───┘
+    /// ```
     pub fn verticals<const SIZE: usize>(
         self,
         list: [(usize, VerticalLine<T, B, H>); SIZE],
@@ -114,6 +134,13 @@ impl<T, B, L, R, H, V, const HN: usize, const VN: usize> Style<T, B, L, R, H, V,
     }
 
     /// Drops the custom horizontal lines.
+    ///
+    /// `Style::psql().remove_horizontals()`:
+    ///
+    /// ```text
+    ///  a | b
+    ///  c | d
+    /// ```
     pub fn remove_horizontals(self) -> Style<T, B, L, R, H, V, 0, VN>
         ensures { result ≡ record self { horizontals = [] } }
     {
@@ -172,6 +199,16 @@ impl<T, B, L, R, H, V, const HN: usize, const VN: usize> Style<T, B, L, R, H, V,
     /// character for them, also at their ends at the top and the bottom that it has then. Where the line has no left
     /// end, the style loses its left side, and likewise the right one. The custom lines take the crossing, the
     /// horizontal ones also the two ends, where they are given.
+    ///
+    /// `Style::ascii().line_horizontal(HorizontalLine::new('=').intersection('*'))`. It has no ends, so the sides go:
+    ///
+    /// ```text
+    /// ---+---
+    ///  a | b
+    /// ===*===
+    ///  c | d
+    /// ---+---
+    /// ```
     pub fn line_horizontal<Left, Right, Intersection>(
         self,
         line: HorizontalLine<Left, Right, Intersection>,
@@ -182,6 +219,15 @@ impl<T, B, L, R, H, V, const HN: usize, const VN: usize> Style<T, B, L, R, H, V,
     }
 
     /// Replaces the top by this line. The rest of the style follows as in [`line_horizontal`](Style::line_horizontal).
+    ///
+    /// `Style::psql().line_top(HorizontalLine::new('=').intersection('*'))`. The custom line takes the crossing:
+    ///
+    /// ```text
+    /// ===*===
+    ///  a | b
+    /// ---*---
+    ///  c | d
+    /// ```
     pub fn line_top<Left, Right, Intersection>(
         self,
         line: HorizontalLine<Left, Right, Intersection>,
@@ -193,6 +239,15 @@ impl<T, B, L, R, H, V, const HN: usize, const VN: usize> Style<T, B, L, R, H, V,
 
     /// Replaces the bottom by this line. The rest of the style follows as in
     /// [`line_horizontal`](Style::line_horizontal).
+    ///
+    /// `Style::psql().line_bottom(HorizontalLine::new('=').intersection('*'))`. The custom line takes the crossing:
+    ///
+    /// ```text
+    ///  a | b
+    /// ---*---
+    ///  c | d
+    /// ===*===
+    /// ```
     pub fn line_bottom<Left, Right, Intersection>(
         self,
         line: HorizontalLine<Left, Right, Intersection>,
@@ -209,6 +264,14 @@ impl<T, B, L, R, H, V, const HN: usize, const VN: usize> Style<T, B, L, R, H, V,
     /// character for them, also at their ends at the left and the right side that it has then. Where the line has no
     /// upper end, the style loses its top, and likewise the bottom. The custom lines take the crossing, the vertical
     /// ones also the two ends, where they are given.
+    ///
+    /// `Style::psql().line_vertical(VerticalLine::new('#').intersection('*'))`:
+    ///
+    /// ```text
+    ///  a # b
+    /// ---*---
+    ///  c # d
+    /// ```
     pub fn line_vertical<Top, Bottom, Intersection>(
         self,
         line: VerticalLine<Top, Bottom, Intersection>,
@@ -220,6 +283,14 @@ impl<T, B, L, R, H, V, const HN: usize, const VN: usize> Style<T, B, L, R, H, V,
 
     /// Replaces the left side by this line. The rest of the style follows as in
     /// [`line_vertical`](Style::line_vertical).
+    ///
+    /// `Style::psql().line_left(VerticalLine::new('#'))`. The custom line has no end there:
+    ///
+    /// ```text
+    /// # a | b
+    ///  ---+---
+    /// # c | d
+    /// ```
     pub fn line_left<Top, Bottom, Intersection>(
         self,
         line: VerticalLine<Top, Bottom, Intersection>,
@@ -231,6 +302,14 @@ impl<T, B, L, R, H, V, const HN: usize, const VN: usize> Style<T, B, L, R, H, V,
 
     /// Replaces the right side by this line. The rest of the style follows as in
     /// [`line_vertical`](Style::line_vertical).
+    ///
+    /// `Style::psql().line_right(VerticalLine::new('#'))`. The custom line has no end there:
+    ///
+    /// ```text
+    ///  a | b #
+    /// ---+---
+    ///  c | d #
+    /// ```
     pub fn line_right<Top, Bottom, Intersection>(
         self,
         line: VerticalLine<Top, Bottom, Intersection>,

@@ -18,7 +18,7 @@ impl<T, B, L, R, H, V, const HN: usize, const VN: usize, Data, Dims> TableOption
     ghost hinted = { λ style. None };
 
     /// Erases every border character and color of every level, offsets too; then puts the custom lines at their
-    /// indices, in their order, and sets the class record. Without custom lines it takes no memory and answers Ok.
+    /// indices, in their order, and sets the class record. Without custom lines it takes no memory and returns Ok.
     fn change(
         self,
         _records: &mut Data,

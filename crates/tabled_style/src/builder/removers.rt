@@ -48,6 +48,15 @@ impl<T, B, L, R, H, V, const HN: usize, const VN: usize> Style<T, B, L, R, H, V,
 
 impl<B, L, R, H, V, const HN: usize, const VN: usize> Style<On, B, L, R, H, V, HN, VN> {
     /// Drops the top: its edges, its crossings and its corners, and the upper ends of the custom vertical lines.
+    ///
+    /// `Style::ascii().remove_top()`:
+    ///
+    /// ```text
+    /// | a | b |
+    /// +---+---+
+    /// | c | d |
+    /// +---+---+
+    /// ```
     pub fn remove_top(self) -> Style<(), B, L, R, H, V, HN, VN>
         ensures { result ≡ without_horizontal Rank.First self }
     {
@@ -58,6 +67,15 @@ impl<B, L, R, H, V, const HN: usize, const VN: usize> Style<On, B, L, R, H, V, H
 impl<T, L, R, H, V, const HN: usize, const VN: usize> Style<T, On, L, R, H, V, HN, VN> {
     /// Drops the bottom: its edges, its crossings and its corners, and the lower ends of the custom vertical
     /// lines.
+    ///
+    /// `Style::ascii().remove_bottom()`:
+    ///
+    /// ```text
+    /// +---+---+
+    /// | a | b |
+    /// +---+---+
+    /// | c | d |
+    /// ```
     pub fn remove_bottom(self) -> Style<T, (), L, R, H, V, HN, VN>
         ensures { result ≡ without_horizontal Rank.Last self }
     {
@@ -68,6 +86,16 @@ impl<T, L, R, H, V, const HN: usize, const VN: usize> Style<T, On, L, R, H, V, H
 impl<T, B, R, H, V, const HN: usize, const VN: usize> Style<T, B, On, R, H, V, HN, VN> {
     /// Drops the left side: its edges, its crossings and its corners, and the left ends of the custom horizontal
     /// lines.
+    ///
+    /// `Style::ascii().remove_left()`:
+    ///
+    /// ```text
+    /// ---+---+
+    ///  a | b |
+    /// ---+---+
+    ///  c | d |
+    /// ---+---+
+    /// ```
     pub fn remove_left(self) -> Style<T, B, (), R, H, V, HN, VN>
         ensures { result ≡ without_vertical Rank.First self }
     {
@@ -78,6 +106,16 @@ impl<T, B, R, H, V, const HN: usize, const VN: usize> Style<T, B, On, R, H, V, H
 impl<T, B, L, H, V, const HN: usize, const VN: usize> Style<T, B, L, On, H, V, HN, VN> {
     /// Drops the right side: its edges, its crossings and its corners, and the right ends of the custom
     /// horizontal lines.
+    ///
+    /// `Style::ascii().remove_right()`:
+    ///
+    /// ```text
+    /// +---+---
+    /// | a | b
+    /// +---+---
+    /// | c | d
+    /// +---+---
+    /// ```
     pub fn remove_right(self) -> Style<T, B, L, (), H, V, HN, VN>
         ensures { result ≡ without_vertical Rank.Last self }
     {
@@ -87,6 +125,15 @@ impl<T, B, L, H, V, const HN: usize, const VN: usize> Style<T, B, L, On, H, V, H
 
 impl<T, B, L, R, V, const HN: usize, const VN: usize> Style<T, B, L, R, On, V, HN, VN> {
     /// Drops the lines between rows and their crossings. Custom lines stay.
+    ///
+    /// `Style::ascii().remove_horizontal()`:
+    ///
+    /// ```text
+    /// +---+---+
+    /// | a | b |
+    /// | c | d |
+    /// +---+---+
+    /// ```
     pub fn remove_horizontal(mut self) -> Style<T, B, L, R, (), V, HN, VN>
         ensures { result ≡ record self { borders = horizontal_dropped Rank.Inner self.borders } }
     {
@@ -97,6 +144,16 @@ impl<T, B, L, R, V, const HN: usize, const VN: usize> Style<T, B, L, R, On, V, H
 
 impl<T, B, L, R, H, const HN: usize, const VN: usize> Style<T, B, L, R, H, On, HN, VN> {
     /// Drops the lines between columns and their crossings. Custom lines stay.
+    ///
+    /// `Style::ascii().remove_vertical()`:
+    ///
+    /// ```text
+    /// +------+
+    /// | a  b |
+    /// +------+
+    /// | c  d |
+    /// +------+
+    /// ```
     pub fn remove_vertical(mut self) -> Style<T, B, L, R, H, (), HN, VN>
         ensures { result ≡ record self { borders = vertical_dropped Rank.Inner self.borders } }
     {
@@ -113,6 +170,14 @@ impl<H, V, const HN: usize, const VN: usize> Style<On, On, On, On, H, V, HN, VN>
 
     /// Drops the frame: the bottom, the top, the left and the right side. What stays are the lines between rows
     /// and between columns with the crossings of the two, and the custom lines without their ends.
+    ///
+    /// `Style::ascii().remove_frame()`:
+    ///
+    /// ```text
+    ///  a | b
+    /// ---+---
+    ///  c | d
+    /// ```
     pub fn remove_frame(self) -> Style<(), (), (), (), H, V, HN, VN>
         ensures { result ≡ record {
           borders = inner_of self.borders;

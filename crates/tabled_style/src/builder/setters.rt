@@ -75,6 +75,16 @@ impl<T, B, L, R, H, V, const HN: usize, const VN: usize> Style<T, B, L, R, H, V,
 
     /// Sets the top: the edges above the first row, the corners there of the sides that the style has, the
     /// crossings there where it has lines between columns, and the upper ends of its custom vertical lines.
+    ///
+    /// `Style::ascii().top('=')`:
+    ///
+    /// ```text
+    /// =========
+    /// | a | b |
+    /// +---+---+
+    /// | c | d |
+    /// +---+---+
+    /// ```
     pub fn top(self, c: char) -> Style<On, B, L, R, H, V, HN, VN>
         ensures { result ≡ with_horizontal Rank.First c self }
     {
@@ -83,6 +93,16 @@ impl<T, B, L, R, H, V, const HN: usize, const VN: usize> Style<T, B, L, R, H, V,
 
     /// Sets the bottom: the edges below the last row, the corners there of the sides that the style has, the
     /// crossings there where it has lines between columns, and the lower ends of its custom vertical lines.
+    ///
+    /// `Style::ascii().bottom('=')`:
+    ///
+    /// ```text
+    /// +---+---+
+    /// | a | b |
+    /// +---+---+
+    /// | c | d |
+    /// =========
+    /// ```
     pub fn bottom(self, c: char) -> Style<T, On, L, R, H, V, HN, VN>
         ensures { result ≡ with_horizontal Rank.Last c self }
     {
@@ -92,15 +112,35 @@ impl<T, B, L, R, H, V, const HN: usize, const VN: usize> Style<T, B, L, R, H, V,
     /// Sets the left side: the edges before the first column, the corners there where the style has a top or a
     /// bottom, the crossings there where it has lines between rows, and the left ends of its custom horizontal
     /// lines.
+    ///
+    /// `Style::ascii().left('#')`:
+    ///
+    /// ```text
+    /// #---+---+
+    /// # a | b |
+    /// #---+---+
+    /// # c | d |
+    /// #---+---+
+    /// ```
     pub fn left(self, c: char) -> Style<T, B, On, R, H, V, HN, VN>
         ensures { result ≡ with_vertical Rank.First c self }
     {
         self.with_vertical(Rank::First, c)
     }
 
-    /// Sets the right side: the edges behind the last column, the corners there where the style has a top or a
+    /// Sets the right side: the edges after the last column, the corners there where the style has a top or a
     /// bottom, the crossings there where it has lines between rows, and the right ends of its custom horizontal
     /// lines.
+    ///
+    /// `Style::ascii().right('#')`:
+    ///
+    /// ```text
+    /// +---+---#
+    /// | a | b #
+    /// +---+---#
+    /// | c | d #
+    /// +---+---#
+    /// ```
     pub fn right(self, c: char) -> Style<T, B, L, On, H, V, HN, VN>
         ensures { result ≡ with_vertical Rank.Last c self }
     {
@@ -109,6 +149,16 @@ impl<T, B, L, R, H, V, const HN: usize, const VN: usize> Style<T, B, L, R, H, V,
 
     /// Sets the lines between rows: their edges, their crossings where the style has lines between columns, their
     /// ends at the sides that it has, and the crossings of its custom vertical lines.
+    ///
+    /// `Style::ascii().horizontal('=')`:
+    ///
+    /// ```text
+    /// +---+---+
+    /// | a | b |
+    /// =========
+    /// | c | d |
+    /// +---+---+
+    /// ```
     pub fn horizontal(self, c: char) -> Style<T, B, L, R, On, V, HN, VN>
         ensures { result ≡ with_horizontal Rank.Inner c self }
     {
@@ -117,6 +167,16 @@ impl<T, B, L, R, H, V, const HN: usize, const VN: usize> Style<T, B, L, R, H, V,
 
     /// Sets the lines between columns: their edges, their crossings where the style has lines between rows, their
     /// ends at the top and the bottom where it has them, and the crossings of its custom horizontal lines.
+    ///
+    /// `Style::ascii().vertical('#')`:
+    ///
+    /// ```text
+    /// +---#---+
+    /// | a # b |
+    /// +---#---+
+    /// | c # d |
+    /// +---#---+
+    /// ```
     pub fn vertical(self, c: char) -> Style<T, B, L, R, H, On, HN, VN>
         ensures { result ≡ with_vertical Rank.Inner c self }
     {
@@ -126,6 +186,16 @@ impl<T, B, L, R, H, V, const HN: usize, const VN: usize> Style<T, B, L, R, H, V,
 
 impl<B, R, H, V, const HN: usize, const VN: usize> Style<On, B, On, R, H, V, HN, VN> {
     /// Sets the upper left corner.
+    ///
+    /// `Style::modern().corner_top_left('╭')`:
+    ///
+    /// ```text
+    /// ╭───┬───┐
+    /// │ a │ b │
+    /// ├───┼───┤
+    /// │ c │ d │
+    /// └───┴───┘
+    /// ```
     pub fn corner_top_left(mut self, c: char) -> Self
         ensures { result ≡ record self { borders = record self.borders { top_left = Some c } } }
     {
@@ -136,6 +206,16 @@ impl<B, R, H, V, const HN: usize, const VN: usize> Style<On, B, On, R, H, V, HN,
 
 impl<B, L, H, V, const HN: usize, const VN: usize> Style<On, B, L, On, H, V, HN, VN> {
     /// Sets the upper right corner.
+    ///
+    /// `Style::modern().corner_top_right('╮')`:
+    ///
+    /// ```text
+    /// ┌───┬───╮
+    /// │ a │ b │
+    /// ├───┼───┤
+    /// │ c │ d │
+    /// └───┴───┘
+    /// ```
     pub fn corner_top_right(mut self, c: char) -> Self
         ensures { result ≡ record self { borders = record self.borders { top_right = Some c } } }
     {
@@ -146,6 +226,16 @@ impl<B, L, H, V, const HN: usize, const VN: usize> Style<On, B, L, On, H, V, HN,
 
 impl<T, R, H, V, const HN: usize, const VN: usize> Style<T, On, On, R, H, V, HN, VN> {
     /// Sets the lower left corner.
+    ///
+    /// `Style::modern().corner_bottom_left('╰')`:
+    ///
+    /// ```text
+    /// ┌───┬───┐
+    /// │ a │ b │
+    /// ├───┼───┤
+    /// │ c │ d │
+    /// ╰───┴───┘
+    /// ```
     pub fn corner_bottom_left(mut self, c: char) -> Self
         ensures { result ≡ record self { borders = record self.borders { bottom_left = Some c } } }
     {
@@ -156,6 +246,16 @@ impl<T, R, H, V, const HN: usize, const VN: usize> Style<T, On, On, R, H, V, HN,
 
 impl<T, L, H, V, const HN: usize, const VN: usize> Style<T, On, L, On, H, V, HN, VN> {
     /// Sets the lower right corner.
+    ///
+    /// `Style::modern().corner_bottom_right('╯')`:
+    ///
+    /// ```text
+    /// ┌───┬───┐
+    /// │ a │ b │
+    /// ├───┼───┤
+    /// │ c │ d │
+    /// └───┴───╯
+    /// ```
     pub fn corner_bottom_right(mut self, c: char) -> Self
         ensures { result ≡ record self { borders = record self.borders { bottom_right = Some c } } }
     {
@@ -166,6 +266,16 @@ impl<T, L, H, V, const HN: usize, const VN: usize> Style<T, On, L, On, H, V, HN,
 
 impl<T, B, R, V, const HN: usize, const VN: usize> Style<T, B, On, R, On, V, HN, VN> {
     /// Sets the left ends of the lines between rows.
+    ///
+    /// `Style::ascii().intersection_left('*')`:
+    ///
+    /// ```text
+    /// +---+---+
+    /// | a | b |
+    /// *---+---+
+    /// | c | d |
+    /// +---+---+
+    /// ```
     pub fn intersection_left(mut self, c: char) -> Self
         ensures { result ≡ record self { borders = record self.borders { left_intersection = Some c } } }
     {
@@ -176,6 +286,16 @@ impl<T, B, R, V, const HN: usize, const VN: usize> Style<T, B, On, R, On, V, HN,
 
 impl<T, B, L, V, const HN: usize, const VN: usize> Style<T, B, L, On, On, V, HN, VN> {
     /// Sets the right ends of the lines between rows.
+    ///
+    /// `Style::ascii().intersection_right('*')`:
+    ///
+    /// ```text
+    /// +---+---+
+    /// | a | b |
+    /// +---+---*
+    /// | c | d |
+    /// +---+---+
+    /// ```
     pub fn intersection_right(mut self, c: char) -> Self
         ensures { result ≡ record self { borders = record self.borders { right_intersection = Some c } } }
     {
@@ -186,6 +306,16 @@ impl<T, B, L, V, const HN: usize, const VN: usize> Style<T, B, L, On, On, V, HN,
 
 impl<B, L, R, H, const HN: usize, const VN: usize> Style<On, B, L, R, H, On, HN, VN> {
     /// Sets the upper ends of the lines between columns.
+    ///
+    /// `Style::ascii().intersection_top('*')`:
+    ///
+    /// ```text
+    /// +---*---+
+    /// | a | b |
+    /// +---+---+
+    /// | c | d |
+    /// +---+---+
+    /// ```
     pub fn intersection_top(mut self, c: char) -> Self
         ensures { result ≡ record self { borders = record self.borders { top_intersection = Some c } } }
     {
@@ -196,6 +326,16 @@ impl<B, L, R, H, const HN: usize, const VN: usize> Style<On, B, L, R, H, On, HN,
 
 impl<T, L, R, H, const HN: usize, const VN: usize> Style<T, On, L, R, H, On, HN, VN> {
     /// Sets the lower ends of the lines between columns.
+    ///
+    /// `Style::ascii().intersection_bottom('*')`:
+    ///
+    /// ```text
+    /// +---+---+
+    /// | a | b |
+    /// +---+---+
+    /// | c | d |
+    /// +---*---+
+    /// ```
     pub fn intersection_bottom(mut self, c: char) -> Self
         ensures { result ≡ record self { borders = record self.borders { bottom_intersection = Some c } } }
     {
@@ -207,6 +347,16 @@ impl<T, L, R, H, const HN: usize, const VN: usize> Style<T, On, L, R, H, On, HN,
 #[tactic(auto, unfolding(crate::specs::Setting::with_intersection))]
 impl<T, B, L, R, const HN: usize, const VN: usize> Style<T, B, L, R, On, On, HN, VN> {
     /// Sets the crossings of the lines between rows with those between columns, and those of all custom lines.
+    ///
+    /// `Style::ascii().intersection('*')`:
+    ///
+    /// ```text
+    /// +---+---+
+    /// | a | b |
+    /// +---*---+
+    /// | c | d |
+    /// +---+---+
+    /// ```
     pub fn intersection(mut self, c: char) -> Self
         ensures { result ≡ with_intersection c self }
     {
