@@ -6,6 +6,6 @@ pub mod themes;
 
 pub use tabled_color::Color;
 pub use tabled_config::{CellOption, TableOption, modify};
-pub use tabled_options::Alignment;
+pub use tabled_options::{Alignment, Highlight};
 pub use tabled_style::{Border, Style};
 pub use tabled_theme::Theme;

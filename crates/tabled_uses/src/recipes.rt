@@ -3,11 +3,9 @@
 
 use std::alloc::Global;
 use std::test::Fail;
-use tabled::settings::object::{Cell, Columns, Combine, Rows};
-use tabled::settings::style::{
-    Border, EmptyBorder, HorizontalLine, LineChar, LineText, Offset, VerticalLine,
-};
-use tabled::settings::{Alignment, Style, Theme};
+use tabled::settings::object::{Cell, Columns, Combine, Rows, Segment};
+use tabled::settings::style::{Border, HorizontalLine, LineText};
+use tabled::settings::{Alignment, Highlight, Style};
 use tabled::{TableError, TextTable};
 
 /// The table that the recipes draw.
@@ -116,6 +114,39 @@ fn title_in_the_top_line_is_drawn(rt: HostRuntime) -> Result<(), Fail> {
 ├───────┼─────┤
 │ Bob   │ 7   │
 └───────┴─────┘
+";
+    assert!(rt; is_picture(text.as_str(), picture));
+    Ok(())
+}
+
+/// An outline around a ring of cells, and a cell that touches it at a corner.
+pub fn outline_around_cells(alloc: Global) -> Result<String, TableError> {
+    let rows: &[&[&str]] = &[
+        &["a", "b", "c", "d"],
+        &["e", "f", "g", "h"],
+        &["i", "j", "k", "l"],
+        &["m", "n", "o", "p"],
+    ];
+    let mut table = TextTable::new(alloc, rows)?;
+    let ring = Segment::all().not(Rows::last().and(Columns::last()).and((1, 1)));
+    let border = Border::full('─', '─', '│', '│', '┌', '┐', '└', '┘');
+    table.with(Highlight::new(ring.and((3, 3))).border(border))?;
+    Ok(table.to_text()?)
+}
+
+#[test]
+fn outline_around_cells_is_drawn(rt: HostRuntime) -> Result<(), Fail> {
+    let text = outline_around_cells(rt.alloc())?;
+    let picture = "
+┌───────────┐    
+│ a   b   c │ d  
+│   ┌───┐   │    
+│ e │ f │ g │ h  
+│   └───┘   │    
+│ i   j   k │ l  
+└───────────┌───┐
+  m   n   o │ p │
+            └───┘
 ";
     assert!(rt; is_picture(text.as_str(), picture));
     Ok(())
