@@ -1,4 +1,4 @@
-//! The outline of the README.
+//! The outline of docs/LIBRARY.md.
 
 use crate::tables::{Cells, Table};
 use std::alloc::Global;

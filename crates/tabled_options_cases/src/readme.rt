@@ -1,4 +1,4 @@
-//! The second sample of the README, word for word.
+//! The title and the mark of docs/LIBRARY.md, word for word.
 
 use crate::tables::texts;
 use std::alloc::Global;

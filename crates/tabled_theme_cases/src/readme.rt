@@ -1,4 +1,4 @@
-//! The theme of the README, word for word.
+//! The theme of docs/LIBRARY.md, word for word.
 
 use crate::tables::prints_at_widths;
 use std::test::Fail;

@@ -18,7 +18,6 @@ mod markers;
 #[cfg(test)]
 mod options;
 #[cfg(test)]
-mod own_option;
 #[cfg(test)]
 mod pages;
 #[cfg(test)]

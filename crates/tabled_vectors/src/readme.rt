@@ -1,4 +1,4 @@
-//! The sample of the README, word for word.
+//! The sample of docs/LIBRARY.md, word for word.
 
 use std::test::Fail;
 use tabled_config::{ColoredConfig, SpannedConfig, TableOption, modify, print_plain};
