@@ -64,7 +64,7 @@ impl Model for TextTable {
 }
 
 impl TextTable {
-    ghost use Rattle.std.specs.Prelude.{◌≡◌, ℕ, List, [], ◌++◌, ◌⊎◌, None, Err, map, length, take, string_bytes, slice_get, IfOk, OnOk, OnErr, MatchOption, IsOkUnless};
+    ghost use Rattle.std.specs.Prelude.{◌≡◌, ℕ, List, [], ◌++◌, ◌⊎◌, None, Err, map, length, take, string_bytes, slice_get, IfOk, IfErr, OnOk, OnErr, MatchOption, IsOkUnless};
     ghost use Rattle.std.specs.Borrow.{Lends, sem};
     ghost use Rattle.tabled_config.specs.Colored.{Shows, Changes};
     ghost use Rattle.tabled_config.specs.Configuration.{ConfigEvent};
@@ -74,6 +74,7 @@ impl TextTable {
     ghost use Rattle.tabled_config.specs.Refusal.{span_faults};
     ghost use Rattle.tabled_config.specs.Texts.{texts};
     ghost use Rattle.tabled_config.specs.declared.print_error.PrintError.{PrintError as Fault};
+    ghost use Rattle.tabled_text.specs.Refusal.{of_printer};
     ghost use Rattle.tabled_text.specs.Sizes.{column_count, column_widths, row_heights, unequal_row};
     ghost use Rattle.tabled_text.specs.TextTable.{lent_rows, shape_of, text_of};
     ghost use Rattle.tabled_text.specs.declared.table_error.TableError.{TableError as Refusal};
@@ -232,6 +233,7 @@ impl TextTable {
     /// the writer fails some of the text may be.
     pub fn write_to<W: fmt::Write>(&self, out: &mut W) -> Result<(), TableError>
         ensures text { (es : List ConfigEvent) → borders.Shows es self.now.config.spanned → OnOk result (W.write_str_gives out.old (text_of es self.now.texts) out.new) }
+        ensures refusal { MatchOption (slice_get (span_faults self.now.config.spanned) 0) (IfErr result (λ e. (e ≡ Refusal.OutOfMemory) ⊎ (e ≡ Refusal.Write))) (λ e. result ≡ Err (of_printer e)) }
         ensures unwritten { result ≡ Err Refusal.OutOfMemory → out.new ≡ out.old }
     {
         let text = self.to_text()?;
