@@ -17,7 +17,7 @@ use Rattle.tabled_grid.specs.State.{state_at, class_record_set, writes_of}
 use Rattle.tabled_grid.proofs.Replay.{Changes-nil}
 use Rattle.tabled_settings.specs.Setting.{EntityEvent}
 use Rattle.tabled_settings.specs.Live.{Live}
-use Rattle.tabled_settings.specs.CellSettings.{SettingEvent, settings_left}
+use Rattle.tabled_layout.specs.TableSettings.{TableEvent, settings_left}
 use Rattle.tabled_config.specs.CellColors.{given, changed, colors_after_event, colors_after}
 use Rattle.tabled_config.specs.ChangeLaws.{colors_after-append, none_change_borders}
 use Rattle.tabled_config.specs.Configuration as borders
@@ -66,7 +66,7 @@ given_alone : (colors : Option (Live Texts)) → colors_after None (cell_colors_
 given_alone None = refl
 given_alone (Some live) = refl
 
-none_of_settings : (es : List SettingEvent) → cell_colors_of (map of_settings es) ≡ []
+none_of_settings : (es : List TableEvent) → cell_colors_of (map of_settings es) ≡ []
 none_of_settings es = passed_over of_settings cell_color_event (λ e. refl) es
 
 none_in_writes : (cfg : Configuration) → cell_colors_of (borders.all_writes cfg) ≡ []

@@ -21,10 +21,10 @@ use Rattle.tabled_border.specs.Texts.{Texts}
 use Rattle.tabled_grid.proofs.Replay.{replay-nil, replay_cleared, Shows_after, Changes-append, Changes-nil, Changes_from_nothing}
 use Rattle.tabled_grid.specs.Calls.{default_set, lines_erased, offsets_erased}
 use Rattle.tabled_grid.proofs.Writing.{Shows-writes_of}
-use Rattle.tabled_settings.specs.declared.cell_settings.CellSettings.{CellSettings}
-use Rattle.tabled_settings.specs.CellSettings.{SettingEvent, after_event, settings_after, first_settings, settings_left}
-use Rattle.tabled_settings.proofs.SettingsLemmas.{settings_after-append, as_by_what_is_left}
-use Rattle.tabled_config.specs.Configuration.{Configuration, ConfigEvent, of_characters, of_colors, of_settings, character_event, color_event, setting_event, characters_of, colors_of, settings_of, by_setting, by_characters, by_colors, writes_applied, all_but_offsets, default_color_set, Shows, Changes, all_writes, borders_set, borders_removed}
+use Rattle.tabled_layout.specs.declared.table_settings.TableSettings.{TableSettings}
+use Rattle.tabled_layout.specs.TableSettings.{TableEvent, after_event, settings_after, first_settings, settings_left}
+use Rattle.tabled_layout.proofs.LayoutLemmas.{settings_after-append, as_by_what_is_left}
+use Rattle.tabled_config.specs.Configuration.{Configuration, ConfigEvent, of_characters, of_colors, of_settings, character_event, color_event, setting_event, characters_of, colors_of, settings_of, by_characters, by_colors, writes_applied, all_but_offsets, default_color_set, Shows, Changes, all_writes, borders_set, borders_removed}
 
 -- events of another kind are passed over
 pub passed_over : {A B : Type 0} (kind : A → ConfigEvent) (mine : ConfigEvent → Option B) → ((e : A) → mine (kind e) ≡ None) → (es : List A) → filter_map mine (map kind es) ≡ []
@@ -67,11 +67,11 @@ pub colors_of-both : (es : List (Event ℕ)) (fs : List (Event Texts)) → color
 colors_of-both es fs = filter_map-append color_event (by_characters es) (by_colors fs) ∙ ap (λ start. start ++ colors_of (by_colors fs)) (colors_of-by_characters es) ∙ colors_of-by_colors fs
 
 -- events that are none of settings leave these
-settings_kept : (es : List ConfigEvent) (settings : CellSettings) → settings_of es ≡ [] → settings ≡ settings_after settings (settings_of es)
+settings_kept : (es : List ConfigEvent) (settings : TableSettings) → settings_of es ≡ [] → settings ≡ settings_after settings (settings_of es)
 settings_kept es settings none = sym (ap (settings_after settings) none)
 
 -- a change of the characters alone, and of the colors alone
-pub Changes_by_characters : (es : List (Event ℕ)) (before after : State ℕ) (colors : State Texts) (settings : CellSettings) (old : Configuration) → record { characters = before; colors = colors; settings = settings } ≡ old → grid.Changes es (state_at before) (state_at after) → Changes (by_characters es) old (record { characters = after; colors = colors; settings = settings })
+pub Changes_by_characters : (es : List (Event ℕ)) (before after : State ℕ) (colors : State Texts) (settings : TableSettings) (old : Configuration) → record { characters = before; colors = colors; settings = settings } ≡ old → grid.Changes es (state_at before) (state_at after) → Changes (by_characters es) old (record { characters = after; colors = colors; settings = settings })
 Changes_by_characters es before after colors settings old is changes =
     subst (λ cfg. Changes (by_characters es) cfg (record { characters = after; colors = colors; settings = settings })) is (record {
       characters_changed = subst (λ all. grid.Changes all (state_at before) (state_at after)) (sym (characters_of-by_characters es)) changes;
@@ -79,7 +79,7 @@ Changes_by_characters es before after colors settings old is changes =
       settings_changed = settings_kept (by_characters es) settings (settings_of-by_characters es);
     })
 
-pub Changes_by_colors : (es : List (Event Texts)) (characters : State ℕ) (before after : State Texts) (settings : CellSettings) (old : Configuration) → record { characters = characters; colors = before; settings = settings } ≡ old → grid.Changes es (state_at before) (state_at after) → Changes (by_colors es) old (record { characters = characters; colors = after; settings = settings })
+pub Changes_by_colors : (es : List (Event Texts)) (characters : State ℕ) (before after : State Texts) (settings : TableSettings) (old : Configuration) → record { characters = characters; colors = before; settings = settings } ≡ old → grid.Changes es (state_at before) (state_at after) → Changes (by_colors es) old (record { characters = characters; colors = after; settings = settings })
 Changes_by_colors es characters before after settings old is changes =
     subst (λ cfg. Changes (by_colors es) cfg (record { characters = characters; colors = after; settings = settings })) is (record {
       characters_changed = subst (λ all. grid.Changes all (state_at characters) (state_at characters)) (sym (characters_of-by_colors es)) (Changes-nil (state_at characters));
@@ -96,9 +96,9 @@ Changes_by_both es fs old new of_es of_fs same = record {
 }
 
 -- one event of settings
-pub Changes_by_setting : (e : SettingEvent) (characters : State ℕ) (colors : State Texts) (before after : CellSettings) (old : Configuration) → record { characters = characters; colors = colors; settings = before } ≡ old → after ≡ after_event before e → Changes (by_setting e) old (record { characters = characters; colors = colors; settings = after })
+pub Changes_by_setting : (e : TableEvent) (characters : State ℕ) (colors : State Texts) (before after : TableSettings) (old : Configuration) → record { characters = characters; colors = colors; settings = before } ≡ old → after ≡ after_event before e → Changes (of_settings e ∷ []) old (record { characters = characters; colors = colors; settings = after })
 Changes_by_setting e characters colors before after old is changed =
-    subst (λ cfg. Changes (by_setting e) cfg (record { characters = characters; colors = colors; settings = after })) is
+    subst (λ cfg. Changes (of_settings e ∷ []) cfg (record { characters = characters; colors = colors; settings = after })) is
     (record { characters_changed = Changes-nil (state_at characters); colors_changed = Changes-nil (state_at colors); settings_changed = changed })
 
 -- two lists of writes made
@@ -109,7 +109,7 @@ Changes-writes_applied (Ok x) characters colors before after old is same first s
 Changes-writes_applied (Err e) characters colors before after old is same first second = tt
 
 -- the class record set whole
-pub Changes-borders_set : (borders : Borders ℕ) (before after : State ℕ) (colors : State Texts) (settings : CellSettings) (old : Configuration) → record { characters = before; colors = colors; settings = settings } ≡ old → grid.Changes (class_record_set borders) (state_at before) (state_at after) → Changes (borders_set borders) old (record { characters = after; colors = colors; settings = settings })
+pub Changes-borders_set : (borders : Borders ℕ) (before after : State ℕ) (colors : State Texts) (settings : TableSettings) (old : Configuration) → record { characters = before; colors = colors; settings = settings } ≡ old → grid.Changes (class_record_set borders) (state_at before) (state_at after) → Changes (borders_set borders) old (record { characters = after; colors = colors; settings = settings })
 unfolding borders_set
 Changes-borders_set borders before after colors settings old is changes = Changes_by_characters (class_record_set borders) before after colors settings old is changes
 
@@ -166,7 +166,7 @@ default_color_in_turn color a b c d first second third =
     (Changes-append (erase (level_sites 1) ∷ []) (erase (level_sites 4) ∷ []) (state_at b) (state_at c) (state_at d) second third)
 
 -- every border removed
-pub Changes-borders_removed : (before after : State ℕ) (colors : State Texts) (settings : CellSettings) (old : Configuration) → record { characters = before; colors = colors; settings = settings } ≡ old → grid.Changes all_but_offsets (state_at before) (state_at after) → Changes borders_removed old (record { characters = after; colors = colors; settings = settings })
+pub Changes-borders_removed : (before after : State ℕ) (colors : State Texts) (settings : TableSettings) (old : Configuration) → record { characters = before; colors = colors; settings = settings } ≡ old → grid.Changes all_but_offsets (state_at before) (state_at after) → Changes borders_removed old (record { characters = after; colors = colors; settings = settings })
 unfolding borders_removed
 Changes-borders_removed before after colors settings old is changes = Changes_by_characters all_but_offsets before after colors settings old is changes
 
@@ -195,7 +195,7 @@ module _ (cfg : Configuration) where
       filter_map-append setting_event bordered (map of_settings (settings_left cfg.settings))
       ∙ (λ i. settings_of-both (writes_of cfg.characters) (writes_of cfg.colors) i ++ settings_alone (settings_left cfg.settings) i)
     where
-      settings_alone : (es : List SettingEvent) → settings_of (map of_settings es) ≡ es
+      settings_alone : (es : List TableEvent) → settings_of (map of_settings es) ≡ es
       settings_alone [] = refl
       settings_alone (e ∷ es) = ap (λ rest. e ∷ rest) (settings_alone es)
 

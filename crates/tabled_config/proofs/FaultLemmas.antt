@@ -7,7 +7,7 @@ use Rattle.std.proofs.lemmas.List.{drop_more, drop_all, get_or-map, length-map}
 use Rattle.tabled_config.specs.declared.print_error.PrintError.{PrintError}
 use Rattle.tabled_config.specs.Texts.{Table}
 use Rattle.tabled_config.specs.Configuration.{Configuration}
-use Rattle.tabled_config.specs.Refusal.{unless, cell_faults, row_faults, table_faults, first_refusal}
+use Rattle.tabled_config.specs.Refusal.{unless, cell_faults, row_faults, table_faults, span_faults, first_refusal}
 
 -- the first element of a list that begins with others
 first_here : {E : Type 0} (xs ys : List E) (r : Option E) → r ≡ slice_get xs 0 → is_some r ≡ true → r ≡ slice_get (xs ++ ys) 0
@@ -75,7 +75,7 @@ pub right_rows : (cfg : Configuration) (widths heights : ℕ → ℕ) (shape : �
 right_rows cfg widths heights shape cells e =
     eqb-true (length cells) shape.0
     (no_fault (length cells == shape.0) PrintError.RowCount
-    (none_front (unless (length cells == shape.0) PrintError.RowCount) (flat_map (row_faults widths heights shape.1) (enumerate_from 0 cells)) (none_first (table_faults widths heights shape cells) e)))
+    (none_front (unless (length cells == shape.0) PrintError.RowCount) (flat_map (row_faults widths heights shape.1) (enumerate_from 0 cells)) (none_rest (span_faults cfg) (table_faults widths heights shape cells) (none_first (span_faults cfg ++ table_faults widths heights shape cells) e))))
 
 -- and each row has as many cells
 right_cells : (widths heights : ℕ → ℕ) (cols n : ℕ) (cells : Table) → flat_map (row_faults widths heights cols) (enumerate_from n cells) ≡ [] → All (λ row. length row ≡ cols) cells
@@ -91,4 +91,4 @@ right_cells widths heights cols n (row ∷ rows) e =
 pub right_columns : (cfg : Configuration) (widths heights : ℕ → ℕ) (shape : ℕ × ℕ) (cells : Table) → first_refusal cfg shape widths heights cells ≡ None → All (λ row. length row ≡ shape.1) cells
 right_columns cfg widths heights shape cells e =
     right_cells widths heights shape.1 0 cells
-    (none_rest (unless (length cells == shape.0) PrintError.RowCount) (flat_map (row_faults widths heights shape.1) (enumerate_from 0 cells)) (none_first (table_faults widths heights shape cells) e))
+    (none_rest (unless (length cells == shape.0) PrintError.RowCount) (flat_map (row_faults widths heights shape.1) (enumerate_from 0 cells)) (none_rest (span_faults cfg) (table_faults widths heights shape cells) (none_first (span_faults cfg ++ table_faults widths heights shape cells) e)))

@@ -11,7 +11,7 @@ use Rattle.tabled_grid.proofs.Replay.{Changes-append}
 use Rattle.tabled_border.specs.Texts.{Texts}
 use Rattle.tabled_config.specs.Configuration.{Configuration, Changes, by_characters}
 use Rattle.tabled_config.specs.Options.{MakesInTurn, entity_bordered, entity_unbordered, inner_of, table_unbordered}
-use Rattle.tabled_settings.specs.declared.cell_settings.CellSettings.{CellSettings}
+use Rattle.tabled_layout.specs.declared.table_settings.TableSettings.{TableSettings}
 use Rattle.tabled_config.specs.ChangeLaws.{none_change_borders}
 use Rattle.tabled_config.proofs.ConfigurationLemmas.{Changes_by_characters}
 use Rattle.std.specs.List.{flat_map}
@@ -65,12 +65,12 @@ where_sure (Ok x) sure p = p
 where_sure (Err e) sure p = absurd cc
 
 -- a border around the cells of an entity
-pub Changes-entity_bordered : (border : Border ℕ) (shape : ℕ × ℕ) (entity : Entity) (before after : State ℕ) (colors : State Texts) (settings : CellSettings) (old : Configuration) → record { characters = before; colors = colors; settings = settings } ≡ old → grid.Changes (entity_border_set entity shape border) (state_at before) (state_at after) → Changes (entity_bordered border shape entity) old (record { characters = after; colors = colors; settings = settings })
+pub Changes-entity_bordered : (border : Border ℕ) (shape : ℕ × ℕ) (entity : Entity) (before after : State ℕ) (colors : State Texts) (settings : TableSettings) (old : Configuration) → record { characters = before; colors = colors; settings = settings } ≡ old → grid.Changes (entity_border_set entity shape border) (state_at before) (state_at after) → Changes (entity_bordered border shape entity) old (record { characters = after; colors = colors; settings = settings })
 unfolding entity_bordered
 Changes-entity_bordered border shape entity before after colors settings old is changes = Changes_by_characters (entity_border_set entity shape border) before after colors settings old is changes
 
 -- the borders of the cells of an entity removed
-pub Changes-entity_unbordered : (shape : ℕ × ℕ) (entity : Entity) (before after : State ℕ) (colors : State Texts) (settings : CellSettings) (old : Configuration) → record { characters = before; colors = colors; settings = settings } ≡ old → grid.Changes (entity_border_erased entity shape) (state_at before) (state_at after) → Changes (entity_unbordered shape entity) old (record { characters = after; colors = colors; settings = settings })
+pub Changes-entity_unbordered : (shape : ℕ × ℕ) (entity : Entity) (before after : State ℕ) (colors : State Texts) (settings : TableSettings) (old : Configuration) → record { characters = before; colors = colors; settings = settings } ≡ old → grid.Changes (entity_border_erased entity shape) (state_at before) (state_at after) → Changes (entity_unbordered shape entity) old (record { characters = after; colors = colors; settings = settings })
 unfolding entity_unbordered
 Changes-entity_unbordered shape entity before after colors settings old is changes = Changes_by_characters (entity_border_erased entity shape) before after colors settings old is changes
 
@@ -82,7 +82,7 @@ no_frame rows cols class cfg none =
     (none_change_borders cfg)
 
 -- the frame of a table removed
-pub Changes-table_unbordered : (rows cols : ℕ) (class result : Borders ℕ) (before between after : State ℕ) (colors : State Texts) (settings : CellSettings) (old : Configuration) → ((rows == 0) || (cols == 0)) ≡ false → record { characters = before; colors = colors; settings = settings } ≡ old → result ≡ inner_of class → grid.Changes (class_record_set result) (state_at before) (state_at between) → grid.Changes (frame_erased (rows, cols)) (state_at between) (state_at after) → Changes (table_unbordered (rows, cols) class) old (record { characters = after; colors = colors; settings = settings })
+pub Changes-table_unbordered : (rows cols : ℕ) (class result : Borders ℕ) (before between after : State ℕ) (colors : State Texts) (settings : TableSettings) (old : Configuration) → ((rows == 0) || (cols == 0)) ≡ false → record { characters = before; colors = colors; settings = settings } ≡ old → result ≡ inner_of class → grid.Changes (class_record_set result) (state_at before) (state_at between) → grid.Changes (frame_erased (rows, cols)) (state_at between) (state_at after) → Changes (table_unbordered (rows, cols) class) old (record { characters = after; colors = colors; settings = settings })
 unfolding table_unbordered
 Changes-table_unbordered rows cols class result before between after colors settings old some is inner sets erases =
     subst (λ b. Changes (cond b [] (by_characters (class_record_set (inner_of class) ++ frame_erased (rows, cols)))) old (record { characters = after; colors = colors; settings = settings })) (sym some)

@@ -16,7 +16,7 @@ use Rattle.tabled_grid.specs.State.{State, state_at, class_record_set}
 use Rattle.tabled_border.specs.Texts.{Texts}
 use Rattle.tabled_grid.proofs.Replay.{replay_cleared, Shows_after, Changes-append, Changes-nil}
 use Rattle.tabled_config.specs.Configuration.{Configuration, Changes, borders_replaced, horizontal_lines_put, vertical_lines_put}
-use Rattle.tabled_settings.specs.declared.cell_settings.CellSettings.{CellSettings}
+use Rattle.tabled_layout.specs.declared.table_settings.TableSettings.{TableSettings}
 use Rattle.tabled_config.proofs.ConfigurationLemmas.{Changes_by_both}
 
 behind : (i : ℕ) → i + 1 ≡ suc i
@@ -55,7 +55,7 @@ cleared_first : (es : List (Event ℕ)) (old new : State ℕ) → grid.Shows es 
 unfolding grid.Changes grid.Shows
 cleared_first es old new shows q = shows q ∙ sym (replay_cleared every_site es q)
 
-pub Changes-borders_replaced : (class : Borders ℕ) (horizontals : List (ℕ × HorizontalLine ℕ)) (verticals : List (ℕ × VerticalLine ℕ)) (before after : State ℕ) (colored emptied : State Texts) (settings : CellSettings) (old : Configuration) → record { characters = before; colors = colored; settings = settings } ≡ old → grid.Shows (horizontal_lines_put horizontals ++ vertical_lines_put verticals ++ class_record_set class) (state_at after) → grid.Changes (erase every_site ∷ []) (state_at colored) (state_at emptied) → Changes (borders_replaced class horizontals verticals) old (record { characters = after; colors = emptied; settings = settings })
+pub Changes-borders_replaced : (class : Borders ℕ) (horizontals : List (ℕ × HorizontalLine ℕ)) (verticals : List (ℕ × VerticalLine ℕ)) (before after : State ℕ) (colored emptied : State Texts) (settings : TableSettings) (old : Configuration) → record { characters = before; colors = colored; settings = settings } ≡ old → grid.Shows (horizontal_lines_put horizontals ++ vertical_lines_put verticals ++ class_record_set class) (state_at after) → grid.Changes (erase every_site ∷ []) (state_at colored) (state_at emptied) → Changes (borders_replaced class horizontals verticals) old (record { characters = after; colors = emptied; settings = settings })
 unfolding borders_replaced
 Changes-borders_replaced class horizontals verticals before after colored emptied settings old is shows drained =
     let es = horizontal_lines_put horizontals ++ vertical_lines_put verticals ++ class_record_set class in

@@ -4,8 +4,9 @@ use Rattle.std.proofs.lemmas.Bool.{eqb-true}
 use Rattle.std.specs.Cmp.Lexicographic.{pointwise, same_text}
 use Rattle.tabled_grid.specs.Same.{same_state}
 use Rattle.tabled_grid.proofs.SameLemmas.{IsExact, both, exact_state}
-use Rattle.tabled_settings.specs.contracts.cell_settings.CellSettingsPartialEq.TheImpl.{eq-value as same_settings}
-use Rattle.tabled_settings.proofs.SameSettings.{exact_live, exact_settings}
+use Rattle.tabled_layout.specs.contracts.table_settings.TableSettingsPartialEq.TheImpl.{eq-value as same_settings}
+use Rattle.tabled_settings.proofs.SameSettings.{exact_live}
+use Rattle.tabled_layout.proofs.SameLayout.{exact_settings}
 use Rattle.tabled_config.specs.Configuration.{Configuration}
 use Rattle.tabled_config.specs.Colored.{Colored}
 use Rattle.tabled_config.specs.SameConfiguration.{same_texts, same_stores, same_configuration, configuration_equiv, same_colors, same_colored, colored_equiv}

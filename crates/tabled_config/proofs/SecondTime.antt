@@ -1,11 +1,11 @@
 -- Events that are made a second time in a row.
-use Rattle.std.proofs.Common.{◌≡◌, List, [], sym, ap, ◌∙◌}
+use Rattle.std.proofs.Common.{◌≡◌, List, [], ap, ◌∙◌}
 use Rattle.tabled_grid.specs.Event as grid
 use Rattle.tabled_grid.specs.declared.event.Event.{Event}
 use Rattle.tabled_grid.specs.State.{State, state_at}
 use Rattle.tabled_grid.proofs.PuttingBack.{same_state}
 use Rattle.tabled_grid.proofs.Leaving.{second_time}
-use Rattle.tabled_settings.specs.CellSettings.{settings_after}
+use Rattle.tabled_layout.specs.TableSettings.{settings_after}
 use Rattle.tabled_config.specs.CellColors.{colors_after}
 use Rattle.tabled_config.specs.Configuration as borders
 use Rattle.tabled_config.specs.Configuration.{Configuration, ConfigEvent, characters_of, colors_of, settings_of, cell_colors_of}

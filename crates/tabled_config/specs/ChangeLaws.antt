@@ -7,8 +7,8 @@ use Rattle.tabled_grid.specs.State.{state_at}
 use Rattle.tabled_grid.proofs.Replay.{Changes-append, Changes-nil}
 use Rattle.tabled_border.specs.Texts.{Texts}
 use Rattle.tabled_settings.specs.Live.{Live}
-use Rattle.tabled_settings.specs.CellSettings.{settings_after}
-use Rattle.tabled_settings.proofs.SettingsLemmas.{settings_after-append}
+use Rattle.tabled_layout.specs.TableSettings.{settings_after}
+use Rattle.tabled_layout.proofs.LayoutLemmas.{settings_after-append}
 use Rattle.tabled_config.specs.CellColors.{CellColorEvent, colors_after_event, colors_after}
 use Rattle.tabled_config.specs.Configuration as borders
 use Rattle.tabled_config.specs.Configuration.{Configuration, ConfigEvent, character_event, color_event, setting_event, cell_color_event, characters_of, colors_of, settings_of, cell_colors_of}

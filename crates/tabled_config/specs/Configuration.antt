@@ -15,27 +15,30 @@ use Rattle.tabled_grid.specs.Writes.{writes_made}
 use Rattle.tabled_grid.specs.Calls.{default_set, line_set_horizontal, line_set_vertical}
 use Rattle.tabled_grid.specs.State.{State, state_at, class_record_set, writes_of}
 use Rattle.tabled_border.specs.Texts.{Texts}
-use Rattle.tabled_settings.specs.declared.cell_settings.CellSettings.{CellSettings}
-use Rattle.tabled_settings.specs.CellSettings.{SettingEvent, settings_after, first_settings, settings_left}
+use Rattle.tabled_settings.specs.CellSettings.{SettingEvent}
+use Rattle.tabled_layout.specs.declared.table_settings.TableSettings.{TableSettings}
+use Rattle.tabled_layout.specs.Margin.{MarginEvent}
+use Rattle.tabled_layout.specs.Spans.{SpanEvent}
+use Rattle.tabled_layout.specs.TableSettings.{TableEvent, of_cells, of_margin, of_column_spans, of_row_spans, settings_after, first_settings, settings_left}
 use Rattle.tabled_config.specs.CellColors.{CellColorEvent}
 
--- what a configuration keeps: the border characters, as their codes; the border colors, as their texts; and what is set for
--- cells by entity
+-- what a configuration keeps: the border characters, as their codes; the border colors, as their texts; and what is set
+-- beside them, for cells by entity, as the margin and as spans
 pub record Configuration : Type 0 where
   pub characters : State ℕ
   pub colors : State Texts
-  pub settings : CellSettings
+  pub settings : TableSettings
 
 -- by it a proof tells two configurations apart
 pub configuration_code : Coded Configuration
 configuration_code = Prim.hlevel (codes, finmap.code)
 
--- an event of a configuration: of its border characters, of its border colors, of what is set for cells, or of the colors of
--- cells
+-- an event of a configuration: of its border characters, of its border colors, of what is set beside them, or of the colors
+-- of cells
 pub data ConfigEvent : Type 0 where
   of_characters : Event ℕ → ConfigEvent
   of_colors : Event Texts → ConfigEvent
-  of_settings : SettingEvent → ConfigEvent
+  of_settings : TableEvent → ConfigEvent
   of_cell_colors : CellColorEvent → ConfigEvent
 
 -- the event as one of each kind
@@ -47,7 +50,7 @@ abbrev pub color_event : ConfigEvent → Option (Event Texts)
 color_event (of_colors e) = Some e
 color_event _ = None
 
-abbrev pub setting_event : ConfigEvent → Option SettingEvent
+abbrev pub setting_event : ConfigEvent → Option TableEvent
 setting_event (of_settings e) = Some e
 setting_event _ = None
 
@@ -62,7 +65,7 @@ characters_of es = filter_map character_event es
 abbrev pub colors_of : List ConfigEvent → List (Event Texts)
 colors_of es = filter_map color_event es
 
-abbrev pub settings_of : List ConfigEvent → List SettingEvent
+abbrev pub settings_of : List ConfigEvent → List TableEvent
 settings_of es = filter_map setting_event es
 
 abbrev pub cell_colors_of : List ConfigEvent → List CellColorEvent
@@ -74,8 +77,8 @@ pub record Shows (es : List ConfigEvent) (cfg : Configuration) : Type 0 where
   pub colors_shown : grid.Shows (colors_of es) (state_at cfg.colors)
   pub settings_shown : cfg.settings ≡ settings_after first_settings (settings_of es)
 
--- the new configuration keeps what the events leave where they cover a site, and else what the old one kept; what is set for
--- cells is what the events make of it
+-- the new configuration keeps what the events leave where they cover a site, and else what the old one kept; what is set
+-- beside the borders is what the events make of it
 pub record Changes (es : List ConfigEvent) (old new : Configuration) : Type 0 where
   pub characters_changed : grid.Changes (characters_of es) (state_at old.characters) (state_at new.characters)
   pub colors_changed : grid.Changes (colors_of es) (state_at old.colors) (state_at new.colors)
@@ -94,7 +97,17 @@ by_colors es = map of_colors es
 
 -- one event of what is set for cells
 abbrev pub by_setting : SettingEvent → List ConfigEvent
-by_setting e = of_settings e ∷ []
+by_setting e = of_settings (of_cells e) ∷ []
+
+-- one event of the margin, and one of the spans of either direction
+abbrev pub by_margin : MarginEvent → List ConfigEvent
+by_margin e = of_settings (of_margin e) ∷ []
+
+abbrev pub by_column_span : SpanEvent → List ConfigEvent
+by_column_span e = of_settings (of_column_spans e) ∷ []
+
+abbrev pub by_row_span : SpanEvent → List ConfigEvent
+by_row_span e = of_settings (of_row_spans e) ∷ []
 
 -- lists of writes, of characters and of colors
 unfoldable pub writes_applied : List (Write ℕ) → List (Write Texts) → List ConfigEvent

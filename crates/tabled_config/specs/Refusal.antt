@@ -1,6 +1,7 @@
 -- Why a table is not printed.
-use Rattle.std.specs.Prelude.{ℕ, Bool, ◌==◌, ◌||◌, if◌then◌else◌, Option, List, [], ◌∷◌, ◌++◌, length, slice_get}
+use Rattle.std.specs.Prelude.{ℕ, Bool, ◌==◌, ◌||◌, ◌&&◌, if◌then◌else◌, Option, List, [], ◌∷◌, ◌++◌, length, slice_get}
 use Rattle.std.specs.List.{flat_map, list_all, enumerate_from}
+use Rattle.std.specs.FinMap.{len}
 use Rattle.tabled_config.specs.declared.print_error.PrintError.{PrintError}
 use Rattle.tabled_config.specs.Configuration.{Configuration}
 use Rattle.tabled_config.specs.Texts.{Table, pieces, width_of_text}
@@ -30,9 +31,13 @@ module _ (widths heights : ℕ → ℕ) where
   abbrev pub table_faults : ℕ × ℕ → Table → List PrintError
   table_faults (rows, cols) cells = unless (length cells == rows) PrintError.RowCount ++ flat_map (row_faults cols) (enumerate_from 0 cells)
 
--- the faults of a configuration: its spans. It keeps none yet, so that there is no such fault.
+-- whether no cell spans several columns or several rows
+abbrev pub has_no_spans : Configuration → Bool
+has_no_spans cfg = (len cfg.settings.column_spans == 0) && (len cfg.settings.row_spans == 0)
+
+-- the faults of a configuration: that it has spans
 abbrev pub span_faults : Configuration → List PrintError
-span_faults cfg = []
+span_faults cfg = unless (has_no_spans cfg) PrintError.Spans
 
 -- the first of all faults, for which a table is refused; those of the configuration come before those of the cells
 abbrev pub first_refusal : Configuration → ℕ × ℕ → (ℕ → ℕ) → (ℕ → ℕ) → Table → Option PrintError

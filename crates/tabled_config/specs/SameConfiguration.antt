@@ -10,8 +10,8 @@ use Rattle.tabled_grid.specs.SameLaws.{state_equiv}
 use Rattle.tabled_settings.specs.Live.{Live}
 use Rattle.tabled_settings.specs.Same.{same_live}
 use Rattle.tabled_settings.specs.SameLaws.{live_equiv}
-use Rattle.tabled_settings.specs.contracts.cell_settings.CellSettingsPartialEq.TheImpl.{eq-value as same_settings}
-use Rattle.tabled_settings.specs.contracts.cell_settings.CellSettingsEq.TheImpl.Laws.{laws-law as settings_equiv}
+use Rattle.tabled_layout.specs.contracts.table_settings.TableSettingsPartialEq.TheImpl.{eq-value as same_settings}
+use Rattle.tabled_layout.specs.contracts.table_settings.TableSettingsEq.TheImpl.Laws.{laws-law as settings_equiv}
 use Rattle.tabled_config.specs.Configuration.{Configuration}
 use Rattle.tabled_config.specs.Colored.{Colored}
 

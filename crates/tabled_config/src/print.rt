@@ -10,9 +10,9 @@ ghost use Rattle.tabled_config.specs.Pieces.{lent, first_piece, after_first_piec
 ghost use Rattle.tabled_object.specs.Entities.{below};
 ghost use Rattle.tabled_config.specs.Along.{is_empty};
 ghost use Rattle.tabled_config.specs.Picture.{character, look, text_lines, printed};
-ghost use Rattle.tabled_config.specs.Refusal.{first_refusal};
+ghost use Rattle.tabled_config.specs.Refusal as refusal;
 
-use crate::refusals::first_fault;
+use crate::refusals::first_refusal;
 use crate::{PrintError, SpannedConfig};
 use std::alloc::{AllocError, Global};
 use tabled_grid::{Dimension, OutOfMemory, Place, Probes};
@@ -285,9 +285,9 @@ pub fn print_plain<D: Dimension>(
 ) -> Result<(), PrintError>
     ensures text { (es : List ConfigEvent) → Shows es cfg.now → OnOk result (string_bytes out.new ≡ string_bytes out.old ++ printed es shape (D.width_of dims.now) (D.height_of dims.now) (texts cells.now)) }
     ensures unchanged { OnErr result (string_bytes out.new ≡ string_bytes out.old) }
-    ensures refusal { MatchOption (first_refusal cfg.now shape (D.width_of dims.now) (D.height_of dims.now) (texts cells.now)) (IsOkUnless result PrintError.OutOfMemory) (λ e. result ≡ Err e) }
+    ensures refusal { MatchOption (refusal.first_refusal cfg.now shape (D.width_of dims.now) (D.height_of dims.now) (texts cells.now)) (IsOkUnless result PrintError.OutOfMemory) (λ e. result ≡ Err e) }
 {
-    if let Some(fault) = first_fault(dims, shape, cells) {
+    if let Some(fault) = first_refusal(cfg, dims, shape, cells) {
         return Err(fault);
     }
     let start = out.len();

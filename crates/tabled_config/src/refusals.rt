@@ -1,11 +1,12 @@
-//! Whether a table can be printed: the first fault of its cells. No memory is asked for.
+//! Whether a table can be printed: whether it has spans, and the first fault of its cells. No memory is asked for.
 
 ghost use Rattle.std.specs.Prelude.{◌≡◌, ◌==◌, length, map, slice_get, string_bytes};
 ghost use Rattle.std.specs.List.{list_all};
 ghost use Rattle.tabled_config.specs.Texts.{texts, pieces, width_of_text};
+ghost use Rattle.tabled_config.specs.Refusal as refusal;
 ghost use Rattle.tabled_config.specs.Refusal.{fits_height, fits_width, cell_faults, row_faults, table_faults};
 
-use crate::PrintError;
+use crate::{PrintError, SpannedConfig};
 use tabled_grid::Dimension;
 use unicode_width::UnicodeWidthStr;
 
@@ -74,7 +75,7 @@ fn fault_of_row<D: Dimension>(
 }
 
 /// The first fault of the cells of a table, row by row from the top: the number of rows is looked at first.
-pub(crate) fn first_fault<D: Dimension>(
+fn first_fault<D: Dimension>(
     dims: &D,
     shape: (usize, usize),
     cells: &[Vec<String>],
@@ -92,4 +93,19 @@ pub(crate) fn first_fault<D: Dimension>(
         }
     }
     None
+}
+
+/// The first fault of a table: its spans are looked at before its cells.
+pub(crate) fn first_refusal<D: Dimension>(
+    cfg: &SpannedConfig,
+    dims: &D,
+    shape: (usize, usize),
+    cells: &[Vec<String>],
+) -> Option<PrintError>
+    ensures { result ≡ refusal.first_refusal cfg.now shape (D.width_of dims.now) (D.height_of dims.now) (texts cells.now) }
+{
+    if cfg.has_spans() {
+        return Some(PrintError::Spans);
+    }
+    first_fault(dims, shape, cells)
 }

@@ -13,23 +13,25 @@ mod colors;
 mod copies;
 mod equality;
 mod lines;
+mod margin;
 mod offsets;
 mod plain;
 mod removing;
 mod replacing;
 mod settings;
+mod spans;
 
 use std::alloc::Global;
 use std::marker::Model;
 use tabled_grid::{ANSIBuf, Borders, Layers, LineOf, Place, Probes, Target};
-use tabled_settings::CellSettings;
+use tabled_layout::TableSettings;
 
-/// What a table keeps for its borders, and what is set for its cells.
+/// What a table keeps for its borders, and what is set for its cells, its margin and its spans.
 #[derive(Debug)]
 pub struct SpannedConfig {
     characters: Layers<char>,
     colors: Layers<ANSIBuf>,
-    settings: CellSettings,
+    settings: TableSettings,
 }
 
 /// Written out, so that letting a configuration go is one call wherever it ends.
@@ -69,7 +71,7 @@ impl SpannedConfig {
         SpannedConfig {
             characters: Layers::new(alloc),
             colors: Layers::new(alloc),
-            settings: CellSettings::new(alloc),
+            settings: TableSettings::new(alloc),
         }
     }
 

@@ -23,7 +23,7 @@ exact_options exact None (Some y) h = absurd cc
 exact_options exact (Some x) None h = absurd cc
 exact_options exact (Some x) (Some y) h = ap Some (exact x y h)
 
-exact_maps : {K X : Type 0} {R : K → K → Ordering} {E : X → X → Bool} → map.IsAntisymmetric R → IsExact E → IsExact (same_map {R = R} E)
+pub exact_maps : {K X : Type 0} {R : K → K → Ordering} {E : X → X → Bool} → map.IsAntisymmetric R → IsExact E → IsExact (same_map {R = R} E)
 exact_maps {K} {X} {R} {E} keys exact m n h = map.same_entries_map m n (pairs (map.entries m) (map.entries n) h)
   where
     pairs : (es fs : List (K × X)) → pointwise (λ a b. eq_by_cmp R a.0 b.0 && E a.1 b.1) es fs ≡ true → es ≡ fs

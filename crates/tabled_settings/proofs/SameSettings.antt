@@ -81,24 +81,25 @@ exact_texts a b h =
     λ i. record { prefix = same_text a.prefix b.prefix (sym texts.0) i; suffix = same_text a.suffix b.suffix (sym texts.1) i }
 
 -- a color or none, and one or none on each side
-abbrev same_color : Option Texts → Option Texts → Bool
+abbrev pub same_color : Option Texts → Option Texts → Bool
 same_color a b = option_eq same_texts.it a b
 
-exact_color : IsExact same_color
+pub exact_color : IsExact same_color
 exact_color a b h = exact_option same_texts.it exact_texts a b h
 
-abbrev same_sides : Sides (Option Texts) → Sides (Option Texts) → Bool
-same_sides a b = same_color a.left b.left && (same_color a.right b.right && (same_color a.top b.top && same_color a.bottom b.bottom))
+-- a value on each side
+abbrev pub same_sides : {T : Type 0} → (T → T → Bool) → Sides T → Sides T → Bool
+same_sides E a b = E a.left b.left && (E a.right b.right && (E a.top b.top && E a.bottom b.bottom))
 
-exact_sides : IsExact same_sides
-exact_sides a b h =
-    let after_left = second_so (same_color a.left b.left) (same_color a.right b.right && (same_color a.top b.top && same_color a.bottom b.bottom)) h in
-    let after_right = second_so (same_color a.right b.right) (same_color a.top b.top && same_color a.bottom b.bottom) after_left in
+pub exact_sides : {T : Type 0} (E : T → T → Bool) → IsExact E → IsExact (same_sides E)
+exact_sides E exact a b h =
+    let after_left = second_so (E a.left b.left) (E a.right b.right && (E a.top b.top && E a.bottom b.bottom)) h in
+    let after_right = second_so (E a.right b.right) (E a.top b.top && E a.bottom b.bottom) after_left in
     λ i. record {
-      left = exact_color a.left b.left (first_so (same_color a.left b.left) (same_color a.right b.right && (same_color a.top b.top && same_color a.bottom b.bottom)) h) i;
-      right = exact_color a.right b.right (first_so (same_color a.right b.right) (same_color a.top b.top && same_color a.bottom b.bottom) after_left) i;
-      top = exact_color a.top b.top (first_so (same_color a.top b.top) (same_color a.bottom b.bottom) after_right) i;
-      bottom = exact_color a.bottom b.bottom (second_so (same_color a.top b.top) (same_color a.bottom b.bottom) after_right) i;
+      left = exact a.left b.left (first_so (E a.left b.left) (E a.right b.right && (E a.top b.top && E a.bottom b.bottom)) h) i;
+      right = exact a.right b.right (first_so (E a.right b.right) (E a.top b.top && E a.bottom b.bottom) after_left) i;
+      top = exact a.top b.top (first_so (E a.top b.top) (E a.bottom b.bottom) after_right) i;
+      bottom = exact a.bottom b.bottom (second_so (E a.top b.top) (E a.bottom b.bottom) after_right) i;
     }
 
 pub exact_settings : (a b : CellSettings) → same_settings.it a b ≡ true → a ≡ b
@@ -110,7 +111,7 @@ exact_settings a b h =
     let test_5 : Bool = same_live same_bool.it a.line_alignment b.line_alignment in
     let test_6 : Bool = same_live ◌==◌ a.justification b.justification in
     let test_7 : Bool = same_live same_color a.justification_color b.justification_color in
-    let test_8 : Bool = same_live same_sides a.padding_color b.padding_color in
+    let test_8 : Bool = same_live (same_sides same_color) a.padding_color b.padding_color in
     let rest_8 : Bool = test_8 in
     let rest_7 : Bool = test_7 && rest_8 in
     let rest_6 : Bool = test_6 && rest_7 in
@@ -133,5 +134,5 @@ exact_settings a b h =
       line_alignment = exact_live same_bool.it exact_bool a.line_alignment b.line_alignment (first_so test_5 rest_6 left_5) i;
       justification = exact_live ◌==◌ eqb-true a.justification b.justification (first_so test_6 rest_7 left_6) i;
       justification_color = exact_live same_color exact_color a.justification_color b.justification_color (first_so test_7 rest_8 left_7) i;
-      padding_color = exact_live same_sides exact_sides a.padding_color b.padding_color left_8 i;
+      padding_color = exact_live (same_sides same_color) (exact_sides same_color exact_color) a.padding_color b.padding_color left_8 i;
     }

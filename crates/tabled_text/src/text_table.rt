@@ -218,8 +218,8 @@ impl TextTable {
         &self.sizes
     }
 
-    /// The text of the table: its cells padded, and around them what was applied. It is refused where memory is, and by
-    /// nothing else as long as no span is set.
+    /// The text of the table: its cells padded, and around them what was applied. Where a cell spans several columns or rows
+    /// it is refused for that; else where memory is refused, and for nothing else.
     pub fn to_text(&self) -> Result<String, PrintError>
         ensures text { (es : List ConfigEvent) → borders.Shows es self.now.config.spanned → IfOk result (λ text. string_bytes text ≡ text_of es self.now.texts) }
         ensures refusal { MatchOption (slice_get (span_faults self.now.config.spanned) 0) (IsOkUnless result Fault.OutOfMemory) (λ e. result ≡ Err e) }
@@ -234,7 +234,7 @@ impl TextTable {
     pub fn write_to<W: fmt::Write>(&self, out: &mut W) -> Result<(), TableError>
         ensures text { (es : List ConfigEvent) → borders.Shows es self.now.config.spanned → OnOk result (W.write_str_gives out.old (text_of es self.now.texts) out.new) }
         ensures refusal { MatchOption (slice_get (span_faults self.now.config.spanned) 0) (IfErr result (λ e. (e ≡ Refusal.OutOfMemory) ⊎ (e ≡ Refusal.Write))) (λ e. result ≡ Err (of_printer e)) }
-        ensures unwritten { result ≡ Err Refusal.OutOfMemory → out.new ≡ out.old }
+        ensures unwritten { IfErr result (λ e. (e ≡ Refusal.Write) ⊎ (out.new ≡ out.old)) }
     {
         let text = self.to_text()?;
         out.write_str(text.as_str())?;
@@ -248,6 +248,9 @@ impl TextTable {
         ensures refusal { MatchOption (slice_get (span_faults self.now.config.spanned) 0) (IsOkUnless result Fault.OutOfMemory) (λ e. result ≡ Err e) }
     {
         let cfg = self.config.config();
+        if cfg.has_spans() {
+            return Err(PrintError::Spans);
+        }
         let cells = padded_rows(cfg.allocator(), &self.cells, &self.sizes)?;
         let shape = (self.shape.rows, self.shape.cols);
         print_plain(out, cfg, &self.sizes, shape, &cells)

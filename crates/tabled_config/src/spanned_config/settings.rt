@@ -23,14 +23,17 @@ impl SpannedConfig {
         ensures err { OnErr result (self.new ≡ self.old) }
         ensures always { IsTrue (is_global entity) → IsOk result }
     {
-        self.settings.alignment_horizontal.insert(entity, alignment)
+        self.settings
+            .cells
+            .alignment_horizontal
+            .insert(entity, alignment)
     }
 
     /// Where the text of a cell stands between its left and its right side: at the left where nothing was set.
     pub fn get_alignment_horizontal(&self, position: Position) -> AlignmentHorizontal
-        ensures { result ≡ value_at self.now.settings.alignment_horizontal position }
+        ensures { result ≡ value_at self.now.settings.cells.alignment_horizontal position }
     {
-        *self.settings.alignment_horizontal.get(position)
+        *self.settings.cells.alignment_horizontal.get(position)
     }
 
     /// Sets where the texts of the cells of an entity stand between the upper and the lower side. Where memory is refused nothing changes; for all cells none is asked for.
@@ -43,14 +46,17 @@ impl SpannedConfig {
         ensures err { OnErr result (self.new ≡ self.old) }
         ensures always { IsTrue (is_global entity) → IsOk result }
     {
-        self.settings.alignment_vertical.insert(entity, alignment)
+        self.settings
+            .cells
+            .alignment_vertical
+            .insert(entity, alignment)
     }
 
     /// Where the text of a cell stands between its upper and its lower side: at the top where nothing was set.
     pub fn get_alignment_vertical(&self, position: Position) -> AlignmentVertical
-        ensures { result ≡ value_at self.now.settings.alignment_vertical position }
+        ensures { result ≡ value_at self.now.settings.cells.alignment_vertical position }
     {
-        *self.settings.alignment_vertical.get(position)
+        *self.settings.cells.alignment_vertical.get(position)
     }
 
     /// Sets whether spaces at the left and the right of the texts of the cells of an entity are dropped before they are aligned. Where memory is refused nothing changes; for all cells none is asked for.
@@ -59,14 +65,14 @@ impl SpannedConfig {
         ensures err { OnErr result (self.new ≡ self.old) }
         ensures always { IsTrue (is_global entity) → IsOk result }
     {
-        self.settings.trim_horizontal.insert(entity, trim)
+        self.settings.cells.trim_horizontal.insert(entity, trim)
     }
 
     /// Whether spaces at the left and the right of a cell's text are dropped before it is aligned: not where nothing was set.
     pub fn get_trim_horizontal(&self, position: Position) -> bool
-        ensures { result ≡ value_at self.now.settings.trim_horizontal position }
+        ensures { result ≡ value_at self.now.settings.cells.trim_horizontal position }
     {
-        *self.settings.trim_horizontal.get(position)
+        *self.settings.cells.trim_horizontal.get(position)
     }
 
     /// Sets whether empty lines above and below the texts of the cells of an entity are dropped before they are aligned. Where memory is refused nothing changes; for all cells none is asked for.
@@ -75,14 +81,14 @@ impl SpannedConfig {
         ensures err { OnErr result (self.new ≡ self.old) }
         ensures always { IsTrue (is_global entity) → IsOk result }
     {
-        self.settings.trim_vertical.insert(entity, trim)
+        self.settings.cells.trim_vertical.insert(entity, trim)
     }
 
     /// Whether empty lines above and below a cell's text are dropped before it is aligned: not where nothing was set.
     pub fn get_trim_vertical(&self, position: Position) -> bool
-        ensures { result ≡ value_at self.now.settings.trim_vertical position }
+        ensures { result ≡ value_at self.now.settings.cells.trim_vertical position }
     {
-        *self.settings.trim_vertical.get(position)
+        *self.settings.cells.trim_vertical.get(position)
     }
 
     /// Sets whether each line of the texts of the cells of an entity is aligned by itself. Where memory is refused nothing changes; for all cells none is asked for.
@@ -91,14 +97,14 @@ impl SpannedConfig {
         ensures err { OnErr result (self.new ≡ self.old) }
         ensures always { IsTrue (is_global entity) → IsOk result }
     {
-        self.settings.line_alignment.insert(entity, each_line)
+        self.settings.cells.line_alignment.insert(entity, each_line)
     }
 
     /// Whether each line of a cell's text is aligned by itself: not where nothing was set.
     pub fn get_line_alignment(&self, position: Position) -> bool
-        ensures { result ≡ value_at self.now.settings.line_alignment position }
+        ensures { result ≡ value_at self.now.settings.cells.line_alignment position }
     {
-        *self.settings.line_alignment.get(position)
+        *self.settings.cells.line_alignment.get(position)
     }
 
     /// Sets the character that fills the cells of an entity beside their texts. Where memory is refused nothing changes; for all cells none is asked for.
@@ -107,14 +113,14 @@ impl SpannedConfig {
         ensures err { OnErr result (self.new ≡ self.old) }
         ensures always { IsTrue (is_global entity) → IsOk result }
     {
-        self.settings.justification.insert(entity, character)
+        self.settings.cells.justification.insert(entity, character)
     }
 
     /// The character that fills a cell beside its text: a space where nothing was set.
     pub fn get_justification(&self, position: Position) -> char
-        ensures { result ≡ value_at self.now.settings.justification position }
+        ensures { result ≡ value_at self.now.settings.cells.justification position }
     {
-        *self.settings.justification.get(position)
+        *self.settings.cells.justification.get(position)
     }
 
     /// Sets the color of the characters that fill the cells of an entity beside their texts, or none. Where memory is refused nothing changes; for all cells none is asked for.
@@ -127,14 +133,21 @@ impl SpannedConfig {
         ensures err { OnErr result (self.new ≡ self.old) }
         ensures always { IsTrue (is_global entity) → IsOk result }
     {
-        self.settings.justification_color.insert(entity, color)
+        self.settings
+            .cells
+            .justification_color
+            .insert(entity, color)
     }
 
     /// The color of the characters that fill a cell beside its text: none where nothing was set.
     pub fn get_justification_color(&self, position: Position) -> Option<&ANSIBuf>
-        ensures { option_copied result ≡ value_at self.now.settings.justification_color position }
+        ensures { option_copied result ≡ value_at self.now.settings.cells.justification_color position }
     {
-        self.settings.justification_color.get(position).as_ref()
+        self.settings
+            .cells
+            .justification_color
+            .get(position)
+            .as_ref()
     }
 
     /// Sets the color of the padding of the cells of an entity on each side, or none there. Where memory is refused nothing changes; for all cells none is asked for.
@@ -147,13 +160,13 @@ impl SpannedConfig {
         ensures err { OnErr result (self.new ≡ self.old) }
         ensures always { IsTrue (is_global entity) → IsOk result }
     {
-        self.settings.padding_color.insert(entity, colors)
+        self.settings.cells.padding_color.insert(entity, colors)
     }
 
     /// The color of a cell's padding on each side, lent: none where nothing was set.
     pub fn get_padding_color(&self, position: Position) -> &Sides<Option<ANSIBuf>>
-        ensures { result.now ≡ value_at self.now.settings.padding_color position }
+        ensures { result.now ≡ value_at self.now.settings.cells.padding_color position }
     {
-        self.settings.padding_color.get(position)
+        self.settings.cells.padding_color.get(position)
     }
 }

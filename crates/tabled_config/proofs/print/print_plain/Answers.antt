@@ -12,7 +12,7 @@ use Rattle.tabled_config.proofs.print.print_plain.Goals as goal
 
 pub push_lines-requires-clause-cols : goal.push_lines-requires-clause-cols
 push_lines-requires-clause-cols g c =
-    right_columns c.args.cfg.now (g.D.Dimension.width_of c.args.dims.now) (g.D.Dimension.height_of c.args.dims.now) c.args.shape (texts c.args.cells.now) (sym c.first_fault.ensures ∙ c.in_default.is)
+    right_columns c.args.cfg.now (g.D.Dimension.width_of c.args.dims.now) (g.D.Dimension.height_of c.args.dims.now) c.args.shape (texts c.args.cells.now) (sym c.first_refusal.ensures ∙ c.in_default.is)
 
 pub truncate-requires : goal.truncate-requires
 truncate-requires g c within =

@@ -1,0 +1,5 @@
+pub mod Margin
+pub mod Spans
+pub mod TableSettings
+pub mod Same
+pub mod Covering

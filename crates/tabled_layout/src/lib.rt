@@ -1,0 +1,18 @@
+//! What is set for a table beside its borders: for its cells by entity, for the margin around it, and the spans of its
+//! cells.
+//!
+//! `docs/DEFINITIONS.md` explains the words of the contracts.
+#![tactic(auto)]
+
+mod covering;
+mod indent;
+mod laws;
+mod margin;
+mod spans;
+mod table_settings;
+
+pub use indent::Indent;
+pub use laws::{as_by_what_is_left, margin_is_as_last_set, settings_in_a_row, span_is_as_last_set};
+pub use margin::Margin;
+pub use spans::Spans;
+pub use table_settings::TableSettings;
