@@ -1,5 +1,5 @@
 -- The faults of an input, by the tests that the code makes.
-use Rattle.std.proofs.Common.{sym, ◌≡◌, ℕ, ◌<◌, ◌≤◌, Bool, true, false, not, cond, ltb, List, length, Option, Some, None, Result, Ok, Err, IsErrAnd, IfSome, ◌⊎◌, inl, inr, ◌≢◌, refl, ap, ◌∙◌}
+use Rattle.std.proofs.Common.{sym, ◌≡◌, ℕ, ◌<◌, ◌≤◌, Bool, true, false, not, cond, ltb, List, length, Option, Some, None, Result, Ok, Err, IsErrAnd, IfErr, IfSome, ◌⊎◌, inl, inr, ◌≢◌, refl, ap, ◌∙◌}
 use Rattle.std.specs.List.{list_all}
 use Rattle.std.proofs.lemmas.Bool.{le-ltb, lt-ltb}
 use Rattle.tabled_pages.specs.Input.{is_allowed, rows_of, have_equal_counts, fault_of}
@@ -52,3 +52,10 @@ reading_refused known e (Err y) is (inr (inr refused)) long status = absurd (sta
 reading_refused None e (Err y) is (inr (inl too_long)) long status = tt
 reading_refused (Some bytes) e (Err y) is (inr (inl too_long)) long status =
     ap (λ refusal. Err refusal) (is ∙ too_long) ∙ sym (ap answer_of (fault_of-long bytes (long too_long)))
+
+-- an error that was passed on is want of memory or the fault, as it was before
+pub passed_on : {T : Type 0} (fault : Option ShowError) (e : ShowError) (r : Result T ShowError) → IsErrAnd r (λ y. y ≡ e)
+    → (e ≡ OutOfMemory) ⊎ (fault ≡ Some e) → IfErr r (λ y. (y ≡ OutOfMemory) ⊎ (fault ≡ Some y))
+passed_on fault e (Ok x) is known = absurd is
+passed_on fault e (Err y) is (inl refused) = inl (is ∙ refused)
+passed_on fault e (Err y) is (inr known) = inr (known ∙ ap (λ refusal. Some refusal) (sym is))

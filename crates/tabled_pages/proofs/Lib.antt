@@ -1,7 +1,6 @@
+pub mod Allowed
+pub mod Counts
 pub mod FirstFault
-pub mod Fits
 pub mod Lines
-pub mod Padding
-pub mod Printable
+pub mod Pages
 pub mod Reading
-pub mod Rows

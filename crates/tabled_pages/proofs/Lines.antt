@@ -1,8 +1,8 @@
 -- The lines of an input and the pieces of a text, by their first one and what follows it.
-use Rattle.std.proofs.Common.{◌≡◌, ℕ, ◌+◌, ◌<◌, ◌≤◌, inl, inr, zero, suc, List, [], ◌∷◌, map, length, get_or, refl, sym, ap, ◌∙◌, arith}
+use Rattle.std.proofs.Common.{◌≡◌, ℕ, ◌+◌, ◌<◌, ◌≤◌, inl, inr, List, [], ◌∷◌, map, length, refl, sym, ap, ◌∙◌, arith}
 use Rattle.std.specs.List.{before_first, after_first, position_or_len}
 use Rattle.std.proofs.lemmas.Bool.{cases_lt}
-use Rattle.std.proofs.lemmas.List.{take_all, drop_all, length-drop}
+use Rattle.std.proofs.lemmas.List.{take_all, drop_all}
 use Rattle.tabled_pages.specs.declared.bytes.TheConstants.{LINE_FEED}
 use Rattle.std.proofs.lemmas.List.Splits.{slice_split_first, slice_split_none, length-slice_split}
 use Rattle.std.proofs.lemmas.List.Sums.{fails_before_first, prefix_len-le-length}
@@ -25,27 +25,6 @@ before-none byte text none = take_all (position_or_len (is_byte byte) text) text
 
 after-none : (byte : ℕ) (text : List ℕ) → length text ≤ position_or_len (is_byte byte) text → after_first (is_byte byte) text ≡ []
 after-none byte text none = drop_all (position_or_len (is_byte byte) text + 1) text (omega arith)
-
--- the first piece
-pub cell-zero : (byte : ℕ) (text : List ℕ) → get_or (pieces byte text) 0 [] ≡ before_first (is_byte byte) text
-cell-zero byte text = elim (cases_lt (position_or_len (is_byte byte) text) (length text)) [
-  | inl inside ↦ ap (λ ps. get_or ps 0 []) (pieces-first byte text inside)
-  | inr none ↦ ap (λ ps. get_or ps 0 []) (pieces-none byte text none) ∙ sym (before-none byte text none)
-]
-
-get_or-none : (k : ℕ) → get_or ([] ∷ []) k (let none : List ℕ = [] in none) ≡ []
-get_or-none zero = refl
-get_or-none (suc k) = refl
-
--- each further piece is one of what follows the first
-cell-suc : (byte : ℕ) (text : List ℕ) (k : ℕ) → get_or (pieces byte text) (suc k) [] ≡ get_or (pieces byte (after_first (is_byte byte) text)) k []
-cell-suc byte text k = elim (cases_lt (position_or_len (is_byte byte) text) (length text)) [
-  | inl inside ↦ ap (λ ps. get_or ps (suc k) []) (pieces-first byte text inside)
-  | inr none ↦ ap (λ ps. get_or ps (suc k) []) (pieces-none byte text none) ∙ sym (get_or-none k) ∙ sym (ap (λ rest. get_or (pieces byte rest) k []) (after-none byte text none))
-]
-
-pub cell-more : (byte : ℕ) (text : List ℕ) (k : ℕ) → get_or (pieces byte text) (k + 1) [] ≡ get_or (pieces byte (after_first (is_byte byte) text)) k []
-cell-more byte text k = ap (λ (n : ℕ). get_or (pieces byte text) n []) (let e : k + 1 ≡ suc k = omega arith in e) ∙ cell-suc byte text k
 
 pieces-some : (byte : ℕ) (text : List ℕ) → 0 < length (pieces byte text)
 pieces-some byte text = simp (length-slice_split (is_byte byte) text) (omega arith)
@@ -82,10 +61,6 @@ rows_of-nil = ap (map cells_of) lines_of-nil
 pub rows_of-first : (input : List ℕ) → 0 < length input
     → rows_of input ≡ cells_of (before_first (is_byte LINE_FEED) input) ∷ rows_of (after_first (is_byte LINE_FEED) input)
 rows_of-first input some = ap (map cells_of) (lines_of-first input some)
-
--- the rest of an input is shorter
-pub after_first-shorter : (byte : ℕ) (text : List ℕ) → 0 < length text → length (after_first (is_byte byte) text) < length text
-after_first-shorter byte text some = simp length-drop (omega arith)
 
 pub lines_of-empty : (input : List ℕ) → length input ≤ 0 → lines_of input ≡ []
 lines_of-empty [] none = lines_of-nil

@@ -2,6 +2,8 @@
 use Rattle.std.specs.Prelude.{ℕ, Bool, not, nat_lt, ◌==◌, ◌||◌, if◌then◌else◌, List, [], ◌∷◌, map, length, Option, Some, None}
 use Rattle.std.specs.Int.{is_in_range}
 use Rattle.std.specs.List.{slice_split, list_all}
+use Rattle.tabled_config.specs.Texts.{Table}
+use Rattle.tabled_text.specs.Sizes.{column_count}
 use Rattle.tabled_pages.specs.declared.bytes.TheConstants.{TAB, LINE_FEED, FIRST_PRINTABLE, LAST_PRINTABLE}
 use Rattle.tabled_pages.specs.declared.read.TheConstants.{INPUT_LIMIT}
 use Rattle.tabled_pages.specs.declared.error.ShowError.{ShowError}
@@ -30,20 +32,15 @@ abbrev pub cells_of : List ℕ → List (List ℕ)
 cells_of line = pieces TAB line
 
 -- the rows of an input: the cells of each line
-abbrev pub rows_of : List ℕ → List (List (List ℕ))
+abbrev pub rows_of : List ℕ → Table
 rows_of input = map cells_of (lines_of input)
 
 -- a printable character of ASCII, a tab or a line feed
 abbrev pub is_allowed : ℕ → Bool
 is_allowed b = is_in_range FIRST_PRINTABLE LAST_PRINTABLE b || (b == TAB) || (b == LINE_FEED)
 
--- how many cells the first row has
-abbrev pub column_count : List (List (List ℕ)) → ℕ
-column_count [] = 0
-column_count (row ∷ rows) = length row
-
 -- every row has as many cells as the first
-abbrev pub have_equal_counts : List (List (List ℕ)) → Bool
+abbrev pub have_equal_counts : Table → Bool
 have_equal_counts rows = list_all (λ row. length row == column_count rows) rows
 
 -- the first reason for which an input is refused

@@ -1,5 +1,4 @@
 pub mod Input
 pub mod Refusal
 pub mod Style
-pub mod Table
 pub mod Page

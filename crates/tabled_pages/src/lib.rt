@@ -6,12 +6,11 @@
 
 mod bytes;
 mod error;
-mod faults;
 mod page;
 mod program;
 mod read;
+mod rows;
 mod styles;
-mod table;
 mod words;
 
 pub use error::ShowError;

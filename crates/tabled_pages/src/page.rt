@@ -1,103 +1,80 @@
 //! The text of an input's table.
 
-ghost use Rattle.std.specs.Prelude.{◌≡◌, ◌≤◌, ◌⊎◌, List, ◌++◌, ◌∷◌, [], Some, None, true, length, vec_len, slice_index, string_bytes, IfOk, IfErr, OnOk};
-ghost use Rattle.std.specs.List.{list_all};
+ghost use Rattle.std.specs.Prelude.{◌≡◌, ◌≤◌, ◌⊎◌, List, ◌++◌, ◌∷◌, [], Some, None, true, false, length, string_bytes, IfOk, IfErr, OnOk};
 ghost use Rattle.tabled_config.specs.Configuration.{ConfigEvent, Shows};
-ghost use Rattle.tabled_config.specs.Picture.{printed};
-ghost use Rattle.tabled_config.specs.Refusal.{table_faults, first_refusal};
-ghost use Rattle.tabled_pages.specs.Input.{fault_of, is_allowed, rows_of};
-ghost use Rattle.tabled_pages.specs.Page.{framed_table, page};
+ghost use Rattle.tabled_config.specs.Texts.{texts};
+ghost use Rattle.tabled_text.specs.TextTable.{text_of};
+ghost use Rattle.tabled_pages.specs.Input.{fault_of, have_equal_counts, rows_of};
+ghost use Rattle.tabled_pages.specs.Page.{page};
 ghost use Rattle.tabled_pages.specs.Style.{styled};
-ghost use Rattle.tabled_pages.specs.Table.{texts};
+ghost use Rattle.tabled_pages.specs.declared.bytes.TheConstants.{LINE_FEED};
 
-use crate::bytes::LINE_FEED;
+use crate::bytes::as_text;
 use crate::error::ShowError;
-use crate::faults::test_input;
 use crate::read::INPUT_LIMIT;
-use crate::styles::configured;
-use crate::table::{measure, padded_rows};
+use crate::rows::rows_of;
 use std::alloc::Global;
-use tabled_config::{PrintError, SpannedConfig, print_plain};
-use tabled_grid::Dimension;
+use tabled_config::{PrintError, shown_after_change};
 use tabled_style::ReadyStyle;
+use tabled_text::{TableError, TextTable};
 
-/// The widths of a table's columns. Each row is one line high.
-#[derive(Drop)]
-struct Columns {
-    /// How wide each column is.
-    widths: Vec<usize>,
-}
-
-impl Dimension for Columns {
-    ghost width_of = { λ columns. slice_index columns.widths.items };
-
-    ghost height_of = { λ columns row. 1 };
-
-    fn get_width(&self, col: usize) -> usize {
-        self.widths.get(col).copied().unwrap_or(0)
-    }
-
-    fn get_height(&self, _row: usize) -> usize {
-        1
-    }
-}
-
-/// Appends a table whose cells fit, and a line feed.
-fn append_table(
-    text: &mut String,
-    cfg: &SpannedConfig,
-    columns: &Columns,
-    cells: &[Vec<String>],
-) -> Result<(), ShowError>
-    requires { first_refusal cfg.now (length cells.now, vec_len columns.now.widths) (slice_index columns.now.widths.items)
-        (λ row. 1) (texts cells.now) ≡ None }
-    ensures text { OnOk result ((es : List ConfigEvent) → Shows es cfg.now → string_bytes text.new ≡ string_bytes text.old
-        ++ printed es (length cells.now, vec_len columns.now.widths) (slice_index columns.now.widths.items) (λ row. 1) (texts cells.now)
-        ++ LINE_FEED ∷ []) }
-    ensures refused { IfErr result (λ e. e ≡ ShowError.OutOfMemory) }
+/// A table of these rows. They are refused where they differ in their counts.
+fn plain_table(alloc: Global, rows: Vec<Vec<String>>) -> Result<TextTable, ShowError>
+    ensures texts { IfOk result (λ table. table.texts ≡ texts rows.items) }
+    ensures config { IfOk result (λ table. Shows [] table.config.spanned) }
+    ensures equal { OnOk result (have_equal_counts (texts rows.items) ≡ true) }
+    ensures refused { IfErr result (λ e. (e ≡ ShowError.OutOfMemory) ⊎ ((e ≡ ShowError.UnequalRows) × (have_equal_counts (texts rows.items) ≡ false))) }
 {
-    let shape = (cells.len(), columns.widths.len());
-    match print_plain(text, cfg, columns, shape, cells) {
-        Ok(()) => {
-            text.push('\n')?;
-            Ok(())
-        }
-        Err(PrintError::OutOfMemory) => Err(ShowError::OutOfMemory),
-        Err(_) => unreachable!("the cells fit"),
+    match TextTable::from_rows(alloc, rows) {
+        Ok(table) => Ok(table),
+        Err(TableError::OutOfMemory) => Err(ShowError::OutOfMemory),
+        Err(TableError::UnequalRows(_)) => Err(ShowError::UnequalRows),
+        Err(_) => unreachable!("nothing is printed yet"),
     }
 }
 
-/// The text of a table whose cells fit, with a line feed after it.
-fn print_table(
+/// A table of these rows to which a style was applied, and nothing else. They are refused where they differ in their counts.
+fn styled_table(
     alloc: Global,
     style: ReadyStyle,
-    columns: &Columns,
-    cells: &[Vec<String>],
-) -> Result<String, ShowError>
-    requires { table_faults (slice_index columns.now.widths.items) (λ row. 1) (length cells.now, vec_len columns.now.widths)
-        (texts cells.now) ≡ [] }
-    ensures text { IfOk result (λ text. string_bytes text ≡
-        printed (styled style) (length cells.now, vec_len columns.now.widths) (slice_index columns.now.widths.items)
-        (λ row. 1) (texts cells.now) ++ LINE_FEED ∷ []) }
-    ensures refused { IfErr result (λ e. e ≡ ShowError.OutOfMemory) }
+    rows: Vec<Vec<String>>,
+) -> Result<TextTable, ShowError>
+    ensures texts { IfOk result (λ table. table.texts ≡ texts rows.items) }
+    ensures config { IfOk result (λ table. Shows (styled style) table.config.spanned) }
+    ensures equal { OnOk result (have_equal_counts (texts rows.items) ≡ true) }
+    ensures refused { IfErr result (λ e. (e ≡ ShowError.OutOfMemory) ⊎ ((e ≡ ShowError.UnequalRows) × (have_equal_counts (texts rows.items) ≡ false))) }
 {
-    let mut text = String::new(alloc);
-    let cfg = configured(alloc, style)?;
-    let answer = append_table(&mut text, &cfg, columns, cells);
-    drop(cfg);
-    answer?;
-    Ok(text)
+    let mut table = plain_table(alloc, rows)?;
+    let applied = table.apply(style);
+    shown_after_change();
+    applied?;
+    Ok(table)
 }
 
-/// The text of an input's table, with a line feed after it.
-fn framed(alloc: Global, style: ReadyStyle, input: &[u8]) -> Result<String, ShowError>
-    requires { list_all is_allowed input.now ≡ true }
-    ensures text { IfOk result (λ text. string_bytes text ≡ framed_table style (rows_of input.now) ++ LINE_FEED ∷ []) }
+/// The text of a table, with a line feed after it.
+fn text_of(table: &TextTable) -> Result<String, ShowError>
+    ensures text { (es : List ConfigEvent) → Shows es table.now.config.spanned → IfOk result (λ text. string_bytes text ≡ text_of es table.now.texts ++ LINE_FEED ∷ []) }
     ensures refused { IfErr result (λ e. e ≡ ShowError.OutOfMemory) }
 {
-    let widths = measure(alloc, input)?;
-    let cells = padded_rows(alloc, input, &widths)?;
-    let text = print_table(alloc, style, &Columns { widths }, &cells)?;
+    match table.to_text() {
+        Ok(mut text) => {
+            text.push('\n')?;
+            Ok(text)
+        }
+        Err(PrintError::OutOfMemory) => Err(ShowError::OutOfMemory),
+        Err(_) => unreachable!("no span is set"),
+    }
+}
+
+/// The text of the table of an input in a style, with a line feed after it.
+fn framed(alloc: Global, style: ReadyStyle, input: &str) -> Result<String, ShowError>
+    ensures text { IfOk result (λ text. string_bytes text ≡ text_of (styled style) (rows_of input.now) ++ LINE_FEED ∷ []) }
+    ensures equal { OnOk result (have_equal_counts (rows_of input.now) ≡ true) }
+    ensures refused { IfErr result (λ e. (e ≡ ShowError.OutOfMemory) ⊎ ((e ≡ ShowError.UnequalRows) × (have_equal_counts (rows_of input.now) ≡ false))) }
+{
+    let rows = rows_of(alloc, input)?;
+    let table = styled_table(alloc, style, rows)?;
+    let text = text_of(&table)?;
     Ok(text)
 }
 
@@ -109,7 +86,7 @@ pub fn page(alloc: Global, style: ReadyStyle, input: &[u8]) -> Result<String, Sh
     ensures faults { IfErr result (λ e. (e ≡ ShowError.OutOfMemory) ⊎ (fault_of input.now ≡ Some e)) }
     ensures kinds { IfErr result (λ e. (e ≡ ShowError.OutOfMemory) ⊎ (e ≡ ShowError.ByteOutOfRange) ⊎ (e ≡ ShowError.UnequalRows)) }
 {
-    test_input(input)?;
+    let input = as_text(input)?;
     if input.is_empty() {
         return Ok(String::new(alloc));
     }
