@@ -16,3 +16,4 @@ pub mod Picture
 pub mod Framed
 pub mod Refusal
 pub mod Options
+pub mod Compact

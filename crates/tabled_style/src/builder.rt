@@ -5,6 +5,7 @@ ghost use Rattle.std.specs.Prelude.{◌≡◌};
 use std::marker::{Model, PhantomData};
 use tabled_grid::{Borders, HorizontalLine as HLine, VerticalLine as VLine};
 
+mod compact;
 mod custom;
 mod frame;
 mod lines;

@@ -7,6 +7,7 @@ ghost use Rattle.tabled_theme.specs.Shown.{of_borders, of_style, of_configuratio
 
 mod characters;
 mod colors;
+mod compact;
 mod fields;
 mod keep;
 mod lines;
