@@ -1,6 +1,8 @@
-//! Single cases of themes: each expected text is drawn by hand.
+//! Single cases of themes and of compact configurations: each expected text is drawn by hand.
 #![tactic(auto)]
 
+#[cfg(test)]
+mod compact;
 #[cfg(test)]
 mod fields;
 #[cfg(test)]
