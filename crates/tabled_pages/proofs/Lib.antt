@@ -2,5 +2,6 @@ pub mod Allowed
 pub mod Counts
 pub mod FirstFault
 pub mod Lines
+pub mod OneLine
 pub mod Pages
 pub mod Reading

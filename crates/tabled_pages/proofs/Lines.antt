@@ -26,7 +26,8 @@ before-none byte text none = take_all (position_or_len (is_byte byte) text) text
 after-none : (byte : ℕ) (text : List ℕ) → length text ≤ position_or_len (is_byte byte) text → after_first (is_byte byte) text ≡ []
 after-none byte text none = drop_all (position_or_len (is_byte byte) text + 1) text (omega arith)
 
-pieces-some : (byte : ℕ) (text : List ℕ) → 0 < length (pieces byte text)
+-- a text has a piece
+pub pieces-some : (byte : ℕ) (text : List ℕ) → 0 < length (pieces byte text)
 pieces-some byte text = simp (length-slice_split (is_byte byte) text) (omega arith)
 
 -- a piece before others stays, and what follows it loses an empty last piece
