@@ -1,9 +1,16 @@
--- Nothing was set before, and then the style was applied.
+-- Nothing was set before, and then the style was applied, which sets no spans.
 use Rattle.std.proofs.Common.{[]}
 use Rattle.tabled_style.specs.Named.{ready_applied}
+use Rattle.tabled_pages.proofs.NoSpans.{no_spans}
 use Rattle.tabled_pages.proofs.page.styled_table.Goals as goal
 
 pub returns-clause-config : goal.returns-clause-config
 returns-clause-config c =
     c.shown_after_change.ensures.spanned [] (ready_applied c.args.style) c.in_ok-table.table.config.spanned c.apply-applied.new.self.config.spanned
     c.in_ok-applied.ensures.config.spanned_changed c.in_ok-table.ensures.config
+
+pub returns-clause-spans : goal.returns-clause-spans
+returns-clause-spans c =
+    no_spans c.args.style c.apply-applied.new.self.config.spanned
+    (c.shown_after_change.ensures.spanned [] (ready_applied c.args.style) c.in_ok-table.table.config.spanned c.apply-applied.new.self.config.spanned
+    c.in_ok-applied.ensures.config.spanned_changed c.in_ok-table.ensures.config)

@@ -1,0 +1,35 @@
+-- A ready style sets no spans.
+use Rattle.std.proofs.Common.{◌≡◌, ℕ, ◌==◌, ◌&&◌, true, List, [], ◌∷◌, ◌++◌, refl, ap, ◌∙◌}
+use Rattle.std.specs.FinMap.{len, len-empty}
+use Rattle.tabled_border.specs.Texts.{Texts}
+use Rattle.tabled_grid.specs.declared.event.Event.{Event}
+use Rattle.tabled_grid.specs.declared.event.Event.TheVariants.{Erase as erase}
+use Rattle.tabled_grid.specs.declared.event.Region.TheVariants.{All as every_site}
+use Rattle.tabled_grid.specs.State.{class_record_set}
+use Rattle.tabled_layout.specs.TableSettings.{settings_after, first_settings}
+use Rattle.tabled_config.specs.Configuration.{Configuration, Shows, settings_of, by_characters, by_colors, borders_replaced, horizontal_lines_put, vertical_lines_put}
+use Rattle.tabled_config.specs.Refusal.{has_no_spans}
+use Rattle.tabled_style.specs.declared.ready_style.ReadyStyle.{ReadyStyle}
+use Rattle.tabled_style.specs.Named.{shown}
+use Rattle.tabled_pages.specs.Style.{styled}
+
+no_settings_of_colors : (fs : List (Event Texts)) → settings_of (by_colors fs) ≡ []
+no_settings_of_colors [] = refl
+no_settings_of_colors (f ∷ fs) = no_settings_of_colors fs
+
+no_settings : (es : List (Event ℕ)) (fs : List (Event Texts)) → settings_of (by_characters es ++ by_colors fs) ≡ []
+no_settings [] fs = no_settings_of_colors fs
+no_settings (e ∷ es) fs = no_settings es fs
+
+no_settings_of_style : (style : ReadyStyle) → settings_of (styled style) ≡ []
+unfolding borders_replaced
+no_settings_of_style style =
+    no_settings (erase every_site ∷ horizontal_lines_put (shown style).horizontals ++ vertical_lines_put (shown style).verticals ++ class_record_set (shown style).borders)
+    (erase every_site ∷ [])
+
+pub no_spans : (style : ReadyStyle) (cfg : Configuration) → Shows (styled style) cfg → has_no_spans cfg ≡ true
+no_spans style cfg shows =
+    let same = shows.settings_shown ∙ ap (settings_after first_settings) (no_settings_of_style style) in
+    let cols : len cfg.settings.column_spans ≡ 0 = ap (λ settings. len settings.column_spans) same ∙ len-empty _ _ in
+    let rows : len cfg.settings.row_spans ≡ 0 = ap (λ settings. len settings.row_spans) same ∙ len-empty _ _ in
+    ap (λ n. (n == 0) && (len cfg.settings.row_spans == 0)) cols ∙ ap (λ n. n == 0) rows
