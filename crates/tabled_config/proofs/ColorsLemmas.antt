@@ -9,7 +9,7 @@ use Rattle.tabled_settings.proofs.Settling.{value_is_the_setting, after_removal}
 use Rattle.tabled_config.specs.CellColors.{changed, no_color, colors_after}
 
 -- a map takes all events
-with_map : (live : Live Texts) (events : List (EntityEvent Texts)) → colors_after (Some live) (map changed events) ≡ Some (after_all live events)
+pub with_map : (live : Live Texts) (events : List (EntityEvent Texts)) → colors_after (Some live) (map changed events) ≡ Some (after_all live events)
 with_map live [] = refl
 with_map live (event ∷ events) = with_map (after live event) events
 

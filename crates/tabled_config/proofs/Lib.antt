@@ -9,3 +9,5 @@ pub mod PieceLemmas
 pub mod InTurn
 pub mod Replacing
 pub mod SecondTime
+pub mod EntitiesColoredLemmas
+pub mod BothLemmas

@@ -17,3 +17,4 @@ pub mod Framed
 pub mod Refusal
 pub mod Options
 pub mod Compact
+pub mod EntitiesColored

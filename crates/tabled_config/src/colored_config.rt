@@ -2,6 +2,8 @@
 
 ghost use Rattle.std.specs.Prelude.{◌≡◌};
 
+mod coloring;
+
 use crate::{BorderEvent, ColorMap, Colors, Configured, SpannedConfig, TableOption};
 use std::alloc::Global;
 use std::marker::Model;

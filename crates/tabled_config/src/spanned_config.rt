@@ -8,7 +8,9 @@ ghost use Rattle.tabled_grid.specs.State.{state_at};
 ghost use Rattle.tabled_config.specs.Configuration.{all_but_offsets};
 
 mod applying;
+mod both;
 mod cells;
+mod coloring;
 mod colors;
 mod copies;
 mod equality;

@@ -6,3 +6,4 @@ pub mod Placing
 pub mod Settling
 pub mod SettingsLemmas
 pub mod SameSettings
+pub mod SettingBack

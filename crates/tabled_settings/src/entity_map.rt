@@ -2,6 +2,8 @@
 
 ghost use Rattle.std.specs.Prelude.{◌≡◌, ◌↔◌, [], IsTrue, IsOk, OnOk, OnErr, unwrap_or};
 
+mod both;
+
 use crate::last_events::LastEvents;
 use std::alloc::Global;
 use std::marker::Model;

@@ -8,6 +8,8 @@ ghost use Rattle.tabled_settings.specs.Setting.{covering};
 ghost use Rattle.tabled_settings.specs.Live.{without, has_event};
 ghost use Rattle.tabled_settings.specs.Same.{same_event};
 
+mod both;
+
 use crate::slots::{self, Slot};
 use std::alloc::Global;
 use std::collections::BTreeMap;

@@ -1,0 +1,29 @@
+use Rattle.std.proofs.Common.{ap, sym, subst, ◌∙◌, [], ◌∷◌, ◌++◌, length}
+use Rattle.tabled_settings.specs.Setting.{same_entity}
+use Rattle.tabled_settings.specs.Live.{without}
+use Rattle.tabled_settings.specs.Slots.{standing, IsOnce, HasPlaces}
+use Rattle.tabled_settings.proofs.Lasting.{slots_after, standing-put, once-put, places-put}
+use Rattle.tabled_settings.proofs.SettingBack.{places_again}
+use Rattle.tabled_settings.proofs.last_events.LastEvents.put_both.Goals as goal
+
+pub invariant_of-self-in-Err : goal.invariant_of-self-in-Err
+invariant_of-self-in-Err g c = (
+  subst (λ items. IsOnce same_entity (standing items)) (sym c.reserve.ensures.items) c.self.invariant.0,
+  subst (λ items. HasPlaces c.set_back.new.places items) (sym c.reserve.ensures.items)
+      (places_again c.self.inside.places c.insert.new.self c.set_back.new.places c.self.inside.slots.items c.args.entity c.len.result c.in_ok-before.before
+      c.self.invariant.1 c.in_ok-before.ensures.old c.in_ok-before.ensures.updates c.set_back.ensures),
+)
+
+pub invariant_of-self-2 : goal.invariant_of-self-2
+invariant_of-self-2 g c =
+    let made = slots_after c.self.inside.slots.items c.reserve.new.self.items c.empty.new.slots.items c.push_reserved.new.self.items c.in_ok-before.before _ c.args.entity c.args.value c.reserve.ensures.items c.in_ok-before.ensures.old (c.self.invariant.1 c.args.entity) c.empty.ensures.emptied c.push_reserved.ensures.items in (
+      once-put c.self.inside.slots.items c.push_reserved.new.self.items c.args.entity c.args.value c.self.invariant.0 made,
+      places-put c.self.inside.slots.items c.push_reserved.new.self.items c.args.entity c.args.value c.self.invariant.0 made
+          c.self.inside.places c.insert.new.self c.len.result c.self.invariant.1 (c.len.ensures ∙ c.reserve.new.self.ok.0 ∙ ap length c.reserve.ensures.items) c.in_ok-before.ensures.updates,
+    )
+
+pub returns-clause-ok : goal.returns-clause-ok
+returns-clause-ok g c =
+    let made = slots_after c.self.inside.slots.items c.reserve.new.self.items c.empty.new.slots.items c.push_reserved.new.self.items c.in_ok-before.before _ c.args.entity c.args.value c.reserve.ensures.items c.in_ok-before.ensures.old (c.self.invariant.1 c.args.entity) c.empty.ensures.emptied c.push_reserved.ensures.items in
+    standing-put c.self.inside.slots.items c.push_reserved.new.self.items c.args.entity c.args.value c.self.invariant.0 made
+    ∙ ap (λ events. without c.args.entity events ++ (c.args.entity, c.args.value) ∷ []) (c.self.view_is ∙ c.close_up.ensures)

@@ -1,0 +1,60 @@
+//! One event here and one in other events.
+
+ghost use Rattle.std.specs.Prelude.{◌≡◌, ◌++◌, ◌∷◌, [], true, is_some, OnOk, OnErr, if◌then◌else◌};
+ghost use Rattle.std.specs.BTreeMap.{get};
+ghost use Rattle.tabled_object.specs.declared.entity.Entity.{Entity as Which};
+ghost use Rattle.tabled_settings.specs.Setting.{same_entity};
+ghost use Rattle.tabled_settings.specs.Live.{without};
+ghost use Rattle.tabled_settings.specs.Slots.{entity_cmp};
+
+use super::LastEvents;
+use crate::slots;
+use std::collections::BTreeMap;
+use tabled_border::OutOfMemory;
+use tabled_object::Entity;
+
+impl<T> LastEvents<T> {
+    /// Adds an event here and one of the same entity to other events. Where memory is refused neither changes: what may be
+    /// refused here comes first, and is taken back where the others refuse.
+    pub(crate) fn put_both<U>(
+        &mut self,
+        others: &mut LastEvents<U>,
+        entity: Entity,
+        value: Option<T>,
+        other: Option<U>,
+    ) -> Result<(), OutOfMemory>
+    where
+        T: Drop,
+        U: Drop,
+        ensures ok { OnOk result (self.new ≡ without entity self.old ++ (entity, value) ∷ []) }
+        ensures others_ok { OnOk result (others.new ≡ without entity others.old ++ (entity, other) ∷ []) }
+        ensures err { OnErr result (self.new ≡ self.old) }
+        ensures others_err { OnErr result (others.new ≡ others.old) }
+    {
+        self.close_up();
+        self.slots.reserve(1)?;
+        let before = self.places.insert(entity, self.slots.len())?;
+        if let Err(refused) = others.put(entity, other) {
+            set_back(&mut self.places, entity, before);
+            return Err(refused);
+        }
+        slots::empty(&mut self.slots, before);
+        self.slots.push_reserved(Some((entity, value)));
+        Ok(())
+    }
+}
+
+/// Gives an entity the place that it had before, or none. It has one, so this takes no memory.
+fn set_back(places: &mut BTreeMap<Entity, usize>, entity: Entity, before: Option<usize>)
+    requires { is_some (get entity_cmp places.old entity) ≡ true }
+    ensures { (which : Which) → get entity_cmp places.new which ≡ (if same_entity which entity then before else get entity_cmp places.old which) }
+{
+    match before {
+        Some(place) => {
+            let _ = places.insert(entity, place);
+        }
+        None => {
+            let _ = places.remove(&entity);
+        }
+    }
+}
