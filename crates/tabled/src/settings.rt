@@ -1,11 +1,12 @@
 //! Options, and the objects that they are applied to.
 
+pub mod formatting;
 pub mod object;
 pub mod style;
 pub mod themes;
 
 pub use tabled_color::Color;
 pub use tabled_config::{CellOption, TableOption, modify};
-pub use tabled_options::{Alignment, Highlight};
+pub use tabled_options::{Alignment, Highlight, Justification, PaddingColor};
 pub use tabled_style::{Border, Style};
 pub use tabled_theme::Theme;

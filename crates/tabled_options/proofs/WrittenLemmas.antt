@@ -17,7 +17,7 @@ use Rattle.tabled_config.specs.Along.{is_empty, along}
 use Rattle.tabled_config.specs.Picture.{Look}
 use Rattle.tabled_config.specs.Configuration.{writes_applied, by_characters, by_colors}
 use Rattle.tabled_color.specs.Shade.{texts_of}
-use Rattle.tabled_options.specs.declared.alignment.Alignment.{Alignment}
+use Rattle.tabled_formatting.specs.declared.alignment.Alignment.{Alignment}
 use Rattle.tabled_options.specs.TextStart.{limited, width_of, aligned_offset, moved_if_aligned, place_number, text_start}
 use Rattle.tabled_options.specs.LineText.{Lettering, countable, places_along, laid, takes_character, character_written, color_written, characters_written, colors_written, places_taken, text_events}
 use Rattle.tabled_options.specs.Laying.{exists}

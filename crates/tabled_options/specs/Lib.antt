@@ -1,4 +1,3 @@
-pub mod Alignment
 pub mod LineChar
 pub mod NamedLine
 pub mod TextStart

@@ -16,7 +16,7 @@ use Rattle.tabled_config.specs.Configuration.{ConfigEvent, by_characters, by_col
 use Rattle.tabled_config.specs.Along.{along}
 use Rattle.tabled_config.specs.Picture.{Look}
 use Rattle.tabled_color.specs.Shade.{Shade, texts_of}
-use Rattle.tabled_options.specs.declared.alignment.Alignment.{Alignment}
+use Rattle.tabled_formatting.specs.declared.alignment.Alignment.{Alignment}
 use Rattle.tabled_options.specs.TextStart.{limited, text_start}
 
 -- a text for a line: its characters, what names the line, how it is aligned and by how much it is moved from there, its

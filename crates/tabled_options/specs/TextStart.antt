@@ -5,8 +5,8 @@ use Rattle.tabled_settings.specs.declared.alignment.AlignmentVertical.{Alignment
 use Rattle.tabled_grid.specs.declared.offset.Offset.{Offset}
 use Rattle.tabled_grid.specs.declared.place.LineOf.{LineOf}
 use Rattle.tabled_config.specs.Texts.{pieces, width_of_text}
-use Rattle.tabled_options.specs.declared.alignment.Alignment.{Alignment}
-use Rattle.tabled_options.specs.Alignment.{horizontal_of, vertical_of}
+use Rattle.tabled_formatting.specs.declared.alignment.Alignment.{Alignment}
+use Rattle.tabled_formatting.specs.Alignment.{horizontal_of, vertical_of}
 
 -- the characters of a text that count: the first ones, where there is a limit
 abbrev pub limited : Option ℕ → List ℕ → List ℕ

@@ -1,11 +1,11 @@
 //! Options that write on the lines of a table: single characters, and texts.
 //!
-//! The outline around cells is written in `tabled_highlight`, and passed on here.
+//! The outline around cells is written in `tabled_highlight`, colors in turn in `tabled_colorization`, and what is set for texts in
+//! `tabled_formatting`; all are passed on here.
 //!
 //! `docs/DEFINITIONS.md` explains the words of the contracts.
 #![tactic(auto)]
 
-mod alignment;
 mod line_char;
 mod line_text;
 mod named_line;
@@ -14,7 +14,10 @@ mod table_line;
 mod text_start;
 mod written;
 
-pub use alignment::Alignment;
 pub use line_char::LineChar;
 pub use line_text::LineText;
+pub use tabled_colorization::{Colorization, ExactColorization};
+pub use tabled_formatting::{
+    Alignment, AlignmentStrategy, Justification, PaddingColor, TrimStrategy,
+};
 pub use tabled_highlight::Highlight;

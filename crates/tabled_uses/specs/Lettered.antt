@@ -10,7 +10,7 @@ use Rattle.tabled_grid.specs.declared.event.Event.{Event}
 use Rattle.tabled_config.specs.Configuration.{borders_set, colors_of}
 use Rattle.tabled_config.specs.Picture.{Look, look}
 use Rattle.tabled_color.specs.Shade.{static_shade}
-use Rattle.tabled_options.specs.declared.alignment.Alignment.{Alignment}
+use Rattle.tabled_formatting.specs.declared.alignment.Alignment.{Alignment}
 use Rattle.tabled_options.specs.LineChar.{EdgeChar, line_char_events}
 use Rattle.tabled_options.specs.LineText.{Lettering, text_events}
 use Rattle.tabled_options.specs.NamedLine.{row_line, column_line}

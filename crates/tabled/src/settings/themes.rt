@@ -1,3 +1,4 @@
-//! Themes.
+//! Themes, and colors in turn.
 
+pub use tabled_options::{Colorization, ExactColorization};
 pub use tabled_theme::Theme;

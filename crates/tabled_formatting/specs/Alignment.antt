@@ -2,7 +2,7 @@
 use Rattle.std.specs.Prelude.{Option, Some, None}
 use Rattle.tabled_settings.specs.declared.alignment.AlignmentHorizontal.{AlignmentHorizontal}
 use Rattle.tabled_settings.specs.declared.alignment.AlignmentVertical.{AlignmentVertical}
-use Rattle.tabled_options.specs.declared.alignment.Alignment.{Alignment}
+use Rattle.tabled_formatting.specs.declared.alignment.Alignment.{Alignment}
 
 -- the alignment between the left and the right side, and that between the upper and the lower one
 abbrev pub horizontal_of : Alignment → Option AlignmentHorizontal

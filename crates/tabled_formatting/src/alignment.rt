@@ -3,7 +3,9 @@
 ghost use Rattle.std.specs.Prelude.{◌≡◌};
 ghost use Rattle.tabled_settings.specs.declared.alignment.AlignmentHorizontal.TheVariants as horizontal;
 ghost use Rattle.tabled_settings.specs.declared.alignment.AlignmentVertical.TheVariants as vertical;
-ghost use Rattle.tabled_options.specs.Alignment.{horizontal_of, vertical_of};
+ghost use Rattle.tabled_formatting.specs.Alignment.{horizontal_of, vertical_of};
+
+mod option;
 
 use tabled_settings::{AlignmentHorizontal, AlignmentVertical};
 
@@ -81,7 +83,7 @@ impl Alignment {
 }
 
 impl From<AlignmentHorizontal> for Alignment {
-    ghost use Rattle.tabled_options.specs.declared.alignment.Alignment.TheVariants as between;
+    ghost use Rattle.tabled_formatting.specs.declared.alignment.Alignment.TheVariants as between;
 
     ghost from_gives = { λ alignment result. result ≡ between.Horizontal alignment };
 
@@ -91,7 +93,7 @@ impl From<AlignmentHorizontal> for Alignment {
 }
 
 impl From<AlignmentVertical> for Alignment {
-    ghost use Rattle.tabled_options.specs.declared.alignment.Alignment.TheVariants as between;
+    ghost use Rattle.tabled_formatting.specs.declared.alignment.Alignment.TheVariants as between;
 
     ghost from_gives = { λ alignment result. result ≡ between.Vertical alignment };
 

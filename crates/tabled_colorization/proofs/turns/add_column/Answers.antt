@@ -1,0 +1,12 @@
+use Rattle.std.proofs.Common.{◌≡◌, ◌+◌, ◌++◌, map, ap, ◌∙◌, arith}
+use Rattle.tabled_object.specs.declared.entity.Entity.TheVariants.{Cell}
+use Rattle.tabled_object.specs.Entities.{below}
+use Rattle.tabled_colorization.specs.Turns.{in_turn}
+use Rattle.tabled_colorization.proofs.TurnLemmas.{one_more}
+use Rattle.tabled_colorization.proofs.turns.add_column.Goals as goal
+
+pub loop-row-preserved : goal.loop-row-preserved
+loop-row-preserved c = one_more c.args.colors.now (λ row. (Cell row c.args.col, c.args.first + row)) c.args.list.now.items c.loop-row.list.items c.add.new.list.items c.loop-row.row c.loop-row.invariant c.in_ok-add.ensures
+
+pub returns : goal.returns
+returns c = c.loop-row.invariant ∙ ap (λ n. c.args.list.now.items ++ in_turn c.args.colors.now (map (λ row. (Cell row c.args.col, c.args.first + row)) (below n))) (let all : c.loop-row.row ≡ c.args.rows = omega arith in all)

@@ -1,0 +1,9 @@
+-- Those so far.
+use Rattle.std.proofs.Common.{◌≡◌, ◌+◌, ◌++◌, map}
+use Rattle.tabled_object.specs.declared.entity.Entity.TheVariants.{Cell}
+use Rattle.tabled_object.specs.Entities.{below}
+use Rattle.tabled_colorization.specs.Turns.{in_turn}
+use Rattle.tabled_colorization.proofs.turns.add_row.Given as goal
+
+abbrev pub invariant-loop-col : goal.invariant-loop-col
+invariant-loop-col l = l.list.items ≡ l.fn.list.items ++ in_turn l.colors (map (λ col. (Cell l.row col, l.first + col)) (below l.col))

@@ -1,0 +1,17 @@
+-- What options set are no colors of cells.
+use Rattle.std.proofs.Common.{◌≡◌, [], refl}
+use Rattle.tabled_object.specs.declared.entity.Entity.{Entity}
+use Rattle.tabled_config.specs.Configuration.{cell_colors_of}
+use Rattle.tabled_formatting.specs.declared.alignment.Alignment.{Alignment}
+use Rattle.tabled_formatting.specs.declared.trim_strategy.TrimStrategy.{TrimStrategy}
+use Rattle.tabled_formatting.specs.Formatting.{alignment_set, trim_set}
+
+pub none_in_alignment_set : (alignment : Alignment) (entity : Entity) → cell_colors_of (alignment_set alignment entity) ≡ []
+none_in_alignment_set (Alignment.Horizontal alignment) entity = refl
+none_in_alignment_set (Alignment.Vertical alignment) entity = refl
+
+pub none_in_trim_set : (trim : TrimStrategy) (entity : Entity) → cell_colors_of (trim_set trim entity) ≡ []
+none_in_trim_set TrimStrategy.Vertical entity = refl
+none_in_trim_set TrimStrategy.Horizontal entity = refl
+none_in_trim_set TrimStrategy.Both entity = refl
+none_in_trim_set TrimStrategy.None entity = refl

@@ -1,0 +1,158 @@
+//! What fills a cell beside its text.
+
+ghost use Rattle.std.specs.Prelude.{◌≡◌, Some, None, IfOk, OnOk, OnErr, option_map, option_copied};
+ghost use Rattle.tabled_object.specs.declared.entity.Entity.TheVariants as cells;
+ghost use Rattle.tabled_color.specs.Shade.{texts_of};
+ghost use Rattle.tabled_config.specs.Configuration as borders;
+ghost use Rattle.tabled_config.specs.Colored.{Changes};
+ghost use Rattle.tabled_formatting.specs.Formatting.{justification_set};
+
+use std::alloc::Global;
+use std::marker::Model;
+use tabled_border::{ANSIBuf, Keep, OutOfMemory};
+use tabled_color::Color;
+use tabled_config::{CellOption, ColoredConfig, SpannedConfig, TableOption};
+use tabled_object::Entity;
+
+/// The character that fills cells beside their texts, and its color. Here it is `#`:
+///
+/// ```text
+/// one##
+/// three
+/// ```
+#[derive(Debug, Drop)]
+pub struct Justification {
+    c: Option<char>,
+    color: Option<Color>,
+}
+
+impl Model for Justification {
+    ghost use Rattle.tabled_formatting.specs.Formatting.{Justifying};
+
+    ghost Value = { Justifying };
+
+    ghost view = { λ given. record { character = given.c; color = given.color } };
+}
+
+impl Justification {
+    /// This character, without a color.
+    pub fn new(c: char) -> Self
+        ensures { result ≡ record { character = Some c; color = None } }
+    {
+        Justification {
+            c: Some(c),
+            color: None,
+        }
+    }
+
+    /// This character, in a color.
+    pub fn colored(c: char, color: Color) -> Self
+        ensures { result ≡ record { character = Some c; color = Some color } }
+    {
+        Justification {
+            c: Some(c),
+            color: Some(color),
+        }
+    }
+
+    /// The same character, in a color.
+    pub fn color(self, color: Color) -> Self
+        ensures { result ≡ record self { color = Some color } }
+    {
+        Justification {
+            c: self.c,
+            color: Some(color),
+        }
+    }
+
+    /// Sets the character and the color for the cells of an entity.
+    fn set(&self, config: &mut SpannedConfig, entity: Entity) -> Result<(), OutOfMemory>
+        ensures ok { OnOk result (borders.Changes (justification_set self.now entity) config.old config.new) }
+        ensures err { OnErr result (config.new ≡ config.old) }
+    {
+        let color = texts_of(config.allocator(), self.color.as_ref())?;
+        config.set_colored_justification(entity, self.c.unwrap_or(' '), color)
+    }
+}
+
+/// The texts of a color, copied, if there is one.
+fn texts_of(alloc: Global, color: Option<&Color>) -> Result<Option<ANSIBuf>, OutOfMemory>
+    ensures { IfOk result (λ texts. texts ≡ option_map texts_of (option_copied color.entry)) }
+{
+    match color {
+        Some(color) => Ok(Some(ANSIBuf::new(alloc, color.get_prefix(), color.get_suffix())?)),
+        None => Ok(None),
+    }
+}
+
+/// A space, without a color.
+impl Default for Justification {
+    ghost is_default = { λ given. given ≡ record { character = None; color = None } };
+
+    fn default() -> Self {
+        Justification {
+            c: None,
+            color: None,
+        }
+    }
+}
+
+impl Keep for Justification {
+    fn keep(&self, alloc: Global) -> Result<Self, OutOfMemory> {
+        Ok(Justification {
+            c: self.c,
+            color: self.color.keep(alloc)?,
+        })
+    }
+}
+
+impl<R> CellOption<R, ColoredConfig> for Justification {
+    ghost makes = { λ given records entity old. justification_set given entity };
+
+    ghost hinted = { λ given. None };
+
+    /// Sets the character and the color for the cells of the entity: a space where no character is given, and no color where
+    /// none is given. Where memory is refused neither changes.
+    fn change(
+        &self,
+        _records: &mut R,
+        cfg: &mut ColoredConfig,
+        entity: Entity,
+    ) -> Result<(), OutOfMemory>
+        ensures ok { OnOk result (Changes (justification_set self.now entity) cfg.old cfg.new) }
+        ensures err { OnErr result (cfg.new ≡ cfg.old) }
+        ensures records { _records.new ≡ _records.old }
+    {
+        self.set(cfg.config_mut(), entity)
+    }
+
+    fn hint_change(&self) -> Option<Entity> {
+        None
+    }
+}
+
+impl<R, D> TableOption<R, ColoredConfig, D> for Justification {
+    ghost makes = { λ given records dims old. justification_set given cells.Global };
+
+    ghost hinted = { λ given. None };
+
+    /// Sets the character and the color for all cells: a space where no character is given, and no color where none is given.
+    /// Where memory is refused neither changes.
+    fn change(
+        self,
+        _records: &mut R,
+        cfg: &mut ColoredConfig,
+        _dims: &mut D,
+    ) -> Result<(), OutOfMemory>
+        ensures ok { OnOk result (Changes (justification_set self cells.Global) cfg.old cfg.new) }
+        ensures err { OnErr result (cfg.new ≡ cfg.old) }
+        ensures records { _records.new ≡ _records.old }
+        ensures sizes { _dims.new ≡ _dims.old }
+    {
+        self.set(cfg.config_mut(), Entity::Global)
+    }
+
+    fn hint_change(&self) -> Option<Entity> {
+        None
+    }
+}

@@ -1,0 +1,11 @@
+//! Tests of options that set something for cells, over public calls.
+#![tactic(auto)]
+
+#[cfg(test)]
+mod colorizations;
+#[cfg(test)]
+mod formatting;
+#[cfg(test)]
+mod hints;
+#[cfg(test)]
+mod tables;
