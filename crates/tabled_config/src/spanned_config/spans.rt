@@ -70,7 +70,9 @@ impl SpannedConfig {
     pub fn is_cell_covered_by_both_spans(&self, position: Position) -> bool
         ensures { result ≡ covered_by_both_spans self.now.settings.column_spans self.now.settings.row_spans position }
     {
-        self.settings.column_spans.cover_with(&self.settings.row_spans, position)
+        self.settings
+            .column_spans
+            .cover_with(&self.settings.row_spans, position)
     }
 
     /// Whether any cell spans several columns or several rows.
