@@ -3,6 +3,7 @@ pub mod ColoredLemmas
 pub mod ColorsLemmas
 pub mod SameConfigurationLemmas
 pub mod FaultLemmas
+pub mod MadeInTurn
 pub mod LookLemmas
 pub mod TextLemmas
 pub mod PieceLemmas

@@ -18,3 +18,4 @@ pub mod Refusal
 pub mod Options
 pub mod Compact
 pub mod EntitiesColored
+pub mod Headline

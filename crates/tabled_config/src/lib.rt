@@ -13,6 +13,7 @@ mod laws;
 mod print;
 mod print_error;
 mod refusals;
+mod seen;
 mod spanned_config;
 mod table_option;
 
@@ -27,6 +28,7 @@ pub use laws::{
 };
 pub use print::print_plain;
 pub use print_error::PrintError;
+pub use seen::{Seen, headline};
 pub use spanned_config::SpannedConfig;
 pub use table_option::TableOption;
 pub use tabled_compact::{CompactConfig, CompactMultilineConfig, Formatting};

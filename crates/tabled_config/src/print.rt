@@ -13,6 +13,7 @@ ghost use Rattle.tabled_config.specs.Picture.{character, look, text_lines, print
 ghost use Rattle.tabled_config.specs.Refusal as refusal;
 
 use crate::refusals::first_refusal;
+use crate::seen::edge_size;
 use crate::{PrintError, SpannedConfig};
 use std::alloc::{AllocError, Global};
 use tabled_grid::{Dimension, OutOfMemory, Place, Probes};
@@ -42,11 +43,7 @@ impl<D: Dimension> Frame<'_, D> {
         ensures { let view = framed D.width_of D.height_of self.now in
             result ≡ edge_size view.widths view.heights place }
     {
-        match place {
-            Place::Horizontal { col, .. } => self.dims.get_width(col),
-            Place::Vertical { row, .. } => self.dims.get_height(row),
-            Place::Cross { .. } => 0,
-        }
+        edge_size(self.dims, place)
     }
 
     /// The character that is printed for a place, a space where the place shows none.

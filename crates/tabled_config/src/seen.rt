@@ -1,0 +1,100 @@
+//! The headline of the library, as the contract of one call.
+
+ghost use Rattle.std.specs.Prelude.{◌≡◌, ◌≤◌, ◌++◌, List, [], OnOk, OnErr, IsTrue, IsOkUnless, option_copied, string_bytes};
+ghost use Rattle.tabled_grid.specs.Event.{replay};
+ghost use Rattle.tabled_grid.specs.Value.{value};
+ghost use Rattle.tabled_grid.specs.Drawn.{drawn};
+ghost use Rattle.tabled_config.specs.Configuration.{ConfigEvent, characters_of, colors_of};
+ghost use Rattle.tabled_config.specs.Colored.{Colored};
+ghost use Rattle.tabled_config.specs.Headline.{HaveMade, line_count};
+ghost use Rattle.tabled_config.specs.Picture.{edge_size, printed};
+ghost use Rattle.tabled_config.specs.Refusal.{has_no_spans, table_faults};
+ghost use Rattle.tabled_config.specs.Texts.{texts};
+
+use crate::{ColoredConfig, PrintError, print_plain};
+use tabled_grid::{ANSIBuf, Dimension, LineOf, Place, Probes};
+
+/// What one place shows, whether one line is drawn, how many readings each of these took, and how printing ended.
+#[derive(Drop)]
+pub struct Seen<'a> {
+    /// The character of the place.
+    pub character: Option<char>,
+    /// The readings that were made for it.
+    pub character_probes: u64,
+    /// The color of the place.
+    pub color: Option<&'a ANSIBuf>,
+    /// The readings that were made for it.
+    pub color_probes: u64,
+    /// Whether the line is drawn.
+    pub is_drawn: bool,
+    /// The readings that were made for that.
+    pub line_probes: u64,
+    /// Whether the table was printed.
+    pub printed: Result<(), PrintError>,
+}
+
+/// The headline. After any list of options on a table of one shape, each edge place and crossing has, found by at most six
+/// readings, the character and the color of the latest write, not erased since, of the highest level there; a line is drawn
+/// where these writes draw it; and where no spans are set and the cells fit, the printer appends exactly that picture around
+/// the cells, or refuses for memory alone.
+///
+/// It looks up `place` and `line`, and prints the table after the text of `out`.
+pub fn headline<'a, D: Dimension>(
+    cfg: &'a ColoredConfig,
+    dims: &D,
+    shape: (usize, usize),
+    cells: &[Vec<String>],
+    place: Place,
+    line: LineOf,
+    out: &mut String,
+) -> Seen<'a>
+    ensures character { (options : List (Colored → List ConfigEvent)) (events : List ConfigEvent) → HaveMade options events cfg.now
+        → result.character ≡ value (replay (characters_of events)) shape (edge_size (D.width_of dims.now) (D.height_of dims.now) place) place }
+    ensures color { (options : List (Colored → List ConfigEvent)) (events : List ConfigEvent) → HaveMade options events cfg.now
+        → option_copied result.color ≡ value (replay (colors_of events)) shape (edge_size (D.width_of dims.now) (D.height_of dims.now) place) place }
+    ensures drawn { (options : List (Colored → List ConfigEvent)) (events : List ConfigEvent) → HaveMade options events cfg.now
+        → result.is_drawn ≡ drawn (characters_of events) (line_count shape line) line }
+    ensures six_readings { (result.character_probes ≤ 6) × (result.color_probes ≤ 6) × (result.line_probes ≤ 6) }
+    ensures text { (options : List (Colored → List ConfigEvent)) (events : List ConfigEvent) → HaveMade options events cfg.now
+        → OnOk result.printed (string_bytes out.new ≡ string_bytes out.old ++ printed events shape (D.width_of dims.now) (D.height_of dims.now) (texts cells.now)) }
+    ensures memory_alone { IsTrue (has_no_spans cfg.now.spanned) → table_faults (D.width_of dims.now) (D.height_of dims.now) shape (texts cells.now) ≡ []
+        → IsOkUnless result.printed PrintError.OutOfMemory }
+    ensures unchanged { OnErr result.printed (string_bytes out.new ≡ string_bytes out.old) }
+{
+    let config = cfg.config();
+    let size = edge_size(dims, place);
+    let count = line_count(shape, line);
+    let mut character_probes = Probes::new();
+    let mut color_probes = Probes::new();
+    let mut line_probes = Probes::new();
+    Seen {
+        character: config.char_at(place, shape, size, &mut character_probes),
+        character_probes: character_probes.count(),
+        color: config.color_at(place, shape, size, &mut color_probes),
+        color_probes: color_probes.count(),
+        is_drawn: config.draws(line, count, &mut line_probes),
+        line_probes: line_probes.count(),
+        printed: print_plain(out, config, dims, shape, cells),
+    }
+}
+
+/// How long the edge of a place is: the width of its column, or the height of its row; a crossing has none.
+pub(crate) fn edge_size<D: Dimension>(dims: &D, place: Place) -> usize
+    ensures { result ≡ edge_size (D.width_of dims.now) (D.height_of dims.now) place }
+{
+    match place {
+        Place::Horizontal { col, .. } => dims.get_width(col),
+        Place::Vertical { row, .. } => dims.get_height(row),
+        Place::Cross { .. } => 0,
+    }
+}
+
+/// The number of the last line of a line's direction: how many rows, or columns, the table has.
+fn line_count(shape: (usize, usize), line: LineOf) -> usize
+    ensures { result ≡ line_count shape line }
+{
+    match line {
+        LineOf::Horizontal(_) => shape.0,
+        LineOf::Vertical(_) => shape.1,
+    }
+}
