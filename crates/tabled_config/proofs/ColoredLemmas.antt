@@ -1,5 +1,6 @@
 -- The configuration that options change, by the events of its parts.
 use Rattle.std.proofs.Common.{◌≡◌, ◌==◌, ◌||◌, ℕ, Bool, true, false, cond, Option, Some, None, List, [], ◌∷◌, ◌++◌, map, refl, sym, ap, subst, ◌∙◌}
+use Rattle.std.proofs.lemmas.List.{append-nil}
 use Rattle.std.proofs.lemmas.List.Elements.{filter_map-append}
 use Rattle.tabled_border.specs.Texts.{Texts}
 use Rattle.tabled_border.specs.declared.border.Border.{Border}
@@ -14,6 +15,7 @@ use Rattle.tabled_grid.specs.Writes.{writes_made}
 use Rattle.tabled_grid.specs.Calls.{entity_border_set, entity_border_erased, frame_erased}
 use Rattle.tabled_grid.specs.declared.event.Event.{Event}
 use Rattle.tabled_grid.specs.State.{state_at, class_record_set, writes_of}
+use Rattle.tabled_grid.proofs.EntityBorders.{nothing_written}
 use Rattle.tabled_grid.proofs.Replay.{Changes-nil}
 use Rattle.tabled_settings.specs.Setting.{EntityEvent}
 use Rattle.tabled_settings.specs.Live.{Live}
@@ -119,6 +121,12 @@ none_in_borders_replaced class horizontals verticals = none_by_both (erase every
 pub none_in_writes_applied : (characters : List (Write ℕ)) (colors : List (Write Texts)) → cell_colors_of (writes_applied characters colors) ≡ []
 unfolding writes_applied
 none_in_writes_applied characters colors = none_by_both (writes_made characters) (writes_made colors)
+
+-- the events of writes of characters alone
+pub characters_applied : (characters : List (Write ℕ)) (colors : List (Write Texts)) (es : List (Event ℕ)) → writes_made characters ≡ es → colors ≡ [] → writes_applied characters colors ≡ by_characters es
+unfolding writes_applied
+characters_applied characters colors es made none =
+    (λ i. by_characters (made i) ++ by_colors (nothing_written colors none i)) ∙ append-nil (by_characters es)
 
 pub none_in_entity_bordered : (border : Border ℕ) (shape : ℕ × ℕ) (entity : Entity) → cell_colors_of (entity_bordered border shape entity) ≡ []
 unfolding entity_bordered

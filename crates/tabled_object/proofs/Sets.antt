@@ -30,7 +30,7 @@ or_and true false true = refl
 or_and true false false = refl
 or_and false b c = refl
 
-any_here : (cell : Position) (rows cols : List ℕ) → list_any (is_here cell) (rectangle rows cols) ≡ (list_any (λ row. cell.row == row) rows && list_any (λ col. cell.col == col) cols)
+pub any_here : (cell : Position) (rows cols : List ℕ) → list_any (is_here cell) (rectangle rows cols) ≡ (list_any (λ row. cell.row == row) rows && list_any (λ col. cell.col == col) cols)
 unfolding rectangle
 any_here cell [] cols = refl
 any_here cell (row ∷ rows) cols =
@@ -130,7 +130,7 @@ passing_one passes true among true same = ap (λ b. (b && true) || among) (same 
 passing_one passes true among false same = ap (λ b. (b && true) || false) (same refl)
 passing_one passes false among cell_passes same = ap (λ b. b || (cell_passes && among)) (and_false passes)
 
-any_passing : (test : Position → Bool) (cell : Position) (cells : List Position) → list_any (is_here cell) (filter test cells) ≡ (test cell && list_any (is_here cell) cells)
+pub any_passing : (test : Position → Bool) (cell : Position) (cells : List Position) → list_any (is_here cell) (filter test cells) ≡ (test cell && list_any (is_here cell) cells)
 any_passing test cell [] = sym (and_false (test cell))
 any_passing test cell (other ∷ cells) =
     any_of_one (is_here cell) (test other) other (filter test cells)

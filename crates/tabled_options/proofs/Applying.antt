@@ -16,12 +16,6 @@ use Rattle.tabled_color.specs.Shade.{texts_of}
 use Rattle.tabled_options.specs.LineChar.{EdgeChar, mark_written, has_edge, direction_of, line_char_events}
 use Rattle.tabled_options.specs.LineText.{Lettering, characters_written, colors_written, places_taken, text_events}
 
--- the events of writes of characters alone
-pub characters_applied : (characters : List (Write ℕ)) (colors : List (Write Texts)) (es : List (Event ℕ)) → writes_made characters ≡ es → colors ≡ [] → writes_applied characters colors ≡ by_characters es
-unfolding writes_applied
-characters_applied characters colors es made none =
-    (λ i. by_characters (made i) ++ by_colors (nothing_written colors none i)) ∙ append-nil (by_characters es)
-
 -- none of the events that options here make is one of the colors of cells
 pub none_in_marks : (mark : EdgeChar) (rows cols : ℕ) (entity : Entity) → cell_colors_of (line_char_events mark (rows, cols) entity) ≡ []
 unfolding line_char_events

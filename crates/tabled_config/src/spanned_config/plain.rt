@@ -1,4 +1,4 @@
-//! What the printer asks of the characters besides single places.
+//! What is asked of the characters besides single places.
 
 ghost use Rattle.std.specs.Prelude.{◌≡◌, ◌↔◌, IsFalse};
 ghost use Rattle.tabled_grid.specs.declared.site.Direction.TheVariants.{Horizontal};
@@ -10,7 +10,7 @@ use tabled_grid::Place;
 
 impl SpannedConfig {
     /// The character of an edge or a crossing without its offset characters. `at` of an edge is not read.
-    pub(crate) fn plain_char_at(&self, place: Place, shape: (usize, usize)) -> Option<char>
+    pub fn plain_char_at(&self, place: Place, shape: (usize, usize)) -> Option<char>
         ensures { result ≡ plain_value (state_at self.now.characters) shape place }
     {
         self.characters.plain_at(place, shape).copied()

@@ -1,0 +1,4 @@
+pub mod Adding
+pub mod CoveredLemmas
+pub mod InOrder
+pub mod Pictures

@@ -1,0 +1,16 @@
+-- The list that was written is that of the option.
+use Rattle.std.proofs.Common.{◌∙◌}
+use Rattle.tabled_grid.proofs.Seen.{on_ok}
+use Rattle.tabled_config.proofs.ColoredLemmas.{Changes_lent, characters_applied}
+use Rattle.tabled_correction.specs.Correction.{correction_events}
+use Rattle.tabled_correction.proofs.Adding.{none_in_correction}
+use Rattle.tabled_correction.proofs.border_correction.BorderCorrectionTableOptionColoredConfig.change.Goals as goal
+
+pub returns-clause-ok : goal.returns-clause-ok
+unfolding correction_events
+returns-clause-ok g c =
+    on_ok c.apply.result (λ changes. Changes_lent _ _ c.args.cfg.now _ _ c.config_mut-config.ensures.value
+    (characters_applied c.in_ok-writes.writes.items c.new.result.items _ c.in_ok-writes.ensures c.new.ensures.items
+    ∙ (λ i. correction_events (c.count_rows.ensures i, c.count_columns.ensures i) (c.config_mut-config.ensures.value i)))
+    (none_in_correction (g.R.ExactRecords.row_count c.args.records.now, g.R.Records.column_count c.args.records.now) c.args.cfg.now.spanned) changes)
+    c.apply.ensures.ok

@@ -1,0 +1,11 @@
+-- The spans so far, and those to come.
+use Rattle.std.proofs.Common.{◌≡◌, ◌++◌}
+use Rattle.std.specs.List.{flat_map}
+use Rattle.tabled_correction.specs.Correction.{column_span_step}
+use Rattle.tabled_correction.specs.Picture.{pictured}
+use Rattle.tabled_correction.proofs.picture.Picture.correct_columns.Given as goal
+
+abbrev pub invariant-loop-position : goal.invariant-loop-position
+invariant-loop-position l =
+    l.writes.items ++ flat_map (column_span_step (pictured l.self)) l.position-iterator
+    ≡ l.initial.writes.items ++ flat_map (column_span_step (pictured l.self)) l.initial.position-iterator

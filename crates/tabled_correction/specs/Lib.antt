@@ -1,0 +1,3 @@
+pub mod Correction
+pub mod Covered
+pub mod Picture

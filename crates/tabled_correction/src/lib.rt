@@ -1,0 +1,12 @@
+//! The correction of border characters where cells span several columns or rows.
+//!
+//! `docs/DEFINITIONS.md` explains the words of the contracts.
+#![tactic(auto)]
+
+mod border_correction;
+mod covered;
+mod picture;
+mod steps;
+mod stretch;
+
+pub use border_correction::BorderCorrection;
