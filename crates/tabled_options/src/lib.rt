@@ -1,7 +1,8 @@
 //! Options that write on the lines of a table: single characters, and texts.
 //!
-//! The outline around cells is written in `tabled_highlight`, colors in turn in `tabled_colorization`, and what is set for texts in
-//! `tabled_formatting`; all are passed on here.
+//! The outline around cells is written in `tabled_highlight`, the correction of borders of cells that span in
+//! `tabled_correction`, colors in turn in `tabled_colorization`, and what is set for texts in `tabled_formatting`; all are passed
+//! on here.
 //!
 //! `docs/DEFINITIONS.md` explains the words of the contracts.
 #![tactic(auto)]
@@ -17,6 +18,7 @@ mod written;
 pub use line_char::LineChar;
 pub use line_text::LineText;
 pub use tabled_colorization::{Colorization, ExactColorization};
+pub use tabled_correction::BorderCorrection;
 pub use tabled_formatting::{
     Alignment, AlignmentStrategy, Justification, PaddingColor, TrimStrategy,
 };

@@ -8,4 +8,5 @@ pub use tabled_grid::{
     Border, Borders, Entity, HorizontalLine, Keep, Layers, LineOf, Offset, OutOfMemory, Place,
     Position, Probes, VerticalLine,
 };
+pub use tabled_layout::Indent;
 pub use tabled_settings::{AlignmentHorizontal, AlignmentVertical, EntityMap, Sides};

@@ -1,4 +1,4 @@
-//! Themes, and colors in turn.
+//! Themes, colors in turn, and the correction of borders of cells that span.
 
-pub use tabled_options::{Colorization, ExactColorization};
+pub use tabled_options::{BorderCorrection, Colorization, ExactColorization};
 pub use tabled_theme::Theme;
