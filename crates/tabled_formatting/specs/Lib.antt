@@ -1,2 +1,3 @@
 pub mod Alignment
+pub mod Compact
 pub mod Formatting

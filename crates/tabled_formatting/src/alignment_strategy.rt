@@ -37,7 +37,7 @@ impl AlignmentStrategy {
     }
 
     /// Whether each line is aligned by itself.
-    fn is_per_line(&self) -> bool
+    pub(crate) fn is_per_line(&self) -> bool
         ensures { result ≡ each_line self.now }
     {
         match self {

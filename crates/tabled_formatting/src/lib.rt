@@ -5,6 +5,7 @@
 
 mod alignment;
 mod alignment_strategy;
+mod compact_options;
 mod justification;
 mod padding_color;
 mod trim_strategy;

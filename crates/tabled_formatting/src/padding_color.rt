@@ -16,7 +16,7 @@ use tabled_settings::Sides;
 /// The color of the padding of cells on each side.
 #[derive(Copy, Debug, Drop, PartialEq, Eq, PartialOrd, Ord)]
 pub struct PaddingColor<C> {
-    colors: Sides<C>,
+    pub(crate) colors: Sides<C>,
 }
 
 impl<C> Model for PaddingColor<C> {
