@@ -8,7 +8,7 @@ use Rattle.tabled_layout.specs.declared.table_settings.TableSettings.{TableSetti
 use Rattle.tabled_layout.specs.TableSettings.{of_cells, after_event}
 use Rattle.tabled_config.specs.Configuration.{Configuration, Changes, by_setting}
 
--- what follows from two facts of an answer that is no refusal
+-- what follows from two facts of a result that is no refusal
 pub on_both : {A E P Q R : Type 0} (result : Result A E) → (P → Q → R) → OnOk result P → OnOk result Q → OnOk result R
 on_both (Ok x) from p q = from p q
 on_both (Err e) from p q = tt

@@ -129,7 +129,7 @@ module _ {T : Type 0} where
       (Changes-append (erase (level_sites 1) ∷ []) (lines_erased ++ erase (level_sites 4) ∷ []) (state_at b) (state_at c) (state_at e) second
       (Changes-append lines_erased (erase (level_sites 4) ∷ []) (state_at c) (state_at d) (state_at e) third fourth))
 
-  -- and of the offsets at last
+  -- and finally of the offsets
   all_in_turn : (a b c d : State T) → grid.Changes all_but_offsets (state_at a) (state_at b) → grid.Changes (offsets_erased Horizontal) (state_at b) (state_at c) → grid.Changes (offsets_erased Vertical) (state_at c) (state_at d) → grid.Changes all_erasures (state_at a) (state_at d)
   unfolding all_erasures
   all_in_turn a b c d first is_horizontal is_vertical =

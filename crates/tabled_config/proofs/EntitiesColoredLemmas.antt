@@ -1,5 +1,5 @@
 -- Entities colored, kind by kind.
-use Rattle.std.proofs.Common.{◌≡◌, ◌≢◌, ℕ, suc, ◌+◌, ◌<◌, arith, Option, Some, None, List, [], ◌∷◌, map, length, take, slice_index_or, unwrap_or, refl, sym, ap, subst, ◌∙◌}
+use Rattle.std.proofs.Common.{◌≡◌, ◌≢◌, ℕ, suc, ◌+◌, ◌<◌, arith, Option, Some, None, List, [], ◌∷◌, ◌++◌, map, length, take, slice_index_or, unwrap_or, refl, sym, ap, subst, ◌∙◌}
 use Rattle.std.proofs.Math.Seq.{take-suc}
 use Rattle.std.proofs.lemmas.List.{map-append}
 use Rattle.tabled_border.specs.Texts.{Texts}
@@ -9,10 +9,9 @@ use Rattle.tabled_grid.specs.State.{state_at}
 use Rattle.tabled_grid.proofs.Replay.{Changes-nil}
 use Rattle.tabled_settings.specs.declared.sides.Sides.{Sides}
 use Rattle.tabled_layout.specs.declared.table_settings.TableSettings.{TableSettings}
-use Rattle.tabled_settings.specs.Setting.{EntityEvent, write_of}
+use Rattle.tabled_settings.specs.Setting.{write_of}
 use Rattle.tabled_settings.specs.Live.{Live, at_first, after, after_all}
 use Rattle.tabled_layout.specs.TableSettings.{settings_after}
-use Rattle.tabled_settings.proofs.Leaving.{after_all-append}
 use Rattle.tabled_config.specs.CellColors.{changed, no_color, colors_after}
 use Rattle.tabled_config.specs.Configuration.{Configuration, characters_of, colors_of, settings_of, cell_colors_of}
 use Rattle.tabled_config.specs.Colored.{Colored, Changes}
@@ -23,11 +22,10 @@ use Rattle.tabled_config.proofs.ColorsLemmas.{with_map}
 next_number : (i : ℕ) → i + 1 ≡ suc i
 next_number i = omega arith
 
-pub one_write : {T X : Type 0} (write : X → EntityEvent T) (list : List X) (i : ℕ) (d : X) (base before new : Live T) → i < length list → before ≡ after_all base (map write (take i list)) → new ≡ after before (write (slice_index_or list i d)) → new ≡ after_all base (map write (take (i + 1) list))
-one_write write list i d base before new here made is =
-    is ∙ ap (λ live. after live (write (slice_index_or list i d))) made
-    ∙ sym (after_all-append base (map write (take i list)) (write (slice_index_or list i d) ∷ []))
-    ∙ ap (after_all base) (sym (ap (λ n. map write (take n list)) (next_number i) ∙ ap (map write) (take-suc list i d here) ∙ map-append write (take i list) (slice_index_or list i d ∷ [])))
+pub one_write : {A X : Type 0} (write : X → A) (list : List X) (i : ℕ) (d : X) (events new : List A) → i < length list → events ≡ map write (take i list) → new ≡ events ++ write (slice_index_or list i d) ∷ [] → new ≡ map write (take (i + 1) list)
+one_write write list i d events new here made is =
+    is ∙ ap (λ all. all ++ write (slice_index_or list i d) ∷ []) made
+    ∙ sym (ap (λ n. map write (take n list)) (next_number i) ∙ ap (map write) (take-suc list i d here) ∙ map-append write (take i list) (slice_index_or list i d ∷ []))
 
 -- the colors of texts begin with the first that is written
 pub texts_written : (colors : Option (Live Texts)) (list : List (Entity × Texts)) → list ≢ [] → Some (after_all (unwrap_or colors (at_first no_color)) (text_writes list)) ≡ colors_after colors (map changed (text_writes list))
@@ -82,8 +80,10 @@ Changes-none_colored list old none =
     subst P (sym none) (Changes-entities_colored [] old old.cell_colors old.spanned.settings.cells.justification_color old.spanned.settings.cells.padding_color refl refl refl)
 
 -- the parts put in place
-pub Changes_by_parts : (list : List (Entity × Texts)) (config new : Configuration) (colors texts put : Option (Live Texts)) (fills : Live (Option Texts)) (paddings : Live (Sides (Option Texts))) (old : Colored) → record { spanned = config; cell_colors = colors } ≡ old → texts ≡ colors_after colors (map changed (text_writes list)) → fills ≡ after_all config.settings.cells.justification_color (fill_writes list) → paddings ≡ after_all config.settings.cells.padding_color (padding_writes list) → put ≡ texts → new ≡ record config { settings = record config.settings { cells = record config.settings.cells { justification_color = fills; padding_color = paddings } } } → Changes (entities_colored list) old (record { spanned = new; cell_colors = put })
-Changes_by_parts list config new colors texts put fills paddings old is by_texts by_fills by_paddings same made =
-    subst (λ cfg. Changes (entities_colored list) cfg (record { spanned = new; cell_colors = put })) is
-    (subst (λ spanned. Changes (entities_colored list) (record { spanned = config; cell_colors = colors }) (record { spanned = spanned; cell_colors = put })) (sym made)
-    (Changes-entities_colored list (record { spanned = config; cell_colors = colors }) put fills paddings (same ∙ by_texts) by_fills by_paddings))
+pub Changes_by_parts : (list : List (Entity × Texts)) (config new : Configuration) (colors texts : Option (Live Texts)) (fills : Live (Option Texts)) (paddings : Live (Sides (Option Texts))) (old : Colored) → record { spanned = config; cell_colors = colors } ≡ old → texts ≡ colors_after colors (map changed (text_writes list))
+    → fills ≡ after_all config.settings.cells.justification_color (fill_writes list) → paddings ≡ after_all config.settings.cells.padding_color (padding_writes list)
+    → new ≡ record config { settings = record config.settings { cells = record config.settings.cells { justification_color = fills; padding_color = paddings } } } → Changes (entities_colored list) old (record { spanned = new; cell_colors = texts })
+Changes_by_parts list config new colors texts fills paddings old is by_texts by_fills by_paddings made =
+    subst (λ cfg. Changes (entities_colored list) cfg (record { spanned = new; cell_colors = texts })) is
+    (subst (λ spanned. Changes (entities_colored list) (record { spanned = config; cell_colors = colors }) (record { spanned = spanned; cell_colors = texts })) (sym made)
+    (Changes-entities_colored list (record { spanned = config; cell_colors = colors }) texts fills paddings by_texts by_fills by_paddings))

@@ -54,12 +54,12 @@ unfolding MakesInTurn
 all_unread changes events [] made old new by = by.1
 all_unread changes events (member ∷ members) made old new by = by.4 ∙ ap (λ rest. events member ++ rest) (all_unread changes events members by.1 by.0 new by.3)
 
--- what holds of any answer holds of a refusal
+-- what holds of any result holds of a refusal
 pub where_refused : {A E P : Type 0} (result : Result A E) → P → OnErr result P
 where_refused (Ok x) p = tt
 where_refused (Err e) p = p
 
--- what holds of an answer that is no refusal holds
+-- what holds of a result that is no refusal holds
 pub where_sure : {A E P : Type 0} (result : Result A E) → IsOk result → OnOk result P → P
 where_sure (Ok x) sure p = p
 where_sure (Err e) sure p = absurd cc

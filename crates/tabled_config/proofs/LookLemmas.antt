@@ -1,4 +1,4 @@
--- How a table looks, by what its configuration answers.
+-- How a table looks, by what its configuration returns.
 use Rattle.std.proofs.Common.{◌≡◌, ℕ, ◌+◌, ◌-◌, ◌≤◌, ◌<◌, Bool, true, false, ◌&&◌, if◌then◌else◌, Option, None, option_map, List, [], ◌∷◌, ◌++◌, length, get_or, map, refl, sym, ap, ◌∙◌, IsTrue, ◌↔◌, arith}
 use Rattle.std.specs.FinMap.{get, get-empty}
 use Rattle.std.proofs.lemmas.Bool.{lt-ltb}
@@ -23,7 +23,7 @@ use Rattle.tabled_object.specs.Entities.{below}
 use Rattle.tabled_config.specs.Picture.{look, edge_size}
 use Rattle.tabled_config.proofs.ConfigurationLemmas.{shown_characters}
 
--- what the configuration answers of a line is how the table looks
+-- what the configuration returns of a line is how the table looks
 pub own_horizontal : (cfg : Configuration) (shape : ℕ × ℕ) (widths heights : ℕ → ℕ) (line : ℕ) (answer : Bool) → IsTrue answer ↔ Drawn (state_at cfg.characters) shape.0 (LineOf.Horizontal line) → answer ≡ (look (all_writes cfg) shape widths heights).horizontal line
 own_horizontal cfg shape widths heights line answer says =
     drawn-answer (characters_of (all_writes cfg)) (state_at cfg.characters) shape.0 (LineOf.Horizontal line) answer (shown_characters cfg) says
@@ -32,7 +32,7 @@ pub own_drawn : (cfg : Configuration) (count : ℕ) (line : LineOf) (answer : Bo
 own_drawn cfg count line answer says =
     drawn-answer (characters_of (all_writes cfg)) (state_at cfg.characters) count line answer (shown_characters cfg) says
 
--- what it answers of a place too
+-- what it returns of a place too
 pub own_shown : (cfg : Configuration) (shape : ℕ × ℕ) (widths heights : ℕ → ℕ) (place : Place) (size : ℕ) (found : Option ℕ) → size ≡ edge_size widths heights place → found ≡ value (state_at cfg.characters) shape size place → found ≡ (look (all_writes cfg) shape widths heights).shown place
 own_shown cfg shape widths heights place size found sized is =
     is ∙ ap (λ s. value (state_at cfg.characters) shape s place) sized

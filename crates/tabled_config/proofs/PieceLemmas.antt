@@ -19,7 +19,7 @@ cut_if b text = if b then after_first_piece text else text
 abbrev pub CutBelow : ℕ → List (List ℕ) → List (List ℕ) → Type 0
 CutBelow n old new = (c : ℕ) → slice_index_or new c [] ≡ cut_if (nat_lt c n) (slice_index_or old c [])
 
--- what is left of texts of which that many pieces were taken
+-- what is left of texts of which the given number of pieces were taken
 abbrev pub AreRests : ℕ → List (List ℕ) → List (List ℕ) → Type 0
 AreRests taken texts rests = (c k : ℕ) → slice_index_or (pieces (slice_index_or rests c [])) k [] ≡ slice_index_or (pieces (slice_index_or texts c [])) (taken + k) []
 

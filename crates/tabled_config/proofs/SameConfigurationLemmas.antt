@@ -11,7 +11,7 @@ use Rattle.tabled_config.specs.Configuration.{Configuration}
 use Rattle.tabled_config.specs.Colored.{Colored}
 use Rattle.tabled_config.specs.SameConfiguration.{same_texts, same_stores, same_configuration, configuration_equiv, same_colors, same_colored, colored_equiv}
 
--- where the first test is passed, the second one answers for both
+-- where the first test is passed, the second one decides for both
 pub second_answers : (first second p q whole : Bool) → first ≡ p → first ≡ true → second ≡ q → p && q ≡ whole → second ≡ whole
 second_answers first second p q whole is holds other both = other ∙ ap (λ b. b && q) (sym holds ∙ is) ∙ both
 
@@ -32,7 +32,7 @@ exact_configurations a b h =
       settings = exact_settings a.settings b.settings parts.1 i;
     }
 
--- configurations pass the test just where they keep the same
+-- configurations pass the test exactly where they keep the same
 pub same_configuration-exact : (a b : Configuration) → IsTrue (same_configuration a b) ↔ (a ≡ b)
 same_configuration-exact a b =
     (λ h. exact_configurations a b h, λ is. subst (λ c. same_configuration a c ≡ true) is (configuration_equiv.refl a))

@@ -63,7 +63,7 @@ line_closed f step close n count e =
     shown_append f (flat_map step (below count)) close
     ∙ ap (λ m. text_shown (map f (flat_map step (below m))) ++ text_shown (map f close)) (sym e)
 
--- a horizontal line of a table that has places, none past the last one
+-- a horizontal line of a table that has places, not past the last one
 pub along_any : (horizontal vertical : ℕ → Bool) (shape : ℕ × ℕ) (widths heights : ℕ → ℕ) (r : ℕ) → is_empty shape ≡ false → r ≤ shape.0 → along horizontal vertical shape widths heights (LineOf.Horizontal r) ≡ along_line vertical widths shape.1 (λ c. Place.Cross r c) (λ c k. Place.Horizontal r c k)
 along_any horizontal vertical shape widths heights r any within =
     let places : List Place = along_line vertical widths shape.1 (λ c. Place.Cross r c) (λ c k. Place.Horizontal r c k) in
@@ -176,7 +176,7 @@ cut_at_start old new n same kept within =
     (subst IsUtf8 (sym (ap (λ k. take k (string_bytes new)) same ∙ kept)) (IsUtf8-string_bytes old)) in
     (boundary.0, λ _ inside large. boundary.1 inside large)
 
--- what a call that appends has done, by its answer
+-- what a call that appends has done, by what it returns
 pub appended : {T E : Type 0} (r : Result T E) (old new bytes : List ℕ) → is_err r ≡ false → MatchResult r (λ _. new ≡ old ++ bytes) (λ _. take (length old) new ≡ old) → new ≡ old ++ bytes
 appended (Ok x) old new bytes e p = p
 appended (Err y) old new bytes e p = absurd cc

@@ -29,7 +29,7 @@ pub record Configuration : Type 0 where
   pub colors : State Texts
   pub settings : TableSettings
 
--- by it a proof tells two configurations apart
+-- by this a proof tells two configurations apart
 pub configuration_code : Coded Configuration
 configuration_code = Prim.hlevel (codes, finmap.code)
 
@@ -58,7 +58,7 @@ abbrev pub cell_color_event : ConfigEvent → Option CellColorEvent
 cell_color_event (of_cell_colors e) = Some e
 cell_color_event _ = None
 
--- those of a list that are of one kind
+-- the events of a list that are of one kind
 abbrev pub characters_of : List ConfigEvent → List (Event ℕ)
 characters_of es = filter_map character_event es
 

@@ -10,14 +10,14 @@ use Rattle.tabled_grid.specs.Borders.{has_horizontal, has_vertical}
 use Rattle.tabled_grid.specs.State.{class_record_set}
 use Rattle.tabled_config.specs.Configuration.{ConfigEvent, by_characters, borders_set}
 
--- steps in a row, each a change by the events that it makes of what stands before it; what was made are the events of them
--- all, one after the other
+-- steps in a row lead from the old configuration to the new one: each is a change by the events that it makes of what stands
+-- before it, and the list is the events of all steps, one after the other
 unfoldable pub MakesInTurn : {C E : Type 0} → (List E → C → C → Type 0) → List (C → List E) → List E → C → C → Type 0
 MakesInTurn changes [] made old new = (new ≡ old) × (made ≡ [])
 MakesInTurn {C = C} {E = E} changes (step ∷ steps) made old new =
     (between : C) × (rest : List E) × changes (step old) old between × MakesInTurn changes steps rest between new × (made ≡ step old ++ rest)
 
--- a border put around each cell of an entity, in a table of so many rows and columns
+-- a border put around each cell of an entity, in a table of the given numbers of rows and columns
 unfoldable pub entity_bordered : Border ℕ → ℕ × ℕ → Entity → List ConfigEvent
 entity_bordered border shape entity = by_characters (entity_border_set entity shape border)
 
@@ -42,11 +42,11 @@ framed border class = record {
   intersection = class.intersection;
 }
 
--- a border put around a table whose class record was this one
+-- a border put around a table, where this was its class record before
 unfoldable pub table_bordered : Border ℕ → Borders ℕ → List ConfigEvent
 table_bordered border class = borders_set (framed border class)
 
--- the border of each cell of an entity removed, in a table of so many rows and columns
+-- the border of each cell of an entity removed, in a table of the given numbers of rows and columns
 unfoldable pub entity_unbordered : ℕ × ℕ → Entity → List ConfigEvent
 entity_unbordered shape entity = by_characters (entity_border_erased entity shape)
 
@@ -58,8 +58,8 @@ inner_of class = record no_borders {
   intersection = class.intersection;
 }
 
--- the frame of a table removed whose class record was this one: the record keeps what lies inside, and what was written
--- for the cells on the outer lines is cleared; a table without rows or columns has no frame
+-- the frame of a table removed, where this was its class record before: the record keeps what lies inside, and what was
+-- written for the cells on the outer lines is cleared; a table without rows or columns has no frame
 unfoldable pub table_unbordered : ℕ × ℕ → Borders ℕ → List ConfigEvent
 table_unbordered (rows, cols) class =
     if (rows == 0) || (cols == 0) then [] else by_characters (class_record_set (inner_of class) ++ frame_erased (rows, cols))

@@ -26,7 +26,7 @@ edge_size widths heights (Place.Horizontal r c k) = widths c
 edge_size widths heights (Place.Vertical r c k) = heights r
 edge_size widths heights (Place.Cross r c) = 0
 
--- how a table of that shape and these sizes looks after a list of events
+-- how a table of the given shape, widths and heights looks after a list of events
 abbrev pub look : List ConfigEvent → ℕ × ℕ → (ℕ → ℕ) → (ℕ → ℕ) → Look
 look es (rows, cols) widths heights = record {
   shape = (rows, cols);
@@ -54,11 +54,11 @@ module _ (view : Look) where
   abbrev pub side_shown : ℕ → ℕ → ℕ → List (Option ℕ)
   side_shown r k c = if view.vertical c then view.shown (Place.Vertical r c k) ∷ [] else []
 
-  -- one line of text of a row: before each column's piece the side, and the last side at last
+  -- one line of text of a row: the side before each column's piece, and finally the last side
   abbrev pub line_of_pieces : ℕ → ℕ → (ℕ → List ℕ) → List ℕ
   line_of_pieces r k piece = flat_map (λ c. text_shown (side_shown r k c) ++ piece c) (below view.shape.1) ++ text_shown (side_shown r k view.shape.1)
 
-  -- of the cells of a row, each gives the piece of its number, if it has that many
+  -- line k of text of row r: each cell gives its piece k, and nothing where it has no piece of that number
   abbrev pub cell_line : ℕ → List (List ℕ) → ℕ → List ℕ
   cell_line r cells k = line_of_pieces r k (λ c. slice_index_or (pieces (slice_index_or cells c [])) k [])
 
@@ -70,12 +70,12 @@ module _ (view : Look) where
   abbrev pub row_lines : ℕ → List (List ℕ) → List (List ℕ)
   row_lines r cells = map (cell_line r cells) (below (view.heights r))
 
-  -- the lines of the text, from top to bottom: for each row its line and its cells, and the last line at last
+  -- the lines of the text, from top to bottom: for each row the line above it and its cells, and finally the last line
   abbrev pub text_lines : Table → List (List ℕ)
   text_lines cells =
       if is_empty view.shape then [] else
       flat_map (λ r. line_if_drawn r ++ row_lines r (slice_index_or cells r [])) (below view.shape.0) ++ line_if_drawn view.shape.0
 
--- the text of a table of that shape, these sizes and these cells, after a list of events
+-- the text of a table of the given shape, widths, heights and cells, after a list of events
 abbrev pub printed : List ConfigEvent → ℕ × ℕ → (ℕ → ℕ) → (ℕ → ℕ) → Table → List ℕ
 printed es shape widths heights cells = join_with_byte 10 (text_lines (look es shape widths heights) cells)

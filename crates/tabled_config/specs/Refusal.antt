@@ -6,11 +6,11 @@ use Rattle.tabled_config.specs.declared.print_error.PrintError.{PrintError}
 use Rattle.tabled_config.specs.Configuration.{Configuration}
 use Rattle.tabled_config.specs.Texts.{Table, pieces, width_of_text}
 
--- the fault, unless the fact holds
+-- the given fault, unless the given fact holds
 abbrev pub unless : Bool → PrintError → List PrintError
 unless holds fault = if holds then [] else fault ∷ []
 
--- whether a text has just the lines of its row: none, that is no byte, for height 0
+-- whether a text has exactly as many lines as its row is high: for height 0 no byte
 abbrev pub fits_height : ℕ → List ℕ → Bool
 fits_height height text = if height == 0 then length text == 0 else length (pieces text) == height
 
@@ -23,7 +23,7 @@ module _ (widths heights : ℕ → ℕ) where
   abbrev pub cell_faults : ℕ → ℕ × List ℕ → List PrintError
   cell_faults r (c, text) = unless (fits_height (heights r) text) (PrintError.Height r c) ++ unless (fits_width (heights r) (widths c) text) (PrintError.Width r c)
 
-  -- the faults of a row of a table with that many columns
+  -- the faults of a row of a table with the given number of columns
   abbrev pub row_faults : ℕ → ℕ × List (List ℕ) → List PrintError
   row_faults cols (r, cells) = unless (length cells == cols) (PrintError.ColumnCount r) ++ flat_map (cell_faults r) (enumerate_from 0 cells)
 

@@ -35,7 +35,7 @@ same_colors a b = option_eq (same_live same_texts) a b
 abbrev pub same_colored : Colored → Colored → Bool
 same_colored a b = same_configuration a.spanned b.spanned && same_colors a.cell_colors b.cell_colors
 
--- all are equivalences
+-- all of these are equivalences
 pub texts_equiv : IsEquivalence same_texts
 texts_equiv = and_equiv (on_texts_equal (λ texts. texts.prefix)) (on_texts_equal (λ texts. texts.suffix))
 

@@ -22,7 +22,8 @@ pieces text = slice_split (λ byte. byte == 10) text
 abbrev pub width_of_text : List ℕ → ℕ
 width_of_text text = str_width false (chars text)
 
--- where a call succeeds these bytes follow what the text was, and where it is refused the text still begins with that
+-- where a call succeeds, the new text is the old one followed by these bytes; where it is refused, the new text still begins
+-- with the old one
 abbrev pub Appends : {T E Z : Type 0} → Result T E → String Z → String Z → List ℕ → Type 0
 Appends result old new bytes =
     MatchResult result (λ _. string_bytes new ≡ string_bytes old ++ bytes) (λ _. take (length (string_bytes old)) (string_bytes new) ≡ string_bytes old)

@@ -18,6 +18,16 @@ impl<R: Records + ExactRecords> CellOption<R, ColoredConfig> for Border<char> {
     /// Writes the given sides and corners of each cell of the entity that lies in the table, row by row: for
     /// what two cells share the later one counts. What is not given stays as it is. Without a cell inside it takes no
     /// memory and returns Ok.
+    ///
+    /// A border of `#` on the cell (0, 0) of a table of the style `ascii`:
+    ///
+    /// ```text
+    /// #####---+
+    /// # a # b |
+    /// #####---+
+    /// | c | d |
+    /// +---+---+
+    /// ```
     fn change(
         &self,
         records: &mut R,
@@ -43,10 +53,20 @@ impl<R, D> TableOption<R, ColoredConfig, D> for Border<char> {
 
     ghost hinted = { λ border. Some cells.Global };
 
-    /// Sets the frame of the class record to this border, what it does not give too. Where the record has
+    /// Sets the frame of the class record to this border; what the border does not give the frame loses. Where the record has
     /// something between the columns, the crossings on the outer horizontal lines become as these lines, and
     /// where it has something between the rows, those on the outer vertical lines. What is kept for cells,
     /// custom lines and offsets stays. It takes no memory and returns Ok.
+    ///
+    /// A border of `#` on a table of the style `ascii`:
+    ///
+    /// ```text
+    /// #########
+    /// # a | b #
+    /// #---+---#
+    /// # c | d #
+    /// #########
+    /// ```
     #[tactic(auto, unfolding(crate::specs::Options::table_bordered))]
     fn change(
         self,

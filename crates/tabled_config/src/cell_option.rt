@@ -43,7 +43,6 @@ where
     R: Records + ExactRecords,
     C: Configured,
     O: Object<R>,
-    O::Iter: Drop,
     P: CellOption<R, C>,
     ensures ok { OnOk result ((made : List C.Event) × MakesInTurn C.changes
         (map (P.makes option.now records.old) (O.listing object.now (R.row_count records.old) (R.column_count records.old))) made cfg.old cfg.new) }

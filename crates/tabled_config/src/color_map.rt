@@ -6,7 +6,7 @@ ghost use Rattle.tabled_settings.specs.Setting.{write_of, removal_of, is_global}
 ghost use Rattle.tabled_settings.specs.Live.{value_at};
 ghost use Rattle.tabled_config.specs.CellColors.{changed, colors_after_event, IsBare};
 
-mod coloring;
+pub(crate) mod coloring;
 
 use std::alloc::Global;
 use std::marker::Model;

@@ -105,7 +105,7 @@ impl<D: Dimension> Frame<'_, D> {
         Ok(())
     }
 
-    /// Writes a horizontal line, which is none past the last one.
+    /// Writes a horizontal line, which is not past the last one.
     fn push_places(&self, text: &mut String, row: usize) -> Result<(), AllocError>
         requires { row ≤ self.now.shape.0 }
         ensures { let view = framed D.width_of D.height_of self.now in

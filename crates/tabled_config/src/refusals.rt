@@ -32,7 +32,7 @@ fn has_height(text: &str, height: usize) -> bool
     }
 }
 
-/// Whether each line of a text is so wide.
+/// Whether each line of a text is of the given width.
 fn has_width(text: &str, width: usize) -> bool
     ensures { result ≡ list_all (λ piece. width_of_text piece == width) (pieces text.now) }
 {

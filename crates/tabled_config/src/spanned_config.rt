@@ -10,7 +10,7 @@ ghost use Rattle.tabled_config.specs.Configuration.{all_but_offsets};
 mod applying;
 mod both;
 mod cells;
-mod coloring;
+pub(crate) mod coloring;
 mod colors;
 mod copies;
 mod equality;
@@ -36,7 +36,7 @@ pub struct SpannedConfig {
     settings: TableSettings,
 }
 
-/// Written out, so that letting a configuration go is one call wherever it ends.
+/// Written out, so that dropping a configuration is one call wherever its life ends.
 impl Drop for SpannedConfig {
     fn drop(self) {
         let SpannedConfig {
@@ -130,6 +130,13 @@ impl SpannedConfig {
     }
 
     /// Erases the default border character alone.
+    ///
+    /// In a table that had full stops as its default and has nothing else, no line is drawn any more:
+    ///
+    /// ```text
+    ///  a  b
+    ///  c  d
+    /// ```
     pub fn remove_border_default(&mut self)
         ensures { Changes (by_characters default_erased) self.old self.new }
     {
@@ -145,6 +152,16 @@ impl SpannedConfig {
     }
 
     /// Erases the cell character of one edge or one crossing; for an edge `at` is not read.
+    ///
+    /// In the style `ascii` the cell (0, 0) had a border of its own, of which the edge of line 1 over column 0 is erased:
+    ///
+    /// ```text
+    /// #####---+
+    /// # a # b |
+    /// #---#---+
+    /// | c | d |
+    /// +---+---+
+    /// ```
     pub fn erase_char(&mut self, place: Place)
         ensures { Changes (by_characters (cell_erased place)) self.old self.new }
     {
@@ -152,6 +169,13 @@ impl SpannedConfig {
     }
 
     /// Erases every border character, the offset characters aside.
+    ///
+    /// What is left of any table without offset characters:
+    ///
+    /// ```text
+    ///  a  b
+    ///  c  d
+    /// ```
     pub fn remove_borders(&mut self)
         ensures { Changes borders_removed self.old self.new }
     {

@@ -45,7 +45,7 @@ module _ {T : Type 0} (default : T) where
   one_more live (Row row, value) other none = λ i. record live { since = filter_all (same_entity (Row row)) live.since none i ++ (Row row, value) ∷ [] }
   one_more live (Cell row col, value) other none = λ i. record live { since = filter_all (same_entity (Cell row col)) live.since none i ++ (Cell row col, value) ∷ [] }
 
-  -- so events of as many entities are just that many more
+  -- so events of as many entities are exactly as many more
   all_more : (live : Live T) (events : List (EntityEvent T)) → has_event Global events ≡ false → IsOnce same_entity (live.since ++ events) → after_all live events ≡ record live { since = live.since ++ events }
   all_more live [] others once = λ i. record live { since = sym (nothing_more live.since) i }
     where

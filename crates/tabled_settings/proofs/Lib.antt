@@ -7,3 +7,4 @@ pub mod Settling
 pub mod SettingsLemmas
 pub mod SameSettings
 pub mod SettingBack
+pub mod InARow

@@ -51,7 +51,7 @@ place_or p q (None ∷ slots) = later_behind (place p slots) (place q slots) fal
 place_or p q (Some event ∷ slots) = later_behind (place p slots) (place q slots) (p event.0) (q event.0) ∙ ap (λ o. behind o (p event.0 || q event.0)) (place_or p q slots)
 
 module _ {K V : Type 0} (test : K → Bool) where
-  -- an event that is pushed stands behind all others
+  -- an event that is pushed stands after all others
   pub place-push : (slots : List (Option (K × V))) (event : K × V) → place test (slots ++ Some event ∷ []) ≡ cond (test event.0) (Some (length slots)) (place test slots)
   place-push [] event = elim (test event.0) as (λ b. behind None b ≡ cond b (Some 0) None) [ true ↦ refl | false ↦ refl ]
   place-push (slot ∷ slots) event = ap (λ p. behind p (passes test slot)) (place-push slots event) ∙ behind_pushed (test event.0) (length slots) (place test slots) (passes test slot)
@@ -60,7 +60,7 @@ module _ {K V : Type 0} (test : K → Bool) where
   place-push_hole [] = refl
   place-push_hole (slot ∷ slots) = ap (λ p. behind p (passes test slot)) (place-push_hole slots)
 
-  -- an event stands somewhere just where there is one
+  -- an event stands somewhere exactly where there is one
   pub is_placed : (slots : List (Option (K × V))) → is_some (place test slots) ≡ list_any (λ event. test event.0) (standing slots)
   is_placed [] = refl
   is_placed (None ∷ slots) = is_behind (place test slots) false ∙ is_placed slots
@@ -176,7 +176,7 @@ module _ {K : Type 0} {same : K → K → Bool} (t : Tells same) where
       by_answer false k = refl
 
 module _ {K V : Type 0} {same : K → K → Bool} (t : Tells same) where
-  -- an entity that has an event in front has none behind it
+  -- an entity that has an event in front has none after it
   first_and_last : (x : K) (event : K × V) (slots : List (Option (K × V))) (at : ℕ) → list_any (λ other. same event.0 other.0) (standing slots) ≡ false → place (same x) slots ≡ Some at → same x event.0 ≡ false
   first_and_last x event slots at once h = by_answer (same x event.0) refl
     where

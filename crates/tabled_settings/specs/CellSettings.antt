@@ -88,7 +88,7 @@ first_settings = record {
   padding_color = at_first no_colors;
 }
 
--- the events that are left of them all: after these the settings are what they are
+-- the events that still count, of all kinds: these alone give the settings
 unfoldable pub settings_left : CellSettings → List SettingEvent
 settings_left settings =
     map of_alignment_horizontal (events_left settings.alignment_horizontal)

@@ -17,13 +17,18 @@ pub record Live (T : Type 0) : Type 0 where
 abbrev pub at_first : {T : Type 0} → T → Live T
 at_first default = record { default = default; global = default; since = [] }
 
--- these events but for those of an entity
+-- the given events without those of an entity
 abbrev pub without : {T : Type 0} → Entity → List (EntityEvent T) → List (EntityEvent T)
 without entity events = filter (λ event. not (same_entity entity event.0)) events
 
 -- whether an entity has one of these events
 abbrev pub has_event : {T : Type 0} → Entity → List (EntityEvent T) → Bool
 has_event entity events = list_any (λ event. same_entity entity event.0) events
+
+-- the events of a list, each in place of an earlier one of its entity
+abbrev pub put_each : {T : Type 0} → List (EntityEvent T) → List (EntityEvent T) → List (EntityEvent T)
+put_each since [] = since
+put_each since (event ∷ events) = put_each (without event.0 since ++ event ∷ []) events
 
 -- one event more: one of all cells ends the others, and one of another entity ends that entity's
 abbrev pub after : {T : Type 0} → Live T → EntityEvent T → Live T
@@ -37,12 +42,12 @@ abbrev pub after_all : {T : Type 0} → Live T → List (EntityEvent T) → Live
 after_all live [] = live
 after_all live (event ∷ events) = after_all (after live event) events
 
--- it after an event, if there is one
+-- what the map shows after an event, if there is one
 abbrev pub after_if : {T : Type 0} → Live T → Option (EntityEvent T) → Live T
 after_if live None = live
 after_if live (Some event) = after live event
 
--- the events that still count: after these alone it would be what it is
+-- the events that still count: these alone give what the map shows
 abbrev pub events_left : {T : Type 0} → Live T → List (EntityEvent T)
 events_left live = write_of Global live.global ∷ live.since
 

@@ -1,5 +1,5 @@
 -- How an entity map keeps its events: in slots, in their order, with holes, and for each entity the place of its event.
-use Rattle.std.specs.Prelude.{◌≡◌, ℕ, suc, max, slice_get, slice_set, option_and_then, Bool, true, false, Option, Some, None, List, [], ◌∷◌}
+use Rattle.std.specs.Prelude.{◌≡◌, ℕ, suc, max, slice_get, slice_set, option_and_then, Bool, true, false, Option, Some, None, List, [], ◌∷◌, ◌++◌}
 use Rattle.std.specs.List.{filter_map, list_any}
 use Rattle.std.specs.BTreeMap.{BTreeMap, get}
 use Rattle.std.specs.declared.cmp.Ordering.{Ordering}
@@ -11,7 +11,7 @@ use Rattle.tabled_settings.specs.Setting.{same_entity}
 abbrev pub standing : {A : Type 0} → List (Option A) → List A
 standing slots = filter_map (λ slot. slot) slots
 
--- one slot further on; or here, if this one passes and none behind it does
+-- a place one slot further on; or here, if this one passes and none after it does
 abbrev pub behind : Option ℕ → Bool → Option ℕ
 behind (Some place) passes = Some (suc place)
 behind None true = Some 0
@@ -54,3 +54,23 @@ entity_cmp a b = cmp-value.it a b
 -- the map has for each entity the place of its event
 abbrev pub HasPlaces : {V : Type 0} → BTreeMap Entity ℕ → List (Option (Entity × V)) → Type 0
 HasPlaces places slots = (entity : Entity) → get entity_cmp places entity ≡ place (same_entity entity) slots
+
+-- ---- one event after the other
+
+-- a hole where the event of its entity stood, and the event at the end
+abbrev pub after_put : {V : Type 0} → List (Option (Entity × V)) → Entity × V → List (Option (Entity × V))
+after_put slots event = emptied (place (same_entity event.0) slots) slots ++ Some event ∷ []
+
+abbrev pub after_puts : {V : Type 0} → List (Option (Entity × V)) → List (Entity × V) → List (Option (Entity × V))
+after_puts slots [] = slots
+after_puts slots (event ∷ events) = after_puts (after_put slots event) events
+
+-- where the event of each one's entity stood before
+abbrev pub places_before : {V : Type 0} → List (Option (Entity × V)) → List (Entity × V) → List (Option ℕ)
+places_before slots [] = []
+places_before slots (event ∷ events) = place (same_entity event.0) slots ∷ places_before (after_put slots event) events
+
+-- these slots with holes at the places that there are
+abbrev pub all_emptied : {A : Type 0} → List (Option ℕ) → List (Option A) → List (Option A)
+all_emptied [] slots = slots
+all_emptied (at ∷ places) slots = all_emptied places (emptied at slots)

@@ -3,6 +3,7 @@
 ghost use Rattle.std.specs.Prelude.{◌≡◌, ◌↔◌, [], IsTrue, IsOk, OnOk, OnErr, unwrap_or};
 
 mod both;
+mod lists;
 
 use crate::last_events::LastEvents;
 use std::alloc::Global;

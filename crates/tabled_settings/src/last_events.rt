@@ -9,6 +9,7 @@ ghost use Rattle.tabled_settings.specs.Live.{without, has_event};
 ghost use Rattle.tabled_settings.specs.Same.{same_event};
 
 mod both;
+mod lists;
 
 use crate::slots::{self, Slot};
 use std::alloc::Global;

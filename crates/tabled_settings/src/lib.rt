@@ -9,6 +9,7 @@ mod cell_settings;
 mod entity_map;
 mod last_events;
 mod laws;
+mod places;
 mod sides;
 mod slots;
 

@@ -1,11 +1,11 @@
 //! Slots of events: a vector with holes, and where each entity's event stands in it.
 
-ghost use Rattle.std.specs.Prelude.{◌≡◌, ◌∷◌, [], ◌<◌, is_some, MatchOption, length, vec_len, vec_capacity, option_copied, option_map};
+ghost use Rattle.std.specs.Prelude.{◌≡◌, ◌∷◌, ◌++◌, [], ◌<◌, ◌≤◌, ◌+◌, Some, is_some, MatchOption, map, length, vec_len, vec_capacity, option_copied, option_map};
 ghost use Rattle.std.specs.BTreeMap.{get};
 ghost use Rattle.std.specs.Cmp.Lexicographic.{pointwise};
 ghost use Rattle.tabled_object.specs.declared.entity.Entity.{Entity as Which};
 ghost use Rattle.tabled_settings.specs.Setting.{same_entity};
-ghost use Rattle.tabled_settings.specs.Slots.{standing, place, entity_cmp, HasPlaces, emptied, event_at, later_of};
+ghost use Rattle.tabled_settings.specs.Slots.{standing, place, entity_cmp, HasPlaces, emptied, all_emptied, event_at, later_of};
 ghost use Rattle.tabled_settings.specs.Same.{same_event};
 
 use std::collections::BTreeMap;
@@ -24,6 +24,23 @@ pub(crate) fn empty<T: Drop>(slots: &mut Vec<Slot<T>>, place: Option<usize>)
         && place < slots.len()
     {
         slots[place] = None;
+    }
+}
+
+/// Adds the events of a list at the end, and empties the slots where those that they replace stood. There is room for them.
+pub(crate) fn replace_by<T: Drop>(
+    slots: &mut Vec<Slot<T>>,
+    events: Vec<(Entity, Option<T>)>,
+    before: &[Option<usize>],
+)
+    requires { vec_len slots.old + length events.items ≤ vec_capacity slots.old }
+    ensures { slots.new.items ≡ all_emptied before.now (slots.old.items ++ map Some events.items) }
+{
+    for event in events {
+        slots.push_reserved(Some(event));
+    }
+    for place in before {
+        empty(slots, *place);
     }
 }
 
@@ -72,7 +89,7 @@ pub(crate) fn value_at<T>(slots: &[Slot<T>], place: Option<usize>) -> Option<&Op
     }
 }
 
-/// The first event that stands in the slots, and the slots behind it.
+/// The first event that stands in the slots, and the slots after it.
 pub(crate) fn first_standing<T>(slots: &[Slot<T>]) -> Option<(&(Entity, Option<T>), &[Slot<T>])>
     ensures first { MatchOption result (standing slots.now ≡ [])
         (λ first. standing slots.now ≡ first.0.now ∷ standing first.1.now) }

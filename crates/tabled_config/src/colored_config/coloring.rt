@@ -5,13 +5,15 @@ ghost use Rattle.tabled_config.specs.Colored.{Changes};
 ghost use Rattle.tabled_config.specs.EntitiesColored.{entities_colored};
 
 use super::ColoredConfig;
-use std::mem;
+use crate::color_map::coloring::written_texts;
+use crate::spanned_config::coloring::{written_fills, written_paddings};
 use tabled_grid::{ANSIBuf, Entity, OutOfMemory};
 
 impl ColoredConfig {
     /// Sets a color for each entity of a list, in its order: the color of the texts of its cells, that of the characters
     /// that fill the cells beside them, and that of the padding on all sides. Where memory is refused nothing changes,
-    /// however many of them were set; an empty list asks for none.
+    /// however many of them were set; an empty list asks for none. It costs the list, and not what was set before, unless one
+    /// of the entities is all cells.
     pub fn color_entities(&mut self, list: &[(Entity, ANSIBuf)]) -> Result<(), OutOfMemory>
         ensures ok { OnOk result (Changes (entities_colored list.now) self.old self.new) }
         ensures err { OnErr result (self.new ≡ self.old) }
@@ -21,11 +23,11 @@ impl ColoredConfig {
             return Ok(());
         }
         let alloc = self.config.allocator();
-        let texts = self.colors.with_texts(alloc, list)?;
-        let fills = self.config.with_fills(alloc, list)?;
-        let paddings = self.config.with_paddings(alloc, list)?;
-        drop(mem::replace(&mut self.colors, texts));
-        self.config.set_cell_colors(fills, paddings);
+        let texts = written_texts(alloc, list)?;
+        let fills = written_fills(alloc, list)?;
+        let paddings = written_paddings(alloc, list)?;
+        self.config
+            .apply_colors(&mut self.colors, texts, fills, paddings)?;
         Ok(())
     }
 }

@@ -37,6 +37,16 @@ impl SpannedConfig {
     /// Writes the given sides and corners of each cell of an entity that lies in a table of `shape.0` rows
     /// and `shape.1` columns, row by row: for what two cells share the later one counts. Cells outside are
     /// passed over. Where memory is refused nothing changes; without a cell inside none is asked for.
+    ///
+    /// A border with `top` and `bottom` `=` on column 1, in a table of the style `ascii`:
+    ///
+    /// ```text
+    /// +---+===+
+    /// | a | b |
+    /// +---+===+
+    /// | c | d |
+    /// +---+===+
+    /// ```
     pub fn set_entity_border(
         &mut self,
         entity: Entity,
@@ -70,6 +80,16 @@ impl SpannedConfig {
 
     /// Erases the cell characters of a cell's sides and corners, also of those that it shares with the cells
     /// beside it.
+    ///
+    /// The border of the cell (0, 1) is removed, where the cell (0, 0) beside it had a border of `#` in the style `ascii`:
+    ///
+    /// ```text
+    /// ####+---+
+    /// # a | b |
+    /// ####+---+
+    /// | c | d |
+    /// +---+---+
+    /// ```
     pub fn remove_border(&mut self, pos: Position)
         ensures { Changes (by_characters (border_erased pos)) self.old self.new }
     {
@@ -79,6 +99,16 @@ impl SpannedConfig {
     /// Writes the given colors of a cell's sides and corners, whatever the shape of the table; what is not
     /// given stays as it is. Where memory is refused nothing changes; where each of these places had a color
     /// of its own, none is asked for.
+    ///
+    /// Colors with `top` and `bottom` on the cell (0, 1), with `r` for each place that has one:
+    ///
+    /// ```text
+    /// +---+rrr+
+    /// | a | b |
+    /// +---+rrr+
+    /// | c | d |
+    /// +---+---+
+    /// ```
     pub fn set_border_color(
         &mut self,
         pos: Position,

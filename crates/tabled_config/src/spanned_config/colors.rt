@@ -14,6 +14,16 @@ use tabled_grid::{ANSIBuf, Borders, Place, Probes, Target};
 impl SpannedConfig {
     /// Sets the record of class colors whole: what it had before is gone, also where the new record has
     /// nothing.
+    ///
+    /// A record with `vertical` alone, with `r` for each place that has its color:
+    ///
+    /// ```text
+    /// +---+---+
+    /// | a r b |
+    /// +---+---+
+    /// | c r d |
+    /// +---+---+
+    /// ```
     pub fn set_borders_color(&mut self, colors: Borders<ANSIBuf>)
         ensures { Changes (by_colors (class_record_set colors)) self.old self.new }
     {
@@ -29,6 +39,16 @@ impl SpannedConfig {
 
     /// Sets the default border color, which shows wherever no other has one, and erases the class colors
     /// and the cells' colors. Offset colors stay.
+    ///
+    /// With `r` for each place that has the color:
+    ///
+    /// ```text
+    /// rrrrrrrrr
+    /// r a r b r
+    /// rrrrrrrrr
+    /// r c r d r
+    /// rrrrrrrrr
+    /// ```
     pub fn set_border_color_default(&mut self, color: ANSIBuf)
         ensures { Changes (by_colors (default_color_set color)) self.old self.new }
     {

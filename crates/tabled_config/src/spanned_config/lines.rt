@@ -64,6 +64,15 @@ impl SpannedConfig {
     }
 
     /// Removes the custom horizontal line at index `line`, if one stands there.
+    ///
+    /// Line 1 of the style `rounded` is a custom line. That table without it:
+    ///
+    /// ```text
+    /// ╭───┬───╮
+    /// │ a │ b │
+    /// │ c │ d │
+    /// ╰───┴───╯
+    /// ```
     pub fn remove_horizontal_line(&mut self, line: usize)
         ensures { Changes (by_characters (line_removed (Line.Horizontal line))) self.old self.new }
     {
@@ -117,6 +126,16 @@ impl SpannedConfig {
     }
 
     /// Removes the custom vertical line at index `line`, if one stands there.
+    ///
+    /// Line 1 of `#` in a table of the style `ascii`, before and after it is removed:
+    ///
+    /// ```text
+    /// +---+---+     +---+---+
+    /// | a # b |     | a | b |
+    /// +---+---+     +---+---+
+    /// | c # d |     | c | d |
+    /// +---+---+     +---+---+
+    /// ```
     pub fn remove_vertical_line(&mut self, line: usize)
         ensures { Changes (by_characters (line_removed (Line.Vertical line))) self.old self.new }
     {

@@ -70,6 +70,13 @@ impl SpannedConfig {
     /// Writes a color at a numbered place of the edge of horizontal line `pos.row` over column `pos.col`,
     /// counted from its start or back from its end. Only a place that has none needs memory; where that is
     /// refused nothing changes.
+    ///
+    /// A color at start 1 of the position (0, 0), with `r` for the place that has it:
+    ///
+    /// ```text
+    /// +-r-+---+
+    /// | a | b |
+    /// ```
     pub fn set_horizontal_char_color(
         &mut self,
         pos: Position,
@@ -86,6 +93,14 @@ impl SpannedConfig {
     /// Writes a color at a numbered place of the edge of vertical line `pos.col` beside row `pos.row`,
     /// counted from its start or back from its end. Only a place that has none needs memory; where that is
     /// refused nothing changes.
+    ///
+    /// A color at start 0 of the position (1, 1), with `r` for the place that has it:
+    ///
+    /// ```text
+    /// +---+---+
+    /// | c r d |
+    /// +---+---+
+    /// ```
     pub fn set_vertical_char_color(
         &mut self,
         pos: Position,
@@ -111,6 +126,13 @@ impl SpannedConfig {
 
     /// Erases the character at one numbered place of the edge of horizontal line `pos.row` over column `pos.col`,
     /// counted from its start or back from its end.
+    ///
+    /// `x` stood at start 0 of both edges, and that of the position (0, 0) is erased:
+    ///
+    /// ```text
+    /// +---+x--+
+    /// | a | b |
+    /// ```
     pub fn remove_horizontal_char(&mut self, pos: Position, offset: Offset)
         ensures { Changes (by_characters (offset_erased Horizontal pos.row pos.col offset)) self.old self.new }
     {

@@ -20,6 +20,14 @@ impl SpannedConfig {
     /// Removes the frame of a table of `shape.0` rows and `shape.1` columns: the class record keeps what lies
     /// inside, and the cell characters on the outer lines are erased. Custom lines, offset characters and
     /// colors stay. A table without rows or columns has no frame. It takes no memory.
+    ///
+    /// A table of the style `ascii` without its frame:
+    ///
+    /// ```text
+    ///  a | b
+    /// ---+---
+    ///  c | d
+    /// ```
     pub fn remove_frame(&mut self, shape: (usize, usize))
         ensures { Changes (table_unbordered shape self.old.characters.class_record) self.old self.new }
     {

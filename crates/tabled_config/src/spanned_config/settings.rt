@@ -13,7 +13,8 @@ use tabled_grid::{ANSIBuf, Entity, OutOfMemory, Position};
 use tabled_settings::{AlignmentHorizontal, AlignmentVertical, Sides};
 
 impl SpannedConfig {
-    /// Sets where the texts of the cells of an entity stand between the left and the right side. Where memory is refused nothing changes; for all cells none is asked for.
+    /// Sets where the texts of the cells of an entity stand between the left and the right side. Where memory is refused
+    /// nothing changes; for all cells none is asked for.
     pub fn set_alignment_horizontal(
         &mut self,
         entity: Entity,
@@ -36,7 +37,8 @@ impl SpannedConfig {
         *self.settings.cells.alignment_horizontal.get(position)
     }
 
-    /// Sets where the texts of the cells of an entity stand between the upper and the lower side. Where memory is refused nothing changes; for all cells none is asked for.
+    /// Sets where the texts of the cells of an entity stand between the upper and the lower side. Where memory is refused
+    /// nothing changes; for all cells none is asked for.
     pub fn set_alignment_vertical(
         &mut self,
         entity: Entity,
@@ -59,7 +61,8 @@ impl SpannedConfig {
         *self.settings.cells.alignment_vertical.get(position)
     }
 
-    /// Sets whether spaces at the left and the right of the texts of the cells of an entity are dropped before they are aligned. Where memory is refused nothing changes; for all cells none is asked for.
+    /// Sets whether spaces at the left and the right of the texts of the cells of an entity are dropped before they are
+    /// aligned. Where memory is refused nothing changes; for all cells none is asked for.
     pub fn set_trim_horizontal(&mut self, entity: Entity, trim: bool) -> Result<(), OutOfMemory>
         ensures ok { OnOk result (Changes (by_setting (of_trim_horizontal (write_of entity trim))) self.old self.new) }
         ensures err { OnErr result (self.new ≡ self.old) }
@@ -75,7 +78,8 @@ impl SpannedConfig {
         *self.settings.cells.trim_horizontal.get(position)
     }
 
-    /// Sets whether empty lines above and below the texts of the cells of an entity are dropped before they are aligned. Where memory is refused nothing changes; for all cells none is asked for.
+    /// Sets whether empty lines above and below the texts of the cells of an entity are dropped before they are aligned.
+    /// Where memory is refused nothing changes; for all cells none is asked for.
     pub fn set_trim_vertical(&mut self, entity: Entity, trim: bool) -> Result<(), OutOfMemory>
         ensures ok { OnOk result (Changes (by_setting (of_trim_vertical (write_of entity trim))) self.old self.new) }
         ensures err { OnErr result (self.new ≡ self.old) }
@@ -91,7 +95,8 @@ impl SpannedConfig {
         *self.settings.cells.trim_vertical.get(position)
     }
 
-    /// Sets whether each line of the texts of the cells of an entity is aligned by itself. Where memory is refused nothing changes; for all cells none is asked for.
+    /// Sets whether each line of the texts of the cells of an entity is aligned by itself. Where memory is refused
+    /// nothing changes; for all cells none is asked for.
     pub fn set_line_alignment(&mut self, entity: Entity, each_line: bool) -> Result<(), OutOfMemory>
         ensures ok { OnOk result (Changes (by_setting (of_line_alignment (write_of entity each_line))) self.old self.new) }
         ensures err { OnErr result (self.new ≡ self.old) }
@@ -107,7 +112,8 @@ impl SpannedConfig {
         *self.settings.cells.line_alignment.get(position)
     }
 
-    /// Sets the character that fills the cells of an entity beside their texts. Where memory is refused nothing changes; for all cells none is asked for.
+    /// Sets the character that fills the cells of an entity beside their texts. Where memory is refused nothing changes;
+    /// for all cells none is asked for.
     pub fn set_justification(&mut self, entity: Entity, character: char) -> Result<(), OutOfMemory>
         ensures ok { OnOk result (Changes (by_setting (of_justification (write_of entity character))) self.old self.new) }
         ensures err { OnErr result (self.new ≡ self.old) }
@@ -123,7 +129,8 @@ impl SpannedConfig {
         *self.settings.cells.justification.get(position)
     }
 
-    /// Sets the color of the characters that fill the cells of an entity beside their texts, or none. Where memory is refused nothing changes; for all cells none is asked for.
+    /// Sets the color of the characters that fill the cells of an entity beside their texts, or none. Where memory is
+    /// refused nothing changes; for all cells none is asked for.
     pub fn set_justification_color(
         &mut self,
         entity: Entity,
@@ -150,7 +157,8 @@ impl SpannedConfig {
             .as_ref()
     }
 
-    /// Sets the color of the padding of the cells of an entity on each side, or none there. Where memory is refused nothing changes; for all cells none is asked for.
+    /// Sets the color of the padding of the cells of an entity on each side, or none there. Where memory is refused
+    /// nothing changes; for all cells none is asked for.
     pub fn set_padding_color(
         &mut self,
         entity: Entity,

@@ -1,15 +1,11 @@
 //! One event here and one in other events.
 
-ghost use Rattle.std.specs.Prelude.{◌≡◌, ◌++◌, ◌∷◌, [], true, is_some, OnOk, OnErr, if◌then◌else◌};
-ghost use Rattle.std.specs.BTreeMap.{get};
-ghost use Rattle.tabled_object.specs.declared.entity.Entity.{Entity as Which};
-ghost use Rattle.tabled_settings.specs.Setting.{same_entity};
+ghost use Rattle.std.specs.Prelude.{◌≡◌, ◌++◌, ◌∷◌, [], OnOk, OnErr};
 ghost use Rattle.tabled_settings.specs.Live.{without};
-ghost use Rattle.tabled_settings.specs.Slots.{entity_cmp};
 
 use super::LastEvents;
+use crate::places::set_back;
 use crate::slots;
-use std::collections::BTreeMap;
 use tabled_border::OutOfMemory;
 use tabled_object::Entity;
 
@@ -41,20 +37,5 @@ impl<T> LastEvents<T> {
         slots::empty(&mut self.slots, before);
         self.slots.push_reserved(Some((entity, value)));
         Ok(())
-    }
-}
-
-/// Gives an entity the place that it had before, or none. It has one, so this takes no memory.
-fn set_back(places: &mut BTreeMap<Entity, usize>, entity: Entity, before: Option<usize>)
-    requires { is_some (get entity_cmp places.old entity) ≡ true }
-    ensures { (which : Which) → get entity_cmp places.new which ≡ (if same_entity which entity then before else get entity_cmp places.old which) }
-{
-    match before {
-        Some(place) => {
-            let _ = places.insert(entity, place);
-        }
-        None => {
-            let _ = places.remove(&entity);
-        }
     }
 }

@@ -1,4 +1,4 @@
--- What the configuration answers is what its own writes show.
+-- What the configuration returns is what its own writes show.
 use Rattle.std.proofs.Common.{◌∙◌, ap}
 use Rattle.tabled_config.specs.Picture.{character}
 use Rattle.tabled_config.proofs.LookLemmas.{own_shown}

@@ -3,7 +3,7 @@ use Rattle.tabled_settings.specs.Setting.{same_entity}
 use Rattle.tabled_settings.specs.Live.{without}
 use Rattle.tabled_settings.specs.Slots.{standing, IsOnce, HasPlaces}
 use Rattle.tabled_settings.proofs.Lasting.{slots_after, standing-put, once-put, places-put}
-use Rattle.tabled_settings.proofs.SettingBack.{places_again}
+use Rattle.tabled_settings.proofs.SettingBack.{has_place, places_again}
 use Rattle.tabled_settings.proofs.last_events.LastEvents.put_both.Goals as goal
 
 pub invariant_of-self-in-Err : goal.invariant_of-self-in-Err
@@ -11,7 +11,8 @@ invariant_of-self-in-Err g c = (
   subst (λ items. IsOnce same_entity (standing items)) (sym c.reserve.ensures.items) c.self.invariant.0,
   subst (λ items. HasPlaces c.set_back.new.places items) (sym c.reserve.ensures.items)
       (places_again c.self.inside.places c.insert.new.self c.set_back.new.places c.self.inside.slots.items c.args.entity c.len.result c.in_ok-before.before
-      c.self.invariant.1 c.in_ok-before.ensures.old c.in_ok-before.ensures.updates c.set_back.ensures),
+      c.self.invariant.1 c.in_ok-before.ensures.old c.in_ok-before.ensures.updates
+      (c.set_back.ensures (has_place c.self.inside.places c.insert.new.self c.args.entity c.len.result c.in_ok-before.ensures.updates))),
 )
 
 pub invariant_of-self-2 : goal.invariant_of-self-2

@@ -1,8 +1,0 @@
--- What was written so far.
-use Rattle.std.proofs.Common.{◌≡◌, take}
-use Rattle.tabled_settings.specs.Live.{after_all}
-use Rattle.tabled_config.specs.EntitiesColored.{fill_writes}
-use Rattle.tabled_config.proofs.spanned_config.SpannedConfig.with_fills.Given as goal
-
-abbrev pub invariant-loop-entity : goal.invariant-loop-entity
-invariant-loop-entity l = l.map ≡ after_all l.fn.self.settings.cells.justification_color (fill_writes (take l.entity-index l.list))

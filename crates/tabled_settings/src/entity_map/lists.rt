@@ -1,0 +1,89 @@
+//! Lists of writes and removals, in three maps.
+
+ghost use Rattle.std.specs.Prelude.{◌≡◌, IfOk, OnOk, OnErr};
+ghost use Rattle.tabled_object.specs.declared.entity.Entity.TheVariants.{Global as AllCells};
+ghost use Rattle.tabled_settings.specs.Live.{after, after_all, has_event};
+
+use super::EntityMap;
+use std::alloc::Global;
+use std::mem;
+use tabled_border::{Keep, OutOfMemory};
+use tabled_object::Entity;
+
+impl<T> EntityMap<T> {
+    /// Makes the writes and removals of a list here, in its order, and those of two other lists in two other maps: a value is
+    /// written for an entity, and where there is none the entity's is removed. Where memory is refused none of the maps changes.
+    /// It costs the lists and not what the maps held, unless an event is one of all cells.
+    pub fn apply_three<U, V>(
+        &mut self,
+        alloc: Global,
+        events: Vec<(Entity, Option<T>)>,
+        second: &mut EntityMap<U>,
+        second_events: Vec<(Entity, Option<U>)>,
+        third: &mut EntityMap<V>,
+        third_events: Vec<(Entity, Option<V>)>,
+    ) -> Result<(), OutOfMemory>
+    where
+        T: Keep + Drop,
+        U: Keep + Drop,
+        V: Keep + Drop,
+        ensures ok { OnOk result (self.new ≡ after_all self.old events.items) }
+        ensures second_ok { OnOk result (second.new ≡ after_all second.old second_events.items) }
+        ensures third_ok { OnOk result (third.new ≡ after_all third.old third_events.items) }
+        ensures err { OnErr result (self.new ≡ self.old) }
+        ensures second_err { OnErr result (second.new ≡ second.old) }
+        ensures third_err { OnErr result (third.new ≡ third.old) }
+    {
+        if any_of_all(&events) || any_of_all(&second_events) || any_of_all(&third_events) {
+            let first = self.changed(alloc, events)?;
+            let other = second.changed(alloc, second_events)?;
+            let last = third.changed(alloc, third_events)?;
+            drop(mem::replace(self, first));
+            drop(mem::replace(second, other));
+            drop(mem::replace(third, last));
+            return Ok(());
+        }
+        self.since.put_three_lists(
+            alloc,
+            events,
+            &mut second.since,
+            second_events,
+            &mut third.since,
+            third_events,
+        )?;
+        Ok(())
+    }
+
+    /// A copy in which the writes and removals of a list are made, in its order.
+    fn changed(&self, alloc: Global, events: Vec<(Entity, Option<T>)>) -> Result<Self, OutOfMemory>
+    where
+        T: Keep + Drop,
+        ensures { IfOk result (λ map. map ≡ after_all self.now events.items) }
+    {
+        let mut copy = self.keep(alloc)?;
+        for (entity, value) in events {
+            copy.put(entity, value)?;
+        }
+        Ok(copy)
+    }
+
+    /// Writes a value for the cells of an entity, or removes theirs where there is none.
+    fn put(&mut self, entity: Entity, value: Option<T>) -> Result<(), OutOfMemory>
+    where
+        T: Drop,
+        ensures ok { OnOk result (self.new ≡ after self.old (entity, value)) }
+        ensures err { OnErr result (self.new ≡ self.old) }
+    {
+        match value {
+            Some(value) => self.insert(entity, value),
+            None => self.remove(entity),
+        }
+    }
+}
+
+/// Whether an event is one of all cells.
+fn any_of_all<T>(events: &[(Entity, Option<T>)]) -> bool
+    ensures { result ≡ has_event AllCells events.now }
+{
+    events.iter().any(|event| event.0 == Entity::Global)
+}

@@ -1,0 +1,75 @@
+//! Where the event of each entity stands: noted for a list of events before it is written, and taken back.
+
+ghost use Rattle.std.specs.Prelude.{◌≡◌, ◌<◌, ◌≤◌, ◌+◌, ◌^◌, List, Option, true, take, length, is_some, IfOk, OnOk, OnErr, if◌then◌else◌};
+ghost use Rattle.std.specs.BTreeMap.{get};
+ghost use Rattle.tabled_object.specs.declared.entity.Entity.{Entity as Which};
+ghost use Rattle.tabled_settings.specs.Setting.{same_entity};
+ghost use Rattle.tabled_settings.specs.Slots.{standing, entity_cmp, IsOnce, HasPlaces, after_puts, places_before};
+
+use std::alloc::Global;
+use std::collections::BTreeMap;
+use tabled_border::OutOfMemory;
+use tabled_object::Entity;
+
+/// Notes where the events of a list will stand, the first of them at `first`, and returns where the event of each one's entity
+/// stood before. Where memory is refused nothing is noted.
+pub(crate) fn note<T>(
+    alloc: Global,
+    places: &mut BTreeMap<Entity, usize>,
+    first: usize,
+    events: &[(Entity, Option<T>)],
+) -> Result<Vec<Option<usize>>, OutOfMemory>
+    requires { first + length events.now < 2 ^ 64 }
+    ensures before { (slots : List (Option (Which × Option T))) → IsOnce same_entity (standing slots) → HasPlaces places.old slots → length slots ≡ first
+        → IfOk result (λ before. before.items ≡ places_before slots events.now) }
+    ensures ok { (slots : List (Option (Which × Option T))) → IsOnce same_entity (standing slots) → HasPlaces places.old slots → length slots ≡ first
+        → OnOk result (HasPlaces places.new (after_puts slots events.now)) }
+    ensures err { (slots : List (Option (Which × Option T))) → IsOnce same_entity (standing slots) → HasPlaces places.old slots → length slots ≡ first
+        → OnErr result (HasPlaces places.new slots) }
+{
+    let mut before = Vec::new(alloc);
+    before.reserve(events.len())?;
+    for (at, event) in events.iter().enumerate() {
+        match places.insert(event.0, first + at) {
+            Ok(place) => before.push_reserved(place),
+            Err(_) => {
+                take_back(places, events, &before);
+                return Err(OutOfMemory);
+            }
+        }
+    }
+    Ok(before)
+}
+
+/// Takes back what was noted for the first events of a list, the last of them first.
+pub(crate) fn take_back<T>(
+    places: &mut BTreeMap<Entity, usize>,
+    events: &[(Entity, Option<T>)],
+    before: &[Option<usize>],
+)
+    requires { length before.now ≤ length events.now }
+    ensures { (slots : List (Option (Which × Option T))) → IsOnce same_entity (standing slots)
+        → before.now ≡ places_before slots (take (length before.now) events.now)
+        → HasPlaces places.old (after_puts slots (take (length before.now) events.now)) → HasPlaces places.new slots }
+{
+    let mut left = before.len();
+    while left > 0 {
+        left -= 1;
+        set_back(places, events[left].0, before[left]);
+    }
+}
+
+/// Gives an entity the place that it had before, or none. Where it has one, this takes no memory.
+pub(crate) fn set_back(places: &mut BTreeMap<Entity, usize>, entity: Entity, before: Option<usize>)
+    ensures { is_some (get entity_cmp places.old entity) ≡ true
+        → (which : Which) → get entity_cmp places.new which ≡ (if same_entity which entity then before else get entity_cmp places.old which) }
+{
+    match before {
+        Some(place) => {
+            let _ = places.insert(entity, place);
+        }
+        None => {
+            let _ = places.remove(&entity);
+        }
+    }
+}
