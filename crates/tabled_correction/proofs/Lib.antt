@@ -2,3 +2,4 @@ pub mod Adding
 pub mod CoveredLemmas
 pub mod InOrder
 pub mod Pictures
+pub mod Standing

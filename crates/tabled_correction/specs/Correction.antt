@@ -171,5 +171,8 @@ spanned shape cfg = record {
 abbrev pub crossing_written : Write → Event ℕ
 crossing_written (crossing, character) = write (at_spot (Crossing crossing.row crossing.col)) (sign character)
 
+abbrev pub crossings_written : List Write → List ConfigEvent
+crossings_written writes = by_characters (map crossing_written writes)
+
 unfoldable pub correction_events : ℕ × ℕ → Configuration → List ConfigEvent
-correction_events shape cfg = by_characters (map crossing_written (corrected (spanned shape cfg)))
+correction_events shape cfg = crossings_written (corrected (spanned shape cfg))

@@ -22,7 +22,7 @@ impl Stretch {
         }
     }
 
-    /// The numbers after one, of so many from it on, where they are below a length.
+    /// The numbers after one, of the given count from it on, where they are below a length.
     pub(crate) fn after(at: usize, count: usize, length: usize) -> Self
         ensures { (n : ℕ) → is_in result n ≡ ((nat_lt at n && nat_lt n (at + count)) && nat_lt n length) }
     {
