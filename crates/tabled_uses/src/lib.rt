@@ -4,7 +4,6 @@
 #![tactic(auto)]
 
 mod examples;
-mod kinds;
 mod lettered;
 mod options;
 mod own_option;
@@ -12,7 +11,6 @@ mod recipes;
 mod styles;
 
 pub use examples::{drawn_lines, lines_of_their_own, places_along_lines, places_and_levels};
-pub use kinds::{Kinds, every_kind};
 pub use lettered::{
     marks_on_edges, texts_along_the_top, texts_on_other_lines, texts_over_crossings,
 };

@@ -1,5 +1,5 @@
 -- Options applied in a row to a table of texts.
-use Rattle.std.proofs.Common.{◌≡◌, List, [], ◌∷◌, ◌++◌, refl, sym, ap, subst, ◌∙◌, append_assoc}
+use Rattle.std.proofs.Common.{◌≡◌, List, [], ◌∷◌, ◌++◌, sym, subst, append_assoc}
 use Rattle.std.proofs.lemmas.List.{append-nil}
 use Rattle.tabled_object.specs.declared.dimension.FixedDimension.{FixedDimension}
 use Rattle.tabled_config.specs.Configuration.{ConfigEvent}
@@ -7,10 +7,7 @@ use Rattle.tabled_config.specs.Colored.{Colored, Changes}
 use Rattle.tabled_config.specs.Options.{MakesInTurn}
 use Rattle.tabled_config.specs.Texts.{Table}
 use Rattle.tabled_config.proofs.InTurn.{one_more, none_made}
-use Rattle.tabled_uses.specs.EveryKind.{InTurn}
-
-abbrev Step : Type 0
-Step = Colored → List ConfigEvent
+use Rattle.tabled_kinds.specs.EveryKind.{Step, InTurn}
 
 -- no option yet
 pub nothing_yet : (cfg : Colored) → InTurn [] cfg cfg
@@ -32,3 +29,9 @@ both steps (step ∷ more) made after old between new by rest =
 
 pub then_all : (steps more : List Step) (old between new : Colored) → InTurn steps old between → InTurn more between new → InTurn (steps ++ more) old new
 then_all steps more old between new made after = both steps more made.0 after.0 old between new made.1 after.1
+
+-- several options more, which read the same texts and sizes
+pub then_those : (more : Table → FixedDimension → List Step) (steps : List Step) (texts here : Table) (sizes sized : FixedDimension) (old between new : Colored)
+    → here ≡ texts → sized ≡ sizes → InTurn steps old between → InTurn (more here sized) between new → InTurn (steps ++ more texts sizes) old new
+then_those more steps texts here sizes sized old between new same_texts same_sizes made after =
+    then_all steps (more texts sizes) old between new made (subst (λ those. InTurn those between new) (λ i. more (same_texts i) (same_sizes i)) after)

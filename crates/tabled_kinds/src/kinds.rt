@@ -1,0 +1,213 @@
+//! An option of every kind, one after the other: some read nothing, others read what stands before them, the shape, the sizes,
+//! the drawn lines or the spans, and some set what is no border.
+
+ghost use Rattle.std.specs.Prelude.{◌≡◌, length, OnOk};
+ghost use Rattle.tabled_text.specs.Sizes.{column_count};
+ghost use Rattle.tabled_kinds.specs.EveryKind.{style_options, edge_options, border_options, line_options, color_options, text_options, options, InTurn};
+
+use tabled::TextTable;
+use tabled::grid::config::{Border as CellBorder, Borders, Entity, OutOfMemory};
+use tabled::settings::formatting::{AlignmentStrategy, TrimStrategy};
+use tabled::settings::object::{Cell, Column, FirstRow, Row};
+use tabled::settings::style::{BorderColor, EmptyBorder, LineChar, LineText, On, ReadyStyle};
+use tabled::settings::themes::{BorderCorrection, Colorization, ExactColorization};
+use tabled::settings::{
+    Alignment, Border, Color, Highlight, Justification, MarginColor, PaddingColor, Shadow, Style,
+    Theme,
+};
+
+/// Options for the borders of a table and of its cells.
+#[derive(Drop)]
+pub struct BorderKinds {
+    /// A theme, which replaces all borders and their colors.
+    pub theme: Theme,
+    /// A style with a custom line between rows and one between columns, which replaces all borders.
+    pub style: Style<On, On, On, On, On, On, 1, 1>,
+    /// A style that is chosen while the program runs.
+    pub ready: ReadyStyle,
+    /// The characters of a style without custom lines.
+    pub characters: Borders<char>,
+    /// A frame, which is fitted to the lines of the table.
+    pub frame: Border<On, On, On, On>,
+    /// What stands around each cell of column 0, where it is given.
+    pub around: CellBorder<char>,
+    /// The colors around the cell of row 1 and column 1.
+    pub colors: BorderColor,
+}
+
+/// Options for what stands on some lines alone.
+#[derive(Drop)]
+pub struct LineKinds {
+    /// An outline around a row, with characters and colors where it has them.
+    pub outline: Highlight<Row>,
+    /// A text on the first line, which takes the places that are drawn there.
+    pub title: LineText<FirstRow>,
+    /// A character at one place of an edge.
+    pub mark: LineChar,
+}
+
+/// Options for colors of cells, of their padding and of the margin.
+#[derive(Drop)]
+pub struct ColorKinds {
+    /// The color of row 0.
+    pub row: Color,
+    /// The colors of the padding of all cells.
+    pub padding: PaddingColor<Color>,
+    /// Colors for the cells in turn.
+    pub in_turn: Colorization,
+    /// Colors for what an object lists.
+    pub exact: ExactColorization<Column>,
+    /// The colors of the margin.
+    pub margin: MarginColor<Color>,
+    /// A shadow, which sets the margin and its colors.
+    pub shadow: Shadow,
+}
+
+/// Options for how texts stand in their cells.
+#[derive(Drop)]
+pub struct TextKinds {
+    /// How the texts of all cells are aligned.
+    pub alignment: Alignment,
+    /// Whether the lines of a text of row 0 are aligned by themselves.
+    pub strategy: AlignmentStrategy,
+    /// What of the texts of column 1 is trimmed.
+    pub trim: TrimStrategy,
+    /// What fills the cell of row 1 and column 0 beside its text.
+    pub justification: Justification,
+}
+
+/// An option of each kind that has something to choose.
+#[derive(Drop)]
+pub struct Kinds {
+    /// Those for borders.
+    pub borders: BorderKinds,
+    /// Those for single lines.
+    pub lines: LineKinds,
+    /// Those for colors.
+    pub colors: ColorKinds,
+    /// Those for texts.
+    pub texts: TextKinds,
+}
+
+/// Applies them all, and then a correction for the spans that are set. By its contract the configuration changes by the events
+/// of each, in this order, and by nothing else, whatever stood there before; so `headline` says of every place what it shows
+/// then, and `TextTable::to_text` prints that.
+pub fn every_kind(table: &mut TextTable, kinds: Kinds) -> Result<(), OutOfMemory>
+    ensures { OnOk result (InTurn (options kinds table.old.texts table.old.sizes) table.old.config table.new.config) }
+{
+    let Kinds {
+        borders,
+        lines,
+        colors,
+        texts,
+    } = kinds;
+    every_border(table, borders)?;
+    every_line(table, lines)?;
+    every_color(table, colors)?;
+    every_text(table, texts)?;
+    table.apply(BorderCorrection::span())
+}
+
+/// Applies options for borders: the first four replace them all, and the others change some of them.
+pub fn every_border(table: &mut TextTable, kinds: BorderKinds) -> Result<(), OutOfMemory>
+    ensures steps { OnOk result (InTurn (border_options kinds (length table.old.texts, column_count table.old.texts)) table.old.config table.new.config) }
+    ensures texts { table.new.texts ≡ table.old.texts }
+    ensures sizes { table.new.sizes ≡ table.old.sizes }
+{
+    let BorderKinds {
+        theme,
+        style,
+        ready,
+        characters,
+        frame,
+        around,
+        colors,
+    } = kinds;
+    every_style(table, theme, style, ready, characters)?;
+    every_edge(table, frame, &around, &colors)
+}
+
+/// Applies what replaces all borders.
+fn every_style(
+    table: &mut TextTable,
+    theme: Theme,
+    style: Style<On, On, On, On, On, On, 1, 1>,
+    ready: ReadyStyle,
+    characters: Borders<char>,
+) -> Result<(), OutOfMemory>
+    ensures steps { OnOk result (InTurn (style_options theme style ready characters) table.old.config table.new.config) }
+    ensures texts { table.new.texts ≡ table.old.texts }
+    ensures sizes { table.new.sizes ≡ table.old.sizes }
+{
+    table.apply(theme)?;
+    table.apply(style)?;
+    table.apply(ready)?;
+    table.apply(characters)
+}
+
+/// Applies what changes some of them.
+fn every_edge(
+    table: &mut TextTable,
+    frame: Border<On, On, On, On>,
+    around: &CellBorder<char>,
+    colors: &BorderColor,
+) -> Result<(), OutOfMemory>
+    ensures steps { OnOk result (InTurn (edge_options frame around.now colors.now (length table.old.texts, column_count table.old.texts)) table.old.config table.new.config) }
+    ensures texts { table.new.texts ≡ table.old.texts }
+    ensures sizes { table.new.sizes ≡ table.old.sizes }
+{
+    table.apply(frame)?;
+    table.apply_to(&Entity::Column(0), around)?;
+    table.apply_to(&Entity::Cell(1, 1), colors)?;
+    table.apply_to(&Entity::Cell(0, 0), &EmptyBorder)
+}
+
+/// Applies options for single lines.
+pub fn every_line(table: &mut TextTable, kinds: LineKinds) -> Result<(), OutOfMemory>
+    ensures steps { OnOk result (InTurn (line_options kinds (length table.old.texts, column_count table.old.texts) table.old.sizes) table.old.config table.new.config) }
+    ensures texts { table.new.texts ≡ table.old.texts }
+    ensures sizes { table.new.sizes ≡ table.old.sizes }
+{
+    let LineKinds {
+        outline,
+        title,
+        mark,
+    } = kinds;
+    table.apply(outline)?;
+    table.apply(title)?;
+    table.apply_to(&Cell::new(1, 0), &mark)
+}
+
+/// Applies options for colors.
+pub fn every_color(table: &mut TextTable, kinds: ColorKinds) -> Result<(), OutOfMemory>
+    ensures steps { OnOk result (InTurn (color_options kinds (length table.old.texts, column_count table.old.texts)) table.old.config table.new.config) }
+    ensures texts { table.new.texts ≡ table.old.texts }
+    ensures sizes { table.new.sizes ≡ table.old.sizes }
+{
+    let ColorKinds {
+        row,
+        padding,
+        in_turn,
+        exact,
+        margin,
+        shadow,
+    } = kinds;
+    table.apply_to(&Entity::Row(0), &row)?;
+    table.apply(padding)?;
+    table.apply(in_turn)?;
+    table.apply(exact)?;
+    table.apply(margin)?;
+    table.apply(shadow)
+}
+
+/// Applies options for texts of cells.
+pub fn every_text(table: &mut TextTable, kinds: TextKinds) -> Result<(), OutOfMemory>
+    ensures steps { OnOk result (InTurn (text_options kinds) table.old.config table.new.config) }
+    ensures texts { table.new.texts ≡ table.old.texts }
+    ensures sizes { table.new.sizes ≡ table.old.sizes }
+{
+    table.apply(kinds.alignment)?;
+    table.apply_to(&Entity::Row(0), &kinds.strategy)?;
+    table.apply_to(&Entity::Column(1), &kinds.trim)?;
+    table.apply_to(&Entity::Cell(1, 0), &kinds.justification)
+}

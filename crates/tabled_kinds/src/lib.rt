@@ -1,0 +1,11 @@
+//! An option of every kind, applied in a row to a table, with the list of their events as the contract.
+//!
+//! `docs/DEFINITIONS.md` explains the words of the contracts.
+#![tactic(auto)]
+
+mod kinds;
+
+pub use kinds::{
+    BorderKinds, ColorKinds, Kinds, LineKinds, TextKinds, every_border, every_color, every_kind,
+    every_line, every_text,
+};
