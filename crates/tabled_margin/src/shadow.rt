@@ -38,8 +38,8 @@ impl Shadow {
     /// The character of a shadow for which none is set.
     pub const DEFAULT_FILL: char = '▒';
 
-    /// A shadow of that many columns and lines, of the default character, at the right and below, with an offset of one and
-    /// without a color.
+    /// A shadow of the given number of columns and lines, of the default character, at the right and below, with an offset of
+    /// one and without a color.
     pub fn new(size: usize) -> Self
         ensures { result ≡ record { fill = 9618; size = size; offset = 1; direction = record { left = false; right = true; top = false; bottom = true }; color = None } }
     {
@@ -60,7 +60,7 @@ impl Shadow {
         self
     }
 
-    /// The shadow that begins so many places away from the corners that it does not touch.
+    /// The shadow that begins the given number of places away from the corners that it does not touch.
     pub fn set_offset(mut self, offset: usize) -> Self
         ensures { result ≡ record self { offset = offset } }
     {
@@ -69,6 +69,15 @@ impl Shadow {
     }
 
     /// The shadow above the table, and no longer below it.
+    ///
+    /// `Shadow::new(1).set_top()`:
+    ///
+    /// ```text
+    ///  ▒▒▒▒▒▒▒
+    /// +-----+▒
+    /// | one |▒
+    /// +-----+
+    /// ```
     pub fn set_top(mut self) -> Self
         ensures { result ≡ record self { direction = record self.direction { top = true; bottom = false } } }
     {
@@ -87,6 +96,15 @@ impl Shadow {
     }
 
     /// The shadow at the left of the table, and no longer at its right.
+    ///
+    /// `Shadow::new(1).set_left()`:
+    ///
+    /// ```text
+    ///  +-----+
+    /// ▒| one |
+    /// ▒+-----+
+    /// ▒▒▒▒▒▒▒
+    /// ```
     pub fn set_left(mut self) -> Self
         ensures { result ≡ record self { direction = record self.direction { left = true; right = false } } }
     {

@@ -4,8 +4,12 @@
 #[cfg(test)]
 mod colorizations;
 #[cfg(test)]
+mod compact;
+#[cfg(test)]
 mod formatting;
 #[cfg(test)]
 mod hints;
+#[cfg(test)]
+mod margins;
 #[cfg(test)]
 mod tables;
