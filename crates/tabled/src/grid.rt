@@ -1,4 +1,4 @@
-//! Configurations, the store of borders behind them, and what they are made of.
+//! Configurations, the store of borders in them, and what they are made of.
 
 pub mod ansi;
 pub mod config;

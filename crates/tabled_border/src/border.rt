@@ -8,6 +8,17 @@ ghost use Rattle.tabled_border.specs.Converting.{Converts};
 use std::alloc::AllocError;
 
 /// A character or a color for each side and each corner of one cell. What is missing is not given.
+///
+/// `Border::full('t', 'b', 'l', 'r', '1', '2', '3', '4')` on the cell (0, 0) of a table, whose other borders are dashes, bars
+/// and plus signs:
+///
+/// ```text
+/// 1ttt2---+
+/// l a r b |
+/// 3bbb4---+
+/// | c | d |
+/// +---+---+
+/// ```
 #[derive(Copy, Debug, Drop, PartialEq, Eq, PartialOrd, Ord, Hash)]
 pub struct Border<T> {
     /// The upper side.

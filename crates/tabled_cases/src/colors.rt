@@ -8,7 +8,7 @@ const RED: &str = "\u{1b}[31m";
 
 const PLAIN: &str = "\u{1b}[39m";
 
-/// Whether a color lends just these two texts.
+/// Whether a color lends exactly these two texts.
 fn lends<C: AnsiText>(color: &C, prefix: &str, suffix: &str) -> bool {
     color.prefix() == prefix && color.suffix() == suffix
 }

@@ -44,7 +44,7 @@ impl Dice {
         }
     }
 
-    /// A character, once in so many times.
+    /// A character, on average once in the given number of times.
     pub(crate) fn given(&mut self, times: u32) -> Option<char>
         requires { 0 < times }
     {

@@ -234,7 +234,7 @@ impl Both {
         assert!(rt; probes.count() <= 6);
     }
 
-    /// Makes some calls, and compares after each; at last reads all of one table.
+    /// Makes some calls, and compares after each; finally reads all of one table.
     fn walk(
         &mut self,
         rt: &impl Abort,

@@ -90,7 +90,7 @@ fn the_default_is_read_by_itself(rt: HostRuntime) -> Result<(), Fail> {
     Ok(())
 }
 
-/// Puts horizontal lines, and vertical ones behind them.
+/// Puts horizontal lines, and after them vertical ones.
 fn put_lines(store: &mut Layers<char>) -> Result<(), OutOfMemory> {
     for line in [7, 0, 3] {
         store.insert_hline(line, HorizontalLine::empty())?;

@@ -62,7 +62,7 @@ pub nothing_added : (line : LineOf) (length : ℕ) (color : Option Texts) (es : 
 nothing_added line length None es none = sym (append-nil es) ∙ ap (λ more. es ++ more) (sym (no_line line length))
 nothing_added line length (Some color) es none = absurd cc
 
--- one more edge and the crossing behind it
+-- one more edge and the crossing after it
 pub line_more : (line : LineOf) (at : ℕ) (color : Option Texts) → line_colored line (at + 1) color ≡ line_colored line at color ++ (spot_colored (edge_of line at) color ++ spot_colored (crossing_of line (at + 1)) color)
 unfolding line_colored
 line_more line at color =

@@ -28,13 +28,14 @@ one_color border =
     (border.bottom ∷ border.left ∷ border.right ∷ border.left_top_corner ∷ border.left_bottom_corner ∷ border.right_top_corner ∷ border.right_bottom_corner ∷ [])
     then border.top else None
 
--- one color for all places, in place of the default, the class colors and the cells' colors; or the colors of each cell
+-- where there is one color for all places: it is the default, and the class colors and the cells' colors are erased; else the
+-- colors of the border are written around each cell of the entity
 abbrev pub at_once_or_each : Option Texts → Border Texts → ℕ × ℕ → Entity → List ConfigEvent
 at_once_or_each (Some color) border shape entity = by_colors (default_color_set color)
 at_once_or_each None border shape entity = by_colors (entity_border_set entity shape border)
 
--- the colors of a border put around each cell of an entity, in a table of so many rows and columns: where all cells get one
--- color all around, all places have it
+-- the colors of a border put around each cell of an entity, in a table of the given numbers of rows and columns: where all
+-- cells get one color all around, all places get it at once
 unfoldable pub entity_colored : Border Texts → ℕ × ℕ → Entity → List ConfigEvent
 entity_colored border shape entity = at_once_or_each (if is_global entity then one_color border else None) border shape entity
 
@@ -49,12 +50,11 @@ abbrev pub spot_cleared : Spot → Option Texts → List (Event Texts)
 spot_cleared spot None = erase (one_site (at_spot spot)) ∷ []
 spot_cleared spot (Some color) = []
 
--- a color, if there is one, written along a line that is so many columns or rows long: at each edge, and at the crossing behind
--- it
+-- a color, if there is one, written along a line of the given number of edges: at each edge, and at the crossing after it
 unfoldable pub line_colored : LineOf → ℕ → Option Texts → List (Event Texts)
 line_colored line length color = flat_map (λ n. spot_colored (edge_of line n) color ++ spot_colored (crossing_of line (n + 1)) color) (below length)
 
--- what is written around a table of so many rows and columns: its four outer lines, and its corners
+-- what is written around a table of the given numbers of rows and columns: its four outer lines, and its corners
 unfoldable pub frame_colored : Border Texts → ℕ × ℕ → List (Event Texts)
 frame_colored border (rows, cols) =
     line_colored (LineOf.Horizontal 0) cols border.top ++ line_colored (LineOf.Horizontal rows) cols border.bottom

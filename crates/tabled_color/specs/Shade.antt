@@ -24,11 +24,11 @@ static_shade prefix suffix = record { owned = false; prefix = prefix; suffix = s
 abbrev pub sequence : List ℕ → List ℕ
 sequence code = (27 ∷ codes "[") ++ code ++ codes "m"
 
--- the same for a color by its red, green and blue part, after the code for such colors
+-- the sequence of a color by its red, green and blue part: the code says whether characters or the background have it
 abbrev pub rgb_sequence : List ℕ → ℕ → ℕ → ℕ → List ℕ
 rgb_sequence code r g b = (27 ∷ codes "[") ++ code ++ codes ";2;" ++ (decimal r ++ (codes ";" ++ (decimal g ++ (codes ";" ++ (decimal b ++ codes "m")))))
 
--- a text, followed by another where they differ
+-- a text, followed by another one where the two differ
 abbrev pub joined_text : List ℕ → List ℕ → List ℕ
 joined_text first second = if pointwise ◌==◌ first second then first else first ++ second
 

@@ -11,6 +11,20 @@ use std::marker::Model;
 use tabled_border::{ANSIBuf, Border, Keep, OutOfMemory};
 
 /// A color for each side and each corner of one cell. What is missing is not given.
+///
+/// Here the cell (0, 0) of a table of the style `ascii` has the eight colors of
+/// `BorderColor::full(t, b, l, r, c1, c2, c3, c4)`. Each place that is colored shows a letter for its color instead of its
+/// character, `1` for the color `c1` and so on:
+///
+/// ```text
+/// 1ttt2---+
+/// l a r b |
+/// 3bbb4---+
+/// | c | d |
+/// +---+---+
+/// ```
+///
+/// Each call below shows that cell with the colors that it gives, with `r` for each place that is red.
 #[derive(Debug, Drop, PartialEq, Eq, PartialOrd, Ord)]
 pub struct BorderColor {
     inner: Border<Color>,
@@ -68,6 +82,14 @@ impl BorderColor {
     }
 
     /// One color on all sides and corners, which is copied for them.
+    ///
+    /// `BorderColor::filled(alloc, Color::FG_RED)?`:
+    ///
+    /// ```text
+    /// rrrrr
+    /// r a r
+    /// rrrrr
+    /// ```
     pub fn filled(alloc: Global, color: Color) -> Result<Self, OutOfMemory>
         ensures { IfOk result (λ border. border ≡ full_border color color color color color color color color) }
     {
@@ -85,7 +107,15 @@ impl BorderColor {
         })
     }
 
-    /// Another color of the upper side.
+    /// Sets the color of the upper side.
+    ///
+    /// `BorderColor::new().top(Color::FG_RED)`:
+    ///
+    /// ```text
+    /// +rrr+
+    /// | a |
+    /// +---+
+    /// ```
     pub fn top(self, color: Color) -> Self
         ensures { result ≡ record self { top = Some color } }
     {
@@ -97,7 +127,15 @@ impl BorderColor {
         }
     }
 
-    /// Another color of the lower side.
+    /// Sets the color of the lower side.
+    ///
+    /// `BorderColor::new().bottom(Color::FG_RED)`:
+    ///
+    /// ```text
+    /// +---+
+    /// | a |
+    /// +rrr+
+    /// ```
     pub fn bottom(self, color: Color) -> Self
         ensures { result ≡ record self { bottom = Some color } }
     {
@@ -109,7 +147,15 @@ impl BorderColor {
         }
     }
 
-    /// Another color of the left side.
+    /// Sets the color of the left side.
+    ///
+    /// `BorderColor::new().left(Color::FG_RED)`:
+    ///
+    /// ```text
+    /// +---+
+    /// r a |
+    /// +---+
+    /// ```
     pub fn left(self, color: Color) -> Self
         ensures { result ≡ record self { left = Some color } }
     {
@@ -121,7 +167,15 @@ impl BorderColor {
         }
     }
 
-    /// Another color of the right side.
+    /// Sets the color of the right side.
+    ///
+    /// `BorderColor::new().right(Color::FG_RED)`:
+    ///
+    /// ```text
+    /// +---+
+    /// | a r
+    /// +---+
+    /// ```
     pub fn right(self, color: Color) -> Self
         ensures { result ≡ record self { right = Some color } }
     {
@@ -133,7 +187,15 @@ impl BorderColor {
         }
     }
 
-    /// Another color of the upper left corner.
+    /// Sets the color of the upper left corner.
+    ///
+    /// `BorderColor::new().corner_top_left(Color::FG_RED)`:
+    ///
+    /// ```text
+    /// r---+
+    /// | a |
+    /// +---+
+    /// ```
     pub fn corner_top_left(self, color: Color) -> Self
         ensures { result ≡ record self { left_top_corner = Some color } }
     {
@@ -145,7 +207,15 @@ impl BorderColor {
         }
     }
 
-    /// Another color of the upper right corner.
+    /// Sets the color of the upper right corner.
+    ///
+    /// `BorderColor::new().corner_top_right(Color::FG_RED)`:
+    ///
+    /// ```text
+    /// +---r
+    /// | a |
+    /// +---+
+    /// ```
     pub fn corner_top_right(self, color: Color) -> Self
         ensures { result ≡ record self { right_top_corner = Some color } }
     {
@@ -157,7 +227,15 @@ impl BorderColor {
         }
     }
 
-    /// Another color of the lower left corner.
+    /// Sets the color of the lower left corner.
+    ///
+    /// `BorderColor::new().corner_bottom_left(Color::FG_RED)`:
+    ///
+    /// ```text
+    /// +---+
+    /// | a |
+    /// r---+
+    /// ```
     pub fn corner_bottom_left(self, color: Color) -> Self
         ensures { result ≡ record self { left_bottom_corner = Some color } }
     {
@@ -169,7 +247,15 @@ impl BorderColor {
         }
     }
 
-    /// Another color of the lower right corner.
+    /// Sets the color of the lower right corner.
+    ///
+    /// `BorderColor::new().corner_bottom_right(Color::FG_RED)`:
+    ///
+    /// ```text
+    /// +---+
+    /// | a |
+    /// +---r
+    /// ```
     pub fn corner_bottom_right(self, color: Color) -> Self
         ensures { result ≡ record self { right_bottom_corner = Some color } }
     {

@@ -114,6 +114,13 @@ impl Color {
 
     /// The text with each of its lines colored, and line feeds between them. A line feed ends a line, with the carriage
     /// return before it.
+    ///
+    /// `Color::FG_RED.colorize(alloc, "a\nb")?`, with `␛` for the escape character:
+    ///
+    /// ```text
+    /// ␛[31ma␛[39m
+    /// ␛[31mb␛[39m
+    /// ```
     pub fn colorize(&self, alloc: Global, text: &str) -> Result<String, OutOfMemory>
         ensures { IfOk result (λ colored. string_bytes colored ≡ colorized self.now text.now) }
     {

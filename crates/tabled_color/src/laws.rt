@@ -13,7 +13,7 @@ pub fn joined_with_empty()
     ensures { (color : Shade) → texts_of (joined color (static_shade [] [])) ≡ texts_of color }
 {}
 
-/// Colors are equal by `==` where they are the same, and so where their order answers `Equal`; equal ones are hashed
+/// Colors are equal by `==` exactly where they are the same, and so where their order is `Equal`; equal ones are hashed
 /// alike. A static color is unequal to an owned one, and stands before it.
 pub fn equality_order_and_hash_agree()
     ensures equal { (a b : Shade) → IsTrue (⟦<Color as PartialEq>⟧.eq a b) ↔ (a ≡ b) }

@@ -21,7 +21,7 @@ fn crossing(row: usize, col: usize) -> Place {
     Place::Cross { row, col }
 }
 
-/// Whether a place of a table of one row and so many columns, each of width 3, has a color that begins with this text.
+/// Whether a place of a table of one row and `cols` columns, each of width 3, has a color that begins with this text.
 fn has_prefix(cfg: &ColoredConfig, cols: usize, place: Place, prefix: &str) -> bool {
     match cfg
         .config()
@@ -42,7 +42,7 @@ fn dimension(alloc: Global, cols: usize) -> Result<FixedDimension, OutOfMemory> 
     Ok(FixedDimension::new(vec![in alloc; 3usize; cols]?, vec![in alloc; 1usize; 1]?))
 }
 
-/// A table of one row and so many columns whose top is red.
+/// A table of one row and `cols` columns whose top is red.
 fn red_on_top(alloc: Global, cols: usize) -> Result<ColoredConfig, OutOfMemory> {
     let mut cfg = ColoredConfig::new(SpannedConfig::new(alloc));
     let mut shape = Shape { rows: 1, cols };

@@ -1,4 +1,4 @@
-//! The sample of colors and settings of docs/LIBRARY.md, word for word.
+//! The sample of colors and settings of docs/LIBRARY.md, call for call.
 
 use std::alloc::Global;
 use std::test::Fail;

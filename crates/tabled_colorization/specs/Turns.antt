@@ -32,7 +32,7 @@ in_its_turn colors numbered = with_color numbered.0 (slice_get colors (numbered.
 abbrev pub in_turn : List Shade → List (Entity × ℕ) → List (Entity × Texts)
 in_turn colors entities = flat_map (in_its_turn colors) entities
 
--- the entities of a pattern with their numbers, in a table of so many rows and columns
+-- the entities of a pattern with their numbers, in a table of the given numbers of rows and columns
 unfoldable pub numbered : Pattern → ℕ → ℕ → List (Entity × ℕ)
 numbered Columns rows cols = map (λ col. (Column col, col)) (below cols)
 numbered Rows rows cols = map (λ row. (Row row, row)) (below rows)

@@ -15,7 +15,7 @@ use tabled_object::Entity;
 /// Entities, each with its color.
 pub(crate) type Colored = Vec<(Entity, ANSIBuf)>;
 
-/// The entities of a pattern in a table of so many rows and columns, each with its color.
+/// The entities of a pattern in a table of the given numbers of rows and columns, each with its color.
 pub(crate) fn colored_by(
     alloc: Global,
     pattern: Pattern,

@@ -35,7 +35,7 @@ module _ {T : Type 0} (q : Site) where
       unless_first true e = refl
       unless_first false e = replay_uncovered q es h ∙ sym (replay_uncovered q fs e)
 
-  -- and behind them
+  -- and after them
   pub replay_rest : (es fs : List (Event T)) → covered fs q ≡ false → replay (es ++ fs) q ≡ replay es q
   replay_rest es fs h = replay-append q es fs ∙ ap (λ b. cond b (replay fs q) (replay es q)) h
 

@@ -41,7 +41,7 @@ module _ {T : Type 0} (borders : Borders T) where
   none_in nothing [] = refl
   none_in nothing (c ∷ cs) = ap (λ o. is_some o || has_class borders cs) (nothing c) ∙ none_in nothing cs
 
-  -- the lines' answers together say whether there is nothing
+  -- what is found of each line says together whether there is nothing
   pub nothing_answer : IsTrue (not (has_class borders (line_classes Horizontal first) || (has_class borders (line_classes Horizontal inner) || (has_class borders (line_classes Horizontal last) || (has_class borders (line_classes Vertical first) || (has_class borders (line_classes Vertical inner) || (has_class borders (line_classes Vertical last) || false))))))) ↔ HasNothing borders
   nothing_answer = (
     λ h.
@@ -76,7 +76,7 @@ beq_true : (b : Bool) → beq b true ≡ b
 beq_true true = refl
 beq_true false = refl
 
--- the same, of the six answers in a list that is searched for a yes
+-- the same, of the six results in a list in which a true one is searched
 pub nothing_found : {T : Type 0} (borders : Borders T) (found a b c d e f : Bool) → found ≡ list_any (λ y. beq y true) (a ∷ b ∷ c ∷ d ∷ e ∷ f ∷ []) → a ≡ has_class borders (line_classes Horizontal first) → b ≡ has_class borders (line_classes Horizontal inner) → c ≡ has_class borders (line_classes Horizontal last) → d ≡ has_class borders (line_classes Vertical first) → e ≡ has_class borders (line_classes Vertical inner) → f ≡ has_class borders (line_classes Vertical last) → IsTrue (not found) ↔ HasNothing borders
 nothing_found borders found a b c d e f is p q r s t u =
     let same : found ≡ list_any (λ y. y) (a ∷ b ∷ c ∷ d ∷ e ∷ f ∷ []) = is ∙ ap (λ test. list_any test (a ∷ b ∷ c ∷ d ∷ e ∷ f ∷ [])) (λ i y. beq_true y i) in

@@ -216,7 +216,7 @@ no_horizontal_counted {T} l r w lines l0 r0 w0 e = record {
   few = omega (arith, ap map.len e, map.len-empty nat_cmp (HorizontalLine T));
 }
 
--- answers for what they say
+-- results for what they say
 pub settled : (was now a b : Bool) (n : ℕ) → was ≡ a → now ≡ b → one_if a ≤ n + one_if b → one_if was ≤ n + one_if now
 settled was now a b n e f h = subst (λ x. one_if x ≤ n + one_if now) (sym e) (subst (λ x. one_if a ≤ n + one_if x) (sym f) h)
 

@@ -22,7 +22,7 @@ is_some-passing test (Some x) = elim (test x) as (λ b. is_some (cond b (Some x)
 abbrev selected : {K X : Type 0} {R : K → K → Ordering} → (K → X → Bool) → map.FinMap R X → map.FinMap R X
 selected test m = map.retain_keys m (λ k. passes (test k) (map.get m k))
 
--- the counts of an insertion: what was there counts no more, what is put does
+-- the counts of an insertion: what was there counts no longer, what is put does
 balance_in : (yes was : Bool) (n : ℕ) → (was ≡ true → 0 < n) → cond yes (cond was n (n + 1)) (cond was (n - 1) n) + one_if was ≡ n + one_if yes
 balance_in true true n h = omega arith
 balance_in true false n h = omega arith
@@ -91,7 +91,7 @@ module _ {K X : Type 0} {R : K → K → Ordering} (o : IsTotalOrder R) (exact :
   some_selected : (test : K → X → Bool) (m : map.FinMap R X) (k : K) → passes (test k) (map.get m k) ≡ true → 0 < map.len (selected test m)
   some_selected test m k h = positive_len (selected test m) k (contains-selected test m k ∙ h)
 
-  -- a put value counts if it passes, and the one that it replaces counts no more
+  -- a put value counts if it passes, and the one that it replaces counts no longer
   pub count-insert : (test : K → X → Bool) (m : map.FinMap R X) (k : K) (v : X) → count test (map.insert m k v) + one_if (passes (test k) (map.get m k)) ≡ count test m + one_if (test k v)
   unfolding count
   count-insert test m k v = by_test (test k v) refl
@@ -104,7 +104,7 @@ module _ {K X : Type 0} {R : K → K → Ordering} (o : IsTotalOrder R) (exact :
           ap (λ n. n + one_if (passes (test k) (map.get m k))) (ap map.len (selected-insert_no test m k v e) ∙ map.len-remove o (selected test m) k ∙ ap (λ b. cond b (map.len (selected test m) - 1) (map.len (selected test m))) (contains-selected test m k))
           ∙ balance_in false (passes (test k) (map.get m k)) (map.len (selected test m)) (some_selected test m k)
 
-  -- a value that is taken counts no more
+  -- a value that is taken counts no longer
   pub count-remove : (test : K → X → Bool) (m : map.FinMap R X) (k : K) → count test (map.remove m k) + one_if (passes (test k) (map.get m k)) ≡ count test m
   unfolding count
   count-remove test m k =

@@ -174,7 +174,7 @@ module _ {T : Type 0} (k : State T) (numbers : map.FinMap line_cmp ℕ) (t b l r
     ]
   ]
 
-  -- the answers of the grounds say whether the line is drawn
+  -- whether each ground draws the line says whether it is drawn
   pub row_answer : (answer : Bool) → n ≤ count' → answer ≡ (is_some k.default_value || class_draws k.class_record count' (LineOf.Horizontal n) || row_drawn k.horizontal_lines t b numbers count' n) → IsTrue answer ↔ Drawn (state_at k) count' (LineOf.Horizontal n)
   unfolding row_test Draws line_of
   row_answer answer within e = (
@@ -209,7 +209,7 @@ module _ {T : Type 0} (k : State T) (numbers : map.FinMap line_cmp ℕ) (t b l r
 pub past_answer : {T : Type 0} (k : State T) (count' : ℕ) (line : LineOf) → count' < number line → IsTrue false ↔ Drawn (state_at k) count' line
 past_answer k count' line past = (λ yes. absurd cc, λ drawn. absurd (omega (arith, past, drawn.no_further)))
 
--- the answers of the two weakest levels alone
+-- what the two weakest levels alone say
 pub default_answer : {T : Type 0} (k : State T) (count' : ℕ) (line : LineOf) → number line ≤ count' → is_some k.default_value ≡ true → IsTrue true ↔ Drawn (state_at k) count' line
 default_answer k count' (LineOf.Horizontal n) within h = (λ _. record { no_further = within; by = the_default; draws_it = refl; is_kept = is_some-sign k.default_value ∙ h }, λ _. refl)
 default_answer k count' (LineOf.Vertical n) within h = (λ _. record { no_further = within; by = the_default; draws_it = refl; is_kept = is_some-sign k.default_value ∙ h }, λ _. refl)
@@ -228,7 +228,7 @@ class_answer k count' (LineOf.Vertical n) within h = let site = class_site k cou
 third : (a b c x : Bool) → a ≡ false → b ≡ false → x ≡ c → x ≡ (a || b || c)
 third a b c x e f h = h ∙ sym (λ i. e i || f i || c)
 
--- the answer of the levels above, where these two draw nothing
+-- what the levels above say, where these two draw nothing
 pub row_left : {T : Type 0} (k : State T) (numbers : map.FinMap line_cmp ℕ) (t b l r w : ℕ) → CellsCounted numbers k.cells → VerticalCounted t b k.vertical_lines → HorizontalCounted l r w k.horizontal_lines → (count' n : ℕ) (line : LineOf) (answer : Bool) → line ≡ LineOf.Horizontal n → number line ≤ count' → is_some k.default_value ≡ false → class_draws k.class_record count' line ≡ false → answer ≡ row_drawn k.horizontal_lines t b numbers count' n → IsTrue answer ↔ Drawn (state_at k) count' line
 row_left k numbers t b l r w cells upright level_ones count' n line answer is within none no_class e =
     subst (λ x. IsTrue answer ↔ Drawn (state_at k) count' x) (sym is)

@@ -88,7 +88,7 @@ same_truth true false f g = sym (f refl)
 same_truth false true f g = g refl
 same_truth false false f g = refl
 
--- the answer to whether a line is drawn is the test of any list of events that is shown
+-- whether a line is drawn is the test of any list of events that is shown
 pub drawn-answer : {T : Type 0} (es : List (Event T)) (keep : Site → Option (Written T)) (count : ℕ) (line : LineOf) (answer : Bool) → Shows es keep → IsTrue answer ↔ Drawn keep count line → answer ≡ drawn es count line
 drawn-answer es keep count line answer shows says =
     same_truth answer (drawn es count line)

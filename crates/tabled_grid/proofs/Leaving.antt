@@ -74,7 +74,7 @@ module _ {T : Type 0} (value : Site → Option T) where
   there [] q h c = absurd cc
   there (e ∷ es) q h c = either (covers q e) (covered es q) c (one_there e q h.0) (there es q h.1)
 
-  -- an event covers a site just where the function has something there
+  -- an event covers a site exactly where the function has something there
   pub covered_is : (es : List (Event T)) (q : Site) → Leaves es → covered es q ≡ is_some (value q)
   covered_is es q h = same_truth (covered es q) (is_some (value q)) (there es q h.all_of) (h.everywhere q)
 
@@ -145,7 +145,7 @@ module _ {T : Type 0} (value : Spot → Option T) where
   one_covered spot q None rest = refl
   one_covered spot q (Some x) rest = refl
 
-  -- they cover an edge or a crossing just where it is one of these and the function has something there
+  -- they cover an edge or a crossing exactly where it is one of these and the function has something there
   pub covered_written : (spots : List Spot) (q : Spot) → covered (written_on spots) (at_spot q) ≡ (is_some (value q) && list_any (same_spot q) spots)
   covered_written [] q = nothing (is_some (value q))
     where

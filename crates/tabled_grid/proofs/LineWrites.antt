@@ -56,7 +56,7 @@ module _ {T : Type 0} (l : LineOf) where
   part_elsewhere q p None h = refl
   part_elsewhere q p (Some x) h = ap (λ b. b || false) h
 
-  -- behind events that leave nothing there, a part leaves its field
+  -- after events that leave nothing there, a part leaves its field
   own_part : (before : List (Event T)) (p : Part) (o : Option T) → replay before (of_line l p) ≡ None → replay (before ++ part_write l p o) (of_line l p) ≡ option_map sign o
   own_part before p None h = replay-append (of_line l p) before [] ∙ h
   own_part before p (Some x) h =

@@ -56,7 +56,7 @@ nothing_or_none true c k h = refl
 nothing_or_none false true k h = sym (h refl)
 nothing_or_none false false k h = sym (h refl)
 
--- to clear a region first changes nothing of what the events behind it leave
+-- to clear a region first changes nothing of what the events after it leave
 pub replay_cleared : {T : Type 0} (region : Region) (es : List (Event T)) (q : Site) → replay (erase region ∷ es) q ≡ replay es q
 replay_cleared region es q = replay-cons q (erase region) es ∙ nothing_or_none (covered es q) (within region q) (replay es q) (replay_uncovered q es)
 

@@ -1,4 +1,4 @@
--- Two stores keep the same at every level just where they do at every site.
+-- Two stores keep the same at every level exactly where they do at every site.
 use Rattle.std.proofs.Common.{◌≡◌, Bool, true, false, cond, ◌&&◌, Option, Some, None, List, [], ◌∷◌, refl, sym, ap, ◌∙◌, option_map, option_and_then}
 use Rattle.std.specs.Option.{option_eq}
 use Rattle.std.specs.Prelude.{T}

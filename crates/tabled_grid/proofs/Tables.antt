@@ -38,7 +38,7 @@ module _ {K X : Type 0} {R : K → K → Ordering} (o : IsTotalOrder R) (exact :
   len-table [] = omega (arith, map.len-empty R X)
   len-table (e ∷ es) = omega (arith, map.len-insert o (table R es) e.0 e.1, one_more (map.contains_key (table R es) e.0) (map.len (table R es)) (length es) (len-table es))
 
-  -- it is the empty one just where there are no entries
+  -- it is the empty one exactly where there are no entries
   pub no-entries : (es : List (K × X)) → length es ≡ 0 → table R es ≡ map.empty
   no-entries es none = map.empty_of_len (table R es) (omega (arith, len-table es))
 

@@ -79,7 +79,7 @@ module _ {T : Type 0} where
       subst (λ es. IsTrue (writes_anew (state_at old) es)) (sym (ap writes_made is ∙ writes_made-append (ws ++ entry ∷ []) rest ∙ ap (λ es. es ++ writes_made rest) (writes_made-append ws (entry ∷ []))))
       (sooner_anew (writes_made ws ++ writes_made (entry ∷ [])) (writes_made rest) (state_at old) (later_anew (writes_made ws) (writes_made (entry ∷ [])) (state_at old) (state_at between) stays anew))
 
--- the list while its entries are exchanged, beside the one that was given: behind the index both are the same
+-- the list while its entries are exchanged, beside the one that was given: from the index on both are the same
 pub same_behind : {X : Type 0} (xs ys : List X) (i : ℕ) (x : X) → drop i xs ≡ drop i ys → drop (i + 1) (set xs i x) ≡ drop (i + 1) ys
 same_behind xs ys i x same =
     drop-set-lt (i + 1) xs i x (omega arith) ∙ sym (drop-drop 1 i xs) ∙ ap (drop 1) same ∙ drop-drop 1 i ys

@@ -48,7 +48,7 @@ with_class (crossings last first) x borders = record borders { bottom_left = x }
 with_class (crossings last inner) x borders = record borders { bottom_intersection = x }
 with_class (crossings last last) x borders = record borders { bottom_right = x }
 
--- the record with this as its line of a rank, what the line does not have too
+-- the record with this as its line of a rank: what the line does not have the record loses
 abbrev pub put_horizontal : {T : Type 0} → Rank → HorizontalLine T → Borders T → Borders T
 put_horizontal rank line borders =
     with_class (crossings rank last) line.right (with_class (crossings rank first) line.left

@@ -64,11 +64,11 @@ places_set writes = filter_map given_write writes
 abbrev pub border_set : {T : Type 0} → Position → Border T → List (Event T)
 border_set pos border = places_set (zip (border_fields (border_places pos)) (border_fields border))
 
--- whether nothing is kept at one of the sites at which the events write
+-- whether the events write at some site at which nothing is kept
 abbrev pub writes_anew : {T : Type 0} → (Site → Option (Written T)) → List (Event T) → Bool
 writes_anew state events = list_any (λ site. is_none (state site)) (written events)
 
--- the same for each of these cells that lies in a table of so many rows and columns, in their order
+-- the same for each of the given cells that lies in a table of the given numbers of rows and columns, in their order
 unfoldable pub borders_of : {T : Type 0} → ℕ × ℕ → Border T → List Position → List (Event T)
 borders_of (rows, cols) border cells = flat_map (λ pos. border_set pos border) (filter (is_inside rows cols) cells)
 
@@ -84,7 +84,7 @@ places_erased places = filter_map (option_map (λ place. erase (one_site (at_spo
 abbrev pub border_erased : {T : Type 0} → Position → List (Event T)
 border_erased pos = places_erased (border_fields (border_places pos))
 
--- the same for each of these cells that lies in a table of so many rows and columns, in their order
+-- the same for each of the given cells that lies in a table of the given numbers of rows and columns, in their order
 unfoldable pub borders_erased : {T : Type 0} → ℕ × ℕ → List Position → List (Event T)
 borders_erased (rows, cols) cells = flat_map border_erased (filter (is_inside rows cols) cells)
 
@@ -105,12 +105,11 @@ abbrev pub crossing_of : LineOf → ℕ → Spot
 crossing_of (LineOf.Horizontal n) at = Crossing n at
 crossing_of (LineOf.Vertical n) at = Crossing at n
 
--- the spots of a line that is so many columns or rows long: its edges, and its crossings with all lines of the other
--- direction
+-- the spots of a line of the given number of edges: these edges, and its crossings with all lines of the other direction
 abbrev pub line_spots : LineOf → ℕ → List Spot
 line_spots line length = map (edge_of line) (below length) ++ map (crossing_of line) (below (length + 1))
 
--- the outer lines of a table of so many rows and columns erased; one without rows or columns has none
+-- the outer lines of a table of the given numbers of rows and columns erased; one without rows or columns has none
 abbrev pub frame_erased : {T : Type 0} → ℕ × ℕ → List (Event T)
 frame_erased (rows, cols) =
     if (rows == 0) || (cols == 0) then [] else spots_erased (line_spots (LineOf.Horizontal 0) cols
@@ -122,7 +121,7 @@ offset_site (Place.Horizontal r c k) offset = Some (at_offset Horizontal r c off
 offset_site (Place.Vertical r c k) offset = Some (at_offset Vertical r c offset)
 offset_site (Place.Cross r c) offset = None
 
--- a value written there
+-- a value written at that site
 abbrev pub edge_offset : {T : Type 0} → Direction → ℕ → ℕ → Offset → T → List (Event T)
 edge_offset d r c offset value = write (at_offset d r c offset) (sign value) ∷ []
 

@@ -8,11 +8,11 @@ use Rattle.tabled_grid.specs.Event.{Written}
 use Rattle.tabled_grid.specs.Value.{plain_value}
 use Rattle.tabled_border.specs.Border.{no_border}
 
--- the line behind line n; a store's numbers are below 2^64, and the last has none behind it
+-- the line after line n; a store's numbers are below 2^64, and after the last one there is none
 abbrev pub next_line : ℕ → Option ℕ
 next_line n = if nat_lt (n + 1) (2 ^ 64) then Some (n + 1) else None
 
--- the first place of an edge, and the crossing, of lines that are there
+-- the first place of an edge, and a crossing, where the lines have numbers
 abbrev pub side_horizontal : Option ℕ → ℕ → Option Place
 side_horizontal (Some r) c = Some (Place.Horizontal r c 0)
 side_horizontal None c = None

@@ -10,7 +10,7 @@ use Rattle.tabled_grid.specs.Keys.{line_cmp, spot_cmp}
 use Rattle.tabled_grid.specs.Site.{Horizontal, Vertical, Spot, Edge, Crossing}
 use Rattle.tabled_grid.specs.Table.{count}
 
--- the number of a line; none is zero
+-- the number that is kept for a line: 0 where none is kept
 abbrev pub number_at : FinMap line_cmp ℕ → LineOf → ℕ
 number_at numbers line = unwrap_or (get numbers line) 0
 
@@ -29,13 +29,13 @@ pub record CellsCounted {T : Type 0} (numbers : FinMap line_cmp ℕ) (cells : Fi
   pub on_lines : (line : LineOf) → number_at numbers line ≡ count (λ spot _. lies_on line spot) cells
   pub few_cells : len cells < 2 ^ 63
 
--- and those of the custom vertical lines that have an end
+-- the two numbers are those of the custom vertical lines that have an upper end, and that have a lower end
 pub record VerticalCounted {T : Type 0} (tops bottoms : ℕ) (lines : FinMap nat_cmp (VerticalLine T)) : Type 0 where
   pub tops_are : tops ≡ count (λ _ line. is_some line.top) lines
   pub bottoms_are : bottoms ≡ count (λ _ line. is_some line.bottom) lines
   pub few : len lines < 2 ^ 63
 
--- of the custom horizontal lines that have an end, or an intersection
+-- the three numbers are those of the custom horizontal lines that have a left end, a right end, and an intersection
 pub record HorizontalCounted {T : Type 0} (lefts rights betweens : ℕ) (lines : FinMap nat_cmp (HorizontalLine T)) : Type 0 where
   pub lefts_are : lefts ≡ count (λ _ line. is_some line.left) lines
   pub rights_are : rights ≡ count (λ _ line. is_some line.right) lines

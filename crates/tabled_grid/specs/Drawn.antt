@@ -17,7 +17,7 @@ lies_on (LineOf.Vertical n) (Edge Vertical r c) = c == n
 lies_on (LineOf.Vertical n) (Crossing r c) = c == n
 lies_on _ _ = false
 
--- whether something kept at the site draws the line, of the lines 0 to count of its direction:
+-- whether something that is kept at the site draws the line, of the lines 0 to `count` of its direction:
 -- the default draws every line; a class those of its rank; a custom line the line at which it stands; its crossings with
 -- horizontal lines draw these where they are outer ones, its crossings with vertical lines whatever they are; a cell's edge or
 -- crossing the lines that it lies on. Offsets draw nothing.
@@ -35,7 +35,7 @@ draws count (LineOf.Vertical n) (of_line (LineOf.Horizontal m) (meeting rank)) =
 draws count line (at_spot spot) = lies_on line spot
 draws count line _ = false
 
--- a line is drawn where it is none past the last one and something is kept at a site that draws it
+-- a line is drawn where it is not past the last one and something is kept at a site that draws it
 pub record Drawn {T : Type 0} (state : Site → Option (Written T)) (count : ℕ) (line : LineOf) : Type 0 where
   pub no_further : number line ≤ count
   pub by : Site
@@ -48,6 +48,6 @@ written [] = []
 written (write q w ∷ es) = q ∷ written es
 written (erase region ∷ es) = written es
 
--- the same as a test, for what a list of events leaves
+-- `Drawn` as a test, for what a list of events leaves
 unfoldable pub drawn : {T : Type 0} → List (Event T) → ℕ → LineOf → Bool
 drawn es count line = nat_le (number line) count && list_any (λ q. draws count line q && is_some (replay es q)) (written es)

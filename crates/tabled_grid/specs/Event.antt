@@ -28,7 +28,7 @@ abbrev pub covers : {T : Type 0} → Site → Event T → Bool
 covers q (write p w) = same_site q p
 covers q (erase region) = within region q
 
--- whether some event of the list does
+-- whether some event of the list covers the site
 abbrev pub covered : {T : Type 0} → List (Event T) → Site → Bool
 covered es q = list_any (covers q) es
 

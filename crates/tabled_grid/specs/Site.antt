@@ -24,13 +24,13 @@ pub use Rattle.tabled_grid.specs.declared.site.Part.TheVariants.{Mark as mark, E
 pub use Rattle.tabled_grid.specs.declared.site.Site.{Site}
 pub use Rattle.tabled_grid.specs.declared.site.Site.TheVariants.{Default as the_default, Class as of_class, Line as of_line, Cell as at_spot, Offset as at_offset}
 
--- whether line n, of the lines 0 to count, stands there
+-- whether line n, of the lines 0 to `count`, is of that rank
 abbrev pub stands : Rank → ℕ → ℕ → Bool
 stands first count n = n == 0
 stands inner count n = nat_lt 0 n && nat_lt n count
 stands last count n = n == count
 
--- where line n stands, of the lines 0 to count
+-- the rank of line n, of the lines 0 to `count`
 abbrev pub rank : ℕ → ℕ → Rank
 rank count n = if n == 0 then first else (if n == count then last else inner)
 

@@ -115,7 +115,7 @@ abbrev pub default_writes : {T : Type 0} → Option T → List (Event T)
 default_writes None = []
 default_writes (Some x) = write the_default (sign x) ∷ []
 
--- a list of events that leaves just what is kept: all of it, put there
+-- a list of events that leaves exactly what is kept: all of it, put there
 unfoldable pub writes_of : {T : Type 0} → State T → List (Event T)
 writes_of state =
     default_writes state.default_value ++ (class_writes state.class_record classes

@@ -16,7 +16,7 @@ passes test (Some x) = test x
 unfoldable pub count : {K X : Type 0} {R : K → K → Ordering} → (K → X → Bool) → FinMap R X → ℕ
 count test m = len (retain_keys m (λ k. passes (test k) (get m k)))
 
--- one for yes
+-- 1 for true, 0 for false
 abbrev pub one_if : Bool → ℕ
 one_if true = 1
 one_if false = 0

@@ -6,14 +6,14 @@ use Rattle.tabled_grid.specs.declared.offset.Offset.{Offset}
 use Rattle.tabled_grid.specs.Site.{Horizontal, Vertical, rank, Class, edges, crossings, main_edges, meeting, Edge, Crossing, Site, the_default, of_class, of_line, at_spot, at_offset}
 use Rattle.tabled_grid.specs.Event.{Written, sign, standing}
 
--- whether a table of that many rows and columns has the edge of the place, or the crossing; one without rows or columns
--- has none
+-- whether a table of the given numbers of rows and columns has the edge of the place, or the crossing; one without rows or
+-- columns has none
 abbrev pub has_spot : ℕ × ℕ → Place → Bool
 has_spot (rows, cols) (Place.Horizontal r c k) = nat_lt 0 rows && nat_le r rows && nat_lt c cols
 has_spot (rows, cols) (Place.Vertical r c k) = nat_lt 0 cols && nat_lt r rows && nat_le c cols
 has_spot (rows, cols) (Place.Cross r c) = nat_lt 0 rows && nat_lt 0 cols && nat_le r rows && nat_le c cols
 
--- whether it has the place, where its edge is that long
+-- whether such a table has the place, where the edge of the place is `size` characters long
 abbrev pub inside : ℕ × ℕ → ℕ → Place → Bool
 inside shape size (Place.Horizontal r c k) = has_spot shape (Place.Horizontal r c k) && nat_lt k size
 inside shape size (Place.Vertical r c k) = has_spot shape (Place.Vertical r c k) && nat_lt k size

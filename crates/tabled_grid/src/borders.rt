@@ -5,7 +5,17 @@ ghost use Rattle.std.specs.Prelude.{◌≡◌, ◌↔◌, None, IsTrue, ⊤, opt
 use crate::{HorizontalLine, Rank, VerticalLine};
 use std::alloc::AllocError;
 
-/// A value for each of the fifteen kinds of border place, as characters or colors of a whole table.
+/// The class record: a value for each of the fifteen kinds of border place, as characters or colors of a whole table.
+///
+/// A table of two rows and two columns, whose cells are empty, and which letter stands for which field:
+///
+/// ```text
+/// 1aaa5aaa2     a top            b bottom          e horizontal
+/// c   f   d     c left           d right           f vertical
+/// 7eee9eee8     1 top_left       2 top_right       5 top_intersection     6 bottom_intersection
+/// c   f   d     3 bottom_left    4 bottom_right    7 left_intersection    8 right_intersection
+/// 3bbb6bbb4     9 intersection
+/// ```
 #[derive(Copy, Debug, Drop, PartialEq, Eq, PartialOrd, Ord, Hash)]
 pub struct Borders<T> {
     /// The edges of horizontal line 0.
@@ -248,7 +258,7 @@ impl<T: Copy> Borders<T> {
         }
     }
 
-    /// The record with this as its horizontal line of a rank, what the line does not have too.
+    /// The record with this as its horizontal line of a rank: what the line does not have the record loses.
     pub fn with_horizontal_line(mut self, rank: Rank, line: HorizontalLine<T>) -> Self
         ensures { result ≡ put_horizontal rank line self }
     {
@@ -259,7 +269,7 @@ impl<T: Copy> Borders<T> {
         self
     }
 
-    /// The record with this as its vertical line of a rank, what the line does not have too.
+    /// The record with this as its vertical line of a rank: what the line does not have the record loses.
     pub fn with_vertical_line(mut self, rank: Rank, line: VerticalLine<T>) -> Self
         ensures { result ≡ put_vertical rank line self }
     {

@@ -27,6 +27,17 @@ use std::mem;
 ///
 /// Each call is a list of events, or reads what the events so far have left; `docs/DEFINITIONS.md` says
 /// how. A call that needs memory and is refused leaves the store as it was.
+///
+/// The levels above one another: full stops as the default, a class record with the top `-` alone, horizontal line 1 of `=`,
+/// the cell (0, 1) with the upper side `x`, and `o` at number 1 of an edge:
+///
+/// ```text
+/// .-o-.xxx.
+/// . a . b .
+/// .===.===.
+/// . c . d .
+/// .........
+/// ```
 #[derive(Debug)]
 pub struct Layers<T> {
     alloc: Global,
@@ -45,7 +56,7 @@ pub struct Layers<T> {
     betweens: Number,
 }
 
-/// Written out, so that letting a store go is one call wherever it ends, and not one for each field.
+/// Written out, so that dropping a store is one call wherever its life ends, and not one for each field.
 impl<T: Drop> Drop for Layers<T> {
     fn drop(self) {
         let Layers {

@@ -7,6 +7,16 @@ use crate::Rank;
 use std::alloc::AllocError;
 
 /// A custom horizontal line. A character that is missing leaves the place to the levels below.
+///
+/// The line 1 with `main` `=`, `intersection` `*`, `left` `<` and `right` `>`:
+///
+/// ```text
+/// +---+---+
+/// | a | b |
+/// <===*===>
+/// | c | d |
+/// +---+---+
+/// ```
 #[derive(Copy, Debug, Drop, PartialEq, Eq, PartialOrd, Ord, Hash)]
 pub struct HorizontalLine<T> {
     /// Along the edges.
@@ -31,6 +41,16 @@ impl<T: Copy> Clone for HorizontalLine<T> {
 }
 
 /// A custom vertical line. A character that is missing leaves the place to the levels below.
+///
+/// The line 1 with `main` `#`, `intersection` `*`, `top` `v` and `bottom` `^`:
+///
+/// ```text
+/// +---v---+
+/// | a # b |
+/// +---*---+
+/// | c # d |
+/// +---^---+
+/// ```
 #[derive(Copy, Debug, Drop, PartialEq, Eq, PartialOrd, Ord, Hash)]
 pub struct VerticalLine<T> {
     /// Along the edges.

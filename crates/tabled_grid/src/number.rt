@@ -47,7 +47,7 @@ impl Number {
         Number { kept }
     }
 
-    /// Counts what was put, and no more what was taken for it.
+    /// Counts what was put, and no longer what was taken for it.
     pub(crate) fn exchange(&mut self, taken: bool, put: bool)
         requires small { self.old < 2 ^ 64 }
         requires counted { one_if taken ≤ self.old + one_if put }

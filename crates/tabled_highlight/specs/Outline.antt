@@ -20,7 +20,7 @@ use Rattle.tabled_grid.specs.Calls.{line_spots, edge_of}
 abbrev pub CellSet : Type 0
 CellSet = Position → Bool
 
--- what is true of the number before one; nothing is before 0
+-- whether a test holds of the number before the given one; of 0 it does not, as no number is before it
 abbrev pub before : (ℕ → Bool) → ℕ → Bool
 before test zero = false
 before test (suc n) = test n
@@ -80,7 +80,7 @@ outline_value cells border (Edge Horizontal r c) = across_value border (upper_ri
 outline_value cells border (Edge Vertical r c) = down_value border (lower_left cells r c) (lower_right cells r c)
 outline_value cells border (Crossing r c) = crossing_value border (upper_left cells r c, upper_right cells r c) (lower_left cells r c, lower_right cells r c)
 
--- every edge and every crossing of a table of so many rows and columns, once
+-- every edge and every crossing of a table of the given numbers of rows and columns, once
 abbrev pub every_spot : ℕ × ℕ → List Spot
 every_spot (rows, cols) =
     flat_map (λ line. line_spots (LineOf.Horizontal line) cols) (below (rows + 1))

@@ -51,7 +51,8 @@ impl<O> Model for Highlight<O> {
 }
 
 impl<O> Highlight<O> {
-    /// The cells that the object names, with neither characters nor colors yet: as it is it changes nothing.
+    /// An outline around the cells that the object names, with neither characters nor colors yet: without them it changes
+    /// nothing.
     pub fn new(target: O) -> Self
         ensures { result ≡ record { target = target; border = None; color = None } }
     {
@@ -82,6 +83,16 @@ impl<O> Highlight<O> {
 
     /// An outline of one color, on all sides and corners, which is copied for them. The characters stay as they are.
     /// Memory may be refused for the copies.
+    ///
+    /// The cells (0, 0), (0, 1) and (1, 1) of a table of the style `ascii`, with `r` for each place that has the color:
+    ///
+    /// ```text
+    /// rrrrrrrrr
+    /// r a | b r
+    /// rrrrr---r
+    /// | c r d r
+    /// +---rrrrr
+    /// ```
     pub fn colored(alloc: Global, target: O, color: Color) -> Result<Self, OutOfMemory>
     where
         O: Drop,
@@ -95,8 +106,8 @@ impl<O> Highlight<O> {
         })
     }
 
-    /// The characters of the sides and corners. What the border does not give is not written. Here it gives `^` as its upper
-    /// side alone, around the cell (0, 1):
+    /// Sets the characters of the sides and corners. What the border does not give is not written. Here it gives `^` as its
+    /// upper side alone, around the cell (0, 1):
     ///
     /// ```text
     ///    ^^^
@@ -113,7 +124,18 @@ impl<O> Highlight<O> {
         }
     }
 
-    /// The colors of the sides and corners. What is not given is not written.
+    /// Sets the colors of the sides and corners. What is not given is not written.
+    ///
+    /// `BorderColor::new().top(Color::FG_RED)` around the cell (0, 1) of a table of the style `ascii`, with `r` for each place
+    /// that is red:
+    ///
+    /// ```text
+    /// +---+rrr+
+    /// | a | b |
+    /// +---+---+
+    /// | c | d |
+    /// +---+---+
+    /// ```
     pub fn color(self, color: BorderColor) -> Self
         ensures { result ≡ record self { color = Some color } }
     {
@@ -159,6 +181,16 @@ where
     /// exactly one of these cells beside it, and at the crossings where such edges meet. Cells outside the table are passed
     /// over. Without border and colors nothing changes. Where memory is refused nothing changes, neither characters nor
     /// colors.
+    ///
+    /// `Highlight::outline(Columns::one(0), '*')` on a table of the style `ascii`:
+    ///
+    /// ```text
+    /// *****---+
+    /// * a * b |
+    /// *---*---+
+    /// * c * d |
+    /// *****---+
+    /// ```
     fn change(
         self,
         records: &mut R,

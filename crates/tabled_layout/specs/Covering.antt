@@ -5,7 +5,7 @@ use Rattle.std.specs.FinMap.{entries, get}
 use Rattle.tabled_object.specs.declared.position.Position.{Position}
 use Rattle.tabled_layout.specs.Spans.{SpanMap, SpanEvent}
 
--- whether a cell stands at the right of a position, within that many columns; and below it, within that many rows
+-- whether a cell stands at the right of a position, within the given number of columns; and below it, within the given number of rows
 abbrev pub within_columns : SpanEvent → Position → Bool
 within_columns (position, count) cell = nat_lt position.col cell.col && nat_lt cell.col (position.col + count)
 

@@ -6,14 +6,14 @@ ghost use Rattle.tabled_layout.specs.Covering.{within_columns, within_rows, with
 use crate::Spans;
 use tabled_object::Position;
 
-/// Whether a cell stands at the right of a position, within that many columns.
+/// Whether a cell stands at the right of a position, within the given number of columns.
 fn is_within_columns(position: Position, count: usize, cell: Position) -> bool
     ensures { result ≡ within_columns (position, count) cell }
 {
     position.col < cell.col && cell.col - position.col < count
 }
 
-/// Whether a cell stands below a position, within that many rows.
+/// Whether a cell stands below a position, within the given number of rows.
 fn is_within_rows(position: Position, count: usize, cell: Position) -> bool
     ensures { result ≡ within_rows (position, count) cell }
 {

@@ -4,7 +4,7 @@ use Rattle.std.specs.List.{range_with_len}
 use Rattle.tabled_object.specs.declared.position.Position.{Position}
 use Rattle.tabled_object.specs.Entities.{rectangle, position}
 
--- so many numbers from a first one on: none, or that one and the others
+-- a count of numbers from a first one on: none, or that one and the others
 pub none_of : (n a : ℕ) → n ≡ 0 → range_with_len a n ≡ []
 none_of n a e = rw e refl
 

@@ -17,8 +17,8 @@ rectangle rows cols = flat_map (λ row. map (λ col. position row col) cols) row
 abbrev pub below : ℕ → List ℕ
 below count = range_with_len 0 count
 
--- the positions that an entity names in a table of so many rows and columns, in row order; a column, a row or a cell
--- that is named outside the table is there all the same
+-- the positions that an entity names in a table of the given numbers of rows and columns, in row order; a column, a row or
+-- a cell that lies outside the table is named all the same
 abbrev pub cells_of : Entity → ℕ → ℕ → List Position
 cells_of Global rows cols = rectangle (below rows) (below cols)
 cells_of (Column col) rows cols = rectangle (below rows) (col ∷ [])
@@ -32,6 +32,6 @@ covers (Column col) cell = cell.col == col
 covers (Row row) cell = cell.row == row
 covers (Cell row col) cell = (cell.row == row) && (cell.col == col)
 
--- whether a cell lies inside a table of so many rows and columns
+-- whether a cell lies inside a table of the given numbers of rows and columns
 abbrev pub is_inside : ℕ → ℕ → Position → Bool
 is_inside rows cols cell = nat_lt cell.row rows && nat_lt cell.col cols

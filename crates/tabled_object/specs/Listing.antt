@@ -7,7 +7,7 @@ use Rattle.tabled_object.specs.declared.entity.Entity.TheVariants.{Global, Colum
 use Rattle.tabled_object.specs.declared.position.Position.{Position}
 use Rattle.tabled_object.specs.Entities.{covers, cells_of, is_inside}
 
--- an iterator may be asked, ends, and gives these entities, in their order and no more
+-- an iterator may be asked, it ends, and it gives exactly these entities, in their order
 pub record Lists {S : Type 0} (can : S → Type 0) (steps : S → Option Entity → S → Type 0) (left : S → Count) (items : S) (entities : List Entity) : Type 0 where
   pub may_begin : can items
   pub ends : IsFinite (left items)
@@ -17,12 +17,12 @@ pub record Lists {S : Type 0} (can : S → Type 0) (steps : S → Option Entity 
 abbrev pub covered : List Entity → Position → Bool
 covered entities cell = list_any (λ entity. covers entity cell) entities
 
--- the set of the cells inside a table of so many rows and columns that a listing covers: its order and repeats are
--- forgotten
+-- the set of the cells that a listing covers inside a table of the given numbers of rows and columns: its order and its
+-- repeats play no part
 abbrev pub listed : List Entity → ℕ → ℕ → Position → Bool
 listed entities rows cols cell = is_inside rows cols cell && covered entities cell
 
--- ---- the listings, in a table of so many rows or columns
+-- ---- the listings, in a table of the given number of rows or columns
 
 abbrev pub all_cells : List Entity
 all_cells = Global ∷ []
@@ -44,7 +44,7 @@ first_row rows = if nat_lt 0 rows then (Row 0 ∷ []) else []
 abbrev pub last_row : ℕ → List Entity
 last_row rows = if nat_lt 0 rows then (Row (rows - 1) ∷ []) else []
 
--- the row that has so many rows below it, if there is one
+-- the row that has the given number of rows below it, if there is one
 abbrev pub row_above_last : ℕ → ℕ → List Entity
 row_above_last offset rows = if nat_lt offset rows then (Row (rows - 1 - offset) ∷ []) else []
 
@@ -59,7 +59,7 @@ first_column cols = if nat_lt 0 cols then (Column 0 ∷ []) else []
 abbrev pub last_column : ℕ → List Entity
 last_column cols = if nat_lt 0 cols then (Column (cols - 1) ∷ []) else []
 
--- the column that has so many columns at its right, if there is one
+-- the column that has the given number of columns at its right, if there is one
 abbrev pub column_before_last : ℕ → ℕ → List Entity
 column_before_last offset cols = if nat_lt offset cols then (Column (cols - 1 - offset) ∷ []) else []
 

@@ -27,7 +27,7 @@ use tabled_border::OutOfMemory;
 /// Cells of a table, named before the table is known.
 pub trait Object<R: Records + ExactRecords> {
     /// What gives the entities, one by one.
-    type Iter: Iterator<Item = Entity>;
+    type Iter: Iterator<Item = Entity> + Drop;
 
     /// What the object lists, in order, in a table of the given numbers of rows and columns.
     ghost listing: { Self → ℕ → ℕ → List Entity };

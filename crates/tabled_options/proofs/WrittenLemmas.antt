@@ -22,7 +22,7 @@ use Rattle.tabled_options.specs.TextStart.{limited, width_of, aligned_offset, mo
 use Rattle.tabled_options.specs.LineText.{Lettering, countable, places_along, laid, takes_character, character_written, color_written, characters_written, colors_written, places_taken, text_events}
 use Rattle.tabled_options.specs.Laying.{exists}
 
--- what follows from an answer
+-- what follows from what is returned
 pub if_ok : {A E : Type 0} (P Q : A → Type 0) (r : Result A E) → ((x : A) → P x → Q x) → IfOk r P → IfOk r Q
 if_ok P Q (Ok x) f h = f x h
 if_ok P Q (Err e) f h = tt
@@ -86,7 +86,7 @@ unfolding colors_written
 none_colored None = refl
 none_colored (Some color) = refl
 
--- where it is not so that there are places and the number is none past the last, nothing is left
+-- where there are no places, or the number is past the last one, nothing is left
 none_left : (empty : Bool) (n last : ℕ) (places : List Place) → not empty && nat_le n last ≡ false → cond (empty || nat_lt last n) [] places ≡ []
 none_left true n last places h = refl
 none_left false n last places h = ap (λ b. cond b [] places) (lt-ltb last n (leb-false n last h))

@@ -24,8 +24,8 @@ pub record EdgeChar : Type 0 where
 abbrev pub direction_of : EdgeChar → Direction
 direction_of mark = if mark.horizontal then Horizontal else Vertical
 
--- whether a table of so many rows and columns has the edge above or left of a position. The closing lines are edges of
--- positions below the last row and right of the last column
+-- whether a table of the given shape has the edge above a position, or left of it. The edges of the closing lines are those
+-- of the positions below the last row, and right of the last column
 abbrev pub has_edge : Direction → ℕ × ℕ → Position → Bool
 has_edge Horizontal shape pos = has_spot shape (Place.Horizontal pos.row pos.col 0)
 has_edge Vertical shape pos = has_spot shape (Place.Vertical pos.row pos.col 0)

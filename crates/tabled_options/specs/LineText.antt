@@ -29,7 +29,7 @@ pub record Lettering (L : Type 0) : Type 0 where
   pub color : Option Shade
   pub limit : Option ℕ
 
--- of these places the first ones, as many as a number can count
+-- the first ones of these places, as many as a number of 64 bits can count
 abbrev pub countable : List Place → List Place
 countable places = take (min (length places) (2 ^ 64 - 1)) places
 
@@ -43,7 +43,7 @@ abbrev pub laid : Option ℕ → List ℕ → List Place → List (Place × ℕ)
 laid None letters places = []
 laid (Some start) letters places = zip (drop start places) letters
 
--- where a place takes what is written there: an edge at its number from the start, a crossing as a cell's
+-- the site at which something is written at a place: for an edge its offset from the start, for a crossing the level of cells
 abbrev pub written_site : Place → Site
 written_site (Place.Horizontal r c k) = at_offset Horizontal r c (Offset.Start k)
 written_site (Place.Vertical r c k) = at_offset Vertical r c (Offset.Start k)
@@ -61,7 +61,8 @@ character_written (place, letter) = write (written_site place) (sign letter)
 abbrev pub color_written : Texts → Place × ℕ → Event Texts
 color_written color (place, letter) = write (written_site place) (sign color)
 
--- the characters that are written where places show this, and the color, which is written at each place that is taken
+-- the characters that are written, where `shown` is what places show before, and the color, which is written at each place
+-- that the text takes
 unfoldable pub characters_written : (Place → Option ℕ) → List (Place × ℕ) → List (Event ℕ)
 characters_written shown taken = map character_written (filter (λ at. takes_character shown at.0) taken)
 

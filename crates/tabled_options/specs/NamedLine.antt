@@ -9,11 +9,12 @@ row_line index = Some (LineOf.Horizontal index)
 abbrev pub column_line : ℕ → Option LineOf
 column_line index = Some (LineOf.Vertical index)
 
--- of so many, counted from 0, the one that has so many after it
+-- of `count` numbers, counted from 0, the one that has `offset` of them after it, if there is one
 abbrev pub before_last : ℕ → ℕ → Option ℕ
 before_last count offset = if nat_lt offset count then Some (count - 1 - offset) else None
 
--- the same for the row that has so many rows below it, and the column that has so many columns at its right, if there is one
+-- the line above the row that has `offset` rows below it, and the line left of the column that has `offset` columns at its
+-- right, if there is one
 abbrev pub last_row_line : ℕ → ℕ × ℕ → Option LineOf
 last_row_line offset (rows, cols) = option_map LineOf.Horizontal (before_last rows offset)
 

@@ -4,8 +4,8 @@ use Rattle.std.specs.List.{zip}
 use Rattle.tabled_grid.specs.declared.place.Place.{Place}
 use Rattle.tabled_options.specs.declared.pen.Pen.{Pen}
 
--- past these places the pen has passed over those that it still had to, and laid its characters on the others, as far as
--- it had any
+-- after it went along these places, the pen has passed over as many as it still had to, and laid its characters on the
+-- others, as far as it had any
 pub record Passed (places : List Place) (old new : Pen) : Type 0 where
   pub passed_over : new.skip ≡ old.skip - length places
   pub left : new.letters.now ≡ drop (length places - old.skip) old.letters.now

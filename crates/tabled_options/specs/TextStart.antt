@@ -1,4 +1,4 @@
--- Where a text begins on a line of so many places.
+-- Where a text begins on a line of the given number of places.
 use Rattle.std.specs.Prelude.{ℕ, ◌+◌, ◌-◌, ◌/◌, nat_lt, nat_le, if◌then◌else◌, max, fold, Option, Some, None, option_map, option_and_then, List, take, length, encode_utf8_all}
 use Rattle.tabled_settings.specs.declared.alignment.AlignmentHorizontal.{AlignmentHorizontal}
 use Rattle.tabled_settings.specs.declared.alignment.AlignmentVertical.{AlignmentVertical}
@@ -20,11 +20,12 @@ widest text = fold (λ most piece. max most (width_of_text piece)) 0 (pieces tex
 abbrev pub width_of : List ℕ → ℕ
 width_of letters = widest (encode_utf8_all letters)
 
--- where something of that width begins that stands in the middle of so many places
+-- where something of the given width begins that stands in the middle of the given number of places
 abbrev pub middle : ℕ → ℕ → ℕ
 middle total width = if nat_lt width total then total / 2 - width / 2 else 0
 
--- the offset by which an alignment puts a text of that width, or of that many characters, on a line of so many places
+-- the offset by which an alignment puts a text on a line of `total` places. A text on a horizontal line counts by its width,
+-- one on a vertical line by its width in the middle, and by its number of characters at the bottom
 abbrev pub horizontal_offset : ℕ → ℕ → AlignmentHorizontal → Offset
 horizontal_offset total width AlignmentHorizontal.Left = Offset.Start 0
 horizontal_offset total width AlignmentHorizontal.Center = Offset.Start (middle total width)
@@ -40,19 +41,20 @@ abbrev pub aligned_offset : LineOf → ℕ → ℕ → ℕ → Alignment → Opt
 aligned_offset (LineOf.Horizontal n) total width count alignment = option_map (horizontal_offset total width) (horizontal_of alignment)
 aligned_offset (LineOf.Vertical n) total width count alignment = option_map (vertical_offset total width count) (vertical_of alignment)
 
--- an alignment's offset, moved by another offset: one from the start adds, one from the end takes away
+-- an alignment's offset, moved by another offset: one from the start adds its number, one from the end takes it away, at
+-- least to 0
 abbrev pub moved : Offset → Offset → Offset
 moved (Offset.Start a) (Offset.Start b) = Offset.Start (a + b)
 moved (Offset.Start a) (Offset.End b) = Offset.Start (a - b)
 moved (Offset.End a) (Offset.Start b) = Offset.End (a + b)
 moved (Offset.End a) (Offset.End b) = Offset.End (a - b)
 
--- without an alignment the other offset holds by itself
+-- an alignment's offset, if there is one, moved by the other offset; else the other offset alone
 abbrev pub moved_if_aligned : Option Offset → Offset → Offset
 moved_if_aligned None offset = offset
 moved_if_aligned (Some aligned) offset = moved aligned offset
 
--- the number of the place at an offset, of so many; past the last one there is none
+-- the number of the place at an offset, on a line of `total` places; past the end of the line there is none
 abbrev pub place_number : ℕ → Offset → Option ℕ
 place_number total (Offset.Start n) = if nat_le n total then Some n else None
 place_number total (Offset.End n) = if nat_le n total then Some (total - n) else None

@@ -18,6 +18,17 @@ use tabled_grid::{
 
 /// A character at one numbered place of edges: of the horizontal edges above the cells of an entity, or of the
 /// vertical edges left of them.
+///
+/// `LineChar::horizontal(':', Offset::End(0))`, and `LineChar::vertical(':', Offset::Start(0))`, on row 1 of a table of the
+/// style `ascii`:
+///
+/// ```text
+/// +---+---+     +---+---+
+/// | a | b |     | a | b |
+/// +--:+--:+     +---+---+
+/// | c | d |     : c : d |
+/// +---+---+     +---+---+
+/// ```
 #[derive(Clone, Copy, Debug, PartialEq, Eq, PartialOrd, Ord)]
 pub struct LineChar {
     c: char,
@@ -37,6 +48,12 @@ impl Model for LineChar {
 
 impl LineChar {
     /// The character at this place of horizontal edges.
+    ///
+    /// `LineChar::horizontal(':', Offset::Start(0))` on row 1, the line above it:
+    ///
+    /// ```text
+    /// +:--+:--+
+    /// ```
     pub fn horizontal(c: char, offset: Offset) -> Self
         ensures { result ≡ record { character = c; offset = offset; horizontal = true } }
     {
@@ -48,6 +65,12 @@ impl LineChar {
     }
 
     /// The character at this place of vertical edges.
+    ///
+    /// `LineChar::vertical(':', Offset::Start(0))` on row 1, beside its cells:
+    ///
+    /// ```text
+    /// : c : d |
+    /// ```
     pub fn vertical(c: char, offset: Offset) -> Self
         ensures { result ≡ record { character = c; offset = offset; horizontal = false } }
     {
@@ -109,6 +132,16 @@ impl<R: Records + ExactRecords> CellOption<R, ColoredConfig> for LineChar {
 
     /// Writes the character at the edge of each position of the entity, where the table has that edge: a row may be
     /// named that is the closing horizontal line, a column that is the closing vertical one.
+    ///
+    /// `LineChar::horizontal(':', Offset::Start(1))` on row 2 of a table of two rows, which names the closing line:
+    ///
+    /// ```text
+    /// +---+---+
+    /// | a | b |
+    /// +---+---+
+    /// | c | d |
+    /// +-:-+-:-+
+    /// ```
     fn change(
         &self,
         records: &mut R,

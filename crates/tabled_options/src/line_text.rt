@@ -25,7 +25,17 @@ use writes::{character_writes, color_writes};
 
 /// A text that is written on a line of a table, over its edges and crossings.
 ///
-/// `Line` is an object that names one row or one column: the line above the row, or left of the column.
+/// `Line` is an object that names one row or one column: the line above the row, or left of the column. The calls below show
+/// the top line of this table of the style `ascii`, which has nine places. Here it has the text `ABC`, and the line left of
+/// column 1 in the second table:
+///
+/// ```text
+/// ABC-+---+     +---A---+
+/// | a | b |     | a B b |
+/// +---+---+     +---C---+
+/// | c | d |     | c | d |
+/// +---+---+     +---+---+
+/// ```
 #[derive(Debug, Drop)]
 pub struct LineText<Line> {
     text: String,
@@ -60,6 +70,12 @@ impl<Line> LineText<Line> {
     ghost use Rattle.tabled_options.specs.Laying.{looked};
 
     /// The text at the start of the line that the object names. The text is copied.
+    ///
+    /// `LineText::new(alloc, "ABC", Rows::first())?`:
+    ///
+    /// ```text
+    /// ABC-+---+
+    /// ```
     pub fn new(alloc: Global, text: &str, line: Line) -> Result<Self, OutOfMemory>
     where
         Line: Drop,
@@ -76,7 +92,14 @@ impl<Line> LineText<Line> {
         })
     }
 
-    /// Where the text stands along the line. An alignment of the other direction is as none.
+    /// Sets where the text stands along the line. An alignment of the other direction counts as none.
+    ///
+    /// `align(Alignment::center())`, and `align(Alignment::right())`:
+    ///
+    /// ```text
+    /// +--ABC--+
+    /// +---+-ABC
+    /// ```
     pub fn align(mut self, alignment: Alignment) -> Self
         ensures { result ≡ record self { alignment = Some alignment } }
     {
@@ -84,9 +107,18 @@ impl<Line> LineText<Line> {
         self
     }
 
-    /// By how many places the text is moved from where its alignment puts it. Where that counts from the start (left, top,
-    /// in the middle), a start moves it on and an end back, at most to the first place. Where it counts from the end (right,
-    /// bottom), a start moves it back and an end on. Without an alignment along the line, the place where it begins.
+    /// Sets by how many places the text is moved from where its alignment puts it. At the left, at the top and in the middle
+    /// `Offset::Start(n)` moves it n places on, and `Offset::End(n)` n places back, at most to the first place. At the right
+    /// and at the bottom `Offset::Start(n)` moves it n places back, and `Offset::End(n)` n places on. Without an alignment
+    /// along the line the text begins at the place that the offset names.
+    ///
+    /// `offset(Offset::Start(2))`, `offset(Offset::End(3))`, and `align(Alignment::right()).offset(Offset::Start(1))`:
+    ///
+    /// ```text
+    /// +-ABC---+
+    /// +---+-ABC
+    /// +---+ABC+
+    /// ```
     pub fn offset(mut self, offset: Offset) -> Self
         ensures { result ≡ record self { offset = offset } }
     {
@@ -94,7 +126,13 @@ impl<Line> LineText<Line> {
         self
     }
 
-    /// The color of the text: of each place that it takes, also of a crossing that stays empty.
+    /// Sets the color of the text: of each place that it takes, also of a crossing that stays empty.
+    ///
+    /// With `r` for each place that is colored red, and so for the three characters of the text, `color(Color::FG_RED)`:
+    ///
+    /// ```text
+    /// rrr-+---+
+    /// ```
     pub fn color(mut self, color: Color) -> Self
         ensures { result ≡ record self { color = Some color } }
     {
@@ -102,7 +140,13 @@ impl<Line> LineText<Line> {
         self
     }
 
-    /// How many characters of the text count at most, from its first one on.
+    /// Sets how many characters of the text are written at most, from its first one on.
+    ///
+    /// The text `ABCDE` with `limit(2)`:
+    ///
+    /// ```text
+    /// AB--+---+
+    /// ```
     pub fn limit(mut self, n: usize) -> Self
         ensures { result ≡ record self { limit = Some n } }
     {
@@ -198,6 +242,15 @@ where
     /// the character, at the number of the place from the start of its edge, or as a cell's where it is a crossing that
     /// shows one; and the color, where one is set. Nothing is written on a line past the one that closes the table, nor
     /// where the text begins past the last place. Where memory is refused nothing changes.
+    ///
+    /// `ABCDEFG` at the start of the top line, in a table whose class record has `top` `-` and `vertical` `|` alone. Nothing
+    /// shows where the two cross, so the crossing stays empty and `D` is left out:
+    ///
+    /// ```text
+    /// ABC EFG
+    ///  a | b
+    ///  c | d
+    /// ```
     fn change(
         self,
         records: &mut R,

@@ -12,7 +12,7 @@ use tabled_grid::{
 /// An object that names one line of a table: the horizontal line above one row, or the vertical line left of one column.
 /// A row may be named, or a column, that is one past the last: it names the line that closes the table.
 pub trait NamedLine {
-    /// The line that the object names in a table of so many rows and columns, if there is one.
+    /// The line that the object names in a table of the given numbers of rows and columns, if there is one.
     ghost line_of: { Self → ℕ × ℕ → Option LineOf };
 
     /// The line that the object names in a table of `shape.0` rows and `shape.1` columns, if there is one.
@@ -84,7 +84,7 @@ impl NamedLine for LastColumnOffset {
     }
 }
 
-/// The number, of so many from 0 on, that has so many after it, if there is one.
+/// Of `count` numbers, counted from 0, the one that has `offset` of them after it, if there is one.
 fn before_last(count: usize, offset: usize) -> Option<usize>
     ensures { result ≡ before_last count offset }
 {

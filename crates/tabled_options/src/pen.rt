@@ -34,7 +34,7 @@ impl Pen<'_> {
         Ok(())
     }
 
-    /// Passes over as many places as there are to pass over, of so many. They are the answer.
+    /// Passes over as many of the given number of places as are still to be passed over, and returns how many these were.
     pub(crate) fn pass_over(&mut self, count: usize) -> usize
         ensures passed { (places : List Spot) → length places ≡ result → Passed places self.old self.new }
         ensures count { result ≡ min self.old.skip count }

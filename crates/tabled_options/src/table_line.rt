@@ -23,7 +23,7 @@ impl<D: Dimension> TableLine<'_, D> {
     ghost use Rattle.tabled_options.specs.Laying.{looked, exists, pieces_of, size_of, crossed, crossing_of, edge_of, crossing_places, edge_places, all_places};
     ghost use Rattle.tabled_options.specs.Passing.{Passed};
 
-    /// Whether the table has places and the line is none past the one that closes it.
+    /// Whether the table has places and the line is not past the one that closes it.
     pub(crate) fn exists(&self) -> bool
         ensures { result ≡ exists self.now.shape self.now.line }
     {
@@ -161,7 +161,7 @@ impl<D: Dimension> TableLine<'_, D> {
         self.lay_crossing(pen, count)
     }
 
-    /// The places that characters take from a start on, each with its character, on a line of so many places.
+    /// The places that characters take from a start on, each with its character, on a line of `total` places.
     pub(crate) fn lay_from(
         &self,
         alloc: Global,

@@ -26,7 +26,7 @@ pub(crate) fn widest(text: &str) -> usize
         .unwrap_or(0)
 }
 
-/// Where something of that width begins that stands in the middle of so many places.
+/// Where something of the given width begins that stands in the middle of the given number of places.
 fn middle(total: usize, width: usize) -> usize
     ensures { result ≡ middle total width }
 {
@@ -37,7 +37,7 @@ fn middle(total: usize, width: usize) -> usize
     }
 }
 
-/// The offset of a text of that width on a horizontal line of so many places.
+/// The offset of a text of the given width on a horizontal line of the given number of places.
 fn horizontal_offset(total: usize, width: usize, alignment: AlignmentHorizontal) -> Offset
     ensures { result ≡ horizontal_offset total width alignment }
 {
@@ -48,7 +48,7 @@ fn horizontal_offset(total: usize, width: usize, alignment: AlignmentHorizontal)
     }
 }
 
-/// The offset of a text of that size on a vertical line of so many places.
+/// The offset of a text of the given size on a vertical line of the given number of places.
 fn vertical_offset(total: usize, size: TextSize, alignment: AlignmentVertical) -> Offset
     ensures { result ≡ vertical_offset total size.width size.count alignment }
 {
@@ -80,7 +80,7 @@ fn aligned_offset(
     }
 }
 
-/// The number of the place at an offset, of so many places. Past the last one there is none.
+/// The number of the place at an offset, on a line of the given number of places. Past the last one there is none.
 fn place_number(total: usize, offset: Offset) -> Option<usize>
     ensures { result ≡ place_number total offset }
 {
@@ -103,7 +103,7 @@ fn moved_number(total: usize, aligned: Offset, offset: Offset) -> Option<usize>
     place_number(total, moved)
 }
 
-/// The number of the place at which a text of that size begins, on a line of so many places.
+/// The number of the place at which a text of the given size begins, on a line of the given number of places.
 pub(crate) fn text_start(
     line: LineOf,
     total: usize,

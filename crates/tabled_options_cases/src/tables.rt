@@ -44,7 +44,6 @@ impl Table {
     pub(crate) fn modify<O, P>(&mut self, alloc: Global, object: &O, option: &P) -> bool
     where
         O: Object<Shape>,
-        O::Iter: Drop,
         P: CellOption<Shape, ColoredConfig>,
     {
         modify(alloc, &mut self.records, &mut self.cfg, object, option) == Ok(())

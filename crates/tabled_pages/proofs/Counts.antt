@@ -8,7 +8,7 @@ use Rattle.tabled_text.specs.declared.table_error.TableError.{TableError}
 use Rattle.tabled_text.specs.declared.table_error.TableError.TheVariants.{OutOfMemory, UnequalRows}
 use Rattle.tabled_pages.specs.Input.{have_equal_counts}
 
--- every row has that many cells
+-- every row has the given number of cells
 abbrev have_count : ℕ → Table → Bool
 have_count columns rows = list_all (λ row. length row == columns) rows
 

@@ -53,7 +53,7 @@ reading_refused None e (Err y) is (inr (inl too_long)) long status = tt
 reading_refused (Some bytes) e (Err y) is (inr (inl too_long)) long status =
     ap (λ refusal. Err refusal) (is ∙ too_long) ∙ sym (ap answer_of (fault_of-long bytes (long too_long)))
 
--- an error that was passed on is want of memory or the fault, as it was before
+-- an error that was passed on is a refusal of memory or the fault, as it was before
 pub passed_on : {T : Type 0} (fault : Option ShowError) (e : ShowError) (r : Result T ShowError) → IsErrAnd r (λ y. y ≡ e)
     → (e ≡ OutOfMemory) ⊎ (fault ≡ Some e) → IfErr r (λ y. (y ≡ OutOfMemory) ⊎ (fault ≡ Some y))
 passed_on fault e (Ok x) is known = absurd is

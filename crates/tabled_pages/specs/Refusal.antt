@@ -23,12 +23,12 @@ status_of UnequalRows = 3
 status_of OutOfMemory = 1
 status_of WriteFailed = 1
 
--- the status of an answer: 0 where nothing was refused
+-- the status of what is returned: 0 where nothing was refused
 abbrev pub exit_status : Result (Unit {0}) ShowError → ℕ
 exit_status (Ok _) = 0
 exit_status (Err refusal) = status_of refusal
 
--- the answer that gives this refusal, or none
+-- what is returned for this refusal, or for none
 abbrev pub answer_of : Option ShowError → Result (Unit {0}) ShowError
 answer_of None = Ok tt
 answer_of (Some refusal) = Err refusal

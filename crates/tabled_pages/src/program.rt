@@ -24,7 +24,7 @@ pub fn run<R: Read, W: Write>(
     input: &mut R,
     output: &mut W,
 ) -> Result<(), ShowError>
-    // Over a reader and a writer that tell their bytes: the whole input was read, and just its page written.
+    // Over a reader and a writer that tell their bytes: the whole input was read, and exactly its page written.
     ensures whole { OnOk result (IsAtEnd (R.remaining input.new)) }
     ensures written { OnOk result (IfSome (R.remaining input.old) (λ bytes. IfSome (style_of (map string_bytes words.now))
         (λ style. Appends (W.contents output.old) (W.contents output.new) (page style bytes)))) }

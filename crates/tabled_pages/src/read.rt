@@ -20,8 +20,8 @@ fn chunk(alloc: Global) -> Result<Vec<u8>, AllocError>
     vec![in alloc; 0u8; CHUNK_SIZE]
 }
 
-/// Reads once, as much as there is room for, and appends what came. Answers whether nothing came, at
-/// the end of the reader. A read that answers any fault has failed.
+/// Reads once, as much as there is room for, and appends what came. Returns whether nothing came, at
+/// the end of the reader. A read that returns any fault has failed.
 fn read_more<R: Read>(
     reader: &mut R,
     room: &mut [u8],

@@ -1,6 +1,6 @@
 //! A plain reader of a list of events, that stands beside the store.
 //!
-//! It keeps nothing but the list, and answers each question by going over it from the start, as the
+//! It keeps nothing but the list, and finds what it is asked by going over it from the start, as the
 //! definitions of the events say. The tests of the store compare the two. Nothing else calls it.
 
 ghost use Rattle.std.specs.Prelude.{◌≡◌, ◌≤◌};

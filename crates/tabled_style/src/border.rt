@@ -14,6 +14,18 @@ use tabled_grid::Border as GridBorder;
 ///
 /// `T`, `B`, `L` and `R` mark which of the upper, the lower, the left and the right side are there: [`On`],
 /// or `()`.
+///
+/// `Border::full('t', 'b', 'l', 'r', '1', '2', '3', '4')` on the cell (0, 0) of a table of the style `ascii`:
+///
+/// ```text
+/// 1ttt2---+
+/// l a r b |
+/// 3bbb4---+
+/// | c | d |
+/// +---+---+
+/// ```
+///
+/// Each call below shows the cell with the border that it makes; what is not given is the style's.
 #[derive_where(Clone, Copy, Debug, PartialEq, Eq, PartialOrd, Ord)]
 pub struct Border<T, B, L, R> {
     border: GridBorder<char>,
@@ -47,6 +59,14 @@ impl Border<(), (), (), ()> {
 
 impl Border<On, On, On, On> {
     /// A border with all sides and corners given.
+    ///
+    /// `Border::full('t', 'b', 'l', 'r', '1', '2', '3', '4')`:
+    ///
+    /// ```text
+    /// 1ttt2
+    /// l a r
+    /// 3bbb4
+    /// ```
     pub fn full(
         top: char,
         bottom: char,
@@ -72,6 +92,14 @@ impl Border<On, On, On, On> {
     }
 
     /// A border with this character on all sides and corners: `full` with it eight times.
+    ///
+    /// `Border::filled('#')`:
+    ///
+    /// ```text
+    /// #####
+    /// # a #
+    /// #####
+    /// ```
     pub fn filled(c: char) -> Self
         ensures { result ≡ full_border c c c c c c c c }
     {
@@ -79,6 +107,14 @@ impl Border<On, On, On, On> {
     }
 
     /// What takes a border away.
+    ///
+    /// `Border::empty()` on a whole table of the style `ascii`:
+    ///
+    /// ```text
+    ///  a | b
+    /// ---+---
+    ///  c | d
+    /// ```
     pub fn empty() -> EmptyBorder {
         EmptyBorder
     }
@@ -88,6 +124,14 @@ impl<T, B, L, R> Border<T, B, L, R> {
     ghost use Rattle.tabled_style.specs.Shown.{frame_of};
 
     /// The frame of a style: its sides and its corners.
+    ///
+    /// `Border::inherit(Style::rounded())`:
+    ///
+    /// ```text
+    /// ╭───╮
+    /// │ a │
+    /// ╰───╯
+    /// ```
     pub fn inherit<H, V, const HN: usize, const VN: usize>(
         style: Style<T, B, L, R, H, V, HN, VN>,
     ) -> Self
@@ -120,6 +164,14 @@ impl<T, B, L, R> Border<T, B, L, R> {
     }
 
     /// Sets the upper side.
+    ///
+    /// `Border::new().top('=')`:
+    ///
+    /// ```text
+    /// +===+
+    /// | a |
+    /// +---+
+    /// ```
     pub fn top(mut self, c: char) -> Border<On, B, L, R>
         ensures { result ≡ record self { top = Some c } }
     {
@@ -128,6 +180,14 @@ impl<T, B, L, R> Border<T, B, L, R> {
     }
 
     /// Sets the lower side.
+    ///
+    /// `Border::new().bottom('=')`:
+    ///
+    /// ```text
+    /// +---+
+    /// | a |
+    /// +===+
+    /// ```
     pub fn bottom(mut self, c: char) -> Border<T, On, L, R>
         ensures { result ≡ record self { bottom = Some c } }
     {
@@ -136,6 +196,14 @@ impl<T, B, L, R> Border<T, B, L, R> {
     }
 
     /// Sets the left side.
+    ///
+    /// `Border::new().left('#')`:
+    ///
+    /// ```text
+    /// +---+
+    /// # a |
+    /// +---+
+    /// ```
     pub fn left(mut self, c: char) -> Border<T, B, On, R>
         ensures { result ≡ record self { left = Some c } }
     {
@@ -144,6 +212,14 @@ impl<T, B, L, R> Border<T, B, L, R> {
     }
 
     /// Sets the right side.
+    ///
+    /// `Border::new().right('#')`:
+    ///
+    /// ```text
+    /// +---+
+    /// | a #
+    /// +---+
+    /// ```
     pub fn right(mut self, c: char) -> Border<T, B, L, On>
         ensures { result ≡ record self { right = Some c } }
     {
@@ -160,7 +236,7 @@ impl<T, B, L, R> Border<T, B, L, R> {
 }
 
 impl<B, L, R> Border<On, B, L, R> {
-    /// The upper side. It has to be set, which `into_inner` shows.
+    /// The upper side. Requires the character to be set, which `into_inner` shows.
     pub fn get_top(&self) -> char
         requires { IsSome self.now.top }
         ensures { self.now.top ≡ Some result }
@@ -170,7 +246,7 @@ impl<B, L, R> Border<On, B, L, R> {
 }
 
 impl<T, L, R> Border<T, On, L, R> {
-    /// The lower side. It has to be set, which `into_inner` shows.
+    /// The lower side. Requires the character to be set, which `into_inner` shows.
     pub fn get_bottom(&self) -> char
         requires { IsSome self.now.bottom }
         ensures { self.now.bottom ≡ Some result }
@@ -180,7 +256,7 @@ impl<T, L, R> Border<T, On, L, R> {
 }
 
 impl<T, B, R> Border<T, B, On, R> {
-    /// The left side. It has to be set, which `into_inner` shows.
+    /// The left side. Requires the character to be set, which `into_inner` shows.
     pub fn get_left(&self) -> char
         requires { IsSome self.now.left }
         ensures { self.now.left ≡ Some result }
@@ -190,7 +266,7 @@ impl<T, B, R> Border<T, B, On, R> {
 }
 
 impl<T, B, L> Border<T, B, L, On> {
-    /// The right side. It has to be set, which `into_inner` shows.
+    /// The right side. Requires the character to be set, which `into_inner` shows.
     pub fn get_right(&self) -> char
         requires { IsSome self.now.right }
         ensures { self.now.right ≡ Some result }
@@ -201,6 +277,14 @@ impl<T, B, L> Border<T, B, L, On> {
 
 impl<B, R> Border<On, B, On, R> {
     /// Sets the upper left corner.
+    ///
+    /// `Border::new().top('=').left('#').corner_top_left('*')`:
+    ///
+    /// ```text
+    /// *===+
+    /// # a |
+    /// +---+
+    /// ```
     pub fn corner_top_left(mut self, c: char) -> Self
         ensures { result ≡ record self { left_top_corner = Some c } }
     {
@@ -208,7 +292,7 @@ impl<B, R> Border<On, B, On, R> {
         self
     }
 
-    /// The upper left corner. It has to be set, which `into_inner` shows.
+    /// The upper left corner. Requires the character to be set, which `into_inner` shows.
     pub fn get_corner_top_left(&self) -> char
         requires { IsSome self.now.left_top_corner }
         ensures { self.now.left_top_corner ≡ Some result }
@@ -219,6 +303,14 @@ impl<B, R> Border<On, B, On, R> {
 
 impl<B, L> Border<On, B, L, On> {
     /// Sets the upper right corner.
+    ///
+    /// `Border::new().top('=').right('#').corner_top_right('*')`:
+    ///
+    /// ```text
+    /// +===*
+    /// | a #
+    /// +---+
+    /// ```
     pub fn corner_top_right(mut self, c: char) -> Self
         ensures { result ≡ record self { right_top_corner = Some c } }
     {
@@ -226,7 +318,7 @@ impl<B, L> Border<On, B, L, On> {
         self
     }
 
-    /// The upper right corner. It has to be set, which `into_inner` shows.
+    /// The upper right corner. Requires the character to be set, which `into_inner` shows.
     pub fn get_corner_top_right(&self) -> char
         requires { IsSome self.now.right_top_corner }
         ensures { self.now.right_top_corner ≡ Some result }
@@ -237,6 +329,14 @@ impl<B, L> Border<On, B, L, On> {
 
 impl<T, R> Border<T, On, On, R> {
     /// Sets the lower left corner.
+    ///
+    /// `Border::new().bottom('=').left('#').corner_bottom_left('*')`:
+    ///
+    /// ```text
+    /// +---+
+    /// # a |
+    /// *===+
+    /// ```
     pub fn corner_bottom_left(mut self, c: char) -> Self
         ensures { result ≡ record self { left_bottom_corner = Some c } }
     {
@@ -244,7 +344,7 @@ impl<T, R> Border<T, On, On, R> {
         self
     }
 
-    /// The lower left corner. It has to be set, which `into_inner` shows.
+    /// The lower left corner. Requires the character to be set, which `into_inner` shows.
     pub fn get_corner_bottom_left(&self) -> char
         requires { IsSome self.now.left_bottom_corner }
         ensures { self.now.left_bottom_corner ≡ Some result }
@@ -255,6 +355,14 @@ impl<T, R> Border<T, On, On, R> {
 
 impl<T, L> Border<T, On, L, On> {
     /// Sets the lower right corner.
+    ///
+    /// `Border::new().bottom('=').right('#').corner_bottom_right('*')`:
+    ///
+    /// ```text
+    /// +---+
+    /// | a #
+    /// +===*
+    /// ```
     pub fn corner_bottom_right(mut self, c: char) -> Self
         ensures { result ≡ record self { right_bottom_corner = Some c } }
     {
@@ -262,7 +370,7 @@ impl<T, L> Border<T, On, L, On> {
         self
     }
 
-    /// The lower right corner. It has to be set, which `into_inner` shows.
+    /// The lower right corner. Requires the character to be set, which `into_inner` shows.
     pub fn get_corner_bottom_right(&self) -> char
         requires { IsSome self.now.right_bottom_corner }
         ensures { self.now.right_bottom_corner ≡ Some result }
@@ -291,5 +399,13 @@ impl<T, B, L, R> From<Border<T, B, L, R>> for GridBorder<char> {
 }
 
 /// Stands for taking a border away: that of each cell, or the frame of a table.
+///
+/// On a whole table of the style `modern`, whose lines inside stay:
+///
+/// ```text
+///  a │ b
+/// ───┼───
+///  c │ d
+/// ```
 #[derive(Clone, Copy, Debug, Default, PartialEq, Eq, PartialOrd, Ord)]
 pub struct EmptyBorder;

@@ -21,6 +21,16 @@ use custom::Lines;
 /// `T`, `B`, `L`, `R`, `H` and `V` mark which of the top, the bottom, the left side, the right side, the lines
 /// between rows and the lines between columns are there: [`On`](crate::On), or `()`. `HN` and `VN` are the
 /// numbers of custom horizontal and vertical lines.
+///
+/// As an option a style draws a table anew: what was there before is gone. Here the cell (0, 0) had a border of its own:
+///
+/// ```text
+/// #####---+                             ╭───┬───╮
+/// # a # b |                             │ a │ b │
+/// #####---+   with(Style::rounded())    ├───┼───┤
+/// | c | d |                             │ c │ d │
+/// +---+---+                             ╰───┴───╯
+/// ```
 #[derive(Drop)]
 #[derive_where(Clone, Debug, PartialEq, Eq, PartialOrd, Ord, Hash)]
 pub struct Style<T, B, L, R, H, V, const HN: usize, const VN: usize> {

@@ -11,6 +11,17 @@ use tabled_grid::{HorizontalLine as Line, Rank, VerticalLine};
 /// lines, and one at each of its two ends. What is missing leaves the place to the class record.
 ///
 /// `L`, `R` and `I` mark which of the left end, the right end and the crossings are there: [`On`], or `()`.
+///
+/// `HorizontalLine::full('=', '*', '<', '>')` as line 1 of a table of the style `ascii`. Each call below shows the line that it
+/// makes there; where it has no character the style shows its own, here `+`:
+///
+/// ```text
+/// +---+---+
+/// | a | b |
+/// <===*===>
+/// | c | d |
+/// +---+---+
+/// ```
 #[derive_where(Clone, Copy, Debug, PartialEq, Eq, PartialOrd, Ord, Hash)]
 pub struct HorizontalLine<L, R, I> {
     line: Line<char>,
@@ -32,6 +43,12 @@ impl<L, R, I> Model for HorizontalLine<L, R, I> {
 
 impl HorizontalLine<(), (), ()> {
     /// A line with this character along its edges, and nothing at its crossings.
+    ///
+    /// `HorizontalLine::new('=')`:
+    ///
+    /// ```text
+    /// +===+===+
+    /// ```
     pub fn new(main: char) -> Self
         ensures { result ≡ record { main = Some main; intersection = None; left = None; right = None } }
     {
@@ -51,6 +68,12 @@ impl<L, R, I> HorizontalLine<L, R, I> {
     }
 
     /// The line that a style draws between rows.
+    ///
+    /// `HorizontalLine::inherit(Style::modern())`:
+    ///
+    /// ```text
+    /// ├───┼───┤
+    /// ```
     pub fn inherit<T, B, const HN: usize, const VN: usize>(
         style: Style<T, B, L, R, On, I, HN, VN>,
     ) -> Self
@@ -60,6 +83,12 @@ impl<L, R, I> HorizontalLine<L, R, I> {
     }
 
     /// The line that a style draws above the first row.
+    ///
+    /// `HorizontalLine::inherit_top(Style::modern())`:
+    ///
+    /// ```text
+    /// ┌───┬───┐
+    /// ```
     pub fn inherit_top<B, H, const HN: usize, const VN: usize>(
         style: Style<On, B, L, R, H, I, HN, VN>,
     ) -> Self
@@ -69,6 +98,12 @@ impl<L, R, I> HorizontalLine<L, R, I> {
     }
 
     /// The line that a style draws below the last row.
+    ///
+    /// `HorizontalLine::inherit_bottom(Style::modern())`:
+    ///
+    /// ```text
+    /// └───┴───┘
+    /// ```
     pub fn inherit_bottom<T, H, const HN: usize, const VN: usize>(
         style: Style<T, On, L, R, H, I, HN, VN>,
     ) -> Self
@@ -90,6 +125,12 @@ impl<L, R, I> HorizontalLine<L, R, I> {
     }
 
     /// Sets the character along the edges.
+    ///
+    /// `HorizontalLine::filled('=').horizontal('~')`:
+    ///
+    /// ```text
+    /// =~~~=~~~=
+    /// ```
     pub fn horizontal(mut self, c: char) -> HorizontalLine<L, R, I>
         ensures { result ≡ record self { main = Some c } }
     {
@@ -98,6 +139,12 @@ impl<L, R, I> HorizontalLine<L, R, I> {
     }
 
     /// Sets the character at the crossings between the outer vertical lines.
+    ///
+    /// `HorizontalLine::new('=').intersection('*')`:
+    ///
+    /// ```text
+    /// +===*===+
+    /// ```
     pub fn intersection(mut self, c: char) -> HorizontalLine<L, R, On>
         ensures { result ≡ record self { intersection = Some c } }
     {
@@ -106,6 +153,12 @@ impl<L, R, I> HorizontalLine<L, R, I> {
     }
 
     /// Sets the character at the left end.
+    ///
+    /// `HorizontalLine::new('=').left('<')`:
+    ///
+    /// ```text
+    /// <===+===+
+    /// ```
     pub fn left(mut self, c: char) -> HorizontalLine<On, R, I>
         ensures { result ≡ record self { left = Some c } }
     {
@@ -114,6 +167,12 @@ impl<L, R, I> HorizontalLine<L, R, I> {
     }
 
     /// Sets the character at the right end.
+    ///
+    /// `HorizontalLine::new('=').right('>')`:
+    ///
+    /// ```text
+    /// +===+===>
+    /// ```
     pub fn right(mut self, c: char) -> HorizontalLine<L, On, I>
         ensures { result ≡ record self { right = Some c } }
     {
@@ -121,7 +180,7 @@ impl<L, R, I> HorizontalLine<L, R, I> {
         HorizontalLine::update(self.line)
     }
 
-    /// The character along the edges. It has to be set, which `into_inner` shows.
+    /// The character along the edges. Requires the character to be set, which `into_inner` shows.
     pub fn get_horizontal(&self) -> char
         requires { IsSome self.now.main }
         ensures { self.now.main ≡ Some result }
@@ -139,6 +198,12 @@ impl<L, R, I> HorizontalLine<L, R, I> {
 
 impl HorizontalLine<On, On, On> {
     /// A line of these four characters: along its edges, at its crossings between, and at its two ends.
+    ///
+    /// `HorizontalLine::full('=', '*', '<', '>')`:
+    ///
+    /// ```text
+    /// <===*===>
+    /// ```
     pub fn full(main: char, intersection: char, left: char, right: char) -> Self
         ensures { result ≡ full_horizontal main intersection left right }
     {
@@ -146,6 +211,12 @@ impl HorizontalLine<On, On, On> {
     }
 
     /// A line of this character alone.
+    ///
+    /// `HorizontalLine::filled('=')`:
+    ///
+    /// ```text
+    /// =========
+    /// ```
     pub fn filled(main: char) -> Self
         ensures { result ≡ full_horizontal main main main main }
     {
@@ -154,7 +225,7 @@ impl HorizontalLine<On, On, On> {
 }
 
 impl<L, R> HorizontalLine<L, R, On> {
-    /// The character at the crossings between. It has to be set, which `into_inner` shows.
+    /// The character at the crossings between. Requires the character to be set, which `into_inner` shows.
     pub fn get_intersection(&self) -> char
         requires { IsSome self.now.intersection }
         ensures { self.now.intersection ≡ Some result }
@@ -163,6 +234,12 @@ impl<L, R> HorizontalLine<L, R, On> {
     }
 
     /// Drops the character at the crossings between.
+    ///
+    /// `HorizontalLine::full('=', '*', '<', '>').remove_intersection()`:
+    ///
+    /// ```text
+    /// <===+===>
+    /// ```
     pub fn remove_intersection(mut self) -> HorizontalLine<L, R, ()>
         ensures { result ≡ record self { intersection = None } }
     {
@@ -172,7 +249,7 @@ impl<L, R> HorizontalLine<L, R, On> {
 }
 
 impl<R, I> HorizontalLine<On, R, I> {
-    /// The character at the left end. It has to be set, which `into_inner` shows.
+    /// The character at the left end. Requires the character to be set, which `into_inner` shows.
     pub fn get_left(&self) -> char
         requires { IsSome self.now.left }
         ensures { self.now.left ≡ Some result }
@@ -181,6 +258,12 @@ impl<R, I> HorizontalLine<On, R, I> {
     }
 
     /// Drops the character at the left end.
+    ///
+    /// `HorizontalLine::full('=', '*', '<', '>').remove_left()`:
+    ///
+    /// ```text
+    /// +===*===>
+    /// ```
     pub fn remove_left(mut self) -> HorizontalLine<(), R, I>
         ensures { result ≡ record self { left = None } }
     {
@@ -190,7 +273,7 @@ impl<R, I> HorizontalLine<On, R, I> {
 }
 
 impl<L, I> HorizontalLine<L, On, I> {
-    /// The character at the right end. It has to be set, which `into_inner` shows.
+    /// The character at the right end. Requires the character to be set, which `into_inner` shows.
     pub fn get_right(&self) -> char
         requires { IsSome self.now.right }
         ensures { self.now.right ≡ Some result }
@@ -199,6 +282,12 @@ impl<L, I> HorizontalLine<L, On, I> {
     }
 
     /// Drops the character at the right end.
+    ///
+    /// `HorizontalLine::full('=', '*', '<', '>').remove_right()`:
+    ///
+    /// ```text
+    /// <===*===+
+    /// ```
     pub fn remove_right(mut self) -> HorizontalLine<L, (), I>
         ensures { result ≡ record self { right = None } }
     {

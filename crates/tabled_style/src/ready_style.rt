@@ -16,6 +16,14 @@ use tabled_grid::{Borders, Entity, OutOfMemory};
 ///
 /// A `Style` says in its type which of its borders are there, so two of them have different types; all ready styles
 /// have this one.
+///
+/// `ReadyStyle::from_name("markdown")`, which is `Some(ReadyStyle::Markdown)`, as an option:
+///
+/// ```text
+/// | a | b |
+/// |---|---|
+/// | c | d |
+/// ```
 #[derive(Debug, Clone, Copy, PartialEq, Eq, PartialOrd, Ord, Hash)]
 pub enum ReadyStyle {
     /// [`Style::empty`]
@@ -171,6 +179,14 @@ impl<Data, Dims> TableOption<Data, ColoredConfig, Dims> for ReadyStyle {
     ghost hinted = { λ style. None };
 
     /// Does what the [`Style`] of this name does.
+    ///
+    /// `ReadyStyle::Markdown`:
+    ///
+    /// ```text
+    /// | a | b |
+    /// |---|---|
+    /// | c | d |
+    /// ```
     fn change(
         self,
         _records: &mut Data,

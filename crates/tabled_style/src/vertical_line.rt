@@ -11,6 +11,17 @@ use tabled_grid::{HorizontalLine, Rank, VerticalLine as Line};
 /// lines, and one at each of its two ends. What is missing leaves the place to the class record.
 ///
 /// `T`, `B` and `I` mark which of the upper end, the lower end and the crossings are there: [`On`], or `()`.
+///
+/// `VerticalLine::full('#', '*', 'v', '^')` as line 1 of a table of the style `ascii`. Each call below shows the line that it
+/// makes in such a table, of one row where crossings play no part; where it has no character the style shows its own:
+///
+/// ```text
+/// +---v---+
+/// | a # b |
+/// +---*---+
+/// | c # d |
+/// +---^---+
+/// ```
 #[derive_where(Clone, Copy, Debug, PartialEq, Eq, PartialOrd, Ord, Hash)]
 pub struct VerticalLine<T, B, I> {
     line: Line<char>,
@@ -32,6 +43,14 @@ impl<T, B, I> Model for VerticalLine<T, B, I> {
 
 impl VerticalLine<(), (), ()> {
     /// A line with this character along its edges, and nothing at its crossings.
+    ///
+    /// `VerticalLine::new('#')`:
+    ///
+    /// ```text
+    /// +---+---+
+    /// | a # b |
+    /// +---+---+
+    /// ```
     pub fn new(main: char) -> Self
         ensures { result ≡ record { main = Some main; intersection = None; top = None; bottom = None } }
     {
@@ -51,6 +70,14 @@ impl<T, B, I> VerticalLine<T, B, I> {
     }
 
     /// The line that a style draws between columns.
+    ///
+    /// `VerticalLine::inherit(Style::modern())`:
+    ///
+    /// ```text
+    /// +---┬---+
+    /// | a │ b |
+    /// +---┴---+
+    /// ```
     pub fn inherit<L, R, const HN: usize, const VN: usize>(
         style: Style<T, B, L, R, I, On, HN, VN>,
     ) -> Self
@@ -60,6 +87,14 @@ impl<T, B, I> VerticalLine<T, B, I> {
     }
 
     /// The line that a style draws before the first column.
+    ///
+    /// `VerticalLine::inherit_left(Style::modern())`:
+    ///
+    /// ```text
+    /// +---┌---+
+    /// | a │ b |
+    /// +---└---+
+    /// ```
     pub fn inherit_left<R, V, const HN: usize, const VN: usize>(
         style: Style<T, B, On, R, I, V, HN, VN>,
     ) -> Self
@@ -69,6 +104,14 @@ impl<T, B, I> VerticalLine<T, B, I> {
     }
 
     /// The line that a style draws after the last column.
+    ///
+    /// `VerticalLine::inherit_right(Style::modern())`:
+    ///
+    /// ```text
+    /// +---┐---+
+    /// | a │ b |
+    /// +---┘---+
+    /// ```
     pub fn inherit_right<L, V, const HN: usize, const VN: usize>(
         style: Style<T, B, L, On, I, V, HN, VN>,
     ) -> Self
@@ -98,6 +141,16 @@ impl<T, B, I> VerticalLine<T, B, I> {
     }
 
     /// Sets the character at the crossings between the outer horizontal lines.
+    ///
+    /// `VerticalLine::new('#').intersection('*')`:
+    ///
+    /// ```text
+    /// +---+---+
+    /// | a # b |
+    /// +---*---+
+    /// | c # d |
+    /// +---+---+
+    /// ```
     pub fn intersection(mut self, c: char) -> VerticalLine<T, B, On>
         ensures { result ≡ record self { intersection = Some c } }
     {
@@ -106,6 +159,14 @@ impl<T, B, I> VerticalLine<T, B, I> {
     }
 
     /// Sets the character at the upper end.
+    ///
+    /// `VerticalLine::new('#').top('v')`:
+    ///
+    /// ```text
+    /// +---v---+
+    /// | a # b |
+    /// +---+---+
+    /// ```
     pub fn top(mut self, c: char) -> VerticalLine<On, B, I>
         ensures { result ≡ record self { top = Some c } }
     {
@@ -114,6 +175,14 @@ impl<T, B, I> VerticalLine<T, B, I> {
     }
 
     /// Sets the character at the lower end.
+    ///
+    /// `VerticalLine::new('#').bottom('^')`:
+    ///
+    /// ```text
+    /// +---+---+
+    /// | a # b |
+    /// +---^---+
+    /// ```
     pub fn bottom(mut self, c: char) -> VerticalLine<T, On, I>
         ensures { result ≡ record self { bottom = Some c } }
     {
@@ -121,7 +190,7 @@ impl<T, B, I> VerticalLine<T, B, I> {
         VerticalLine::update(self.line)
     }
 
-    /// The character along the edges. It has to be set, which `into_inner` shows.
+    /// The character along the edges. Requires the character to be set, which `into_inner` shows.
     pub fn get_vertical(&self) -> char
         requires { IsSome self.now.main }
         ensures { self.now.main ≡ Some result }
@@ -139,6 +208,16 @@ impl<T, B, I> VerticalLine<T, B, I> {
 
 impl VerticalLine<On, On, On> {
     /// A line of these four characters: along its edges, at its crossings between, and at its two ends.
+    ///
+    /// `VerticalLine::full('#', '*', '<', '>')`:
+    ///
+    /// ```text
+    /// +---<---+
+    /// | a # b |
+    /// +---*---+
+    /// | c # d |
+    /// +--->---+
+    /// ```
     pub fn full(main: char, intersection: char, top: char, bottom: char) -> Self
         ensures { result ≡ full_vertical main intersection top bottom }
     {
@@ -146,6 +225,14 @@ impl VerticalLine<On, On, On> {
     }
 
     /// A line of this character alone.
+    ///
+    /// `VerticalLine::filled('#')`:
+    ///
+    /// ```text
+    /// +---#---+
+    /// | a # b |
+    /// +---#---+
+    /// ```
     pub fn filled(main: char) -> Self
         ensures { result ≡ full_vertical main main main main }
     {
@@ -154,7 +241,7 @@ impl VerticalLine<On, On, On> {
 }
 
 impl<T, B> VerticalLine<T, B, On> {
-    /// The character at the crossings between. It has to be set, which `into_inner` shows.
+    /// The character at the crossings between. Requires the character to be set, which `into_inner` shows.
     pub fn get_intersection(&self) -> char
         requires { IsSome self.now.intersection }
         ensures { self.now.intersection ≡ Some result }
@@ -163,6 +250,16 @@ impl<T, B> VerticalLine<T, B, On> {
     }
 
     /// Drops the character at the crossings between.
+    ///
+    /// `VerticalLine::full('#', '*', 'v', '^').remove_intersection()`:
+    ///
+    /// ```text
+    /// +---v---+
+    /// | a # b |
+    /// +---+---+
+    /// | c # d |
+    /// +---^---+
+    /// ```
     pub fn remove_intersection(mut self) -> VerticalLine<T, B, ()>
         ensures { result ≡ record self { intersection = None } }
     {
@@ -172,7 +269,7 @@ impl<T, B> VerticalLine<T, B, On> {
 }
 
 impl<B, I> VerticalLine<On, B, I> {
-    /// The character at the upper end. It has to be set, which `into_inner` shows.
+    /// The character at the upper end. Requires the character to be set, which `into_inner` shows.
     pub fn get_top(&self) -> char
         requires { IsSome self.now.top }
         ensures { self.now.top ≡ Some result }
@@ -181,6 +278,14 @@ impl<B, I> VerticalLine<On, B, I> {
     }
 
     /// Drops the character at the upper end.
+    ///
+    /// `VerticalLine::full('#', '*', 'v', '^').remove_top()`:
+    ///
+    /// ```text
+    /// +---+---+
+    /// | a # b |
+    /// +---^---+
+    /// ```
     pub fn remove_top(mut self) -> VerticalLine<(), B, I>
         ensures { result ≡ record self { top = None } }
     {
@@ -190,7 +295,7 @@ impl<B, I> VerticalLine<On, B, I> {
 }
 
 impl<T, I> VerticalLine<T, On, I> {
-    /// The character at the lower end. It has to be set, which `into_inner` shows.
+    /// The character at the lower end. Requires the character to be set, which `into_inner` shows.
     pub fn get_bottom(&self) -> char
         requires { IsSome self.now.bottom }
         ensures { self.now.bottom ≡ Some result }
@@ -199,6 +304,14 @@ impl<T, I> VerticalLine<T, On, I> {
     }
 
     /// Drops the character at the lower end.
+    ///
+    /// `VerticalLine::full('#', '*', 'v', '^').remove_bottom()`:
+    ///
+    /// ```text
+    /// +---v---+
+    /// | a # b |
+    /// +---+---+
+    /// ```
     pub fn remove_bottom(mut self) -> VerticalLine<T, (), I>
         ensures { result ≡ record self { bottom = None } }
     {

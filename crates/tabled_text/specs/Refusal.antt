@@ -4,7 +4,7 @@ use Rattle.tabled_config.specs.declared.print_error.PrintError.TheVariants as pr
 use Rattle.tabled_text.specs.declared.table_error.TableError.{TableError}
 use Rattle.tabled_text.specs.declared.table_error.TableError.TheVariants.{OutOfMemory, Print}
 
--- what a refusal of the printer is for a table of texts: want of memory is want of memory
+-- what a refusal of the printer is for a table of texts: one for memory stays one for memory
 abbrev pub of_printer : PrintError → TableError
 of_printer print.OutOfMemory = OutOfMemory
 of_printer print.Spans = Print print.Spans

@@ -3,12 +3,12 @@ use Rattle.std.specs.Prelude.{ℕ, ◌+◌, ◌==◌, max, fold, if◌then◌els
 use Rattle.tabled_object.specs.Entities.{below}
 use Rattle.tabled_config.specs.Texts.{Table, pieces, width_of_text}
 
--- how many columns a table has: as its first row has cells
+-- how many columns a table has: as many as its first row has cells
 abbrev pub column_count : Table → ℕ
 column_count [] = 0
 column_count (row ∷ rows) = length row
 
--- the number of the first row that has not that many cells, where rows are counted from `row`
+-- the number of the first row that has more or fewer than `count` cells, where rows are counted from `row`
 abbrev pub first_unequal : ℕ → ℕ → Table → Option ℕ
 first_unequal columns row [] = None
 first_unequal columns row (cells ∷ rows) = if length cells == columns then first_unequal columns (row + 1) rows else Some row

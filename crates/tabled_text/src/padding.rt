@@ -53,7 +53,8 @@ fn start_line(text: &mut String, at: usize) -> Result<(), AllocError>
 fn padded_text(alloc: Global, text: &str, width: usize, height: usize) -> Result<String, AllocError>
     ensures { IfOk result (λ cell. string_bytes cell ≡ padded width height text.now) }
 {
-    let mut cell = String::new(alloc);
+    let room = width.saturating_add(1).saturating_mul(height);
+    let mut cell = String::with_capacity(alloc, room)?;
     let mut rest = text;
     for at in 0..height {
         start_line(&mut cell, at)?;

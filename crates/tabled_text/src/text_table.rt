@@ -21,6 +21,16 @@ use tabled_grid::{FixedDimension, Object, OutOfMemory, Shape};
 ///
 /// Each column is as wide as its widest cell and two more columns of the terminal, for a space on each side of a cell; each
 /// row is as high as its highest cell has lines. Indices are counted from 0.
+///
+/// Two rows of two cells after `with(Style::rounded())`, and after a further `modify(Cell::new(1, 0), Border::filled('#'))`:
+///
+/// ```text
+/// ╭───┬───╮     ╭───┬───╮
+/// │ a │ b │     │ a │ b │
+/// ├───┼───┤     #####───┤
+/// │ c │ d │     # c # d │
+/// ╰───┴───╯     #####───╯
+/// ```
 #[derive(Debug)]
 pub struct TextTable {
     cells: Vec<Vec<String>>,
@@ -29,7 +39,7 @@ pub struct TextTable {
     config: ColoredConfig,
 }
 
-/// Written out, so that letting a table go is one call wherever it ends.
+/// Written out, so that dropping a table is one call wherever its life ends.
 impl Drop for TextTable {
     fn drop(self) {
         let TextTable {
@@ -82,6 +92,13 @@ impl TextTable {
     ghost use Rattle.tabled_config.specs.contracts.colored_config.ColoredConfig.{the_row as config_row};
 
     /// A table of these rows of texts, which are copied. Refused as by `from_rows`.
+    ///
+    /// `TextTable::new(alloc, &[&["a", "b"], &["c", "d"]])?`, to which no option was applied, has no borders:
+    ///
+    /// ```text
+    ///  a  b
+    ///  c  d
+    /// ```
     pub fn new(alloc: Global, rows: &[&[&str]]) -> Result<Self, TableError>
         ensures texts { IfOk result (λ table. table.texts ≡ lent_rows rows.now) }
         ensures config { IfOk result (λ table. Shows [] table.config) }
@@ -127,6 +144,16 @@ impl TextTable {
 
     /// Applies an option to the whole table, and lends the table for a further call. Where memory is refused the table is as it
     /// was, as after `apply`.
+    ///
+    /// `table.with(Style::rounded())?`:
+    ///
+    /// ```text
+    /// ╭───┬───╮
+    /// │ a │ b │
+    /// ├───┼───┤
+    /// │ c │ d │
+    /// ╰───┴───╯
+    /// ```
     pub fn with<P>(&mut self, option: P) -> Result<&mut Self, OutOfMemory>
     where
         P: TableOption<Shape, ColoredConfig, FixedDimension>,
@@ -141,10 +168,19 @@ impl TextTable {
 
     /// Applies an option to the cells of an object, and lends the table for a further call. Where memory is refused some cells
     /// may have been changed, as after `apply_to`.
+    ///
+    /// `table.with(Style::ascii())?.modify(Cell::new(0, 0), Border::filled('#'))?`:
+    ///
+    /// ```text
+    /// #####---+
+    /// # a # b |
+    /// #####---+
+    /// | c | d |
+    /// +---+---+
+    /// ```
     pub fn modify<O, P>(&mut self, object: O, option: P) -> Result<&mut Self, OutOfMemory>
     where
         O: Object<Shape> + Drop,
-        O::Iter: Drop,
         P: CellOption<Shape, ColoredConfig> + Drop,
         ensures config { IfOk result (λ table. (made : List ConfigEvent) × MakesInTurn Changes (map (P.makes option (shape_of self.old.texts))
             (O.listing object (length self.old.texts) (column_count self.old.texts))) made self.old.config table.now.config) }
@@ -174,7 +210,6 @@ impl TextTable {
     pub fn apply_to<O, P>(&mut self, object: &O, option: &P) -> Result<(), OutOfMemory>
     where
         O: Object<Shape>,
-        O::Iter: Drop,
         P: CellOption<Shape, ColoredConfig>,
         ensures config { OnOk result ((made : List ConfigEvent) × MakesInTurn Changes (map (P.makes option.now (shape_of self.old.texts))
             (O.listing object.now (length self.old.texts) (column_count self.old.texts))) made self.old.config self.new.config) }

@@ -17,7 +17,7 @@ module _ {T : Type 0} where
     right_bottom_corner = borders.bottom_right;
   }
 
-  -- a record with this frame, what the frame does not give too; the other fields stay
+  -- a record with this frame: what the frame does not give the record loses; the other fields stay
   abbrev pub with_frame : Border T → Borders T → Borders T
   with_frame border borders = record borders {
     top = border.top;

@@ -17,7 +17,7 @@ pub(crate) struct LineMap<L> {
     lines: BTreeMap<usize, L>,
 }
 
-/// Written out, so that letting the lines go is one call.
+/// Written out, so that dropping the lines is one call.
 impl<L: Drop> Drop for LineMap<L> {
     fn drop(self) {
         let LineMap { lines: _ } = self;

@@ -25,6 +25,20 @@ use tabled_style::Style;
 
 /// Border characters and border colors of a whole table, and custom lines: those that were set, and beneath them
 /// those that came with a style, of which one shows where none was set at its index.
+///
+/// As an option a theme draws a table anew, as a style does. `Theme::from_style(alloc, Style::rounded())?`, and the same after
+/// `set_borders_vertical(':')`:
+///
+/// ```text
+/// ╭───┬───╮     ╭───┬───╮
+/// │ a │ b │     │ a : b │
+/// ├───┼───┤     ├───┼───┤
+/// │ c │ d │     │ c : d │
+/// ╰───┴───╯     ╰───┴───╯
+/// ```
+///
+/// The pictures of the calls below begin with the theme of the style `ascii`. Which places the fifteen fields are that have a
+/// call each is shown at [`Borders`].
 #[derive(Debug, PartialEq, Eq)]
 pub struct Theme {
     characters: Borders<char>,
@@ -35,7 +49,7 @@ pub struct Theme {
     verticals_beneath: LineMap<VerticalLine<char>>,
 }
 
-/// Written out, so that letting a theme go is one call wherever it ends.
+/// Written out, so that dropping a theme is one call wherever its life ends.
 impl Drop for Theme {
     fn drop(self) {
         let Theme {
@@ -83,6 +97,15 @@ impl Theme {
     }
 
     /// A theme of a class record alone.
+    ///
+    /// `Theme::from_borders(alloc, Style::rounded().get_borders())`, which leaves the custom line of that style out:
+    ///
+    /// ```text
+    /// ╭───┬───╮
+    /// │ a │ b │
+    /// │ c │ d │
+    /// ╰───┴───╯
+    /// ```
     pub fn from_borders(alloc: Global, borders: Borders<char>) -> Self
         ensures { result ≡ of_borders borders }
     {
@@ -97,7 +120,7 @@ impl Theme {
     }
 
     /// What a style draws. Its custom lines lie beneath: of two at one index the later one counts.
-    /// Without custom lines it takes no memory and answers Ok.
+    /// Without custom lines it takes no memory and returns Ok.
     pub fn from_style<T, B, L, R, H, V, const HN: usize, const VN: usize>(
         alloc: Global,
         style: Style<T, B, L, R, H, V, HN, VN>,

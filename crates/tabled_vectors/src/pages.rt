@@ -16,7 +16,7 @@ fn words_of(alloc: Global, text: &str) -> Result<Vec<String>, AllocError> {
     Ok(words)
 }
 
-/// What the program answers and writes over these words and this input.
+/// What the program returns and writes over these words and this input.
 fn shown(
     alloc: Global,
     words: &str,
@@ -29,7 +29,7 @@ fn shown(
     Ok((answer, written))
 }
 
-/// Whether the program answers Ok and writes this text.
+/// Whether the program returns Ok and writes this text.
 fn shows(alloc: Global, words: &str, input: &str, text: &str) -> bool {
     match shown(alloc, words, input.as_bytes()) {
         Ok((Ok(()), written)) => written.as_slice() == text.as_bytes(),
@@ -205,7 +205,7 @@ impl Write for TakesNothing {
     }
 }
 
-/// What the program answers to these words, where so many reads succeed.
+/// What the program returns for these words, where the given number of reads succeed.
 fn read_in_part(
     alloc: Global,
     words: &[String],
@@ -215,7 +215,7 @@ fn read_in_part(
     run(alloc, words, &mut FailsAfter { reads }, written)
 }
 
-/// Whether the program says that reading failed, and writes nothing, where so many reads succeed.
+/// Whether the program says that reading failed, and writes nothing, where the given number of reads succeed.
 fn fails_after(alloc: Global, reads: usize) -> bool {
     match words_of(alloc, "ascii") {
         Ok(words) => {

@@ -12,7 +12,7 @@ type Table = (
     &'static [&'static [&'static str]],
 );
 
-/// What printing with this class record answers, and what it makes of the text `before:`.
+/// What printing with this class record returns, and what it makes of the text `before:`.
 fn printed_with(
     alloc: Global,
     borders: Borders<char>,
@@ -26,7 +26,7 @@ fn printed_with(
     printed(alloc, &cfg, rows, &dims, "before:")
 }
 
-/// Whether printing with this class record gives this answer and makes this text of `before:`.
+/// Whether printing with this class record returns this and makes this text of `before:`.
 fn gives(
     alloc: Global,
     borders: Borders<char>,

@@ -66,7 +66,7 @@ fn cells_of(alloc: Global, rows: &[&[&str]]) -> Result<Vec<Vec<String>>, OutOfMe
     Ok(cells)
 }
 
-/// What printing a table of these sizes answers, and what it makes of a text that begins so.
+/// What printing a table of these sizes returns, and what it makes of a text that begins with the given one.
 pub(crate) fn printed(
     alloc: Global,
     cfg: &SpannedConfig,

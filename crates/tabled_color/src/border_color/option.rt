@@ -26,6 +26,17 @@ impl<R: Records + ExactRecords> CellOption<R, ColoredConfig> for BorderColor {
     /// Writes the given colors at the sides and corners of each cell of the entity that lies in the table, row by row: for
     /// what two cells share the later one counts. Where all cells get one color all around, it becomes the default
     /// color instead, and class colors and cells' colors are erased. Where memory is refused nothing changes.
+    ///
+    /// `BorderColor::filled(alloc, Color::FG_RED)?` on the cell (0, 0) of a table of the style `ascii`, with `r` for each
+    /// place that is red:
+    ///
+    /// ```text
+    /// rrrrr---+
+    /// r a r b |
+    /// rrrrr---+
+    /// | c | d |
+    /// +---+---+
+    /// ```
     fn change(
         &self,
         records: &mut R,
@@ -50,10 +61,20 @@ impl<R: Records + ExactRecords, D> TableOption<R, ColoredConfig, D> for BorderCo
 
     ghost hinted = { λ border. Some cells.Global };
 
-    /// Writes the given colors of the sides along the outer lines of the table, each at its edges and at the crossings behind
-    /// them, and then those of the corners at the outer corners; where no color is given for a corner, the cell color
+    /// Writes the given colors of the sides along the outer lines of the table, each at its edges and at the crossing after
+    /// each of them, and then those of the corners at the outer corners; where no color is given for a corner, the cell color
     /// there is erased. Nothing else is written. A table without rows or columns has no outer lines. Where memory
     /// is refused nothing changes.
+    ///
+    /// `BorderColor::new().top(Color::FG_RED)` on a table of the style `ascii`, with `r` for each place that is red:
+    ///
+    /// ```text
+    /// +rrrrrrr+
+    /// | a | b |
+    /// +---+---+
+    /// | c | d |
+    /// +---+---+
+    /// ```
     fn change(
         self,
         records: &mut R,
@@ -203,7 +224,7 @@ fn frame_writes(
     Ok(writes)
 }
 
-/// Adds the writes of a color, if there is one, along a line of so many columns or rows.
+/// Adds the writes of a color, if there is one, along a line of the given number of columns or rows.
 fn add_line(
     writes: &mut Vec<Write<ANSIBuf>>,
     line: LineOf,

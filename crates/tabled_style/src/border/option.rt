@@ -54,8 +54,8 @@ impl<T, B, L, R, Data, Dims> TableOption<Data, ColoredConfig, Dims> for Border<T
 
     ghost hinted = { λ border. Some cells.Global };
 
-    /// Sets the frame of the class record to this border, what it does not give too. Where the record has something
-    /// between the columns, the crossings on the outer horizontal lines become as these lines, and where it has
+    /// Sets the frame of the class record to this border; what the border does not give the frame loses. Where the record
+    /// has something between the columns, the crossings on the outer horizontal lines become as these lines, and where it has
     /// something between the rows, those on the outer vertical lines. What is kept for cells, custom lines and
     /// offsets stays. It takes no memory and returns Ok.
     ///

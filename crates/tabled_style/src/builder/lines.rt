@@ -148,6 +148,16 @@ impl<T, B, L, R, H, V, const HN: usize, const VN: usize> Style<T, B, L, R, H, V,
     }
 
     /// Drops the custom vertical lines.
+    ///
+    /// `Style::modern().remove_horizontal()` with `verticals([(1, VerticalLine::new('#').top('*').bottom('*'))])` and then
+    /// `remove_verticals()`:
+    ///
+    /// ```text
+    /// ┌───┬───┐
+    /// │ a │ b │
+    /// │ c │ d │
+    /// └───┴───┘
+    /// ```
     pub fn remove_verticals(self) -> Style<T, B, L, R, H, V, HN, 0>
         ensures { result ≡ record self { verticals = [] } }
     {

@@ -19,6 +19,16 @@ impl<T, B, L, R, H, V, const HN: usize, const VN: usize, Data, Dims> TableOption
 
     /// Erases every border character and color of every level, offsets too; then puts the custom lines at their
     /// indices, in their order, and sets the class record. Without custom lines it takes no memory and returns Ok.
+    ///
+    /// `Style::rounded()` on a table of two rows and two columns, whatever its borders were:
+    ///
+    /// ```text
+    /// ╭───┬───╮
+    /// │ a │ b │
+    /// ├───┼───┤
+    /// │ c │ d │
+    /// ╰───┴───╯
+    /// ```
     fn change(
         self,
         _records: &mut Data,

@@ -11,6 +11,16 @@ use super::Theme;
 
 impl Theme {
     /// Sets the character of the edges of the first horizontal line.
+    ///
+    /// `set_borders_top('=')`. The crossings and corners have fields of their own:
+    ///
+    /// ```text
+    /// +===+===+
+    /// | a | b |
+    /// +---+---+
+    /// | c | d |
+    /// +---+---+
+    /// ```
     pub fn set_borders_top(&mut self, c: char)
         ensures { self.new ≡ with_character (edges Horizontal first) (Some c) self.old }
     {
@@ -39,6 +49,13 @@ impl Theme {
     }
 
     /// Sets the character of the upper left corner.
+    ///
+    /// `set_borders_corner_top_left('*')`:
+    ///
+    /// ```text
+    /// *---+---+
+    /// | a | b |
+    /// ```
     pub fn set_borders_corner_top_left(&mut self, c: char)
         ensures { self.new ≡ with_character (crossings first first) (Some c) self.old }
     {
@@ -67,6 +84,13 @@ impl Theme {
     }
 
     /// Sets the character of the crossings on the first horizontal line, the corners aside.
+    ///
+    /// `set_borders_intersection_top('*')`:
+    ///
+    /// ```text
+    /// +---*---+
+    /// | a | b |
+    /// ```
     pub fn set_borders_intersection_top(&mut self, c: char)
         ensures { self.new ≡ with_character (crossings first inner) (Some c) self.old }
     {
@@ -221,6 +245,16 @@ impl Theme {
     }
 
     /// Drops the character of the edges of the first horizontal line.
+    ///
+    /// `remove_borders_top()`. The line is still drawn, as its crossings have something:
+    ///
+    /// ```text
+    /// +   +   +
+    /// | a | b |
+    /// +---+---+
+    /// | c | d |
+    /// +---+---+
+    /// ```
     pub fn remove_borders_top(&mut self)
         ensures { self.new ≡ with_character (edges Horizontal first) None self.old }
     {

@@ -13,6 +13,16 @@ use tabled_color::Color;
 
 impl Theme {
     /// Sets the color of the edges of the first horizontal line.
+    ///
+    /// `set_colors_top(Color::FG_RED)`, with `r` for each place that is red:
+    ///
+    /// ```text
+    /// +rrr+rrr+
+    /// | a | b |
+    /// +---+---+
+    /// | c | d |
+    /// +---+---+
+    /// ```
     pub fn set_colors_top(&mut self, color: Color)
         ensures { self.new ≡ with_color (edges Horizontal first) (Some color) self.old }
     {
@@ -111,6 +121,16 @@ impl Theme {
     }
 
     /// Sets the color of the edges of the inner vertical lines.
+    ///
+    /// `set_colors_vertical(Color::FG_RED)`, with `r` for each place that is red:
+    ///
+    /// ```text
+    /// +---+---+
+    /// | a r b |
+    /// +---+---+
+    /// | c r d |
+    /// +---+---+
+    /// ```
     pub fn set_colors_vertical(&mut self, color: Color)
         ensures { self.new ≡ with_color (edges Vertical inner) (Some color) self.old }
     {

@@ -18,7 +18,7 @@ pub(super) fn put<T: Drop>(slot: &mut Option<T>, value: Option<T>)
     drop(mem::replace(slot, value));
 }
 
-/// The record with this frame, what the frame does not give too.
+/// The record with this frame, which loses what the frame does not give.
 pub(super) fn put_frame<T>(borders: Borders<T>, frame: Border<T>) -> Borders<T>
 where
     T: Drop,

@@ -31,6 +31,16 @@ impl Theme {
 
     /// Sets a horizontal line at an index, in place of one that was set there. Only where none was can memory be
     /// refused, and then nothing changes.
+    ///
+    /// `insert_horizontal_line(1, HorizontalLine::new(Some('='), Some('*'), Some('<'), Some('>')))?`:
+    ///
+    /// ```text
+    /// +---+---+
+    /// | a | b |
+    /// <===*===>
+    /// | c | d |
+    /// +---+---+
+    /// ```
     pub fn insert_horizontal_line(
         &mut self,
         index: usize,
@@ -45,6 +55,16 @@ impl Theme {
 
     /// Sets a vertical line at an index, in place of one that was set there. Only where none was can memory be refused,
     /// and then nothing changes.
+    ///
+    /// `insert_vertical_line(1, VerticalLine::new(Some('#'), Some('*'), Some('v'), Some('^')))?`:
+    ///
+    /// ```text
+    /// +---v---+
+    /// | a # b |
+    /// +---*---+
+    /// | c # d |
+    /// +---^---+
+    /// ```
     pub fn insert_vertical_line(
         &mut self,
         index: usize,
@@ -72,6 +92,15 @@ impl Theme {
     }
 
     /// Drops the horizontal lines between rows: all custom ones, set and beneath, and those of the class record.
+    ///
+    /// `remove_horizontal_lines()`:
+    ///
+    /// ```text
+    /// +---+---+
+    /// | a | b |
+    /// | c | d |
+    /// +---+---+
+    /// ```
     pub fn remove_horizontal_lines(&mut self)
         ensures { self.new ≡ without_horizontals self.old }
     {
@@ -83,6 +112,16 @@ impl Theme {
     }
 
     /// Drops the vertical lines between columns: all custom ones, set and beneath, and those of the class record.
+    ///
+    /// `remove_vertical_lines()`:
+    ///
+    /// ```text
+    /// +------+
+    /// | a  b |
+    /// +------+
+    /// | c  d |
+    /// +------+
+    /// ```
     pub fn remove_vertical_lines(&mut self)
         ensures { self.new ≡ without_verticals self.old }
     {

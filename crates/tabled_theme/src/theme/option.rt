@@ -21,6 +21,16 @@ impl<Data, Dims> TableOption<Data, ColoredConfig, Dims> for Theme {
 
     /// Erases every border character and color of every level, offsets too; then puts the lines of the theme at their
     /// indices, those beneath and then those that were set, and sets the class record and the class colors.
+    ///
+    /// The theme of the style `rounded`, with line 1 set to `HorizontalLine::filled('=').into_inner()`:
+    ///
+    /// ```text
+    /// ╭───┬───╮
+    /// │ a │ b │
+    /// =========
+    /// │ c │ d │
+    /// ╰───┴───╯
+    /// ```
     fn change(
         self,
         _records: &mut Data,

@@ -18,6 +18,16 @@ use tabled_grid::{Border, Borders, Rank};
 
 impl Theme {
     /// Sets the class record whole.
+    ///
+    /// In the theme of the style `rounded`, whose custom line stays, `set_borders(Style::ascii().get_borders())`:
+    ///
+    /// ```text
+    /// +---+---+
+    /// | a | b |
+    /// ├───┼───┤
+    /// | c | d |
+    /// +---+---+
+    /// ```
     pub fn set_borders(&mut self, borders: Borders<char>)
         ensures { self.new ≡ record self.old { characters = borders } }
     {
@@ -62,6 +72,15 @@ impl Theme {
     }
 
     /// Empties the class record. The custom lines stay.
+    ///
+    /// In the theme of the style `rounded`, `remove_borders()`. The ends and the crossings of the custom line still draw the
+    /// three vertical lines, which have no characters of their own now:
+    ///
+    /// ```text
+    ///   a   b
+    /// ├───┼───┤
+    ///   c   d
+    /// ```
     pub fn remove_borders(&mut self)
         ensures { self.new ≡ record self.old { characters = no_borders } }
     {
@@ -75,16 +94,36 @@ impl Theme {
         self.set_colors(Borders::empty());
     }
 
-    /// Sets the four sides and the four corners of the class record, what the frame does not give too. The
+    /// Sets the four sides and the four corners of the class record; those that the frame does not give are dropped. The
     /// intersections stay.
+    ///
+    /// `set_frame(Border::filled('#'))`:
+    ///
+    /// ```text
+    /// ####+####
+    /// # a | b #
+    /// +---+---+
+    /// # c | d #
+    /// ####+####
+    /// ```
     pub fn set_frame(&mut self, frame: Border<char>)
         ensures { self.new ≡ record self.old { characters = with_frame frame self.old.characters } }
     {
         self.characters = put_frame(self.characters, frame);
     }
 
-    /// Sets the colors of the four sides and the four corners, what the frame does not give too. The colors of the
-    /// intersections stay.
+    /// Sets the colors of the four sides and the four corners; those that the frame does not give are dropped. The colors
+    /// of the intersections stay.
+    ///
+    /// A frame with one color on all sides and corners, with `r` for each place that has it:
+    ///
+    /// ```text
+    /// rrrr+rrrr
+    /// r a | b r
+    /// +---+---+
+    /// r c | d r
+    /// rrrr+rrrr
+    /// ```
     pub fn set_frame_colors(&mut self, frame: Border<Color>)
         ensures { self.new ≡ record self.old { colors = with_frame frame self.old.colors } }
     {

@@ -1,4 +1,4 @@
--- What the configuration answers is how the table looks.
+-- What the configuration returns is how the table looks.
 use Rattle.std.proofs.Common.{ap, sym, ◌∙◌}
 use Rattle.tabled_grid.specs.declared.place.LineOf.{LineOf}
 use Rattle.tabled_config.proofs.LookLemmas.{own_drawn}
