@@ -70,12 +70,17 @@ no_fault : (b : Bool) (fault : PrintError) → unless b fault ≡ [] → b ≡ t
 no_fault true fault e = refl
 no_fault false fault e = absurd cc
 
--- a table with no fault has as many rows as it ought to
-pub right_rows : (cfg : Configuration) (widths heights : ℕ → ℕ) (shape : ℕ × ℕ) (cells : Table) → first_refusal cfg shape widths heights cells ≡ None → length cells ≡ shape.0
-right_rows cfg widths heights shape cells e =
+-- a table that is not refused has no fault
+pub no_faults : (cfg : Configuration) (widths heights : ℕ → ℕ) (shape : ℕ × ℕ) (cells : Table) → first_refusal cfg shape widths heights cells ≡ None → table_faults widths heights shape cells ≡ []
+no_faults cfg widths heights shape cells e =
+    none_rest (span_faults cfg) (table_faults widths heights shape cells) (none_first (span_faults cfg ++ table_faults widths heights shape cells) e)
+
+-- one with no fault has as many rows as it ought to
+pub right_rows : (widths heights : ℕ → ℕ) (shape : ℕ × ℕ) (cells : Table) → table_faults widths heights shape cells ≡ [] → length cells ≡ shape.0
+right_rows widths heights shape cells e =
     eqb-true (length cells) shape.0
     (no_fault (length cells == shape.0) PrintError.RowCount
-    (none_front (unless (length cells == shape.0) PrintError.RowCount) (flat_map (row_faults widths heights shape.1) (enumerate_from 0 cells)) (none_rest (span_faults cfg) (table_faults widths heights shape cells) (none_first (span_faults cfg ++ table_faults widths heights shape cells) e))))
+    (none_front (unless (length cells == shape.0) PrintError.RowCount) (flat_map (row_faults widths heights shape.1) (enumerate_from 0 cells)) e))
 
 -- and each row has as many cells
 right_cells : (widths heights : ℕ → ℕ) (cols n : ℕ) (cells : Table) → flat_map (row_faults widths heights cols) (enumerate_from n cells) ≡ [] → All (λ row. length row ≡ cols) cells
@@ -88,7 +93,7 @@ right_cells widths heights cols n (row ∷ rows) e =
     (none_front (row_faults widths heights cols (n, row)) (flat_map (row_faults widths heights cols) (enumerate_from (n + 1) rows)) e))))
     (right_cells widths heights cols (n + 1) rows (none_rest (row_faults widths heights cols (n, row)) (flat_map (row_faults widths heights cols) (enumerate_from (n + 1) rows)) e))
 
-pub right_columns : (cfg : Configuration) (widths heights : ℕ → ℕ) (shape : ℕ × ℕ) (cells : Table) → first_refusal cfg shape widths heights cells ≡ None → All (λ row. length row ≡ shape.1) cells
-right_columns cfg widths heights shape cells e =
+pub right_columns : (widths heights : ℕ → ℕ) (shape : ℕ × ℕ) (cells : Table) → table_faults widths heights shape cells ≡ [] → All (λ row. length row ≡ shape.1) cells
+right_columns widths heights shape cells e =
     right_cells widths heights shape.1 0 cells
-    (none_rest (unless (length cells == shape.0) PrintError.RowCount) (flat_map (row_faults widths heights shape.1) (enumerate_from 0 cells)) (none_rest (span_faults cfg) (table_faults widths heights shape cells) (none_first (span_faults cfg ++ table_faults widths heights shape cells) e)))
+    (none_rest (unless (length cells == shape.0) PrintError.RowCount) (flat_map (row_faults widths heights shape.1) (enumerate_from 0 cells)) e)

@@ -5,6 +5,7 @@
 
 mod border_options;
 mod cell_option;
+mod cell_rows;
 mod color_map;
 mod colored_config;
 mod compact_options;
@@ -18,6 +19,7 @@ mod spanned_config;
 mod table_option;
 
 pub use cell_option::{CellOption, modify};
+pub use cell_rows::CellRows;
 pub use color_map::{ColorMap, Colors};
 pub use colored_config::ColoredConfig;
 pub use configured::{BorderEvent, Configured};
@@ -26,7 +28,7 @@ pub use laws::{
     second_time_changes_nothing, shown_after_change, shows_its_writes, shows_when_new,
     steps_in_turn,
 };
-pub use print::print_plain;
+pub use print::{print_plain, print_rows};
 pub use print_error::PrintError;
 pub use seen::{Seen, headline};
 pub use spanned_config::SpannedConfig;

@@ -14,7 +14,7 @@ ghost use Rattle.tabled_config.specs.Refusal as refusal;
 
 use crate::refusals::first_refusal;
 use crate::seen::edge_size;
-use crate::{PrintError, SpannedConfig};
+use crate::{CellRows, PrintError, SpannedConfig};
 use std::alloc::{AllocError, Global};
 use tabled_grid::{Dimension, OutOfMemory, Place, Probes};
 
@@ -188,15 +188,17 @@ impl<D: Dimension> Frame<'_, D> {
     }
 
     /// Writes the lines of a table, each with a line feed.
-    fn push_table(&self, text: &mut String, cells: &[Vec<String>]) -> Result<(), OutOfMemory>
-        requires rows { length cells.now ≡ self.now.shape.0 }
-        requires cols { All (λ row. length row ≡ self.now.shape.1) (texts cells.now) }
+    fn push_table<R: CellRows>(&self, text: &mut String, cells: &R) -> Result<(), OutOfMemory>
+        requires rows { length (R.table cells.now) ≡ self.now.shape.0 }
+        requires cols { All (λ row. length row ≡ self.now.shape.1) (R.table cells.now) }
         ensures { let view = framed D.width_of D.height_of self.now in
-            Appends result text.old text.new (flat_map (λ line. line ++ 10 ∷ []) (text_lines view (texts cells.now))) }
+            Appends result text.old text.new (flat_map (λ line. line ++ 10 ∷ []) (text_lines view (R.table cells.now))) }
     {
         let (rows, _) = self.shape;
-        for (row, row_cells) in cells.iter().enumerate() {
+        let mut room = Vec::new(self.cfg.allocator());
+        for row in 0..rows {
             self.push_line(text, row)?;
+            let row_cells = cells.row(row, &mut room)?;
             self.push_row(text, row, row_cells)?;
         }
         self.push_line(text, rows)
@@ -245,17 +247,17 @@ fn drawn_sides(alloc: Global, cfg: &SpannedConfig, cols: usize) -> Result<Vec<bo
 }
 
 /// Writes the lines of a table, each with a line feed. A table without rows or columns has none.
-fn push_lines<D: Dimension>(
+fn push_lines<D: Dimension, R: CellRows>(
     text: &mut String,
     cfg: &SpannedConfig,
     dims: &D,
     shape: (usize, usize),
-    cells: &[Vec<String>],
+    cells: &R,
 ) -> Result<(), OutOfMemory>
-    requires rows { length cells.now ≡ shape.0 }
-    requires cols { All (λ row. length row ≡ shape.1) (texts cells.now) }
+    requires rows { length (R.table cells.now) ≡ shape.0 }
+    requires cols { All (λ row. length row ≡ shape.1) (R.table cells.now) }
     ensures { Appends result text.old text.new (flat_map (λ line. line ++ 10 ∷ [])
-        (text_lines (look (all_writes cfg.now) shape (D.width_of dims.now) (D.height_of dims.now)) (texts cells.now))) }
+        (text_lines (look (all_writes cfg.now) shape (D.width_of dims.now) (D.height_of dims.now)) (R.table cells.now))) }
 {
     let (rows, cols) = shape;
     if rows == 0 || cols == 0 {
@@ -269,6 +271,31 @@ fn push_lines<D: Dimension>(
         sides: &sides,
     };
     frame.push_table(text, cells)
+}
+
+/// Writes a table after the text that `out` has, as `print_plain` does, where its cells are known to fit: each row of them is
+/// asked for when it is its turn, and none is measured. Spans are not looked at. Where memory is refused `out` is as before.
+pub fn print_rows<D: Dimension, R: CellRows>(
+    out: &mut String,
+    cfg: &SpannedConfig,
+    dims: &D,
+    shape: (usize, usize),
+    cells: &R,
+) -> Result<(), OutOfMemory>
+    requires { refusal.table_faults (D.width_of dims.now) (D.height_of dims.now) shape (R.table cells.now) ≡ [] }
+    ensures text { (es : List ConfigEvent) → Shows es cfg.now → OnOk result (string_bytes out.new ≡ string_bytes out.old ++ printed es shape (D.width_of dims.now) (D.height_of dims.now) (R.table cells.now)) }
+    ensures unchanged { OnErr result (string_bytes out.new ≡ string_bytes out.old) }
+{
+    let start = out.len();
+    if push_lines(out, cfg, dims, shape, cells).is_err() {
+        out.truncate(start);
+        return Err(OutOfMemory);
+    }
+    let end = out.len();
+    if start < end {
+        out.truncate(end - 1);
+    }
+    Ok(())
 }
 
 /// Writes a table after the text that `out` has: `shape` is the number of its rows and of its columns.
@@ -287,14 +314,6 @@ pub fn print_plain<D: Dimension>(
     if let Some(fault) = first_refusal(cfg, dims, shape, cells) {
         return Err(fault);
     }
-    let start = out.len();
-    if push_lines(out, cfg, dims, shape, cells).is_err() {
-        out.truncate(start);
-        return Err(PrintError::OutOfMemory);
-    }
-    let end = out.len();
-    if start < end {
-        out.truncate(end - 1);
-    }
+    print_rows(out, cfg, dims, shape, &cells)?;
     Ok(())
 }

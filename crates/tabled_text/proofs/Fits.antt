@@ -1,6 +1,6 @@
 -- The padded cells of a table fit their columns and rows, so that the printer does not refuse them.
-use Rattle.std.proofs.Common.{◌≡◌, ◌==◌, ◌||◌, ℕ, ◌+◌, ◌-◌, ◌<◌, ◌≤◌, zero, suc, max, fold, Bool, true, false, if◌then◌else◌, cond, not, ltb, eqb, List, [], ◌∷◌, ◌++◌, map, length, get_or, take, replicate, refl, sym, ap, subst, ◌∙◌, arith, lit<, eq-eqb, Some, None, append-nil, String, string_bytes, Vec}
-use Rattle.std.specs.Prelude.{chars, slice_index, slice_get}
+use Rattle.std.proofs.Common.{◌≡◌, ◌==◌, ◌||◌, ℕ, ◌+◌, ◌-◌, ◌<◌, ◌≤◌, zero, suc, max, fold, Bool, true, false, if◌then◌else◌, cond, not, ltb, eqb, List, [], ◌∷◌, ◌++◌, map, length, get_or, take, replicate, refl, sym, ap, subst, ◌∙◌, arith, lit<, eq-eqb, Some, None, String, string_bytes, Vec}
+use Rattle.std.specs.Prelude.{chars, slice_index}
 use Rattle.std.specs.Str.{IsUtf8, IsAscii}
 use Rattle.std.specs.Int.{is_in_range}
 use Rattle.std.specs.List.{join_with_byte, list_all, flat_map, enumerate_from, position_or_len, range_with_len, All}
@@ -19,12 +19,12 @@ use Rattle.unicode_width.proofs.Computing.{unicode_width}
 use Rattle.tabled_object.specs.Entities.{below}
 use Rattle.tabled_config.specs.Texts.{Table, texts, pieces, width_of_text}
 use Rattle.tabled_config.specs.Pieces.{first_piece, after_first_piece}
-use Rattle.tabled_config.specs.Refusal.{unless, cell_faults, row_faults, table_faults, span_faults, first_refusal}
+use Rattle.tabled_config.specs.Refusal.{unless, cell_faults, row_faults, table_faults}
 use Rattle.tabled_config.specs.declared.print_error.PrintError.TheVariants.{RowCount, ColumnCount, Height, Width}
 use Rattle.tabled_config.proofs.PieceLemmas.{first_of_pieces, rest_of_pieces}
 use Rattle.tabled_text.specs.Sizes.{cell, first_unequal, column_count, column_width, column_widths, row_height, row_heights, width_asked, height_asked}
 use Rattle.tabled_object.specs.declared.records.Shape.{Shape}
-use Rattle.tabled_config.specs.Configuration.{Configuration, ConfigEvent}
+use Rattle.tabled_config.specs.Configuration.{ConfigEvent}
 use Rattle.tabled_config.specs.Picture.{printed}
 use Rattle.tabled_text.specs.TextTable.{shape_of, text_of}
 use Rattle.tabled_text.specs.Padded.{padded_line, padded, padded_row, padded_rows}
@@ -277,23 +277,22 @@ all_equal columns start (cells ∷ rows) none (suc r) within = all_equal columns
 
 -- ---- the text of a table
 
-module _ (es : List ConfigEvent) (table cells : Table) (shape : Shape) (widths heights : List ℕ) (cfg : Configuration)
+module _ (table cells : Table) (shape : Shape) (widths heights : List ℕ)
     (shaped : shape ≡ shape_of table) (wide : widths ≡ column_widths table) (high : heights ≡ row_heights table) (made : cells ≡ padded_rows widths heights table) where
-  pub is_text_of : printed es (shape.rows, shape.cols) (slice_index widths) (slice_index heights) cells ≡ text_of es table
+  pub is_text_of : (es : List ConfigEvent) → printed es (shape.rows, shape.cols) (slice_index widths) (slice_index heights) cells ≡ text_of es table
   unfolding text_of
-  is_text_of =
+  is_text_of es =
       ap (printed es (shape.rows, shape.cols) (slice_index widths) (slice_index heights)) made
       ∙ ap (λ s. printed es (s.rows, s.cols) (slice_index widths) (slice_index heights) (padded_rows widths heights table)) shaped
       ∙ ap (λ ws. printed es (length table, column_count table) (slice_index ws) (slice_index heights) (padded_rows ws heights table)) wide
       ∙ ap (λ hs. printed es (length table, column_count table) (slice_index (column_widths table)) (slice_index hs) (padded_rows (column_widths table) hs table)) high
 
-  pub refused_for_spans : table_faults (slice_index (column_widths table)) (slice_index (row_heights table)) (length table, column_count table)
+  pub fits : table_faults (slice_index (column_widths table)) (slice_index (row_heights table)) (length table, column_count table)
       (padded_rows (column_widths table) (row_heights table) table) ≡ []
-      → first_refusal cfg (shape.rows, shape.cols) (slice_index widths) (slice_index heights) cells ≡ slice_get (span_faults cfg) 0
-  refused_for_spans fit =
-      ap (first_refusal cfg (shape.rows, shape.cols) (slice_index widths) (slice_index heights)) made
-      ∙ ap (λ s. first_refusal cfg (s.rows, s.cols) (slice_index widths) (slice_index heights) (padded_rows widths heights table)) shaped
-      ∙ ap (λ ws. first_refusal cfg (length table, column_count table) (slice_index ws) (slice_index heights) (padded_rows ws heights table)) wide
-      ∙ ap (λ hs. first_refusal cfg (length table, column_count table) (slice_index (column_widths table)) (slice_index hs) (padded_rows (column_widths table) hs table)) high
-      ∙ ap (λ faults. slice_get (span_faults cfg ++ faults) 0) fit
-      ∙ ap (λ faults. slice_get faults 0) (append-nil (span_faults cfg))
+      → table_faults (slice_index widths) (slice_index heights) (shape.rows, shape.cols) cells ≡ []
+  fits fit =
+      ap (table_faults (slice_index widths) (slice_index heights) (shape.rows, shape.cols)) made
+      ∙ ap (λ s. table_faults (slice_index widths) (slice_index heights) (s.rows, s.cols) (padded_rows widths heights table)) shaped
+      ∙ ap (λ ws. table_faults (slice_index ws) (slice_index heights) (length table, column_count table) (padded_rows ws heights table)) wide
+      ∙ ap (λ hs. table_faults (slice_index (column_widths table)) (slice_index hs) (length table, column_count table) (padded_rows (column_widths table) hs table)) high
+      ∙ fit

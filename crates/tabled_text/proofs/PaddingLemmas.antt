@@ -1,13 +1,13 @@
 -- What a walk has padded so far.
-use Rattle.std.proofs.Common.{◌≡◌, ◌==◌, if◌then◌else◌, ℕ, ◌+◌, ◌-◌, ◌<◌, zero, suc, false, List, [], ◌∷◌, ◌++◌, map, length, get_or, take, replicate, refl, sym, ap, ◌∙◌, arith, lit<, encode_utf8, append_assoc, Result, Ok, Err, OnOk}
+use Rattle.std.proofs.Common.{◌≡◌, ◌==◌, if◌then◌else◌, ℕ, ◌+◌, ◌-◌, ◌<◌, zero, suc, false, List, [], ◌∷◌, ◌++◌, map, length, get_or, take, replicate, refl, sym, ap, ◌∙◌, arith, lit<, encode_utf8, append_assoc, Result, Ok, Err, OnOk, slice_index, String, string_bytes, Vec}
 use Rattle.std.specs.List.{join_with_byte}
-use Rattle.std.proofs.lemmas.List.{map-append, take_more}
-use Rattle.std.proofs.lemmas.List.FromFn.{map-range_with_len_more, length-map-range_with_len}
+use Rattle.std.proofs.lemmas.List.{length-map, map-append, take_more}
+use Rattle.std.proofs.lemmas.List.FromFn.{map-range_with_len_more, length-map-range_with_len, get_or-map-range_with_len}
 use Rattle.std.proofs.lemmas.Str.{encode_ascii}
 use Rattle.std.proofs.lemmas.Bool.Decides.{nat_tests}
 use Rattle.tabled_object.specs.Entities.{below}
-use Rattle.tabled_config.specs.Texts.{width_of_text}
-use Rattle.tabled_text.specs.Padded.{padded_line}
+use Rattle.tabled_config.specs.Texts.{texts, width_of_text}
+use Rattle.tabled_text.specs.Padded.{padded_line, padded_row, padded_rows}
 
 -- one thing more, by what it shows
 pub one_more : {A B : Type 0} (f : A → B) (g : ℕ → B) (old new : List A) (x : A) (at : ℕ) → new ≡ old ++ x ∷ [] → map f old ≡ map g (below at) → f x ≡ g at
@@ -62,3 +62,17 @@ pub copied_more : {A B : Type 0} (f : A → B) (old new : List A) (x : A) (all :
     → f x ≡ get_or all at d → map f new ≡ take (at + 1) all
 copied_more f old new x all at d pushed made within is =
     ap (map f) pushed ∙ map-append f old (x ∷ []) ∙ ap (λ front. front ++ f x ∷ []) made ∙ ap (λ y. take at all ++ y ∷ []) is ∙ sym (take_more all at d within)
+
+-- the padded rows of a table: as many as it has, and each of them by itself
+module _ {Z W : Type 0} (widths heights : List ℕ) (rows : List (Vec (String Z) W)) (at : ℕ) where
+  pub is_row : at < length (padded_rows widths heights (texts rows)) → at < length rows
+  unfolding padded_rows
+  is_row within =
+      let long = length-map-range_with_len (λ row. padded_row widths (slice_index heights row) (get_or (texts rows) row [])) 0 (length (texts rows)) in
+      omega (arith, long, within, length-map rows (λ row. map string_bytes row.items))
+
+  pub row_padded : at < length rows → get_or (padded_rows widths heights (texts rows)) at [] ≡ padded_row widths (slice_index heights at) (get_or (texts rows) at [])
+  unfolding padded_rows
+  row_padded within =
+      let here : at < length (texts rows) = omega (arith, within, length-map rows (λ row. map string_bytes row.items)) in
+      get_or-map-range_with_len (λ row. padded_row widths (slice_index heights row) (get_or (texts rows) row [])) 0 (length (texts rows)) at at [] here (omega arith)

@@ -6,7 +6,8 @@ ghost use Rattle.tabled_config.specs.Texts.{texts};
 ghost use Rattle.tabled_text.specs.Padded.{padded_line, padded, padded_row, padded_rows};
 
 use std::alloc::{AllocError, Global};
-use tabled_grid::{Dimension, FixedDimension};
+use tabled_config::CellRows;
+use tabled_grid::{Dimension, FixedDimension, OutOfMemory};
 use unicode_width::UnicodeWidthStr;
 
 /// The piece of a text before its first line feed, and the text after that; without one the whole text, and nothing.
@@ -82,17 +83,25 @@ fn padded_row(
     Ok(cells)
 }
 
-/// Each row of a table, padded.
-pub(crate) fn padded_rows(
-    alloc: Global,
-    rows: &[Vec<String>],
-    sizes: &FixedDimension,
-) -> Result<Vec<Vec<String>>, AllocError>
-    ensures { IfOk result (λ cells. texts cells.items ≡ padded_rows sizes.now.widths.items sizes.now.heights.items (texts rows.now)) }
-{
-    let mut cells = Vec::with_capacity(alloc, rows.len())?;
-    for (at, row) in rows.iter().enumerate() {
-        cells.push(padded_row(alloc, row, sizes, sizes.get_height(at))?)?;
+/// The rows of a table as they are printed: each is padded when it is its turn.
+#[derive(Drop)]
+pub(crate) struct PaddedRows<'a> {
+    pub(crate) alloc: Global,
+    pub(crate) rows: &'a [Vec<String>],
+    pub(crate) sizes: &'a FixedDimension,
+}
+
+impl CellRows for PaddedRows<'_> {
+    ghost table = { λ it. padded_rows it.sizes.now.widths.items it.sizes.now.heights.items (texts it.rows.now) };
+
+    #[tactic(auto, using(crate::proofs::PaddingLemmas::is_row))]
+    fn row<'a>(
+        &'a self,
+        row: usize,
+        room: &'a mut Vec<String>,
+    ) -> Result<&'a [String], OutOfMemory> {
+        let height = self.sizes.get_height(row);
+        *room = padded_row(self.alloc, &self.rows[row], self.sizes, height)?;
+        Ok(room.as_slice())
     }
-    Ok(cells)
 }

@@ -8,12 +8,12 @@ ghost use Rattle.tabled_text.specs.TextTable.{lent_rows};
 
 use crate::TableError;
 use crate::measure::{column_count, column_widths, row_heights, unequal_row};
-use crate::padding::padded_rows;
+use crate::padding::PaddedRows;
 use std::alloc::{AllocError, Global};
 use std::fmt;
 use std::marker::Model;
 use tabled_config::{
-    CellOption, ColoredConfig, PrintError, SpannedConfig, TableOption, modify, print_plain,
+    CellOption, ColoredConfig, PrintError, SpannedConfig, TableOption, modify, print_rows,
 };
 use tabled_grid::{FixedDimension, Object, OutOfMemory, Shape};
 
@@ -286,9 +286,14 @@ impl TextTable {
         if cfg.has_spans() {
             return Err(PrintError::Spans);
         }
-        let cells = padded_rows(cfg.allocator(), &self.cells, &self.sizes)?;
+        let cells = PaddedRows {
+            alloc: cfg.allocator(),
+            rows: &self.cells,
+            sizes: &self.sizes,
+        };
         let shape = (self.shape.rows, self.shape.cols);
-        print_plain(out, cfg, &self.sizes, shape, &cells)
+        print_rows(out, cfg, &self.sizes, shape, &cells)?;
+        Ok(())
     }
 }
 
