@@ -126,7 +126,7 @@ fn write_own_places(store: &mut Layers<char>, cell: Position) -> Result<(), OutO
 }
 
 #[test]
-fn the_last_number_has_no_line_behind_it(rt: HostRuntime) -> Result<(), Fail> {
+fn the_last_number_has_no_line_after_it(rt: HostRuntime) -> Result<(), Fail> {
     let mut store = Layers::new(rt.alloc());
     let cell = Position::new(usize::MAX, usize::MAX);
     let written = store.set_border(cell, Border::filled('x'));

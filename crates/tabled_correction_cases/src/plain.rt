@@ -5,7 +5,7 @@ ghost use Rattle.std.specs.Prelude.{◌<◌};
 
 use crate::drawings::{Class, Lines};
 
-/// A cell that spans so many columns, or rows.
+/// A cell that spans `count` columns, or rows.
 #[derive(Clone, Copy)]
 pub(crate) struct Span {
     pub(crate) row: usize,
@@ -29,7 +29,7 @@ fn put(lines: &mut Lines, line: usize, column: usize, character: char) {
     }
 }
 
-/// Whether a number comes after a first one, within so many from it on.
+/// Whether a number is one of the `count` numbers from a first one on, and not the first one itself.
 fn is_after(first: usize, number: usize, count: usize) -> bool {
     first < number && number - first < count
 }

@@ -13,7 +13,7 @@ pub(crate) struct Table {
 }
 
 impl Table {
-    /// A table of so many rows and columns, of which nothing is drawn.
+    /// A table of the given numbers of rows and columns, of which nothing is drawn.
     pub(crate) fn new(alloc: Global, rows: usize, cols: usize) -> Self {
         Table {
             cfg: ColoredConfig::new(SpannedConfig::new(alloc)),
@@ -34,7 +34,7 @@ impl Table {
         option.change(&mut self.records, &mut self.cfg, &mut ())
     }
 
-    /// Lets a cell span so many columns.
+    /// Lets a cell span the given number of columns.
     pub(crate) fn across(
         &mut self,
         row: usize,
@@ -45,7 +45,7 @@ impl Table {
         self.cfg.config_mut().set_column_span(position, columns)
     }
 
-    /// Lets a cell span so many rows.
+    /// Lets a cell span the given number of rows.
     pub(crate) fn down(&mut self, row: usize, col: usize, rows: usize) -> Result<(), OutOfMemory> {
         let position = Position::new(row, col);
         self.cfg.config_mut().set_row_span(position, rows)

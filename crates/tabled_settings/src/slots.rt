@@ -96,11 +96,11 @@ pub(crate) fn first_standing<T>(slots: &[Slot<T>]) -> Option<(&(Entity, Option<T
     ensures shorter { MatchOption result (standing slots.now ≡ []) (λ first. length first.1.now < length slots.now) }
 {
     let mut left = slots;
-    while let Some((slot, behind)) = left.split_first() {
+    while let Some((slot, rest)) = left.split_first() {
         if let Some(event) = slot {
-            return Some((event, behind));
+            return Some((event, rest));
         }
-        left = behind;
+        left = rest;
     }
     None
 }
@@ -111,14 +111,14 @@ pub(crate) fn stand_alike<T: PartialEq>(these: &[Slot<T>], those: &[Slot<T>]) ->
 {
     let mut left = these;
     let mut right = those;
-    while let Some((event, behind)) = first_standing(left) {
+    while let Some((event, rest)) = first_standing(left) {
         let Some((other, others)) = first_standing(right) else {
             return false;
         };
         if !is_same_event(event, other) {
             return false;
         }
-        left = behind;
+        left = rest;
         right = others;
     }
     first_standing(right).is_none()

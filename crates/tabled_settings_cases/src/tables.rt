@@ -4,7 +4,7 @@ use std::alloc::Global;
 use tabled_config::{CellOption, ColoredConfig, SpannedConfig, TableOption};
 use tabled_grid::{ANSIBuf, Entity, FixedDimension, OutOfMemory, Position, Shape};
 
-/// A table of so many rows and columns.
+/// A table of a number of rows and columns.
 #[derive(Drop)]
 pub(crate) struct Table {
     cfg: ColoredConfig,

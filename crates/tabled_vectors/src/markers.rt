@@ -52,13 +52,13 @@ fn lines_are_inherited_from_sides_that_are_there(rt: HostRuntime) {
     let below = HorizontalLine::inherit_bottom(lettered()).into_inner();
     let between = VerticalLine::inherit(lettered());
     let before = VerticalLine::inherit_left(lettered()).into_inner();
-    let behind = VerticalLine::inherit_right(lettered()).into_inner();
+    let after = VerticalLine::inherit_right(lettered()).into_inner();
     assert!(rt; horizontal == HorizontalLine::full('5', 'i', 'e', 'f'));
     assert!(rt; above == HLine::new(Some('1'), Some('g'), Some('a'), Some('b')));
     assert!(rt; below == HLine::new(Some('2'), Some('h'), Some('c'), Some('d')));
     assert!(rt; between == VerticalLine::full('6', 'i', 'g', 'h'));
     assert!(rt; before == VLine::new(Some('3'), Some('e'), Some('a'), Some('c')));
-    assert!(rt; behind == VLine::new(Some('4'), Some('f'), Some('b'), Some('d')));
+    assert!(rt; after == VLine::new(Some('4'), Some('f'), Some('b'), Some('d')));
 }
 
 /// Whether a copy of a style succeeds, and equals it.

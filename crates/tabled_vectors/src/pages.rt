@@ -25,8 +25,8 @@ fn shown(
     let words = words_of(alloc, words)?;
     let mut reader = Cursor::new(input);
     let mut written = Vec::new(alloc);
-    let answer = run(alloc, &words, &mut reader, &mut written);
-    Ok((answer, written))
+    let returned = run(alloc, &words, &mut reader, &mut written);
+    Ok((returned, written))
 }
 
 /// Whether the program returns Ok and writes this text.
@@ -220,8 +220,8 @@ fn fails_after(alloc: Global, reads: usize) -> bool {
     match words_of(alloc, "ascii") {
         Ok(words) => {
             let mut written = Vec::new(alloc);
-            let answer = read_in_part(alloc, &words, reads, &mut written);
-            answer == Err(ShowError::ReadFailed) && written.is_empty()
+            let returned = read_in_part(alloc, &words, reads, &mut written);
+            returned == Err(ShowError::ReadFailed) && written.is_empty()
         }
         Err(AllocError) => false,
     }
@@ -238,9 +238,9 @@ fn a_failed_read_is_refused(rt: HostRuntime) {
 fn a_failed_write_is_refused(rt: HostRuntime) -> Result<(), Fail> {
     let words = words_of(rt.alloc(), "ascii")?;
     let mut reader = Cursor::new(b"a\n".as_slice());
-    let answer = run(rt.alloc(), &words, &mut reader, &mut TakesNothing);
+    let returned = run(rt.alloc(), &words, &mut reader, &mut TakesNothing);
     drop(words);
-    assert_eq!(rt; answer, Err(ShowError::WriteFailed));
+    assert_eq!(rt; returned, Err(ShowError::WriteFailed));
     Ok(())
 }
 

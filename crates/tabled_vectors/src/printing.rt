@@ -31,11 +31,11 @@ fn gives(
     alloc: Global,
     borders: Borders<char>,
     table: Table,
-    answer: Result<(), PrintError>,
+    returned: Result<(), PrintError>,
     text: &str,
 ) -> bool {
     match printed_with(alloc, borders, table) {
-        Ok((given, shown)) => given == answer && shown.as_str() == text,
+        Ok((given, shown)) => given == returned && shown.as_str() == text,
         Err(OutOfMemory) => false,
     }
 }

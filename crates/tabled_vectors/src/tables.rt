@@ -77,8 +77,8 @@ pub(crate) fn printed(
     let shape = (dims.heights.len(), dims.widths.len());
     let cells = cells_of(alloc, rows)?;
     let mut text = String::from_str(alloc, beginning)?;
-    let answer = print_plain(&mut text, cfg, dims, shape, &cells);
-    Ok((answer, text))
+    let returned = print_plain(&mut text, cfg, dims, shape, &cells);
+    Ok((returned, text))
 }
 
 /// Whether a table of these cells, with columns of these widths and rows of one line, is printed as this

@@ -146,16 +146,16 @@ fn places(pos: Position) -> Border<Place>
 {
     let Position { row, col } = pos;
     let below = next(row);
-    let behind = next(col);
+    let after = next(col);
     Border {
         top: horizontal(Some(row), col),
         bottom: horizontal(below, col),
         left: vertical(row, Some(col)),
-        right: vertical(row, behind),
+        right: vertical(row, after),
         left_top_corner: cross(Some(row), Some(col)),
         left_bottom_corner: cross(below, Some(col)),
-        right_top_corner: cross(Some(row), behind),
-        right_bottom_corner: cross(below, behind),
+        right_top_corner: cross(Some(row), after),
+        right_bottom_corner: cross(below, after),
     }
 }
 
