@@ -11,7 +11,8 @@ pub trait CellRows {
     /// The text of each cell, row by row.
     ghost table: { Self → Table };
 
-    /// The cells of a row, counted from 0. They may stand in `room`, whatever that had.
+    /// The cells of a row, counted from 0. They may stand in `room`, whatever that had. Where memory is refused `room` may have
+    /// been changed, and nothing else.
     fn row<'a>(&'a self, row: usize, room: &'a mut Vec<String>) -> Result<&'a [String], OutOfMemory>
         requires { row < length (table self.now) }
         ensures { IfOk result (λ cells. map string_bytes cells.now ≡ slice_index_or (table self.now) row []) };
