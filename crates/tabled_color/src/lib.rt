@@ -7,8 +7,6 @@ mod border_color;
 mod color;
 mod comparing;
 mod constants;
-mod laws;
 
 pub use border_color::BorderColor;
 pub use color::Color;
-pub use laws::{equality_order_and_hash_agree, joined_with_empty};

@@ -5,10 +5,8 @@
 
 mod colorization;
 mod exact;
-mod laws;
 mod pattern;
 mod turns;
 
 pub use colorization::Colorization;
 pub use exact::ExactColorization;
-pub use laws::{chess_is_by_parity, no_colors_no_change};

@@ -10,7 +10,6 @@ mod color_map;
 mod colored_config;
 mod compact_options;
 mod configured;
-mod laws;
 mod print;
 mod print_error;
 mod refusals;
@@ -23,11 +22,6 @@ pub use cell_rows::CellRows;
 pub use color_map::{ColorMap, Colors};
 pub use colored_config::ColoredConfig;
 pub use configured::{BorderEvent, Configured};
-pub use laws::{
-    any_list, cell_colors_by_entity, changes_in_a_row, equal_where_same_is_kept,
-    second_time_changes_nothing, shown_after_change, shows_its_writes, shows_when_new,
-    steps_in_turn,
-};
 pub use print::{print_plain, print_rows};
 pub use print_error::PrintError;
 pub use seen::{Seen, headline};

@@ -5,10 +5,8 @@
 
 mod border_correction;
 mod covered;
-mod laws;
 mod picture;
 mod steps;
 mod stretch;
 
 pub use border_correction::BorderCorrection;
-pub use laws::{crossings_stand_where_written, each_step_reads_what_stands};

@@ -15,7 +15,6 @@ mod custom_lines;
 mod event;
 mod keep;
 mod keys;
-mod laws;
 mod layers;
 mod lines;
 mod number;
@@ -27,9 +26,6 @@ mod writes;
 
 pub use borders::Borders;
 pub use event::{Event, Region, Written};
-pub use laws::{
-    changes_in_a_row, equal_where_same_is_kept, read_alike, shown_after_change, shows_its_writes,
-};
 pub use layers::{Layers, border_writes};
 pub use lines::{HorizontalLine, VerticalLine};
 pub use offset::Offset;
@@ -41,6 +37,6 @@ pub use tabled_object::{
     Cell, Column, Columns, Combine, Difference, DifferenceIterator, Dimension, Entity,
     EntityIterator, ExactRecords, FirstColumn, FirstRow, FixedDimension, LastColumn,
     LastColumnOffset, LastRow, LastRowOffset, Object, Position, Records, Row, Rows, Segment,
-    SegmentAll, Shape, Union, entities_have_what_they_cover, listed_by_two, listed_without_order,
+    SegmentAll, Shape, Union,
 };
 pub use writes::{Target, Write};

@@ -6,13 +6,11 @@
 
 mod covering;
 mod indent;
-mod laws;
 mod margin;
 mod spans;
 mod table_settings;
 
 pub use indent::Indent;
-pub use laws::{as_by_what_is_left, margin_is_as_last_set, settings_in_a_row, span_is_as_last_set};
 pub use margin::Margin;
 pub use spans::Spans;
 pub use table_settings::TableSettings;

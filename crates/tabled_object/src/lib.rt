@@ -6,14 +6,12 @@
 
 mod dimension;
 mod entity;
-mod laws;
 mod object;
 mod position;
 mod records;
 
 pub use dimension::{Dimension, FixedDimension};
 pub use entity::{Entity, EntityIterator};
-pub use laws::{entities_have_what_they_cover, listed_by_two, listed_without_order};
 pub use object::{
     Cell, Column, Columns, Combine, Difference, DifferenceIterator, FirstColumn, FirstRow,
     LastColumn, LastColumnOffset, LastRow, LastRowOffset, Object, Row, Rows, Segment, SegmentAll,

@@ -6,7 +6,6 @@
 
 mod bytes;
 mod error;
-mod laws;
 mod page;
 mod program;
 mod read;
@@ -15,6 +14,5 @@ mod styles;
 mod words;
 
 pub use error::ShowError;
-pub use laws::one_line_a_row;
 pub use program::run;
 pub use words::all_words;

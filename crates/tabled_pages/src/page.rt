@@ -15,7 +15,7 @@ use crate::error::ShowError;
 use crate::read::INPUT_LIMIT;
 use crate::rows::rows_of;
 use std::alloc::Global;
-use tabled_config::{PrintError, shown_after_change};
+use tabled_config::PrintError;
 use tabled_style::ReadyStyle;
 use tabled_text::{TableError, TextTable};
 
@@ -47,9 +47,7 @@ fn styled_table(
     ensures refused { IfErr result (λ e. (e ≡ ShowError.OutOfMemory) ⊎ ((e ≡ ShowError.UnequalRows) × (have_equal_counts (texts rows.items) ≡ false))) }
 {
     let mut table = plain_table(alloc, rows)?;
-    let applied = table.apply(style);
-    shown_after_change();
-    applied?;
+    table.apply(style)?;
     Ok(table)
 }
 

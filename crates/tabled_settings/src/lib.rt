@@ -8,7 +8,6 @@ mod alignment;
 mod cell_settings;
 mod entity_map;
 mod last_events;
-mod laws;
 mod places;
 mod sides;
 mod slots;
@@ -16,7 +15,4 @@ mod slots;
 pub use alignment::{AlignmentHorizontal, AlignmentVertical};
 pub use cell_settings::CellSettings;
 pub use entity_map::EntityMap;
-pub use laws::{
-    as_by_what_is_left, each_by_its_own_events, settings_in_a_row, value_is_the_setting,
-};
 pub use sides::Sides;

@@ -4,7 +4,6 @@
 mod border;
 mod builder;
 mod horizontal_line;
-mod laws;
 mod on;
 mod ready_style;
 mod vertical_line;
@@ -12,7 +11,6 @@ mod vertical_line;
 pub use border::{Border, EmptyBorder};
 pub use builder::Style;
 pub use horizontal_line::HorizontalLine;
-pub use laws::{inherited_again, style_alone_decides, turned_and_back};
 pub use on::On;
 pub use ready_style::{ReadyStyle, UnknownStyle};
 pub use vertical_line::VerticalLine;

@@ -1,0 +1,5 @@
+use Rattle.tabled_config.proofs.ColorsLemmas.{by_entity}
+use Rattle.tabled_claims.proofs.lists.cell_colors_by_entity.Goals as goal
+
+pub returns : goal.returns
+returns c = λ events cell. by_entity events cell

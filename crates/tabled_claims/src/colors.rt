@@ -1,0 +1,348 @@
+//! The texts of colors.
+
+ghost use Rattle.std.specs.Prelude.{◌≡◌, ◌↔◌, [], true, false, codes, IsTrue, IfOk, string_bytes};
+ghost use Rattle.std.specs.declared.cmp.Ordering.{Ordering as Order};
+ghost use Rattle.tabled_color.specs.Shade.{Shade, texts_of, static_shade, owned_shade, sequence, rgb_sequence, joined};
+ghost use Rattle.tabled_color.specs.Painting.{colorized};
+
+use std::alloc::Global;
+use std::cmp::Ordering;
+use std::hash::Hash;
+use tabled_border::OutOfMemory;
+use tabled_color::Color;
+
+/// Black characters.
+pub fn black_characters() -> Color
+    ensures { result ≡ static_shade (sequence (codes "30")) (sequence (codes "39")) }
+{
+    Color::FG_BLACK
+}
+
+/// Red characters.
+pub fn red_characters() -> Color
+    ensures { result ≡ static_shade (sequence (codes "31")) (sequence (codes "39")) }
+{
+    Color::FG_RED
+}
+
+/// Green characters.
+pub fn green_characters() -> Color
+    ensures { result ≡ static_shade (sequence (codes "32")) (sequence (codes "39")) }
+{
+    Color::FG_GREEN
+}
+
+/// Yellow characters.
+pub fn yellow_characters() -> Color
+    ensures { result ≡ static_shade (sequence (codes "33")) (sequence (codes "39")) }
+{
+    Color::FG_YELLOW
+}
+
+/// Blue characters.
+pub fn blue_characters() -> Color
+    ensures { result ≡ static_shade (sequence (codes "34")) (sequence (codes "39")) }
+{
+    Color::FG_BLUE
+}
+
+/// Magenta characters.
+pub fn magenta_characters() -> Color
+    ensures { result ≡ static_shade (sequence (codes "35")) (sequence (codes "39")) }
+{
+    Color::FG_MAGENTA
+}
+
+/// Cyan characters.
+pub fn cyan_characters() -> Color
+    ensures { result ≡ static_shade (sequence (codes "36")) (sequence (codes "39")) }
+{
+    Color::FG_CYAN
+}
+
+/// White characters.
+pub fn white_characters() -> Color
+    ensures { result ≡ static_shade (sequence (codes "37")) (sequence (codes "39")) }
+{
+    Color::FG_WHITE
+}
+
+/// Bright black characters.
+pub fn bright_black_characters() -> Color
+    ensures { result ≡ static_shade (sequence (codes "90")) (sequence (codes "39")) }
+{
+    Color::FG_BRIGHT_BLACK
+}
+
+/// Bright red characters.
+pub fn bright_red_characters() -> Color
+    ensures { result ≡ static_shade (sequence (codes "91")) (sequence (codes "39")) }
+{
+    Color::FG_BRIGHT_RED
+}
+
+/// Bright green characters.
+pub fn bright_green_characters() -> Color
+    ensures { result ≡ static_shade (sequence (codes "92")) (sequence (codes "39")) }
+{
+    Color::FG_BRIGHT_GREEN
+}
+
+/// Bright yellow characters.
+pub fn bright_yellow_characters() -> Color
+    ensures { result ≡ static_shade (sequence (codes "93")) (sequence (codes "39")) }
+{
+    Color::FG_BRIGHT_YELLOW
+}
+
+/// Bright blue characters.
+pub fn bright_blue_characters() -> Color
+    ensures { result ≡ static_shade (sequence (codes "94")) (sequence (codes "39")) }
+{
+    Color::FG_BRIGHT_BLUE
+}
+
+/// Bright magenta characters.
+pub fn bright_magenta_characters() -> Color
+    ensures { result ≡ static_shade (sequence (codes "95")) (sequence (codes "39")) }
+{
+    Color::FG_BRIGHT_MAGENTA
+}
+
+/// Bright cyan characters.
+pub fn bright_cyan_characters() -> Color
+    ensures { result ≡ static_shade (sequence (codes "96")) (sequence (codes "39")) }
+{
+    Color::FG_BRIGHT_CYAN
+}
+
+/// Bright white characters.
+pub fn bright_white_characters() -> Color
+    ensures { result ≡ static_shade (sequence (codes "97")) (sequence (codes "39")) }
+{
+    Color::FG_BRIGHT_WHITE
+}
+
+/// A black background.
+pub fn black_background() -> Color
+    ensures { result ≡ static_shade (sequence (codes "40")) (sequence (codes "49")) }
+{
+    Color::BG_BLACK
+}
+
+/// A red background.
+pub fn red_background() -> Color
+    ensures { result ≡ static_shade (sequence (codes "41")) (sequence (codes "49")) }
+{
+    Color::BG_RED
+}
+
+/// A green background.
+pub fn green_background() -> Color
+    ensures { result ≡ static_shade (sequence (codes "42")) (sequence (codes "49")) }
+{
+    Color::BG_GREEN
+}
+
+/// A yellow background.
+pub fn yellow_background() -> Color
+    ensures { result ≡ static_shade (sequence (codes "43")) (sequence (codes "49")) }
+{
+    Color::BG_YELLOW
+}
+
+/// A blue background.
+pub fn blue_background() -> Color
+    ensures { result ≡ static_shade (sequence (codes "44")) (sequence (codes "49")) }
+{
+    Color::BG_BLUE
+}
+
+/// A magenta background.
+pub fn magenta_background() -> Color
+    ensures { result ≡ static_shade (sequence (codes "45")) (sequence (codes "49")) }
+{
+    Color::BG_MAGENTA
+}
+
+/// A cyan background.
+pub fn cyan_background() -> Color
+    ensures { result ≡ static_shade (sequence (codes "46")) (sequence (codes "49")) }
+{
+    Color::BG_CYAN
+}
+
+/// A white background.
+pub fn white_background() -> Color
+    ensures { result ≡ static_shade (sequence (codes "47")) (sequence (codes "49")) }
+{
+    Color::BG_WHITE
+}
+
+/// A bright black background.
+pub fn bright_black_background() -> Color
+    ensures { result ≡ static_shade (sequence (codes "100")) (sequence (codes "49")) }
+{
+    Color::BG_BRIGHT_BLACK
+}
+
+/// A bright red background.
+pub fn bright_red_background() -> Color
+    ensures { result ≡ static_shade (sequence (codes "101")) (sequence (codes "49")) }
+{
+    Color::BG_BRIGHT_RED
+}
+
+/// A bright green background.
+pub fn bright_green_background() -> Color
+    ensures { result ≡ static_shade (sequence (codes "102")) (sequence (codes "49")) }
+{
+    Color::BG_BRIGHT_GREEN
+}
+
+/// A bright yellow background.
+pub fn bright_yellow_background() -> Color
+    ensures { result ≡ static_shade (sequence (codes "103")) (sequence (codes "49")) }
+{
+    Color::BG_BRIGHT_YELLOW
+}
+
+/// A bright blue background.
+pub fn bright_blue_background() -> Color
+    ensures { result ≡ static_shade (sequence (codes "104")) (sequence (codes "49")) }
+{
+    Color::BG_BRIGHT_BLUE
+}
+
+/// A bright magenta background.
+pub fn bright_magenta_background() -> Color
+    ensures { result ≡ static_shade (sequence (codes "105")) (sequence (codes "49")) }
+{
+    Color::BG_BRIGHT_MAGENTA
+}
+
+/// A bright cyan background.
+pub fn bright_cyan_background() -> Color
+    ensures { result ≡ static_shade (sequence (codes "106")) (sequence (codes "49")) }
+{
+    Color::BG_BRIGHT_CYAN
+}
+
+/// A bright white background.
+pub fn bright_white_background() -> Color
+    ensures { result ≡ static_shade (sequence (codes "107")) (sequence (codes "49")) }
+{
+    Color::BG_BRIGHT_WHITE
+}
+
+/// Bold characters.
+pub fn bold() -> Color
+    ensures { result ≡ static_shade (sequence (codes "1")) (sequence (codes "22")) }
+{
+    Color::BOLD
+}
+
+/// Dimmed characters.
+pub fn dimmed() -> Color
+    ensures { result ≡ static_shade (sequence (codes "2")) (sequence (codes "22")) }
+{
+    Color::DIMMED
+}
+
+/// Italic characters.
+pub fn italic() -> Color
+    ensures { result ≡ static_shade (sequence (codes "3")) (sequence (codes "23")) }
+{
+    Color::ITALIC
+}
+
+/// Underlined characters.
+pub fn underline() -> Color
+    ensures { result ≡ static_shade (sequence (codes "4")) (sequence (codes "24")) }
+{
+    Color::UNDERLINE
+}
+
+/// Blinking characters.
+pub fn blink() -> Color
+    ensures { result ≡ static_shade (sequence (codes "5")) (sequence (codes "25")) }
+{
+    Color::BLINK
+}
+
+/// Characters in the color of the background, on their own.
+pub fn invert() -> Color
+    ensures { result ≡ static_shade (sequence (codes "7")) (sequence (codes "27")) }
+{
+    Color::INVERT
+}
+
+/// Hidden characters.
+pub fn hidden() -> Color
+    ensures { result ≡ static_shade (sequence (codes "8")) (sequence (codes "28")) }
+{
+    Color::HIDDEN
+}
+
+/// Characters that are struck through.
+pub fn strikethrough() -> Color
+    ensures { result ≡ static_shade (sequence (codes "9")) (sequence (codes "29")) }
+{
+    Color::STRIKETHROUGH
+}
+
+/// The end of all colors and attributes.
+pub fn reset() -> Color
+    ensures { result ≡ static_shade (sequence (codes "0")) (sequence (codes "0")) }
+{
+    Color::RESET
+}
+
+/// A color of characters by its red, green and blue part, in decimal.
+pub fn characters_by_parts(alloc: Global, r: u8, g: u8, b: u8) -> Result<Color, OutOfMemory>
+    ensures { IfOk result (λ color. color ≡ owned_shade (rgb_sequence (codes "38") r g b) (sequence (codes "39"))) }
+{
+    Color::rgb_fg(alloc, r, g, b)
+}
+
+/// A color of the background by its red, green and blue part, in decimal.
+pub fn background_by_parts(alloc: Global, r: u8, g: u8, b: u8) -> Result<Color, OutOfMemory>
+    ensures { IfOk result (λ color. color ≡ owned_shade (rgb_sequence (codes "48") r g b) (sequence (codes "49"))) }
+{
+    Color::rgb_bg(alloc, r, g, b)
+}
+
+/// A color of any two texts.
+pub fn color_of_texts(alloc: Global, prefix: &str, suffix: &str) -> Result<Color, OutOfMemory>
+    ensures { IfOk result (λ color. color ≡ owned_shade prefix.now suffix.now) }
+{
+    Color::new(alloc, prefix, suffix)
+}
+
+/// Two colors at once: each text of the first, followed by that of the second where the two differ.
+pub fn two_colors_joined(alloc: Global, first: &Color, second: &Color) -> Result<Color, OutOfMemory>
+    ensures { IfOk result (λ color. color ≡ joined first.now second.now) }
+{
+    first.join(alloc, second)
+}
+
+/// Joined with the empty color a color keeps its texts.
+pub fn joined_with_empty()
+    ensures { (color : Shade) → texts_of (joined color (static_shade [] [])) ≡ texts_of color }
+{}
+
+/// A text in color: the texts of the color stand around each of its lines, and around no line feed.
+pub fn text_in_color(alloc: Global, color: &Color, text: &str) -> Result<String, OutOfMemory>
+    ensures { IfOk result (λ colored. string_bytes colored ≡ colorized color.now text.now) }
+{
+    color.colorize(alloc, text)
+}
+
+/// Colors are equal by `==` exactly where they are the same, and so where their order is `Equal`; equal ones are hashed
+/// alike. A static color is unequal to an owned one, and stands before it.
+pub fn equality_order_and_hash_agree()
+    ensures equal { (a b : Shade) → IsTrue (⟦<Color as PartialEq>⟧.eq a b) ↔ (a ≡ b) }
+    ensures order { (a b : Shade) → (⟦<Color as Ord>⟧.cmp a b ≡ Ordering.Equal) ↔ (a ≡ b) }
+    ensures hash { (a b : Shade) → IsTrue (⟦<Color as PartialEq>⟧.eq a b) → ⟦<Color as Hash>⟧.hash_input a ≡ ⟦<Color as Hash>⟧.hash_input b }
+    ensures static_first { (a b : Shade) → a.owned ≡ false → b.owned ≡ true → ⟦<Color as Ord>⟧.cmp a b ≡ Ordering.Less }
+{}

@@ -1,0 +1,116 @@
+//! What is set for cells, by entity.
+
+ghost use Rattle.std.specs.Prelude.{◌≡◌, ◌+◌, ◌%◌, ◌==◌, ◌<◌, ◌++◌, ℕ, List, [], ◌∷◌, None, false, if◌then◌else◌, IsOk, IsTrue, OnOk, OnErr};
+ghost use Rattle.std.specs.List.{filter_map};
+ghost use Rattle.tabled_border.specs.Texts.{Texts};
+ghost use Rattle.tabled_object.specs.declared.position.Position.{Position as At};
+ghost use Rattle.tabled_object.specs.Entities.{position};
+ghost use Rattle.tabled_settings.specs.declared.alignment.AlignmentHorizontal.{AlignmentHorizontal};
+ghost use Rattle.tabled_settings.specs.declared.alignment.AlignmentVertical.{AlignmentVertical};
+ghost use Rattle.tabled_settings.specs.declared.cell_settings.CellSettings.{CellSettings};
+ghost use Rattle.tabled_settings.specs.CellSettings.{SettingEvent, settings_after, first_settings, settings_left, no_colors, alignment_horizontal_event, alignment_vertical_event, trim_horizontal_event, trim_vertical_event, line_alignment_event, justification_event, justification_color_event, padding_color_event};
+ghost use Rattle.tabled_settings.specs.Live.{after, after_all, at_first, value_at};
+ghost use Rattle.tabled_settings.specs.Setting.{EntityEvent, is_global, removal_of, setting, write_of};
+ghost use Rattle.tabled_config.specs.EntitiesColored.{entities_colored, text_writes};
+ghost use Rattle.tabled_color.specs.Shade.{Shade, texts_of};
+ghost use Rattle.tabled_colorization.specs.declared.pattern.Pattern.{Pattern as Order};
+ghost use Rattle.tabled_colorization.specs.declared.pattern.Pattern.TheVariants as pattern;
+ghost use Rattle.tabled_colorization.specs.Turns.{colorization};
+
+use std::alloc::Global;
+use tabled_border::OutOfMemory;
+use tabled_object::{Entity, Position};
+use tabled_settings::EntityMap;
+
+/// A new map after no event: every cell has the default.
+pub fn new_map<T>(alloc: Global, default: T) -> EntityMap<T>
+    ensures { result ≡ after_all (at_first default) [] }
+{
+    EntityMap::new(alloc, default)
+}
+
+/// A value written for the cells of an entity; for all cells no memory is asked for.
+pub fn written_for_an_entity<T: Drop>(
+    map: &mut EntityMap<T>,
+    entity: Entity,
+    value: T,
+) -> Result<(), OutOfMemory>
+    ensures written { OnOk result (map.new ≡ after map.old (write_of entity value)) }
+    ensures unchanged { OnErr result (map.new ≡ map.old) }
+    ensures always { IsTrue (is_global entity) → IsOk result }
+{
+    map.insert(entity, value)
+}
+
+/// The value of the cells of an entity removed; for all cells no memory is asked for.
+pub fn removed_for_an_entity<T: Drop>(
+    map: &mut EntityMap<T>,
+    entity: Entity,
+) -> Result<(), OutOfMemory>
+    ensures removed { OnOk result (map.new ≡ after map.old (removal_of entity)) }
+    ensures unchanged { OnErr result (map.new ≡ map.old) }
+    ensures always { IsTrue (is_global entity) → IsOk result }
+{
+    map.remove(entity)
+}
+
+/// The value of a cell after any list of events is that of the last one that covers it: a removal, and no event, gives the
+/// default.
+pub fn value_of_a_cell<T>(map: &EntityMap<T>, cell: Position) -> &T
+    ensures { (default : T) (events : List (EntityEvent T)) → map.now ≡ after_all (at_first default) events
+        → result.now ≡ setting events default cell }
+{
+    map.get(cell)
+}
+
+/// After any list of events an entity map has, for every cell, the value that the last event covering it gives.
+pub fn value_is_the_setting<T>()
+    ensures { (default : T) (events : List (EntityEvent T)) (cell : At)
+        → value_at (after_all (at_first default) events) cell ≡ setting events default cell }
+{}
+
+/// After any list of events of several kinds each setting has, for every cell, the value that the last event of its own kind
+/// covering the cell gives.
+pub fn each_by_its_own_events()
+    ensures alignment_horizontal { (events : List SettingEvent) (cell : At)
+        → value_at (settings_after first_settings events).alignment_horizontal cell ≡ setting (filter_map alignment_horizontal_event events) AlignmentHorizontal.Left cell }
+    ensures alignment_vertical { (events : List SettingEvent) (cell : At)
+        → value_at (settings_after first_settings events).alignment_vertical cell ≡ setting (filter_map alignment_vertical_event events) AlignmentVertical.Top cell }
+    ensures trim_horizontal { (events : List SettingEvent) (cell : At)
+        → value_at (settings_after first_settings events).trim_horizontal cell ≡ setting (filter_map trim_horizontal_event events) false cell }
+    ensures trim_vertical { (events : List SettingEvent) (cell : At)
+        → value_at (settings_after first_settings events).trim_vertical cell ≡ setting (filter_map trim_vertical_event events) false cell }
+    ensures line_alignment { (events : List SettingEvent) (cell : At)
+        → value_at (settings_after first_settings events).line_alignment cell ≡ setting (filter_map line_alignment_event events) false cell }
+    ensures justification { (events : List SettingEvent) (cell : At)
+        → value_at (settings_after first_settings events).justification cell ≡ setting (filter_map justification_event events) 32 cell }
+    ensures justification_color { (events : List SettingEvent) (cell : At)
+        → value_at (settings_after first_settings events).justification_color cell ≡ setting (filter_map justification_color_event events) None cell }
+    ensures padding_color { (events : List SettingEvent) (cell : At)
+        → value_at (settings_after first_settings events).padding_color cell ≡ setting (filter_map padding_color_event events) no_colors cell }
+{}
+
+/// Two lists of events in a row are one list.
+pub fn settings_in_a_row()
+    ensures { (settings : CellSettings) (es fs : List SettingEvent)
+        → settings_after settings (es ++ fs) ≡ settings_after (settings_after settings es) fs }
+{}
+
+/// After any list of events, the events that still count make the same settings.
+pub fn as_by_what_is_left()
+    ensures { (events : List SettingEvent)
+        → settings_after first_settings (settings_left (settings_after first_settings events)) ≡ settings_after first_settings events }
+{}
+
+/// Without colors no pattern makes an event.
+pub fn no_colors_no_change()
+    ensures { (pattern : Order) (rows cols : ℕ) → entities_colored (colorization (record { pattern = pattern; colors = [] }) rows cols) ≡ [] }
+{}
+
+/// On a chess board a cell of the table has the first color where its row and its column add up to an even number, and else
+/// the second one, whatever it had before.
+pub fn chess_is_by_parity()
+    ensures { (white black : Shade) (rows cols row col : ℕ) (before : Texts) → row < rows → col < cols
+        → setting (text_writes (colorization (record { pattern = pattern.Chess; colors = white ∷ black ∷ [] }) rows cols)) before (position row col)
+        ≡ texts_of (if (row + col) % 2 == 0 then white else black) }
+{}

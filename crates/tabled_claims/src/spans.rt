@@ -1,0 +1,61 @@
+//! The margin, spans, and the correction of borders beside them.
+
+ghost use Rattle.std.specs.Prelude.{◌≡◌, ◌++◌, List, None, unwrap_or, ℕ, map, true};
+ghost use Rattle.std.specs.List.{filter_map, last_or};
+ghost use Rattle.tabled_object.specs.declared.position.Position.{Position as At};
+ghost use Rattle.tabled_layout.specs.declared.table_settings.TableSettings.{TableSettings};
+ghost use Rattle.tabled_layout.specs.Margin.{MarginEvent, margin_after, first_margin, size_event, offset_event, color_event};
+ghost use Rattle.tabled_layout.specs.Spans.{SpanEvent, spans_after, span_of};
+ghost use Rattle.tabled_layout.specs.TableSettings.{TableEvent, settings_after, first_settings, settings_left};
+ghost use Rattle.tabled_grid.specs.declared.event.Event.{Event};
+ghost use Rattle.tabled_grid.specs.declared.place.Place.{Place};
+ghost use Rattle.tabled_grid.specs.Event.{replay};
+ghost use Rattle.tabled_grid.specs.Value.{has_spot, plain_value};
+ghost use Rattle.tabled_config.specs.Configuration.{Configuration, Changes};
+ghost use Rattle.tabled_correction.specs.Correction.{Write, written_over, spanned, columns_corrected, rows_corrected, inner_corrected, crossing_written, crossings_written, correction_events};
+ghost use Rattle.std.specs.FinMap as map;
+
+/// After any list of calls the span at a position is what the last call for that position left.
+pub fn span_is_as_last_set()
+    ensures { (events : List SpanEvent) (position : At)
+        → map.get (spans_after map.empty events) position ≡ span_of events position }
+{}
+
+/// After any list of events each part of the margin is as it was set last, and as at first where it never was.
+pub fn margin_is_as_last_set()
+    ensures size { (events : List MarginEvent)
+        → (margin_after first_margin events).size ≡ unwrap_or (last_or None (filter_map size_event events)) first_margin.size }
+    ensures offset { (events : List MarginEvent)
+        → (margin_after first_margin events).offset ≡ unwrap_or (last_or None (filter_map offset_event events)) first_margin.offset }
+    ensures color { (events : List MarginEvent)
+        → (margin_after first_margin events).color ≡ unwrap_or (last_or None (filter_map color_event events)) first_margin.color }
+{}
+
+/// Two lists of events in a row are one list.
+pub fn settings_in_a_row()
+    ensures { (settings : TableSettings) (es fs : List TableEvent)
+        → settings_after settings (es ++ fs) ≡ settings_after (settings_after settings es) fs }
+{}
+
+/// After any list of events, the events that still count make the same settings.
+pub fn as_by_what_is_left()
+    ensures { (events : List TableEvent)
+        → settings_after first_settings (settings_left (settings_after first_settings events)) ≡ settings_after first_settings events }
+{}
+
+/// What the picture of a table becomes when crossings are written is what the events show at each of its edges and crossings
+/// once these writes follow them.
+pub fn crossings_stand_where_written()
+    ensures { (events : List (Event ℕ)) (writes : List Write) (shape : ℕ × ℕ) (place : Place) → has_spot shape place ≡ true
+        → plain_value (replay (events ++ map crossing_written writes)) shape place ≡ written_over writes (plain_value (replay events) shape) place }
+{}
+
+/// The correction is three changes in a row: each of its steps reads exactly what the configuration shows when the writes of
+/// the steps before it have been made.
+pub fn each_step_reads_what_stands()
+    ensures { (shape : ℕ × ℕ) (old between after : Configuration)
+        → Changes (crossings_written (columns_corrected (spanned shape old))) old between
+        → Changes (crossings_written (rows_corrected (spanned shape between))) between after
+        → correction_events shape old ≡ crossings_written (columns_corrected (spanned shape old))
+        ++ (crossings_written (rows_corrected (spanned shape between)) ++ crossings_written (inner_corrected (spanned shape after))) }
+{}

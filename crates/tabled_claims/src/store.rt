@@ -1,0 +1,236 @@
+//! The store of borders, for every type of value.
+#![tactic(auto, using(crate::proofs::Shown::shown_next, crate::proofs::Shown::shown_then))]
+
+ghost use Rattle.std.specs.Prelude.{◌≡◌, ◌↔◌, ℕ, List, [], ◌∷◌, ◌++◌, IsTrue, Option, OnOk, OnErr, option_copied};
+ghost use Rattle.std.specs.Option.{option_eq};
+ghost use Rattle.tabled_grid.specs.declared.event.Event.{Event};
+ghost use Rattle.tabled_grid.specs.declared.event.Event.TheVariants.{Erase as erase};
+ghost use Rattle.tabled_grid.specs.declared.event.Region.TheVariants.{Level as level_sites};
+ghost use Rattle.tabled_grid.specs.declared.event.Written.{Written};
+ghost use Rattle.tabled_grid.specs.declared.place.LineOf.{LineOf as Line};
+ghost use Rattle.tabled_grid.specs.declared.place.Place.{Place as At};
+ghost use Rattle.tabled_grid.specs.declared.site.Direction.TheVariants.{Horizontal, Vertical};
+ghost use Rattle.tabled_grid.specs.declared.site.Site.{Site};
+ghost use Rattle.tabled_grid.specs.Calls.{default_set, line_set_horizontal, line_set_vertical, line_removed, lines_erased, cell_set, cell_erased, offset_set, offsets_erased, border_set, border_erased};
+ghost use Rattle.tabled_grid.specs.Drawn.{Drawn, drawn};
+ghost use Rattle.tabled_grid.specs.Event.{replay, Shows, Changes};
+ghost use Rattle.tabled_grid.specs.Probing.{IsRaised};
+ghost use Rattle.tabled_grid.specs.Same.{same_written};
+ghost use Rattle.tabled_grid.specs.State.{State, class_record_set, state_at, writes_of};
+ghost use Rattle.tabled_grid.specs.Value.{value};
+
+use std::alloc::Global;
+use tabled_grid::{
+    Border, Borders, HorizontalLine, Layers, LineOf, Offset, OutOfMemory, Place, Position, Probes,
+    VerticalLine,
+};
+
+/// A new store shows that nothing happened.
+pub fn new_store<T>(alloc: Global) -> Layers<T>
+    ensures { Shows [] (state_at result) }
+{
+    Layers::new(alloc)
+}
+
+/// What shows at a place is the value that the events leave there, for every list of events that the store shows, found in at
+/// most six readings.
+pub fn value_of_a_place<'a, T>(
+    store: &'a Layers<T>,
+    place: Place,
+    shape: (usize, usize),
+    size: usize,
+    probes: &mut Probes,
+) -> Option<&'a T>
+    ensures value { (events : List (Event T)) → Shows events (state_at store.now) → option_copied result ≡ value (replay events) shape size place }
+    ensures six_readings { IsRaised 6 probes.old probes.new }
+{
+    store.at(place, shape, size, probes)
+}
+
+/// A line is drawn where the events draw it, for every list of events that the store shows, found in at most six readings.
+pub fn line_is_drawn<T>(store: &Layers<T>, line: LineOf, count: usize, probes: &mut Probes) -> bool
+    ensures drawn { (events : List (Event T)) → Shows events (state_at store.now) → IsTrue result ↔ IsTrue (drawn events count line) }
+    ensures six_readings { IsRaised 6 probes.old probes.new }
+{
+    store.draws(line, count, probes)
+}
+
+/// A value written as the default.
+pub fn default_written<T: Drop>(store: &mut Layers<T>, value: T)
+    ensures { (before : List (Event T)) → Shows before (state_at store.old) → Shows (before ++ (default_set value)) (state_at store.new) }
+{
+    store.set_default(value);
+}
+
+/// The default erased.
+pub fn default_erased<T: Drop>(store: &mut Layers<T>)
+    ensures { (before : List (Event T)) → Shows before (state_at store.old) → Shows (before ++ (erase (level_sites 0) ∷ [])) (state_at store.new) }
+{
+    store.erase_default();
+}
+
+/// A class record set whole: what was there before is gone, also where the new one has nothing.
+pub fn class_record_set<T: Drop>(store: &mut Layers<T>, borders: Borders<T>)
+    ensures { (before : List (Event T)) → Shows before (state_at store.old) → Shows (before ++ (class_record_set borders)) (state_at store.new) }
+{
+    store.set_class(borders);
+}
+
+/// The class record erased.
+pub fn class_record_erased<T: Drop>(store: &mut Layers<T>)
+    ensures { (before : List (Event T)) → Shows before (state_at store.old) → Shows (before ++ (erase (level_sites 1) ∷ [])) (state_at store.new) }
+{
+    store.erase_class();
+}
+
+/// A custom horizontal line put at an index, in place of the one that stood there.
+pub fn horizontal_line_put<T: Drop>(
+    store: &mut Layers<T>,
+    index: usize,
+    line: HorizontalLine<T>,
+) -> Result<(), OutOfMemory>
+    ensures shown { (before : List (Event T)) → Shows before (state_at store.old) → OnOk result (Shows (before ++ line_set_horizontal index line) (state_at store.new)) }
+    ensures unchanged { OnErr result (store.new ≡ store.old) }
+{
+    store.insert_hline(index, line)
+}
+
+/// The custom horizontal line of an index removed.
+pub fn horizontal_line_removed<T: Drop>(store: &mut Layers<T>, index: usize)
+    ensures { (before : List (Event T)) → Shows before (state_at store.old) → Shows (before ++ (line_removed (Line.Horizontal index))) (state_at store.new) }
+{
+    store.remove_hline(index);
+}
+
+/// A custom vertical line put at an index, in place of the one that stood there.
+pub fn vertical_line_put<T: Drop>(
+    store: &mut Layers<T>,
+    index: usize,
+    line: VerticalLine<T>,
+) -> Result<(), OutOfMemory>
+    ensures shown { (before : List (Event T)) → Shows before (state_at store.old) → OnOk result (Shows (before ++ line_set_vertical index line) (state_at store.new)) }
+    ensures unchanged { OnErr result (store.new ≡ store.old) }
+{
+    store.insert_vline(index, line)
+}
+
+/// The custom vertical line of an index removed.
+pub fn vertical_line_removed<T: Drop>(store: &mut Layers<T>, index: usize)
+    ensures { (before : List (Event T)) → Shows before (state_at store.old) → Shows (before ++ (line_removed (Line.Vertical index))) (state_at store.new) }
+{
+    store.remove_vline(index);
+}
+
+/// All custom lines removed.
+pub fn lines_erased<T: Drop>(store: &mut Layers<T>)
+    ensures { (before : List (Event T)) → Shows before (state_at store.old) → Shows (before ++ (lines_erased)) (state_at store.new) }
+{
+    store.erase_lines();
+}
+
+/// A value written for cells at the edge or the crossing of a place.
+pub fn cell_written<T: Drop>(
+    store: &mut Layers<T>,
+    place: Place,
+    value: T,
+) -> Result<(), OutOfMemory>
+    ensures shown { (before : List (Event T)) → Shows before (state_at store.old) → OnOk result (Shows (before ++ cell_set place value) (state_at store.new)) }
+    ensures unchanged { OnErr result (store.new ≡ store.old) }
+{
+    store.set_cell(place, value)
+}
+
+/// What cells have at the edge or the crossing of a place erased.
+pub fn cell_erased<T: Drop>(store: &mut Layers<T>, place: Place)
+    ensures { (before : List (Event T)) → Shows before (state_at store.old) → Shows (before ++ (cell_erased place)) (state_at store.new) }
+{
+    store.erase_cell(place);
+}
+
+/// All that cells have erased.
+pub fn cells_erased<T: Drop>(store: &mut Layers<T>)
+    ensures { (before : List (Event T)) → Shows before (state_at store.old) → Shows (before ++ (erase (level_sites 4) ∷ [])) (state_at store.new) }
+{
+    store.erase_cells();
+}
+
+/// A value written at a numbered place of an edge.
+pub fn offset_written<T: Drop>(
+    store: &mut Layers<T>,
+    place: Place,
+    offset: Offset,
+    value: T,
+) -> Result<(), OutOfMemory>
+    ensures shown { (before : List (Event T)) → Shows before (state_at store.old) → OnOk result (Shows (before ++ offset_set place offset value) (state_at store.new)) }
+    ensures unchanged { OnErr result (store.new ≡ store.old) }
+{
+    store.set_offset(place, offset, value)
+}
+
+/// All values at numbered places of horizontal edges erased.
+pub fn horizontal_offsets_erased<T: Drop>(store: &mut Layers<T>)
+    ensures { (before : List (Event T)) → Shows before (state_at store.old) → Shows (before ++ (offsets_erased Horizontal)) (state_at store.new) }
+{
+    store.erase_horizontal_offsets();
+}
+
+/// All values at numbered places of vertical edges erased.
+pub fn vertical_offsets_erased<T: Drop>(store: &mut Layers<T>)
+    ensures { (before : List (Event T)) → Shows before (state_at store.old) → Shows (before ++ (offsets_erased Vertical)) (state_at store.new) }
+{
+    store.erase_vertical_offsets();
+}
+
+/// What a border gives, written around a cell.
+pub fn border_written<T: Drop>(
+    store: &mut Layers<T>,
+    pos: Position,
+    border: Border<T>,
+) -> Result<(), OutOfMemory>
+    ensures shown { (before : List (Event T)) → Shows before (state_at store.old) → OnOk result (Shows (before ++ border_set pos border) (state_at store.new)) }
+    ensures unchanged { OnErr result (store.new ≡ store.old) }
+{
+    store.set_border(pos, border)
+}
+
+/// What stands around a cell erased.
+pub fn border_erased<T: Drop>(store: &mut Layers<T>, pos: Position)
+    ensures { (before : List (Event T)) → Shows before (state_at store.old) → Shows (before ++ (border_erased pos)) (state_at store.new) }
+{
+    store.erase_border(pos);
+}
+
+/// A list of events that was shown before a change, followed by the events of the change, is shown after it.
+pub fn shown_after_change<T>()
+    ensures { (before es : List (Event T)) (old new : Site → Option (Written T))
+        → Changes es old new → Shows before old → Shows (before ++ es) new }
+{}
+
+/// Two changes in a row are the change by the events of both.
+pub fn changes_in_a_row<T>()
+    ensures { (es fs : List (Event T)) (old between new : Site → Option (Written T))
+        → Changes es old between → Changes fs between new → Changes (es ++ fs) old new }
+{}
+
+/// What the values of places and the drawn lines read off a store is what they read off any list of
+/// events that it shows.
+pub fn read_alike<T>()
+    ensures values { (es : List (Event T)) (state : Site → Option (Written T)) (shape : ℕ × ℕ) (size : ℕ) (place : At)
+        → Shows es state → value state shape size place ≡ value (replay es) shape size place }
+    ensures lines { (es : List (Event T)) (state : Site → Option (Written T)) (count : ℕ) (line : Line)
+        → Shows es state → Drawn state count line ↔ IsTrue (drawn es count line) }
+{}
+
+/// Whatever a store keeps, there is a list of events that it shows: the writes of all of it.
+pub fn shows_its_writes<T>()
+    ensures { (state : State T) → Shows (writes_of state) (state_at state) }
+{}
+
+/// Two stores are equal by `==` exactly where at every site both keep nothing, or what they keep is equal; and
+/// where `==` of the values is true of equal values alone, exactly where they keep the same.
+pub fn equal_where_same_is_kept<T: PartialEq>()
+    ensures sites { (a b : State T) → IsTrue (⟦<Layers<T> as PartialEq>⟧.eq a b)
+        ↔ ((site : Site) → IsTrue (option_eq (same_written T.eq) (state_at a site) (state_at b site))) }
+    ensures exact { ((x y : T) → IsTrue (T.eq x y) ↔ (x ≡ y))
+        → (a b : State T) → IsTrue (⟦<Layers<T> as PartialEq>⟧.eq a b) ↔ (a ≡ b) }
+{}

@@ -1,0 +1,88 @@
+//! Styles, lines and themes.
+
+ghost use Rattle.std.specs.Prelude.{◌≡◌, ℕ, ◌↔◌, None, IsTrue};
+ghost use Rattle.tabled_border.specs.declared.border.Border.{Border as Frame};
+ghost use Rattle.tabled_grid.specs.declared.lines.HorizontalLine.{HorizontalLine as Horizontal};
+ghost use Rattle.tabled_grid.specs.declared.lines.VerticalLine.{VerticalLine as Vertical};
+ghost use Rattle.tabled_grid.specs.declared.place.Rank.{Rank};
+ghost use Rattle.tabled_grid.specs.Borders.{horizontal_of, vertical_of};
+ghost use Rattle.tabled_style.specs.Shown.{Shown, frame_of};
+ghost use Rattle.tabled_style.specs.Lines.{turned_horizontal};
+ghost use Rattle.tabled_style.specs.LineCalls.{with_line_horizontal, with_line_vertical};
+ghost use Rattle.tabled_style.specs.Frame.{with_frame};
+ghost use Rattle.tabled_grid.specs.declared.place.LineOf.{LineOf as Line};
+ghost use Rattle.tabled_grid.specs.declared.place.Place.{Place as At};
+ghost use Rattle.tabled_grid.specs.Event.{replay};
+ghost use Rattle.tabled_grid.specs.Value.{value};
+ghost use Rattle.tabled_grid.specs.Drawn.{Drawn, drawn};
+ghost use Rattle.tabled_grid.specs.State.{state_at, class_record_set};
+ghost use Rattle.tabled_config.specs.Colored.{Colored, Changes};
+ghost use Rattle.tabled_config.specs.Configuration.{borders_replaced, characters_of, colors_of};
+ghost use Rattle.tabled_style.specs.Deciding.{written_by};
+ghost use Rattle.tabled_grid.specs.declared.site.Site.{Site};
+ghost use Rattle.tabled_theme.specs.Shown.{ThemeShown, of_style, of_configuration};
+ghost use Rattle.tabled_theme.specs.Events.{as_style, color_texts, style_applied, theme_applied, DrawsLike};
+
+use tabled_grid::VerticalLine as VLine;
+use tabled_style::HorizontalLine;
+
+/// A horizontal line that is converted to a vertical one, whose four characters are then those of a horizontal line,
+/// its upper end on the left, has its four characters again.
+pub fn turned_and_back<L, R, I>()
+    ensures { (line : Horizontal ℕ) (vertical : Vertical ℕ)
+        → ⟦<VLine<char> as From<HorizontalLine<L, R, I>>>⟧.from_gives line vertical → turned_horizontal vertical ≡ line }
+{}
+
+/// A line that took the place of a line of a style is what is inherited from there, although the rest of the style
+/// followed it; and so is a frame, as it was corrected.
+#[tactic(auto, using(tabled_style::proofs::Inherited::horizontal_again, tabled_style::proofs::Inherited::vertical_again), unfolding(tabled_style::specs::Frame::with_frame))]
+pub fn inherited_again()
+    ensures horizontal { (rank : Rank) (line : Horizontal ℕ) (style : Shown) → horizontal_of rank (with_line_horizontal rank line style).borders ≡ line }
+    ensures vertical { (rank : Rank) (line : Vertical ℕ) (style : Shown) → vertical_of rank (with_line_vertical rank line style).borders ≡ line }
+    ensures frame { (border : Frame ℕ) (style : Shown) → frame_of (with_frame border style).borders ≡ border }
+{}
+
+/// After a style the character of every border place, and which lines are drawn, are those of what the style writes,
+/// by the shape of the table and the length of the edge, and no place has a color, whatever was there before. A class
+/// record that is applied as an option makes the same events as a style without custom lines, so it holds there too.
+pub fn style_alone_decides()
+    ensures characters { (style : Shown) (old new : Colored) (shape : ℕ × ℕ) (size : ℕ) (place : At)
+        → Changes (borders_replaced style.borders style.horizontals style.verticals) old new
+        → value (state_at new.spanned.characters) shape size place ≡ value (replay (written_by style)) shape size place }
+    ensures colors { (style : Shown) (old new : Colored) (shape : ℕ × ℕ) (size : ℕ) (place : At)
+        → Changes (borders_replaced style.borders style.horizontals style.verticals) old new
+        → value (state_at new.spanned.colors) shape size place ≡ None }
+    ensures lines { (style : Shown) (old new : Colored) (count : ℕ) (line : Line)
+        → Changes (borders_replaced style.borders style.horizontals style.verticals) old new
+        → Drawn (state_at new.spanned.characters) count line ↔ IsTrue (drawn (written_by style) count line) }
+{}
+
+/// After a theme the character and the color of every border place, and which lines are drawn, are those of what the
+/// theme writes, by the shape of the table and the length of the edge, whatever was there before.
+pub fn theme_alone_decides()
+    ensures characters { (theme : ThemeShown) (old new : Colored) (shape : ℕ × ℕ) (size : ℕ) (place : At) → Changes (theme_applied theme) old new
+        → value (state_at new.spanned.characters) shape size place ≡ value (replay (written_by (as_style theme))) shape size place }
+    ensures colors { (theme : ThemeShown) (old new : Colored) (shape : ℕ × ℕ) (size : ℕ) (place : At) → Changes (theme_applied theme) old new
+        → value (state_at new.spanned.colors) shape size place ≡ value (replay (class_record_set (color_texts theme))) shape size place }
+    ensures lines { (theme : ThemeShown) (old new : Colored) (count : ℕ) (line : Line) → Changes (theme_applied theme) old new
+        → Drawn (state_at new.spanned.characters) count line ↔ IsTrue (drawn (written_by (as_style theme)) count line) }
+{}
+
+/// A theme that is made of a style leaves at every site what the style leaves, for every list of custom lines: so every
+/// place has the same character and the same color, and the same lines are drawn.
+pub fn from_style_draws_the_style()
+    ensures characters { (style : Shown) (site : Site)
+        → replay (characters_of (theme_applied (of_style style))) site ≡ replay (characters_of (style_applied style)) site }
+    ensures colors { (style : Shown) (site : Site)
+        → replay (colors_of (theme_applied (of_style style))) site ≡ replay (colors_of (style_applied style)) site }
+    ensures places { (style : Shown) (shape : ℕ × ℕ) (size : ℕ) (place : At)
+        → value (replay (characters_of (theme_applied (of_style style)))) shape size place ≡ value (replay (characters_of (style_applied style))) shape size place }
+    ensures lines { (style : Shown) (count : ℕ) (line : Line)
+        → Drawn (replay (characters_of (theme_applied (of_style style)))) count line ↔ Drawn (replay (characters_of (style_applied style))) count line }
+{}
+
+/// The theme that is read from a configuration to which a theme was applied draws like that theme: it has the same
+/// characters, colors of the same texts, and at each index the same line that shows.
+pub fn from_config_reads_the_theme()
+    ensures { (theme : ThemeShown) (old new : Colored) → Changes (theme_applied theme) old new → DrawsLike (of_configuration new.spanned) theme }
+{}

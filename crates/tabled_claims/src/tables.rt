@@ -1,0 +1,136 @@
+//! Tables of texts.
+
+ghost use Rattle.std.specs.Prelude.{◌≡◌, ◌++◌, ◌⊎◌, ℕ, List, [], map, length, take, string_bytes, slice_get, IfOk, IfErr, OnOk, OnErr, MatchOption, IsOkUnless};
+ghost use Rattle.tabled_config.specs.Colored.{Shows, Changes};
+ghost use Rattle.tabled_config.specs.Configuration.{ConfigEvent};
+ghost use Rattle.tabled_config.specs.Configuration as borders;
+ghost use Rattle.tabled_config.specs.Options.{MakesInTurn};
+ghost use Rattle.tabled_config.specs.Refusal.{span_faults};
+ghost use Rattle.tabled_config.specs.Texts.{texts};
+ghost use Rattle.tabled_config.specs.declared.print_error.PrintError.{PrintError as Fault};
+ghost use Rattle.tabled_text.specs.Refusal.{of_printer};
+ghost use Rattle.tabled_text.specs.Sizes.{column_count, column_widths, row_heights, unequal_row};
+ghost use Rattle.tabled_text.specs.TextTable.{lent_rows, shape_of, text_of};
+ghost use Rattle.tabled_text.specs.declared.table_error.TableError.{TableError as Refusal};
+
+use std::alloc::Global;
+use std::fmt;
+use tabled_config::{CellOption, ColoredConfig, PrintError, TableOption};
+use tabled_grid::{FixedDimension, Object, OutOfMemory, Shape};
+use tabled_text::{TableError, TextTable};
+
+/// A table has the texts that it is given and nothing else yet; rows of unequal counts are refused with the number of the first
+/// that has more or fewer cells than row 0.
+pub fn table_of_texts(alloc: Global, rows: &[&[&str]]) -> Result<TextTable, TableError>
+    ensures texts { IfOk result (λ table. table.texts ≡ lent_rows rows.now) }
+    ensures config { IfOk result (λ table. Shows [] table.config) }
+    ensures refusal { MatchOption (unequal_row (lent_rows rows.now)) (IsOkUnless result Refusal.OutOfMemory) (λ row. (result ≡ Err Refusal.OutOfMemory) ⊎ (result ≡ Err (Refusal.UnequalRows row))) }
+{
+    TextTable::new(alloc, rows)
+}
+
+/// The same for rows that are handed over: unequal rows are refused for that alone.
+pub fn table_of_rows(alloc: Global, rows: Vec<Vec<String>>) -> Result<TextTable, TableError>
+    ensures texts { IfOk result (λ table. table.texts ≡ texts rows.items) }
+    ensures config { IfOk result (λ table. Shows [] table.config) }
+    ensures refusal { MatchOption (unequal_row (texts rows.items)) (IsOkUnless result Refusal.OutOfMemory) (λ row. result ≡ Err (Refusal.UnequalRows row)) }
+{
+    TextTable::from_rows(alloc, rows)
+}
+
+/// Columns are as wide, and rows as high, as their cells ask.
+pub fn as_large_as_its_cells(table: &TextTable) -> &FixedDimension
+    ensures widths { result.now.widths.items ≡ column_widths table.now.texts }
+    ensures heights { result.now.heights.items ≡ row_heights table.now.texts }
+{
+    table.sizes()
+}
+
+/// An option changes a table by the option's events and by nothing else; where memory is refused it changes nothing.
+pub fn option_on_a_table<P>(table: &mut TextTable, option: P) -> Result<(), OutOfMemory>
+where
+    P: TableOption<Shape, ColoredConfig, FixedDimension>,
+    ensures config { OnOk result (Changes (P.makes option (shape_of table.old.texts) table.old.sizes table.old.config) table.old.config table.new.config) }
+    ensures texts { table.new.texts ≡ table.old.texts }
+    ensures sizes { table.new.sizes ≡ table.old.sizes }
+    ensures unchanged { OnErr result (table.new ≡ table.old) }
+{
+    table.apply(option)
+}
+
+/// An option on cells changes a table by its events for each entity that the object lists, in turn, and by nothing else; where
+/// memory is refused, for a beginning of the listing.
+pub fn option_on_cells<O, P>(
+    table: &mut TextTable,
+    object: &O,
+    option: &P,
+) -> Result<(), OutOfMemory>
+where
+    O: Object<Shape>,
+    P: CellOption<Shape, ColoredConfig>,
+    ensures config { OnOk result ((made : List ConfigEvent) × MakesInTurn Changes (map (P.makes option.now (shape_of table.old.texts))
+        (O.listing object.now (length table.old.texts) (column_count table.old.texts))) made table.old.config table.new.config) }
+    ensures beginning { OnErr result ((count : ℕ) × (made : List ConfigEvent) × MakesInTurn Changes (map (P.makes option.now (shape_of table.old.texts))
+        (take count (O.listing object.now (length table.old.texts) (column_count table.old.texts)))) made table.old.config table.new.config) }
+    ensures texts { table.new.texts ≡ table.old.texts }
+    ensures sizes { table.new.sizes ≡ table.old.sizes }
+{
+    table.apply_to(object, option)
+}
+
+/// The same as `option_on_a_table`, in a chain of calls.
+pub fn option_in_a_chain<P>(table: &mut TextTable, option: P) -> Result<&mut TextTable, OutOfMemory>
+where
+    P: TableOption<Shape, ColoredConfig, FixedDimension>,
+    ensures config { IfOk result (λ lent. Changes (P.makes option (shape_of table.old.texts) table.old.sizes table.old.config) table.old.config lent.now.config) }
+    ensures texts { IfOk result (λ lent. lent.now.texts ≡ table.old.texts) }
+    ensures sizes { IfOk result (λ lent. lent.now.sizes ≡ table.old.sizes) }
+    ensures same_table { IfOk result (λ lent. lent.ghost_name ≡ table.entry.ghost_name) }
+{
+    table.with(option)
+}
+
+/// The same as `option_on_cells`, in a chain of calls.
+pub fn cells_in_a_chain<O, P>(
+    table: &mut TextTable,
+    object: O,
+    option: P,
+) -> Result<&mut TextTable, OutOfMemory>
+where
+    O: Object<Shape> + Drop,
+    P: CellOption<Shape, ColoredConfig> + Drop,
+    ensures config { IfOk result (λ lent. (made : List ConfigEvent) × MakesInTurn Changes (map (P.makes option (shape_of table.old.texts))
+        (O.listing object (length table.old.texts) (column_count table.old.texts))) made table.old.config lent.now.config) }
+    ensures texts { IfOk result (λ lent. lent.now.texts ≡ table.old.texts) }
+    ensures sizes { IfOk result (λ lent. lent.now.sizes ≡ table.old.sizes) }
+    ensures same_table { IfOk result (λ lent. lent.ghost_name ≡ table.entry.ghost_name) }
+{
+    table.modify(object, option)
+}
+
+/// The text of a table is what its options draw around its padded cells; where no cell spans others it is refused for memory
+/// alone.
+pub fn text_of_a_table(table: &TextTable) -> Result<String, PrintError>
+    ensures text { (events : List ConfigEvent) → borders.Shows events table.now.config.spanned → IfOk result (λ text. string_bytes text ≡ text_of events table.now.texts) }
+    ensures refusal { MatchOption (slice_get (span_faults table.now.config.spanned) 0) (IsOkUnless result Fault.OutOfMemory) (λ fault. result ≡ Err fault) }
+{
+    table.to_text()
+}
+
+/// The same text after another one, which a refusal leaves as it was.
+pub fn text_appended(table: &TextTable, out: &mut String) -> Result<(), PrintError>
+    ensures text { (events : List ConfigEvent) → borders.Shows events table.now.config.spanned → OnOk result (string_bytes out.new ≡ string_bytes out.old ++ text_of events table.now.texts) }
+    ensures unchanged { OnErr result (string_bytes out.new ≡ string_bytes out.old) }
+    ensures refusal { MatchOption (slice_get (span_faults table.now.config.spanned) 0) (IsOkUnless result Fault.OutOfMemory) (λ fault. result ≡ Err fault) }
+{
+    table.append_to(out)
+}
+
+/// The same text to a writer: only the writer's own fault can leave something written.
+pub fn text_written<W: fmt::Write>(table: &TextTable, out: &mut W) -> Result<(), TableError>
+    ensures text { (events : List ConfigEvent) → borders.Shows events table.now.config.spanned → OnOk result (W.write_str_gives out.old (text_of events table.now.texts) out.new) }
+    ensures refusal { MatchOption (slice_get (span_faults table.now.config.spanned) 0) (IfErr result (λ e. (e ≡ Refusal.OutOfMemory) ⊎ (e ≡ Refusal.Write))) (λ fault. result ≡ Err (of_printer fault)) }
+    ensures unwritten { IfErr result (λ e. (e ≡ Refusal.Write) ⊎ (out.new ≡ out.old)) }
+{
+    table.write_to(out)
+}

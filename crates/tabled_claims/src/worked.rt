@@ -1,0 +1,70 @@
+//! The headline at work: what two options show where four cells meet.
+
+ghost use Rattle.std.specs.Prelude.{◌≡◌, ℕ, List, [], ◌∷◌, ◌++◌, Some, None, IfOk, OnOk};
+ghost use Rattle.tabled_border.specs.declared.border.Border.{Border as Around};
+ghost use Rattle.tabled_object.specs.declared.entity.Entity.TheVariants.{Cell};
+ghost use Rattle.tabled_grid.specs.declared.place.Place.TheVariants.{Cross};
+ghost use Rattle.tabled_grid.specs.Event.{replay};
+ghost use Rattle.tabled_grid.specs.Value.{value};
+ghost use Rattle.tabled_config.specs.Colored.{Colored, Changes};
+ghost use Rattle.tabled_config.specs.Configuration.{ConfigEvent, borders_replaced, characters_of};
+ghost use Rattle.tabled_config.specs.Headline.{HaveMade};
+ghost use Rattle.tabled_config.specs.Options.{MakesInTurn, entity_bordered};
+ghost use Rattle.tabled_style.specs.Ready.{ascii};
+
+use crate::lists::headline;
+use std::alloc::Global;
+use tabled_border::{Border, OutOfMemory};
+use tabled_config::{CellOption, ColoredConfig, SpannedConfig, TableOption};
+use tabled_grid::{LineOf, Place};
+use tabled_object::{Entity, FixedDimension, Shape};
+use tabled_style::Style;
+
+/// Two options on a table of two rows and two columns: the style `ascii`, and then a `#` at the upper left corner of the last
+/// cell. Where the four cells meet the table shows that `#`, and not the `+` of the style.
+///
+/// ```text
+/// +---+---+
+/// | a | b |
+/// +---#---+
+/// | c | d |
+/// +---+---+
+/// ```
+pub fn corner_over_a_style(alloc: Global) -> Result<Option<char>, OutOfMemory>
+    ensures { IfOk result (λ shown. shown ≡ Some 35) }
+{
+    let mut cfg = ColoredConfig::new(SpannedConfig::new(alloc));
+    let applied = style_with_a_corner(alloc, &mut cfg);
+    let shown = shown_in_the_middle(alloc, &cfg);
+    drop(cfg);
+    applied?;
+    Ok(shown)
+}
+
+/// Applies the two options.
+fn style_with_a_corner(alloc: Global, cfg: &mut ColoredConfig) -> Result<(), OutOfMemory>
+    ensures { let corner : Around ℕ = record { top = None; bottom = None; left = None; right = None; left_top_corner = Some 35; left_bottom_corner = None; right_top_corner = None; right_bottom_corner = None } in
+        OnOk result (MakesInTurn Changes
+        ((λ (before : Colored). borders_replaced ascii.borders ascii.horizontals ascii.verticals) ∷ (λ (before : Colored). entity_bordered corner (2, 2) (Cell 1 1)) ∷ [])
+        (borders_replaced ascii.borders ascii.horizontals ascii.verticals ++ (entity_bordered corner (2, 2) (Cell 1 1) ++ [])) cfg.old cfg.new) }
+{
+    let mut shape = Shape { rows: 2, cols: 2 };
+    Style::ascii().change(&mut shape, cfg, &mut 0)?;
+    let corner = Border {
+        left_top_corner: Some('#'),
+        ..Border::empty()
+    };
+    corner.change(&mut shape, cfg, Entity::Cell(1, 1))
+}
+
+/// What the table shows where its four cells meet.
+fn shown_in_the_middle(alloc: Global, cfg: &ColoredConfig) -> Option<char>
+    ensures { (options : List (Colored → List ConfigEvent)) (events : List ConfigEvent) → HaveMade options events cfg.now
+        → result ≡ value (replay (characters_of events)) (2, 2) 0 (Cross 1 1) }
+{
+    let sizes = FixedDimension::new(Vec::new(alloc), Vec::new(alloc));
+    let mut out = String::new(alloc);
+    let place = Place::Cross { row: 1, col: 1 };
+    let line = LineOf::Horizontal(1);
+    headline(cfg, &sizes, (2, 2), &[], place, line, &mut out).character
+}
