@@ -7,12 +7,12 @@ use Rattle.tabled_settings.specs.Setting.{write_of}
 use Rattle.tabled_config.specs.Configuration.{ConfigEvent, borders_replaced, all_writes}
 use Rattle.tabled_config.specs.Colored.{Colored, Changes, by_cell_color}
 use Rattle.tabled_config.specs.EntitiesColored.{entities_colored}
-use Rattle.tabled_config.specs.Options.{MakesInTurn, table_bordered, entity_bordered, entity_unbordered}
+use Rattle.tabled_config.specs.Options.{MakesInTurn, table_bordered, entity_bordered, entity_unbordered, table_unbordered}
 use Rattle.tabled_config.specs.Picture.{look}
 use Rattle.tabled_config.specs.Texts.{Table}
 use Rattle.tabled_color.specs.Shade.{Shade, texts_of}
 use Rattle.tabled_color.specs.BorderColors.{border_texts}
-use Rattle.tabled_color.specs.Coloring.{entity_colored}
+use Rattle.tabled_color.specs.Coloring.{entity_colored, table_colored}
 use Rattle.tabled_grid.specs.declared.borders.Borders.{Borders}
 use Rattle.tabled_style.specs.Shown.{Shown}
 use Rattle.tabled_style.specs.declared.ready_style.ReadyStyle.{ReadyStyle}
@@ -21,7 +21,8 @@ use Rattle.tabled_theme.specs.Shown.{ThemeShown}
 use Rattle.tabled_theme.specs.Events.{theme_applied}
 use Rattle.tabled_highlight.specs.Highlighting.{highlight_events}
 use Rattle.tabled_colorization.specs.Turns.{colorization, exact_colorization}
-use Rattle.tabled_formatting.specs.Formatting.{alignment_set, strategy_set, trim_set, justification_set, padding_set}
+use Rattle.tabled_settings.specs.declared.sides.Sides.{Sides as Four}
+use Rattle.tabled_formatting.specs.Formatting.{Justifying, alignment_set, strategy_set, trim_set, justification_set, padding_set}
 use Rattle.tabled_margin.specs.Margins.{margin_colored, shadow_set}
 use Rattle.tabled_correction.specs.Correction.{correction_events}
 use Rattle.tabled_options.specs.LineChar.{line_char_events}
@@ -32,6 +33,8 @@ use Rattle.tabled_kinds.specs.declared.kinds.BorderKinds.{BorderKinds}
 use Rattle.tabled_kinds.specs.declared.kinds.LineKinds.{LineKinds}
 use Rattle.tabled_kinds.specs.declared.kinds.ColorKinds.{ColorKinds}
 use Rattle.tabled_kinds.specs.declared.kinds.TextKinds.{TextKinds}
+use Rattle.tabled_kinds.specs.declared.kinds.OtherBorders.{OtherBorders}
+use Rattle.tabled_kinds.specs.declared.kinds.OtherSettings.{OtherSettings}
 use Rattle.tabled_kinds.specs.declared.kinds.Kinds.{Kinds}
 
 -- the events of an option, as a function of what stands before it
@@ -89,6 +92,31 @@ text_options kinds =
     ∷ (λ before. justification_set kinds.justification (Cell 1 0))
     ∷ []
 
+-- options for borders at their other targets, and the frame of the table removed
+abbrev pub other_borders : OtherBorders → ℕ × ℕ → List Step
+other_borders kinds shape =
+    (λ before. table_colored (border_texts kinds.colors) shape)
+    ∷ (λ before. table_bordered kinds.frame before.spanned.characters.class_record)
+    ∷ (λ before. entity_bordered kinds.around shape (Row 1))
+    ∷ (λ before. table_unbordered shape before.spanned.characters.class_record)
+    ∷ []
+
+-- options for cells at their other targets, those that have colors first
+abbrev pub other_colors : Shade → Four Shade → Justifying → List Step
+other_colors color padding justification =
+    (λ before. padding_set (λ (color : Shade). color.prefix) (λ (color : Shade). color.suffix) padding (Row 0))
+    ∷ (λ before. justification_set justification Global)
+    ∷ (λ before. by_cell_color (write_of Global (texts_of color)))
+    ∷ []
+
+abbrev pub other_settings : OtherSettings → List Step
+other_settings kinds =
+    other_colors kinds.color kinds.padding kinds.justification
+    ++ (λ before. alignment_set kinds.alignment (Column 0))
+    ∷ (λ before. strategy_set kinds.strategy Global)
+    ∷ (λ before. trim_set kinds.trim Global)
+    ∷ []
+
 -- all of them, on a table of these texts and sizes, and at last a correction for the spans that are set
 abbrev pub options : Kinds → Table → FixedDimension → List Step
 options kinds texts sizes =
@@ -97,7 +125,9 @@ options kinds texts sizes =
     ++ (line_options kinds.lines shape sizes
     ++ (color_options kinds.colors shape
     ++ (text_options kinds.texts
-    ++ (λ before. correction_events shape before.spanned) ∷ [])))
+    ++ (other_borders kinds.other_borders shape
+    ++ (other_settings kinds.other_settings
+    ++ (λ before. correction_events shape before.spanned) ∷ [])))))
 
 -- options that were applied in a row, each making its events
 abbrev pub InTurn : List Step → Colored → Colored → Type 0

@@ -3,7 +3,7 @@
 
 ghost use Rattle.std.specs.Prelude.{◌≡◌, length, OnOk};
 ghost use Rattle.tabled_text.specs.Sizes.{column_count};
-ghost use Rattle.tabled_kinds.specs.EveryKind.{style_options, edge_options, border_options, line_options, color_options, text_options, options, InTurn};
+ghost use Rattle.tabled_kinds.specs.EveryKind.{style_options, edge_options, border_options, line_options, color_options, text_options, other_borders, other_colors, other_settings, options, InTurn};
 
 use tabled::TextTable;
 use tabled::grid::config::{Border as CellBorder, Borders, Entity, OutOfMemory};
@@ -76,7 +76,35 @@ pub struct TextKinds {
     pub justification: Justification,
 }
 
-/// An option of each kind that has something to choose.
+/// Options for borders at their other targets: on a table where above they are on cells, and on cells where they are on a table.
+#[derive(Drop)]
+pub struct OtherBorders {
+    /// Colors around the table.
+    pub colors: BorderColor,
+    /// A frame without markers, which is fitted to the lines of the table.
+    pub frame: CellBorder<char>,
+    /// What stands around each cell of row 1, where it is given.
+    pub around: Border<On, On, On, On>,
+}
+
+/// Options for cells at their other targets.
+#[derive(Drop)]
+pub struct OtherSettings {
+    /// The color of all cells.
+    pub color: Color,
+    /// The colors of the padding of row 0.
+    pub padding: PaddingColor<Color>,
+    /// What fills all cells beside their texts.
+    pub justification: Justification,
+    /// How the texts of column 0 are aligned.
+    pub alignment: Alignment,
+    /// Whether the lines of all texts are aligned by themselves.
+    pub strategy: AlignmentStrategy,
+    /// What of all texts is trimmed.
+    pub trim: TrimStrategy,
+}
+
+/// An option of each kind that has something to choose, at each of its targets.
 #[derive(Drop)]
 pub struct Kinds {
     /// Those for borders.
@@ -87,24 +115,34 @@ pub struct Kinds {
     pub colors: ColorKinds,
     /// Those for texts.
     pub texts: TextKinds,
+    /// Those for borders at their other targets.
+    pub other_borders: OtherBorders,
+    /// Those for cells at their other targets.
+    pub other_settings: OtherSettings,
 }
 
 /// Applies them all, and then a correction for the spans that are set. By its contract the configuration changes by the events
 /// of each, in this order, and by nothing else, whatever stood there before; so `headline` says of every place what it shows
-/// then, and `TextTable::to_text` prints that.
+/// then, and as the texts and sizes stay, `TextTable::to_text` prints that around the same cells.
 pub fn every_kind(table: &mut TextTable, kinds: Kinds) -> Result<(), OutOfMemory>
-    ensures { OnOk result (InTurn (options kinds table.old.texts table.old.sizes) table.old.config table.new.config) }
+    ensures steps { OnOk result (InTurn (options kinds table.old.texts table.old.sizes) table.old.config table.new.config) }
+    ensures texts { table.new.texts ≡ table.old.texts }
+    ensures sizes { table.new.sizes ≡ table.old.sizes }
 {
     let Kinds {
         borders,
         lines,
         colors,
         texts,
+        other_borders,
+        other_settings,
     } = kinds;
     every_border(table, borders)?;
     every_line(table, lines)?;
     every_color(table, colors)?;
     every_text(table, texts)?;
+    every_other_border(table, other_borders)?;
+    every_other_setting(table, other_settings)?;
     table.apply(BorderCorrection::span())
 }
 
@@ -210,4 +248,55 @@ pub fn every_text(table: &mut TextTable, kinds: TextKinds) -> Result<(), OutOfMe
     table.apply_to(&Entity::Row(0), &kinds.strategy)?;
     table.apply_to(&Entity::Column(1), &kinds.trim)?;
     table.apply_to(&Entity::Cell(1, 0), &kinds.justification)
+}
+
+/// Applies options for borders at their other targets, and at last removes the frame of the table.
+pub fn every_other_border(table: &mut TextTable, kinds: OtherBorders) -> Result<(), OutOfMemory>
+    ensures steps { OnOk result (InTurn (other_borders kinds (length table.old.texts, column_count table.old.texts)) table.old.config table.new.config) }
+    ensures texts { table.new.texts ≡ table.old.texts }
+    ensures sizes { table.new.sizes ≡ table.old.sizes }
+{
+    table.apply(kinds.colors)?;
+    table.apply(kinds.frame)?;
+    table.apply_to(&Entity::Row(1), &kinds.around)?;
+    table.apply(EmptyBorder)
+}
+
+/// Applies options for cells at their other targets.
+pub fn every_other_setting(
+    table: &mut TextTable,
+    kinds: OtherSettings,
+) -> Result<(), OutOfMemory>
+    ensures steps { OnOk result (InTurn (other_settings kinds) table.old.config table.new.config) }
+    ensures texts { table.new.texts ≡ table.old.texts }
+    ensures sizes { table.new.sizes ≡ table.old.sizes }
+{
+    let OtherSettings {
+        color,
+        padding,
+        justification,
+        alignment,
+        strategy,
+        trim,
+    } = kinds;
+    every_other_color(table, color, padding, justification)?;
+    table.apply_to(&Entity::Column(0), &alignment)?;
+    table.apply(strategy)?;
+    table.apply(trim)
+}
+
+/// Applies those of them that have colors.
+fn every_other_color(
+    table: &mut TextTable,
+    color: Color,
+    padding: PaddingColor<Color>,
+    justification: Justification,
+) -> Result<(), OutOfMemory>
+    ensures steps { OnOk result (InTurn (other_colors color padding justification) table.old.config table.new.config) }
+    ensures texts { table.new.texts ≡ table.old.texts }
+    ensures sizes { table.new.sizes ≡ table.old.sizes }
+{
+    table.apply_to(&Entity::Row(0), &padding)?;
+    table.apply(justification)?;
+    table.apply(color)
 }

@@ -6,6 +6,6 @@
 mod kinds;
 
 pub use kinds::{
-    BorderKinds, ColorKinds, Kinds, LineKinds, TextKinds, every_border, every_color, every_kind,
-    every_line, every_text,
+    BorderKinds, ColorKinds, Kinds, LineKinds, OtherBorders, OtherSettings, TextKinds, every_border,
+    every_color, every_kind, every_line, every_other_border, every_other_setting, every_text,
 };
