@@ -53,3 +53,11 @@ pub(crate) fn prints_at_widths(
     let (returned, shown) = printed(alloc, cfg, rows, &dims, "")?;
     Ok(returned == Ok(()) && shown.as_str() == text)
 }
+
+/// Whether a text is a picture, which stands between two line feeds.
+pub(crate) fn is_picture(text: &str, picture: &str) -> bool {
+    picture
+        .strip_prefix('\n')
+        .and_then(|rest| rest.strip_suffix('\n'))
+        == Some(text)
+}

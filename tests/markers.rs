@@ -1,7 +1,7 @@
 //! Which calls the markers of styles, lines and borders let through, and what single values are: no clause speaks
 //! of markers.
 
-use crate::tables::{apply, config};
+use crate::common::configs::{apply, config};
 use std::alloc::Global;
 use std::test::Fail;
 use tabled_config::{CellOption, ColoredConfig};

@@ -1,6 +1,6 @@
 //! Functions of a user that return one error, which takes all that the library and the allocator refuse by `?`.
 
-use crate::tables::ascii;
+use crate::common::configs::ascii;
 use std::alloc::{AllocError, Global};
 use std::io;
 use std::test::Fail;

@@ -1,6 +1,6 @@
 //! The borders of single cells.
 
-use crate::tables::{ascii, prints};
+use crate::common::configs::{ascii, prints};
 use std::test::Fail;
 use tabled_config::SpannedConfig;
 use tabled_grid::{ANSIBuf, Border, Borders, LineOf, Offset, OutOfMemory, Place, Position, Probes};
@@ -29,7 +29,7 @@ fn top<T: Drop>(value: T) -> Border<T> {
 fn a_corner_alone_draws_its_row_and_its_column(rt: HostRuntime) -> Result<(), Fail> {
     let mut cfg = SpannedConfig::new(rt.alloc());
     let made = cfg.set_border(CELL, lower_left_corner());
-    let shown = prints(rt.alloc(), &cfg, TWO_ROWS, 1, "  a \n#   \n  b ");
+    let shown = prints(rt.alloc(), &cfg, TWO_ROWS, 1, "  a \n#   \n  b ") == Ok(true);
     drop(cfg);
     made?;
     assert!(rt; shown);
@@ -41,7 +41,7 @@ fn a_removed_corner_draws_nothing(rt: HostRuntime) -> Result<(), Fail> {
     let mut cfg = SpannedConfig::new(rt.alloc());
     let made = cfg.set_border(CELL, lower_left_corner());
     cfg.remove_border(CELL);
-    let shown = prints(rt.alloc(), &cfg, TWO_ROWS, 1, " a \n b ");
+    let shown = prints(rt.alloc(), &cfg, TWO_ROWS, 1, " a \n b ") == Ok(true);
     drop(cfg);
     made?;
     assert!(rt; shown);
@@ -106,9 +106,9 @@ fn a_cell_border_stays_over_another_class_record(rt: HostRuntime) -> Result<(), 
         bottom_right: Some('#'),
         ..Borders::empty()
     });
-    let shown = prints(rt.alloc(), &cfg, &[&[" a "]], 1, "#xxx#\n# a #\n#####");
+    let shown = prints(rt.alloc(), &cfg, &[&[" a "]], 1, "#xxx#\n# a #\n#####") == Ok(true);
     cfg.remove_borders();
-    let removed = prints(rt.alloc(), &cfg, &[&[" a "]], 1, " a ");
+    let removed = prints(rt.alloc(), &cfg, &[&[" a "]], 1, " a ") == Ok(true);
     drop(cfg);
     made?;
     assert!(rt; shown);

@@ -1,6 +1,6 @@
 //! Class records and borders as options, and the configuration that options change.
 
-use crate::tables::{apply, config, prints};
+use crate::common::configs::{apply, config, prints};
 use std::alloc::Global;
 use std::test::Fail;
 use tabled_config::{CellOption, ColoredConfig, SpannedConfig, TableOption, modify};
@@ -60,7 +60,7 @@ fn a_configuration_is_held_lent_and_given_up(rt: HostRuntime) {
 fn replaces(alloc: Global, cfg: &mut ColoredConfig, borders: Borders<char>, text: &str) -> bool {
     apply(alloc, cfg, borders) == Ok(())
         && *cfg.config().get_borders() == borders
-        && prints(alloc, cfg.config(), &[&[" a "]], 1, text)
+        && prints(alloc, cfg.config(), &[&[" a "]], 1, text) == Ok(true)
 }
 
 #[test]

@@ -1,6 +1,6 @@
 //! What a configuration keeps at single places and lines, whatever its other levels have.
 
-use crate::tables::ascii;
+use crate::common::configs::ascii;
 use std::alloc::Global;
 use std::test::Fail;
 use tabled_config::SpannedConfig;

@@ -1,6 +1,7 @@
 //! Styles and borders as options.
 
-use crate::tables::{apply, config, prints, prints_at_widths};
+use crate::common::configs::{apply, config, prints};
+use crate::common::printing::prints_at_widths;
 use std::alloc::Global;
 use std::test::Fail;
 use tabled_config::{CellOption, ColoredConfig};
@@ -33,9 +34,9 @@ fn a_frame_leaves_what_was_written_for_a_cell(rt: HostRuntime) -> Result<(), Fai
         &[&[" a "]],
         1,
         "#xxx#\n# a #\n#####",
-    );
+    ) == Ok(true);
     let emptied = apply(rt.alloc(), &mut cfg, Style::empty());
-    let bare = prints(rt.alloc(), cfg.config(), &[&[" a "]], 1, " a ");
+    let bare = prints(rt.alloc(), cfg.config(), &[&[" a "]], 1, " a ") == Ok(true);
     drop(cfg);
     made?;
     emptied?;
@@ -58,7 +59,7 @@ fn the_last_line_of_an_index_counts(rt: HostRuntime) -> Result<(), Fail> {
         &[&[" a "], &[" b "]],
         1,
         "╭───╮\n│ a │\n&&&&&\n│ b │\n╰───╯",
-    );
+    ) == Ok(true);
     drop(cfg);
     made?;
     assert!(rt; shown);
@@ -72,16 +73,16 @@ fn modern_cell(alloc: Global, cfg: &mut ColoredConfig) -> Result<(), OutOfMemory
 
 #[test]
 fn a_cell_has_the_frame_of_another_style(rt: HostRuntime) -> Result<(), Fail> {
-    let widths = vec![in rt.alloc(); 7usize; 1]?;
+    let widths = [7];
     let mut cfg = config(rt.alloc());
     let made = modern_cell(rt.alloc(), &mut cfg);
     let shown = prints_at_widths(
         rt.alloc(),
         cfg.config(),
         &[&[" &str  "], &[" Hello "], &[" 2022  "]],
-        widths,
+        &widths,
         "┌───────┐\n│ &str  │\n└───────┘\n  Hello  \n  2022   ",
-    );
+    ) == Ok(true);
     drop(cfg);
     made?;
     assert!(rt; shown);
@@ -90,7 +91,7 @@ fn a_cell_has_the_frame_of_another_style(rt: HostRuntime) -> Result<(), Fail> {
 
 #[test]
 fn a_style_has_the_frame_of_another(rt: HostRuntime) -> Result<(), Fail> {
-    let widths = vec![in rt.alloc(); 10, 7]?;
+    let widths = [10, 7];
     let mut cfg = config(rt.alloc());
     let style = Style::ascii().frame(Border::inherit(Style::modern()));
     let made = apply(rt.alloc(), &mut cfg, style);
@@ -108,7 +109,7 @@ fn a_style_has_the_frame_of_another(rt: HostRuntime) -> Result<(), Fail> {
         &[" 2        ", " 3     "],
         &[" 4        ", " 5     "],
     ];
-    let shown = prints_at_widths(rt.alloc(), cfg.config(), rows, widths, text);
+    let shown = prints_at_widths(rt.alloc(), cfg.config(), rows, &widths, text) == Ok(true);
     drop(cfg);
     made?;
     assert!(rt; shown);
@@ -121,7 +122,7 @@ fn a_line_without_crossing_and_ends_takes_columns_and_sides(rt: HostRuntime) -> 
     let style = Style::ascii().line_horizontal(HorizontalLine::new('='));
     let made = apply(rt.alloc(), &mut cfg, style);
     let rows: &[&[&str]] = &[&[" a "], &[" b "]];
-    let shown = prints(rt.alloc(), cfg.config(), rows, 1, "---\n a \n===\n b \n---");
+    let shown = prints(rt.alloc(), cfg.config(), rows, 1, "---\n a \n===\n b \n---") == Ok(true);
     drop(cfg);
     made?;
     assert!(rt; shown);
@@ -133,7 +134,7 @@ fn a_frame_of_two_sides_and_a_corner(rt: HostRuntime) -> Result<(), Fail> {
     let mut cfg = config(rt.alloc());
     let frame = Border::new().bottom('b').left('l').corner_bottom_left('c');
     let made = apply(rt.alloc(), &mut cfg, Style::empty().frame(frame));
-    let shown = prints(rt.alloc(), cfg.config(), &[&[" a "]], 1, "l a \ncbbb");
+    let shown = prints(rt.alloc(), cfg.config(), &[&[" a "]], 1, "l a \ncbbb") == Ok(true);
     drop(cfg);
     made?;
     assert!(rt; shown);
@@ -150,7 +151,7 @@ fn framed_then_emptied(alloc: Global, cfg: &mut ColoredConfig) -> Result<(), Out
 fn an_empty_border_takes_the_frame_away(rt: HostRuntime) -> Result<(), Fail> {
     let mut cfg = config(rt.alloc());
     let made = framed_then_emptied(rt.alloc(), &mut cfg);
-    let shown = prints(rt.alloc(), cfg.config(), &[&[" a "]], 1, " a ");
+    let shown = prints(rt.alloc(), cfg.config(), &[&[" a "]], 1, " a ") == Ok(true);
     drop(cfg);
     made?;
     assert!(rt; shown);
@@ -173,7 +174,7 @@ fn an_empty_border_takes_shared_lines_too(rt: HostRuntime) -> Result<(), Fail> {
         rows,
         1,
         "  a  \n# b #\n#####\n# c #\n#####",
-    );
+    ) == Ok(true);
     drop(cfg);
     made?;
     assert!(rt; shown);

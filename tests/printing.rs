@@ -1,6 +1,7 @@
 //! Printed tables, and what is refused where cells do not fit.
 
-use crate::tables::{ascii_borders, printed};
+use crate::common::configs::ascii_borders;
+use crate::common::printing::printed;
 use std::alloc::Global;
 use tabled_config::{PrintError, SpannedConfig};
 use tabled_grid::{Borders, FixedDimension, OutOfMemory};

@@ -1,6 +1,6 @@
 //! Ready styles that are chosen while the program runs.
 
-use crate::tables::{apply, config, prints};
+use crate::common::configs::{apply, config, prints};
 use std::alloc::Global;
 use std::test::Fail;
 use tabled_grid::Borders;
@@ -19,7 +19,7 @@ fn draws(alloc: Global, name: &str, text: &str) -> bool {
             &[&[" a ", " b "], &[" c ", " d "]],
             2,
             text,
-        )
+        ) == Ok(true)
 }
 
 #[test]

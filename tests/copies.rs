@@ -1,6 +1,6 @@
 //! Copies of configurations, and what makes two configurations differ.
 
-use crate::tables::config;
+use crate::common::configs::config;
 use std::alloc::Global;
 use std::test::Fail;
 use tabled_config::{ColoredConfig, SpannedConfig};

@@ -1,6 +1,7 @@
 //! Custom lines where they cross the class record and each other, and texts along a line.
 
-use crate::tables::{prints, prints_at_widths};
+use crate::common::configs::prints;
+use crate::common::printing::prints_at_widths;
 use std::test::Fail;
 use tabled_config::SpannedConfig;
 use tabled_grid::{Borders, HorizontalLine, Offset, OutOfMemory, Position, VerticalLine};
@@ -46,16 +47,16 @@ fn set_double_row(cfg: &mut SpannedConfig) -> Result<(), OutOfMemory> {
 fn a_vertical_line_gives_way_to_a_horizontal_one_and_to_no_class(
     rt: HostRuntime,
 ) -> Result<(), Fail> {
-    let widths = vec![in rt.alloc(); 7, 5]?;
+    let widths = [7, 5];
     let mut cfg = SpannedConfig::new(rt.alloc());
     let made = set_double_column(&mut cfg);
     let shown = prints_at_widths(
         rt.alloc(),
         &cfg,
         ROWS,
-        widths,
+        &widths,
         "=======╠=====\n &str  ═ i32 \n======= =====\n Hello ═ 0   \n Hello ═ 1   \n Hello ═ 2   \n=======╣=====",
-    );
+    ) == Ok(true);
     drop(cfg);
     made?;
     assert!(rt; shown);
@@ -64,16 +65,16 @@ fn a_vertical_line_gives_way_to_a_horizontal_one_and_to_no_class(
 
 #[test]
 fn ends_of_a_horizontal_line_draw_the_outer_columns(rt: HostRuntime) -> Result<(), Fail> {
-    let widths = vec![in rt.alloc(); 7, 5]?;
+    let widths = [7, 5];
     let mut cfg = SpannedConfig::new(rt.alloc());
     let made = set_double_row(&mut cfg);
     let shown = prints_at_widths(
         rt.alloc(),
         &cfg,
         ROWS,
-        widths,
+        &widths,
         " ======= ===== \n  &str    i32  \n╠═══════╬═════╣\n  Hello   0    \n  Hello   1    \n  Hello   2    \n ======= ===== ",
-    );
+    ) == Ok(true);
     drop(cfg);
     made?;
     assert!(rt; shown);
@@ -99,7 +100,7 @@ fn a_crossing_without_a_character_stays_empty(rt: HostRuntime) -> Result<(), Fai
         ..Borders::empty()
     });
     let made = write_letters(&mut cfg);
-    let shown = prints(rt.alloc(), &cfg, &[&[" a ", " b "]], 2, "ABC EFG\n a | b ");
+    let shown = prints(rt.alloc(), &cfg, &[&[" a ", " b "]], 2, "ABC EFG\n a | b ") == Ok(true);
     drop(cfg);
     made?;
     assert!(rt; shown);
