@@ -1,0 +1,114 @@
+//! What shows at each level: the default, custom lines, cells and offsets.
+
+use crate::tables::{FOUR, ONE, TWO_ROWS, Table, apply, config, prints};
+use std::alloc::Global;
+use tabled_config::ColoredConfig;
+use tabled_grid::{
+    Border, HorizontalLine, LineOf, Offset, Place, Position, Probes, VerticalLine,
+};
+use tabled_style::Style;
+
+const CELL: Position = Position { row: 0, col: 0 };
+
+/// Whether one cell in a full frame is printed so with these offset characters, and as before once they are removed.
+fn offsets_show(alloc: Global, offsets: &[(Offset, char)], text: &str) -> bool {
+    let mut cfg = config(alloc);
+    let mut made = apply(alloc, &mut cfg, ONE, Style::ascii());
+    for (offset, character) in offsets {
+        let set = cfg.config_mut().set_horizontal_char(CELL, *offset, *character);
+        made &= set.is_ok();
+    }
+    made && prints(alloc, &cfg, ONE, text) && {
+        cfg.config_mut().remove_horizontal_chars();
+        prints(alloc, &cfg, ONE, "+---+\n| a |\n+---+")
+    }
+}
+
+#[test]
+fn offsets_show_until_they_are_removed(rt: HostRuntime) {
+    let (start, end) = ((Offset::Start(2), 's'), (Offset::End(0), 'e'));
+    let text = "+--s+\n| a |\n+---+";
+    assert!(rt; offsets_show(rt.alloc(), &[end, start], text));
+    assert!(rt; offsets_show(rt.alloc(), &[start, end], text));
+    let past = (Offset::End(3), 'e');
+    assert!(rt; offsets_show(rt.alloc(), &[past], "+---+\n| a |\n+---+"));
+}
+
+/// Puts a border with its lower left corner alone around the first cell: whether there was memory for it.
+fn put_corner(cfg: &mut ColoredConfig) -> bool {
+    let corner = Border {
+        left_bottom_corner: Some('#'),
+        ..Border::empty()
+    };
+    cfg.config_mut().set_border(CELL, corner).is_ok()
+}
+
+/// Whether a corner alone draws its row and its column, until it is removed.
+fn corner_shows(alloc: Global) -> bool {
+    let mut cfg = config(alloc);
+    put_corner(&mut cfg) && prints(alloc, &cfg, TWO_ROWS, "  a \n#   \n  b ") && {
+        cfg.config_mut().remove_border(CELL);
+        prints(alloc, &cfg, TWO_ROWS, " a \n b ")
+    }
+}
+
+/// Whether a corner that was put twice and removed once draws no row, which is found by at most six readings.
+fn corner_is_removed_at_once(alloc: Global) -> bool {
+    let mut cfg = config(alloc);
+    let mut probes = Probes::new();
+    put_corner(&mut cfg) && put_corner(&mut cfg) && {
+        cfg.config_mut().remove_border(CELL);
+        let line = LineOf::Horizontal(1);
+        !cfg.config().draws(line, 2, &mut probes) && probes.count() <= 6
+    }
+}
+
+#[test]
+fn a_corner_alone_draws_its_row_and_its_column(rt: HostRuntime) {
+    assert!(rt; corner_shows(rt.alloc()));
+    assert!(rt; corner_is_removed_at_once(rt.alloc()));
+}
+
+/// Whether the default alone frames a table.
+fn default_shows(alloc: Global) -> bool {
+    let mut cfg = config(alloc);
+    cfg.config_mut().set_border_default('*');
+    prints(alloc, &cfg, ONE, "*****\n* a *\n*****")
+}
+
+/// Whether a vertical line alone draws itself.
+fn vertical_line_shows(alloc: Global) -> bool {
+    let mut cfg = config(alloc);
+    let line = VerticalLine::new(Some('|'), Some('+'), None, None);
+    let made = cfg.config_mut().insert_vertical_line(1, line);
+    made.is_ok() && prints(alloc, &cfg, FOUR, " a | b \n c | d ")
+}
+
+/// Whether a new configuration has no character at an edge, which is found by at most six readings.
+fn nothing_shows(alloc: Global) -> bool {
+    let cfg = config(alloc);
+    let mut probes = Probes::new();
+    let (row, col, at) = (0, 0, 0);
+    let edge = Place::Horizontal { row, col, at };
+    let character = cfg.config().char_at(edge, (1, 1), 3, &mut probes);
+    character.is_none() && probes.count() <= 6
+}
+
+/// Whether a line that is put over another keeps nothing of it.
+fn later_line_shows(alloc: Global, table: Table) -> bool {
+    let mut cfg = config(alloc);
+    let first = HorizontalLine::new(Some('='), None, Some('L'), None);
+    let second = HorizontalLine::new(Some('='), None, None, None);
+    apply(alloc, &mut cfg, table, Style::ascii())
+        && cfg.config_mut().insert_horizontal_line(1, first).is_ok()
+        && cfg.config_mut().insert_horizontal_line(1, second).is_ok()
+        && prints(alloc, &cfg, table, "+---+\n| a |\n+===+\n| b |\n+---+")
+}
+
+#[test]
+fn each_level_shows_what_was_set_there(rt: HostRuntime) {
+    assert!(rt; default_shows(rt.alloc()));
+    assert!(rt; vertical_line_shows(rt.alloc()));
+    assert!(rt; nothing_shows(rt.alloc()));
+    assert!(rt; later_line_shows(rt.alloc(), TWO_ROWS));
+}

@@ -1,0 +1,207 @@
+//! What the program does with its words, a reader and a writer: pages that are drawn by hand, and each refusal.
+
+use std::alloc::{AllocError, Global};
+use std::io;
+use std::io::{Cursor, ErrorKind, Read, Write};
+use std::test::Fail;
+use tabled_pages::{ShowError, run};
+
+/// Words that are given between spaces.
+fn words_of(alloc: Global, text: &str) -> Result<Vec<String>, AllocError> {
+    let mut words = Vec::new(alloc);
+    for word in text.split_whitespace() {
+        words.push(String::from_str(alloc, word)?)?;
+    }
+    Ok(words)
+}
+
+/// What the program returns and writes over these words and this input.
+fn shown(
+    alloc: Global,
+    words: &str,
+    input: &[u8],
+) -> Result<(Result<(), ShowError>, Vec<u8>), AllocError> {
+    let words = words_of(alloc, words)?;
+    let mut reader = Cursor::new(input);
+    let mut written = Vec::new(alloc);
+    let returned = run(alloc, &words, &mut reader, &mut written);
+    Ok((returned, written))
+}
+
+/// Whether the program returns Ok and writes this text.
+fn shows(alloc: Global, words: &str, input: &str, text: &str) -> bool {
+    match shown(alloc, words, input.as_bytes()) {
+        Ok((Ok(()), written)) => written.as_slice() == text.as_bytes(),
+        Ok((Err(_), _)) | Err(AllocError) => false,
+    }
+}
+
+/// Whether the program gives a refusal of this status, and writes nothing.
+fn refuses(alloc: Global, words: &str, input: &[u8], refusal: ShowError, status: u8) -> bool {
+    match shown(alloc, words, input) {
+        Ok((Err(given), written)) => {
+            given == refusal && given.status() == status && written.is_empty()
+        }
+        Ok((Ok(()), _)) | Err(AllocError) => false,
+    }
+}
+
+/// The input of two rows and two columns that most pages show.
+const TWO_BY_TWO: &str = "a\tb\n1\t22\n";
+
+/// Styles, inputs and the pages that are drawn of them.
+static PAGES: [(&str, &str, &str); 12] = [
+    (
+        "ascii",
+        TWO_BY_TWO,
+        "+---+----+\n| a | b  |\n+---+----+\n| 1 | 22 |\n+---+----+\n",
+    ),
+    ("ascii", "", ""),
+    ("ascii", "\n", "+--+\n|  |\n+--+\n"),
+    (
+        "dots",
+        TWO_BY_TWO,
+        "..........\n: a : b  :\n:...:....:\n: 1 : 22 :\n:...:....:\n",
+    ),
+    (
+        "markdown",
+        TWO_BY_TWO,
+        "| a | b  |\n|---|----|\n| 1 | 22 |\n",
+    ),
+    ("psql", TWO_BY_TWO, " a | b  \n---+----\n 1 | 22 \n"),
+    ("psql", "a", " a \n---\n"),
+    (
+        "re_structured_text",
+        TWO_BY_TWO,
+        "=== ====\n a   b  \n=== ====\n 1   22 \n=== ====\n",
+    ),
+    (
+        "ascii_rounded",
+        TWO_BY_TWO,
+        ".--------.\n| a | b  |\n| 1 | 22 |\n'--------'\n",
+    ),
+    (
+        "ascii_rounded",
+        "C\tDennis Ritchie\t1972\nGo\tRob Pike\t2009\nRust\tGraydon Hoare\t2010\n",
+        ".------------------------------.
+| C    | Dennis Ritchie | 1972 |
+| Go   | Rob Pike       | 2009 |
+| Rust | Graydon Hoare  | 2010 |
+'------------------------------'
+",
+    ),
+    ("empty", TWO_BY_TWO, " a  b  \n 1  22 \n"),
+    ("psql", "a\n", " a \n---\n"),
+];
+
+#[test]
+fn pages_are_drawn(rt: HostRuntime) {
+    for (style, input, text) in PAGES.iter() {
+        assert!(rt; shows(rt.alloc(), style, input, text), "{style} of {input}");
+    }
+}
+
+#[test]
+fn words_and_inputs_are_refused(rt: HostRuntime) {
+    for (words, input, refusal, status) in [
+        ("fancy", "a\n", ShowError::Usage, 2),
+        ("", "a\n", ShowError::Usage, 2),
+        ("ascii", "a\tb\nc\n", ShowError::UnequalRows, 3),
+        ("ascii", "a\r\n", ShowError::ByteOutOfRange, 4),
+    ] {
+        let refused = refuses(rt.alloc(), words, input.as_bytes(), refusal, status);
+        assert!(rt; refused, "{words} of {input}");
+    }
+}
+
+#[test]
+fn what_is_too_long_is_refused(rt: HostRuntime) -> Result<(), Fail> {
+    let long = vec![in rt.alloc(); b'a'; 16_777_217]?;
+    let refused = refuses(rt.alloc(), "ascii", &long, ShowError::TooLong, 5);
+    drop(long);
+    assert!(rt; refused);
+    Ok(())
+}
+
+/// A reader that gives one byte in each read, and then a fault.
+#[derive(Drop)]
+struct FailsAfter {
+    /// How many reads succeed.
+    reads: usize,
+}
+
+impl Read for FailsAfter {
+    fn read(&mut self, buf: &mut [u8]) -> io::Result<usize> {
+        if self.reads == 0 || buf.is_empty() {
+            return Err(io::Error::from(ErrorKind::Interrupted));
+        }
+        self.reads -= 1;
+        buf[0] = b'a';
+        Ok(1)
+    }
+}
+
+/// Whether the program says that reading failed, and writes nothing, where the given number of reads succeed.
+fn fails_after(alloc: Global, reads: usize) -> bool {
+    match words_of(alloc, "ascii") {
+        Ok(words) => {
+            let mut written = Vec::new(alloc);
+            let returned = run(alloc, &words, &mut FailsAfter { reads }, &mut written);
+            returned == Err(ShowError::ReadFailed) && written.is_empty()
+        }
+        Err(AllocError) => false,
+    }
+}
+
+/// A writer that takes nothing.
+#[derive(Drop)]
+struct TakesNothing;
+
+impl Write for TakesNothing {
+    fn write(&mut self, _buf: &[u8]) -> io::Result<usize> {
+        Err(io::Error::from(ErrorKind::BrokenPipe))
+    }
+
+    fn flush(&mut self) -> io::Result<()> {
+        Ok(())
+    }
+}
+
+/// Whether the program says that writing failed where nothing is taken.
+fn fails_to_write(alloc: Global) -> bool {
+    match words_of(alloc, "ascii") {
+        Ok(words) => {
+            let mut reader = Cursor::new(b"a\n".as_slice());
+            let returned = run(alloc, &words, &mut reader, &mut TakesNothing);
+            returned == Err(ShowError::WriteFailed)
+        }
+        Err(AllocError) => false,
+    }
+}
+
+#[test]
+fn faults_of_readers_and_writers_are_refused(rt: HostRuntime) {
+    assert!(rt; fails_after(rt.alloc(), 0));
+    assert!(rt; fails_after(rt.alloc(), 1));
+    assert!(rt; fails_to_write(rt.alloc()));
+}
+
+/// Whether a refusal has this text and this status.
+fn says(refusal: ShowError, text: &str, status: u8) -> bool {
+    refusal.text() == text && refusal.status() == status
+}
+
+#[test]
+fn each_refusal_has_a_text_and_a_status(rt: HostRuntime) {
+    for (refusal, text, status) in [
+        (ShowError::Usage, "usage: tabled_show STYLE", 2),
+        (ShowError::ReadFailed, "read failed", 1),
+        (ShowError::TooLong, "input too long", 5),
+        (ShowError::ByteOutOfRange, "byte out of range", 4),
+        (ShowError::UnequalRows, "rows of unequal count", 3),
+        (ShowError::OutOfMemory, "out of memory", 1),
+        (ShowError::WriteFailed, "write failed", 1),
+    ] {
+        assert!(rt; says(refusal, text, status), "{text}");
+    }
+}

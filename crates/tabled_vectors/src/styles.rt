@@ -1,0 +1,81 @@
+//! Styles and borders as options.
+
+use crate::tables::{ONE, TWO_ROWS, Table, apply, apply_to, config, prints, prints_with, prints_with_both};
+use std::alloc::Global;
+use tabled_style::{Border, EmptyBorder, HorizontalLine, Style};
+
+/// Whether a frame leaves what was written for a cell, and a style does not.
+fn frame_leaves_a_cell(alloc: Global) -> bool {
+    let mut cfg = config(alloc);
+    apply(alloc, &mut cfg, ONE, Style::ascii())
+        && apply_to(alloc, &mut cfg, ONE, &(0, 0), &Border::new().top('x'))
+        && apply(alloc, &mut cfg, ONE, Border::filled('#'))
+        && prints(alloc, &cfg, ONE, "#xxx#\n# a #\n#####")
+        && apply(alloc, &mut cfg, ONE, Style::empty())
+        && prints(alloc, &cfg, ONE, " a ")
+}
+
+#[test]
+fn a_frame_leaves_what_was_written_for_a_cell(rt: HostRuntime) {
+    assert!(rt; frame_leaves_a_cell(rt.alloc()));
+    assert!(rt; prints_with_both(rt.alloc(), Style::ascii(), EmptyBorder, ONE, " a "));
+}
+
+/// A table of three rows.
+static LANGUAGES: Table = (&[7], &[&[" &str  "], &[" Hello "], &[" 2022  "]]);
+
+/// Whether a cell has the frame of another style.
+fn cell_is_framed(alloc: Global) -> bool {
+    let mut cfg = config(alloc);
+    let text = "┌───────┐\n│ &str  │\n└───────┘\n  Hello  \n  2022   ";
+    apply(alloc, &mut cfg, LANGUAGES, Style::psql())
+        && apply_to(
+            alloc,
+            &mut cfg,
+            LANGUAGES,
+            &(0, 0),
+            &Border::inherit(Style::modern()),
+        )
+        && prints(alloc, &cfg, LANGUAGES, text)
+}
+
+/// A table of three rows and two columns.
+static NUMBERS: Table = (
+    &[10, 7],
+    &[
+        &[" 0        ", " 1     "],
+        &[" 2        ", " 3     "],
+        &[" 4        ", " 5     "],
+    ],
+);
+
+/// That table in a full frame of another style.
+static FRAMED_NUMBERS: &str = "┌──────────+───────┐
+│ 0        | 1     │
++----------+-------+
+│ 2        | 3     │
++----------+-------+
+│ 4        | 5     │
+└──────────+───────┘";
+
+#[test]
+fn a_cell_and_a_table_have_the_frame_of_another_style(rt: HostRuntime) {
+    assert!(rt; cell_is_framed(rt.alloc()));
+    let framed = Style::ascii().frame(Border::inherit(Style::modern()));
+    assert!(rt; prints_with(rt.alloc(), framed, NUMBERS, FRAMED_NUMBERS));
+    let corner = Border::new().bottom('b').left('l').corner_bottom_left('c');
+    let framed = Style::empty().frame(corner);
+    assert!(rt; prints_with(rt.alloc(), framed, ONE, "l a \ncbbb"));
+}
+
+#[test]
+fn lines_take_what_they_do_not_give(rt: HostRuntime) {
+    let twice = Style::rounded().horizontals([
+        (1, HorizontalLine::filled('#')),
+        (1, HorizontalLine::filled('&')),
+    ]);
+    let text = "╭───╮\n│ a │\n&&&&&\n│ b │\n╰───╯";
+    assert!(rt; prints_with(rt.alloc(), twice, TWO_ROWS, text));
+    let bare = Style::ascii().line_horizontal(HorizontalLine::new('='));
+    assert!(rt; prints_with(rt.alloc(), bare, TWO_ROWS, "---\n a \n===\n b \n---"));
+}
