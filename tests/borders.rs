@@ -3,19 +3,9 @@
 use crate::common::configs::{ascii, prints};
 use std::test::Fail;
 use tabled_config::SpannedConfig;
-use tabled_grid::{ANSIBuf, Border, Borders, LineOf, Offset, OutOfMemory, Place, Position, Probes};
+use tabled_grid::{ANSIBuf, Border, Borders, Offset, OutOfMemory, Place, Position, Probes};
 
 const CELL: Position = Position { row: 0, col: 0 };
-
-const TWO_ROWS: &[&[&str]] = &[&[" a "], &[" b "]];
-
-/// A border with its lower left corner alone.
-fn lower_left_corner() -> Border<char> {
-    Border {
-        left_bottom_corner: Some('#'),
-        ..Border::empty()
-    }
-}
 
 /// A border with its top alone.
 fn top<T: Drop>(value: T) -> Border<T> {
@@ -23,50 +13,6 @@ fn top<T: Drop>(value: T) -> Border<T> {
         top: Some(value),
         ..Border::empty()
     }
-}
-
-#[test]
-fn a_corner_alone_draws_its_row_and_its_column(rt: HostRuntime) -> Result<(), Fail> {
-    let mut cfg = SpannedConfig::new(rt.alloc());
-    let made = cfg.set_border(CELL, lower_left_corner());
-    let shown = prints(rt.alloc(), &cfg, TWO_ROWS, 1, "  a \n#   \n  b ") == Ok(true);
-    drop(cfg);
-    made?;
-    assert!(rt; shown);
-    Ok(())
-}
-
-#[test]
-fn a_removed_corner_draws_nothing(rt: HostRuntime) -> Result<(), Fail> {
-    let mut cfg = SpannedConfig::new(rt.alloc());
-    let made = cfg.set_border(CELL, lower_left_corner());
-    cfg.remove_border(CELL);
-    let shown = prints(rt.alloc(), &cfg, TWO_ROWS, 1, " a \n b ") == Ok(true);
-    drop(cfg);
-    made?;
-    assert!(rt; shown);
-    Ok(())
-}
-
-/// Sets the same border twice and removes it once.
-fn set_twice_and_removed(cfg: &mut SpannedConfig) -> Result<(), OutOfMemory> {
-    cfg.set_border(CELL, lower_left_corner())?;
-    cfg.set_border(CELL, lower_left_corner())?;
-    cfg.remove_border(CELL);
-    Ok(())
-}
-
-#[test]
-fn a_border_set_twice_is_removed_at_once(rt: HostRuntime) -> Result<(), Fail> {
-    let mut cfg = SpannedConfig::new(rt.alloc());
-    let made = set_twice_and_removed(&mut cfg);
-    let mut probes = Probes::new();
-    let drawn = cfg.draws(LineOf::Horizontal(1), 2, &mut probes);
-    drop(cfg);
-    made?;
-    assert!(rt; !drawn);
-    assert!(rt; probes.count() <= 6);
-    Ok(())
 }
 
 /// Writes an offset character and a top side on the same edge.

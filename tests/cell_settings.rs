@@ -3,9 +3,9 @@
 use std::alloc::Global;
 use std::test::Fail;
 use tabled_border::{ANSIBuf, OutOfMemory};
-use tabled_config::{ColoredConfig, Colors, SpannedConfig};
+use tabled_config::{ColoredConfig, SpannedConfig};
 use tabled_object::{Entity, Position};
-use tabled_settings::{AlignmentHorizontal, AlignmentVertical, EntityMap, Sides};
+use tabled_settings::{AlignmentVertical, EntityMap, Sides};
 
 const CELL: Position = Position { row: 0, col: 0 };
 
@@ -13,13 +13,6 @@ const BESIDE: Position = Position { row: 0, col: 1 };
 
 fn red(alloc: Global) -> Result<ANSIBuf, OutOfMemory> {
     ANSIBuf::new(alloc, "\u{1b}[31m", "\u{1b}[39m")
-}
-
-fn is_empty_color(color: Option<&ANSIBuf>) -> bool {
-    match color {
-        Some(color) => color.is_empty(),
-        None => false,
-    }
 }
 
 #[test]
@@ -30,48 +23,6 @@ fn without_colors_there_is_none(rt: HostRuntime) -> Result<(), Fail> {
     drop(cfg);
     removed?;
     assert!(rt; none);
-    Ok(())
-}
-
-/// One cell was made red.
-fn red_cell(alloc: Global) -> Result<ColoredConfig, OutOfMemory> {
-    let mut cfg = ColoredConfig::new(SpannedConfig::new(alloc));
-    cfg.set_color(Entity::Cell(0, 0), red(alloc)?)?;
-    Ok(cfg)
-}
-
-#[test]
-fn beside_a_colored_cell_the_color_is_empty(rt: HostRuntime) -> Result<(), Fail> {
-    let cfg = red_cell(rt.alloc())?;
-    let beside = is_empty_color(cfg.get_color(BESIDE));
-    let cell = is_empty_color(cfg.get_color(CELL));
-    drop(cfg);
-    assert!(rt; beside);
-    assert!(rt; !cell);
-    Ok(())
-}
-
-/// One cell was made red, and then its color was removed.
-fn no_longer_red(alloc: Global) -> Result<ColoredConfig, OutOfMemory> {
-    let mut cfg = red_cell(alloc)?;
-    cfg.remove_color(Entity::Cell(0, 0))?;
-    Ok(cfg)
-}
-
-#[test]
-fn a_removal_leaves_the_map(rt: HostRuntime) -> Result<(), Fail> {
-    let mut cfg = no_longer_red(rt.alloc())?;
-    let empty = is_empty_color(cfg.get_color(CELL));
-    let bare = Colors::is_empty(cfg.get_colors());
-    let removed = cfg.remove_color(Entity::Global);
-    let bare_at_last = Colors::is_empty(cfg.get_colors());
-    let never_made = cfg.get_colors().is_empty();
-    drop(cfg);
-    removed?;
-    assert!(rt; empty);
-    assert!(rt; !bare);
-    assert!(rt; bare_at_last);
-    assert!(rt; !never_made);
     Ok(())
 }
 
@@ -90,24 +41,6 @@ fn a_map_that_was_given_has_its_own_default(rt: HostRuntime) -> Result<(), Fail>
     };
     drop(cfg);
     assert!(rt; red);
-    Ok(())
-}
-
-/// The row is at the right, then the column in the middle, then all cells at the left.
-fn aligned(alloc: Global) -> Result<SpannedConfig, OutOfMemory> {
-    let mut cfg = SpannedConfig::new(alloc);
-    cfg.set_alignment_horizontal(Entity::Row(0), AlignmentHorizontal::Right)?;
-    cfg.set_alignment_horizontal(Entity::Column(0), AlignmentHorizontal::Center)?;
-    cfg.set_alignment_horizontal(Entity::Global, AlignmentHorizontal::Left)?;
-    Ok(cfg)
-}
-
-#[test]
-fn all_cells_written_last_count_last(rt: HostRuntime) -> Result<(), Fail> {
-    let cfg = aligned(rt.alloc())?;
-    let left = cfg.get_alignment_horizontal(CELL) == AlignmentHorizontal::Left;
-    drop(cfg);
-    assert!(rt; left);
     Ok(())
 }
 

@@ -5,7 +5,7 @@ use crate::common::tables::Table;
 use std::alloc::Global;
 use std::test::Fail;
 use tabled_color::Color;
-use tabled_grid::{Combine, Keep, OutOfMemory, Position, Rows};
+use tabled_grid::{Combine, Keep, OutOfMemory, Position, Rows, Segment};
 use tabled_options::Colorization;
 
 const X: &str = "\u{1b}[31m";
@@ -30,16 +30,6 @@ fn by_column(alloc: Global) -> Result<Table, OutOfMemory> {
     Ok(table)
 }
 
-#[test]
-fn cells_are_colored_column_by_column(rt: HostRuntime) -> Result<(), Fail> {
-    let table = by_column(rt.alloc())?;
-    assert!(rt; table.has_cell_color(0, 0, X));
-    assert!(rt; table.has_cell_color(1, 0, Y));
-    assert!(rt; table.has_cell_color(0, 1, Z));
-    assert!(rt; table.has_cell_color(1, 1, X));
-    Ok(())
-}
-
 fn by_row(alloc: Global) -> Result<Table, OutOfMemory> {
     let mut table = Table::of_shape(alloc, 2, 2)?;
     table.with(Colorization::by_row(colors(alloc, 3)?))?;
@@ -60,15 +50,6 @@ fn columns(alloc: Global) -> Result<Table, OutOfMemory> {
     let mut table = Table::of_shape(alloc, 1, 3)?;
     table.with(Colorization::columns(colors(alloc, 2)?))?;
     Ok(table)
-}
-
-#[test]
-fn the_first_color_comes_again(rt: HostRuntime) -> Result<(), Fail> {
-    let table = columns(rt.alloc())?;
-    assert!(rt; table.has_cell_color(0, 0, X));
-    assert!(rt; table.has_cell_color(0, 1, Y));
-    assert!(rt; table.has_cell_color(0, 2, X));
-    Ok(())
 }
 
 fn rows(alloc: Global) -> Result<Table, OutOfMemory> {
@@ -95,42 +76,10 @@ fn exact(alloc: Global) -> Result<Table, OutOfMemory> {
     Ok(table)
 }
 
-#[test]
-fn each_listed_entity_is_colored_as_a_whole(rt: HostRuntime) -> Result<(), Fail> {
-    let table = exact(rt.alloc())?;
-    assert!(rt; table.has_cell_color(1, 0, X));
-    assert!(rt; table.has_cell_color(1, 1, X));
-    assert!(rt; table.has_cell_color(0, 0, Y));
-    assert!(rt; table.has_cell_color(0, 1, ""));
-    Ok(())
-}
-
 fn chess(alloc: Global) -> Result<Table, OutOfMemory> {
     let mut table = Table::of_shape(alloc, 3, 2)?;
     table.with(Colorization::chess(alloc, Color::FG_RED, Color::FG_GREEN)?)?;
     Ok(table)
-}
-
-#[test]
-fn a_chess_board_of_three_rows(rt: HostRuntime) -> Result<(), Fail> {
-    let table = chess(rt.alloc())?;
-    assert!(rt; table.has_cell_color(0, 1, Y));
-    assert!(rt; table.has_cell_color(1, 1, X));
-    assert!(rt; table.has_cell_color(2, 0, X));
-    Ok(())
-}
-
-fn without_colors(alloc: Global) -> Result<Table, OutOfMemory> {
-    let mut table = Table::of_shape(alloc, 2, 2)?;
-    table.with(Colorization::by_row(Vec::new(alloc)))?;
-    table.with(Colorization::exact(Vec::new(alloc), Rows::one(0)))?;
-    Ok(table)
-}
-
-#[test]
-fn no_colors_make_no_map(rt: HostRuntime) -> Result<(), Fail> {
-    assert!(rt; without_colors(rt.alloc())?.colored().get_colors().is_empty());
-    Ok(())
 }
 
 /// Whether a copy is equal to its source, and another pattern is not.
@@ -143,5 +92,27 @@ fn is_compared(alloc: Global) -> Result<bool, OutOfMemory> {
 #[test]
 fn colorizations_are_compared_and_copied(rt: HostRuntime) -> Result<(), Fail> {
     assert!(rt; is_compared(rt.alloc())?);
+    Ok(())
+}
+
+#[test]
+fn all_cells_are_colored_as_one_entity(rt: HostRuntime) -> Result<(), Fail> {
+    let mut table = Table::of_shape(rt.alloc(), 2, 2)?;
+    table.with(Colorization::exact(colors(rt.alloc(), 2)?, Segment::all()))?;
+    assert!(rt; table.has_cell_color(0, 0, X));
+    assert!(rt; table.has_cell_color(1, 1, X));
+    let cell = Position::new(0, 1);
+    assert!(rt; begins(table.cfg().get_justification_color(cell), X));
+    assert!(rt; begins(table.cfg().get_padding_color(cell).right.as_ref(), X));
+    Ok(())
+}
+
+#[test]
+fn cells_after_all_cells_have_their_own_color(rt: HostRuntime) -> Result<(), Fail> {
+    let mut table = Table::of_shape(rt.alloc(), 2, 2)?;
+    let target = Segment::all().and((0, 1));
+    table.with(Colorization::exact(colors(rt.alloc(), 2)?, target))?;
+    assert!(rt; table.has_cell_color(0, 0, X));
+    assert!(rt; table.has_cell_color(0, 1, Y));
     Ok(())
 }

@@ -15,12 +15,6 @@ fn own_red(alloc: Global) -> Result<Color, OutOfMemory> {
     Color::new(alloc, "\u{1b}[31m", "\u{1b}[39m")
 }
 
-/// Whether colors by their parts have the codes of these.
-fn parts_are_written(alloc: Global) -> Result<bool, OutOfMemory> {
-    let background = Color::rgb_bg(alloc, 0, 255, 128)?;
-    Ok(has_texts(&background, "\u{1b}[48;2;0;255;128m", "\u{1b}[49m"))
-}
-
 fn parts_of_characters_are_written(alloc: Global) -> Result<bool, OutOfMemory> {
     let characters = Color::rgb_fg(alloc, 7, 10, 100)?;
     Ok(has_texts(&characters, "\u{1b}[38;2;7;10;100m", "\u{1b}[39m"))
@@ -39,16 +33,7 @@ fn are_joined(
 
 #[test]
 fn colors_are_made_of_parts_and_joined(rt: HostRuntime) -> Result<(), Fail> {
-    assert!(rt; parts_are_written(rt.alloc())?);
     assert!(rt; parts_of_characters_are_written(rt.alloc())?);
-    assert!(rt;
-        are_joined(
-            rt.alloc(),
-            (&Color::FG_BLACK, &Color::FG_BLUE),
-            "\u{1b}[30m\u{1b}[34m",
-            "\u{1b}[39m"
-        )?
-    );
     assert!(rt;
         are_joined(
             rt.alloc(),

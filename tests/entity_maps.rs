@@ -100,3 +100,34 @@ fn values_of_cells(rt: HostRuntime) -> Result<(), Fail> {
     assert!(rt; Sides::filled('x').keep(rt.alloc())? == Sides::filled('x'));
     Ok(())
 }
+
+/// A list of one event.
+fn event(
+    alloc: Global,
+    entity: Entity,
+    value: Option<char>,
+) -> Result<Vec<(Entity, Option<char>)>, OutOfMemory> {
+    let mut events = Vec::new(alloc);
+    events.push((entity, value))?;
+    Ok(events)
+}
+
+/// What a cell has in three maps after an event of a row, of the given entity, and a removal of all cells.
+fn after_three(alloc: Global, entity: Entity) -> Result<[char; 3], OutOfMemory> {
+    let mut first = EntityMap::new(alloc, '.');
+    let mut second = row_and_column(alloc)?;
+    let mut third = row_and_column(alloc)?;
+    let row = event(alloc, Entity::Row(1), Some('x'))?;
+    let other = event(alloc, entity, Some('y'))?;
+    let none = event(alloc, entity, None)?;
+    first.apply_three(alloc, row, &mut second, other, &mut third, none)?;
+    Ok([value(&first, 1, 2), value(&second, 1, 2), value(&third, 1, 2)])
+}
+
+#[test]
+fn three_maps_are_changed_at_once(rt: HostRuntime) -> Result<(), Fail> {
+    for entity in [Entity::Global, Entity::Column(2), Entity::Cell(1, 2)] {
+        assert!(rt; after_three(rt.alloc(), entity)? == ['x', 'y', '.'], "{entity:?}");
+    }
+    Ok(())
+}

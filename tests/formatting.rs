@@ -97,21 +97,6 @@ fn the_default_filling_is_a_space(rt: HostRuntime) -> Result<(), Fail> {
     Ok(())
 }
 
-fn filled_again(alloc: Global) -> Result<Table, OutOfMemory> {
-    let mut table = Table::of_shape(alloc, 2, 1)?;
-    table.with(Justification::new('+').color(Color::FG_RED))?;
-    table.with(Justification::default())?;
-    Ok(table)
-}
-
-#[test]
-fn the_default_filling_takes_a_color_away(rt: HostRuntime) -> Result<(), Fail> {
-    let table = filled_again(rt.alloc())?;
-    assert!(rt; table.cfg().get_justification(FIRST) == ' ');
-    assert!(rt; table.cfg().get_justification_color(FIRST).is_none());
-    Ok(())
-}
-
 fn padded(alloc: Global) -> Result<Table, OutOfMemory> {
     let mut table = Table::of_shape(alloc, 2, 1)?;
     table.with(PaddingColor::filled(alloc, Color::FG_RED)?)?;
@@ -143,4 +128,12 @@ fn padding_colors_are_sides(rt: HostRuntime) {
     assert!(rt; sides.left == Color::FG_RED);
     assert!(rt; sides.right.is_empty());
     assert!(rt; PaddingColor::from(sides) == on_the_left());
+}
+
+#[test]
+fn padding_colors_are_copied(rt: HostRuntime) -> Result<(), Fail> {
+    let owned = Color::new(rt.alloc(), "<", ">")?;
+    let colors = PaddingColor::new(owned, Color::FG_RED, Color::empty(), Color::BG_BLUE);
+    assert!(rt; colors.keep(rt.alloc())? == colors);
+    Ok(())
 }

@@ -3,7 +3,7 @@
 use crate::common::tables::Table;
 use std::alloc::Global;
 use std::test::Fail;
-use tabled_grid::{Columns, Combine, Offset, OutOfMemory, Rows};
+use tabled_grid::{Columns, Offset, OutOfMemory, Rows};
 use tabled_options::LineChar;
 use tabled_style::Style;
 
@@ -14,55 +14,11 @@ fn markdown(alloc: Global) -> Result<Table, OutOfMemory> {
     Ok(table)
 }
 
-/// Whether marks on a row and beside cells make this text.
-fn is_marked(alloc: Global, text: &str) -> bool {
-    let first = LineChar::horizontal(':', Offset::Start(0));
-    let last = LineChar::horizontal(':', Offset::End(0));
-    let side = LineChar::vertical('#', Offset::Start(0));
-    match markdown(alloc) {
-        Ok(mut table) => {
-            table.modify(alloc, &Rows::one(1), &first).is_ok()
-                && table.modify(alloc, &Rows::one(1), &last).is_ok()
-                && table.modify(alloc, &(1, 0).and((1, 1)), &side).is_ok()
-                && table.prints(alloc, text) == Ok(true)
-        }
-        Err(OutOfMemory) => false,
-    }
-}
-
-#[test]
-fn marks_stand_on_a_line_and_beside_cells(rt: HostRuntime) {
-    let text = "| &str        |\n|:-----------:|\n# Hello World #";
-    assert!(rt; is_marked(rt.alloc(), text));
-}
-
 /// A table of one cell in a full frame.
 fn cell(alloc: Global) -> Result<Table, OutOfMemory> {
     let mut table = Table::new(alloc, &[3], &[&[" a "]])?;
     table.with(Style::ascii())?;
     Ok(table)
-}
-
-/// Whether two marks above the cell, in this order, make this text.
-fn is_marked_twice(alloc: Global, first: LineChar, second: LineChar, text: &str) -> bool {
-    match cell(alloc) {
-        Ok(mut table) => {
-            table.modify(alloc, &(0, 0), &first).is_ok()
-                && table.modify(alloc, &(0, 0), &second).is_ok()
-                && table.prints(alloc, text) == Ok(true)
-        }
-        Err(OutOfMemory) => false,
-    }
-}
-
-#[test]
-fn a_mark_from_the_start_shows_before_one_from_the_end(rt: HostRuntime) {
-    let start = LineChar::horizontal('s', Offset::Start(2));
-    let end = LineChar::horizontal('e', Offset::End(0));
-    let past = LineChar::horizontal('p', Offset::End(3));
-    assert!(rt; is_marked_twice(rt.alloc(), start, end, "+--s+\n| a |\n+---+"));
-    assert!(rt; is_marked_twice(rt.alloc(), end, start, "+--s+\n| a |\n+---+"));
-    assert!(rt; is_marked_twice(rt.alloc(), past, past, "+---+\n| a |\n+---+"));
 }
 
 /// Whether marks on both closing lines make this text, and marks past them nothing more.

@@ -62,8 +62,3 @@ fn cells_outside_are_passed_over(rt: HostRuntime) {
     let second = (usize::MAX, 0).and(Columns::one(1));
     assert!(rt; prints(rt.alloc(), stars(second), SECOND_COLUMN));
 }
-
-#[test]
-fn nothing_is_written_without_border_and_colors(rt: HostRuntime) {
-    assert!(rt; prints(rt.alloc(), Highlight::new(Segment::all()), NOTHING));
-}

@@ -1,10 +1,11 @@
 //! Printed tables, and what is refused where cells do not fit.
 
-use crate::common::configs::ascii_borders;
+use crate::common::configs::{ascii, ascii_borders};
 use crate::common::printing::printed;
 use std::alloc::Global;
+use std::test::Fail;
 use tabled_config::{PrintError, SpannedConfig};
-use tabled_grid::{Borders, FixedDimension, OutOfMemory};
+use tabled_grid::{Borders, FixedDimension, OutOfMemory, Position};
 
 /// A table: the widths of its columns, the heights of its rows, and its cells.
 type Table = (
@@ -41,37 +42,6 @@ fn gives(
     }
 }
 
-/// Whether a table in a full frame is refused so, with the text `before:` left as it was.
-fn refused(alloc: Global, table: Table, refusal: PrintError) -> bool {
-    gives(alloc, ascii_borders(), table, Err(refusal), "before:")
-}
-
-/// Tables, and what is made of `before:` in a full frame.
-static FRAMED: [(Table, &str); 8] = [
-    ((&[3], &[1], &[&[" a "]]), "before:+---+\n| a |\n+---+"),
-    (
-        (&[3], &[2], &[&[" a \n b "]]),
-        "before:+---+\n| a |\n| b |\n+---+",
-    ),
-    ((&[3], &[0], &[&[""]]), "before:+---+\n+---+"),
-    ((&[0], &[1], &[&[""]]), "before:++\n||\n++"),
-    ((&[4], &[1], &[&[" 漢 "]]), "before:+----+\n| 漢 |\n+----+"),
-    (
-        (&[3, 4], &[1, 1], &[&[" a ", " bb "], &[" c ", " dd "]]),
-        "before:+---+----+\n| a | bb |\n+---+----+\n| c | dd |\n+---+----+",
-    ),
-    ((&[], &[], &[]), "before:"),
-    ((&[], &[1, 1], &[&[], &[]]), "before:"),
-];
-
-#[test]
-fn cells_are_printed_in_a_full_frame(rt: HostRuntime) {
-    for (table, text) in FRAMED.iter() {
-        let shown = gives(rt.alloc(), ascii_borders(), *table, Ok(()), text);
-        assert!(rt; shown, "{text}");
-    }
-}
-
 static TWO_CELLS: Table = (&[3, 3], &[1], &[&[" a ", " b "]]);
 
 static ONE_CELL: Table = (&[3], &[1], &[&[" a "]]);
@@ -103,41 +73,6 @@ fn lines_are_drawn_where_the_class_record_has_something(rt: HostRuntime) {
     assert!(rt; empty_lines);
 }
 
-/// Tables that are refused, and the first fault of each.
-static REFUSED: [(Table, PrintError); 8] = [
-    ((&[3], &[1], &[&[" ab "]]), PrintError::Width(0, 0)),
-    ((&[3], &[1], &[&[" a \n b "]]), PrintError::Height(0, 0)),
-    ((&[3], &[0], &[&[" a "]]), PrintError::Height(0, 0)),
-    ((&[], &[1, 1], &[&[]]), PrintError::RowCount),
-    (
-        (&[3, 3], &[1, 1], &[&[" a ", " bb "], &[" c "]]),
-        PrintError::Width(0, 1),
-    ),
-    (
-        (&[3, 3], &[1, 1], &[&[" a ", " b "], &[" c\n"]]),
-        PrintError::ColumnCount(1),
-    ),
-    (
-        (&[3, 3], &[1, 1], &[&["aaaa\n", " b "], &[" a ", " b "]]),
-        PrintError::Height(0, 0),
-    ),
-    (
-        (
-            &[3, 3],
-            &[1, 1],
-            &[&["aaaa\n", " b "], &[" c\n"], &[" a ", " b "]],
-        ),
-        PrintError::RowCount,
-    ),
-];
-
-#[test]
-fn the_first_fault_is_answered(rt: HostRuntime) {
-    for (table, refusal) in REFUSED.iter() {
-        assert!(rt; refused(rt.alloc(), *table, *refusal), "{refusal:?}");
-    }
-}
-
 /// Whether printing gives the whole table, or says that memory was refused and leaves the text as it was.
 fn is_whole_or_left(given: Result<(), PrintError>, shown: &str) -> bool {
     match given {
@@ -153,4 +88,20 @@ fn the_text_is_kept_where_memory_is_refused(rt: HostRuntime) {
         Err(OutOfMemory) => true,
     };
     assert!(rt; kept);
+}
+
+#[test]
+fn a_span_outside_is_refused_until_it_is_taken_back(rt: HostRuntime) -> Result<(), Fail> {
+    let alloc = rt.alloc();
+    let mut cfg = ascii(alloc);
+    let dims = FixedDimension::new(vec![in alloc; 3usize; 1]?, vec![in alloc; 1usize; 1]?);
+    cfg.set_row_span(Position::new(7, 7), 2)?;
+    let (returned, text) = printed(alloc, &cfg, &[&[" a "]], &dims, "before:")?;
+    assert_eq!(rt; returned, Err(PrintError::Spans));
+    assert_eq!(rt; text.as_str(), "before:");
+    cfg.set_row_span(Position::new(7, 7), 1)?;
+    let (returned, text) = printed(alloc, &cfg, &[&[" a "]], &dims, "before:")?;
+    assert_eq!(rt; returned, Ok(()));
+    assert_eq!(rt; text.as_str(), "before:+---+\n| a |\n+---+");
+    Ok(())
 }

@@ -4,7 +4,6 @@
 use std::alloc::{AllocError, Global};
 use std::io;
 use std::io::{Cursor, ErrorKind, Read, Write};
-use std::test::Fail;
 use tabled_pages::{ShowError, run};
 
 /// Words that are given between spaces.
@@ -164,15 +163,6 @@ fn inputs_are_refused(rt: HostRuntime) {
     }
 }
 
-#[test]
-fn what_is_too_long_is_refused(rt: HostRuntime) -> Result<(), Fail> {
-    let long = vec![in rt.alloc(); b'a'; 16_777_217]?;
-    let refused = refuses(rt.alloc(), "ascii", &long, ShowError::TooLong);
-    drop(long);
-    assert!(rt; refused);
-    Ok(())
-}
-
 /// A reader that gives its bytes in one read each, and then a fault.
 #[derive(Drop)]
 struct FailsAfter {
@@ -205,61 +195,3 @@ impl Write for TakesNothing {
     }
 }
 
-/// What the program returns for these words, where the given number of reads succeed.
-fn read_in_part(
-    alloc: Global,
-    words: &[String],
-    reads: usize,
-    written: &mut Vec<u8>,
-) -> Result<(), ShowError> {
-    run(alloc, words, &mut FailsAfter { reads }, written)
-}
-
-/// Whether the program says that reading failed, and writes nothing, where the given number of reads succeed.
-fn fails_after(alloc: Global, reads: usize) -> bool {
-    match words_of(alloc, "ascii") {
-        Ok(words) => {
-            let mut written = Vec::new(alloc);
-            let returned = read_in_part(alloc, &words, reads, &mut written);
-            returned == Err(ShowError::ReadFailed) && written.is_empty()
-        }
-        Err(AllocError) => false,
-    }
-}
-
-#[test]
-fn a_failed_read_is_refused(rt: HostRuntime) {
-    for reads in [0, 1] {
-        assert!(rt; fails_after(rt.alloc(), reads), "after {reads} reads");
-    }
-}
-
-#[test]
-fn a_failed_write_is_refused(rt: HostRuntime) -> Result<(), Fail> {
-    let words = words_of(rt.alloc(), "ascii")?;
-    let mut reader = Cursor::new(b"a\n".as_slice());
-    let returned = run(rt.alloc(), &words, &mut reader, &mut TakesNothing);
-    drop(words);
-    assert_eq!(rt; returned, Err(ShowError::WriteFailed));
-    Ok(())
-}
-
-/// Whether a refusal has this text and this status.
-fn says(refusal: ShowError, text: &str, status: u8) -> bool {
-    refusal.text() == text && refusal.status() == status
-}
-
-#[test]
-fn each_refusal_has_a_text_and_a_status(rt: HostRuntime) {
-    for (refusal, text, status) in [
-        (ShowError::Usage, "usage: tabled_show STYLE", 2),
-        (ShowError::ReadFailed, "read failed", 1),
-        (ShowError::TooLong, "input too long", 5),
-        (ShowError::ByteOutOfRange, "byte out of range", 4),
-        (ShowError::UnequalRows, "rows of unequal count", 3),
-        (ShowError::OutOfMemory, "out of memory", 1),
-        (ShowError::WriteFailed, "write failed", 1),
-    ] {
-        assert!(rt; says(refusal, text, status), "{text}");
-    }
-}

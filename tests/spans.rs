@@ -1,10 +1,11 @@
-//! Which cells span, and which they cover.
+//! Which cells span, which they cover, and what is drawn of spans outside a table.
 
 use crate::common::tables::Table;
 use std::alloc::Global;
 use std::test::Fail;
 use tabled_config::SpannedConfig;
 use tabled_grid::{OutOfMemory, Position};
+use tabled_style::Style;
 
 /// A table in which the cell of the second row and column spans two columns and three rows, and the one below two columns.
 fn spanned(alloc: Global) -> Result<Table, OutOfMemory> {
@@ -93,5 +94,20 @@ fn cells_are_covered_as_drawn(rt: HostRuntime) -> Result<(), Fail> {
             assert!(rt; is_as_drawn(table.cfg(), Position::new(row, col)));
         }
     }
+    Ok(())
+}
+
+#[test]
+fn spans_outside_draw_nothing(rt: HostRuntime) -> Result<(), Fail> {
+    let mut table = Table::of_shape(rt.alloc(), 3, 3)?;
+    table.with(Style::ascii())?;
+    table.across(3, 0, 3)?;
+    table.down(0, 3, 3)?;
+    table.across(0, 0, 3)?;
+    table.across(0, 0, 0)?;
+    table.correct()?;
+    let line = "+-+-+-+";
+    let cells = "| | | |";
+    assert!(rt; table.shows(&[line, cells, line, cells, line, cells, line]));
     Ok(())
 }

@@ -1,6 +1,7 @@
 //! Records, frames, colors and copies of themes.
 
 use crate::common::configs::{apply, config};
+use crate::common::tables::Table;
 use std::alloc::Global;
 use std::test::Fail;
 use tabled_color::Color;
@@ -151,5 +152,23 @@ fn a_theme_replaces_colors_and_is_read_again(rt: HostRuntime) -> Result<(), Fail
     made?;
     assert!(rt; left);
     assert!(rt; again?);
+    Ok(())
+}
+
+#[test]
+fn inner_lines_have_the_colors_of_a_theme(rt: HostRuntime) -> Result<(), Fail> {
+    let mut theme = Theme::new(rt.alloc());
+    theme.set_colors_horizontal(Color::FG_RED);
+    theme.set_colors_vertical(Color::FG_BLUE);
+    theme.set_colors_intersection(Color::FG_GREEN);
+    theme.set_colors_intersection_left(Color::new(rt.alloc(), "<", ">")?);
+    let mut table = Table::of_shape(rt.alloc(), 2, 2)?;
+    table.with(theme)?;
+    let (row, col, at) = (1, 1, 0);
+    assert!(rt; table.has_color(Place::Horizontal { row, col, at }, "\u{1b}[31m"));
+    assert!(rt; table.has_color(Place::Vertical { row, col, at }, "\u{1b}[34m"));
+    assert!(rt; table.has_color(Place::Cross { row, col }, "\u{1b}[32m"));
+    assert!(rt; table.has_color(Place::Cross { row, col: 0 }, "<"));
+    assert!(rt; table.is_plain(Place::Horizontal { row: 0, col, at }));
     Ok(())
 }

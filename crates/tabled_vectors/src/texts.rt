@@ -312,9 +312,21 @@ fn has_a_line_feed(alloc: Global) -> bool {
     }
 }
 
+/// A column without width.
+static NARROW: Table = (&[0], &[&[""]]);
+
+/// Whether a text on a column without width stands on the corners.
+fn stands_on_corners(alloc: Global) -> bool {
+    match LineText::new(alloc, "AB", Rows::first()) {
+        Ok(text) => prints_with_both(alloc, Style::ascii(), text, NARROW, "AB\n||\n++"),
+        Err(OutOfMemory) => false,
+    }
+}
+
 #[test]
-fn a_line_feed_takes_a_place(rt: HostRuntime) {
+fn each_character_takes_a_place(rt: HostRuntime) {
     assert!(rt; has_a_line_feed(rt.alloc()));
+    assert!(rt; stands_on_corners(rt.alloc()));
 }
 
 /// Whether marks stand on a row and beside cells.
