@@ -5,10 +5,10 @@
 
 mod examples;
 mod lettered;
-mod options;
-mod own_option;
-mod recipes;
-mod styles;
+pub mod options;
+pub mod own_option;
+pub mod recipes;
+pub mod styles;
 
 pub use examples::{drawn_lines, lines_of_their_own, places_along_lines, places_and_levels};
 pub use lettered::{

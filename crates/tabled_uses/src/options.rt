@@ -1,9 +1,8 @@
-//! Each option once, on the same table. Each function is one use, and the test below it holds the picture that it draws;
-//! `docs/GALLERY.md` is made of them.
+//! Each option once, on the same table. Each function is one use, and a test of `tests/gallery.rs` holds the picture
+//! that it draws; `docs/GALLERY.md` is made of them.
 
-use crate::recipes::{is_picture, people};
+use crate::recipes::people;
 use std::alloc::Global;
-use std::test::Fail;
 use tabled::settings::object::{Columns, Combine, Entity, Rows};
 use tabled::settings::style::{
     Border, HorizontalLine, LineChar, LineText, Offset, ReadyStyle, VerticalLine,
@@ -18,38 +17,11 @@ pub fn style_by_name(alloc: Global, name: &str) -> Result<String, TableError> {
     Ok(table.to_text()?)
 }
 
-#[test]
-fn style_by_name_is_drawn(rt: HostRuntime) -> Result<(), Fail> {
-    let text = style_by_name(rt.alloc(), "markdown")?;
-    let picture = "
-| name  | age |
-|-------|-----|
-| Alice | 30  |
-| Bob   | 7   |
-";
-    assert!(rt; is_picture(text.as_str(), picture));
-    Ok(())
-}
-
 /// The characters of a style without its custom lines.
 pub fn characters_of_a_style(alloc: Global) -> Result<String, TableError> {
     let mut table = people(alloc)?;
     table.with(Style::rounded().get_borders())?;
     Ok(table.to_text()?)
-}
-
-#[test]
-fn characters_of_a_style_are_drawn(rt: HostRuntime) -> Result<(), Fail> {
-    let text = characters_of_a_style(rt.alloc())?;
-    let picture = "
-╭───────┬─────╮
-│ name  │ age │
-│ Alice │ 30  │
-│ Bob   │ 7   │
-╰───────┴─────╯
-";
-    assert!(rt; is_picture(text.as_str(), picture));
-    Ok(())
 }
 
 /// A custom vertical line.
@@ -60,22 +32,6 @@ pub fn vertical_line(alloc: Global) -> Result<String, TableError> {
     Ok(table.to_text()?)
 }
 
-#[test]
-fn vertical_line_is_drawn(rt: HostRuntime) -> Result<(), Fail> {
-    let text = vertical_line(rt.alloc())?;
-    let picture = "
-+-------+-----+
-| name  ! age |
-+-------+-----+
-| Alice ! 30  |
-+-------+-----+
-| Bob   ! 7   |
-+-------+-----+
-";
-    assert!(rt; is_picture(text.as_str(), picture));
-    Ok(())
-}
-
 /// A border around the whole table.
 pub fn border_of_the_table(alloc: Global) -> Result<String, TableError> {
     let mut table = people(alloc)?;
@@ -83,41 +39,11 @@ pub fn border_of_the_table(alloc: Global) -> Result<String, TableError> {
     Ok(table.to_text()?)
 }
 
-#[test]
-fn border_of_the_table_is_drawn(rt: HostRuntime) -> Result<(), Fail> {
-    let text = border_of_the_table(rt.alloc())?;
-    let picture = "
-###############
-# name  | age #
-#-------+-----#
-# Alice | 30  #
-#-------+-----#
-# Bob   | 7   #
-###############
-";
-    assert!(rt; is_picture(text.as_str(), picture));
-    Ok(())
-}
-
 /// No border around the table.
 pub fn table_without_a_border(alloc: Global) -> Result<String, TableError> {
     let mut table = people(alloc)?;
     table.with(Style::ascii())?.with(Border::empty())?;
     Ok(table.to_text()?)
-}
-
-#[test]
-fn table_without_a_border_is_drawn(rt: HostRuntime) -> Result<(), Fail> {
-    let text = table_without_a_border(rt.alloc())?;
-    let picture = "
- name  | age 
--------+-----
- Alice | 30  
--------+-----
- Bob   | 7   
-";
-    assert!(rt; is_picture(text.as_str(), picture));
-    Ok(())
 }
 
 /// The border taken away again from some cells.
@@ -129,44 +55,12 @@ pub fn cells_without_a_border(alloc: Global) -> Result<String, TableError> {
     Ok(table.to_text()?)
 }
 
-#[test]
-fn cells_without_a_border_are_drawn(rt: HostRuntime) -> Result<(), Fail> {
-    let text = cells_without_a_border(rt.alloc())?;
-    let picture = "
-+-------+-----+
-# name  | age |
-+-------+-----+
-| Alice | 30  |
-+-------+-----+
-# Bob   | 7   |
-+-------+-----+
-";
-    assert!(rt; is_picture(text.as_str(), picture));
-    Ok(())
-}
-
 /// Cells of one object and not of another.
 pub fn cells_of_one_object_and_not_of_another(alloc: Global) -> Result<String, TableError> {
     let mut table = people(alloc)?;
     table.with(Style::ascii())?;
     table.modify(Columns::first().not(Rows::first()), Border::new().left('>'))?;
     Ok(table.to_text()?)
-}
-
-#[test]
-fn cells_of_one_object_and_not_of_another_are_drawn(rt: HostRuntime) -> Result<(), Fail> {
-    let text = cells_of_one_object_and_not_of_another(rt.alloc())?;
-    let picture = "
-+-------+-----+
-| name  | age |
-+-------+-----+
-> Alice | 30  |
-+-------+-----+
-> Bob   | 7   |
-+-------+-----+
-";
-    assert!(rt; is_picture(text.as_str(), picture));
-    Ok(())
 }
 
 /// Cells that are chosen while the program runs.
@@ -179,22 +73,6 @@ pub fn cells_of_a_list(alloc: Global) -> Result<String, TableError> {
     Ok(table.to_text()?)
 }
 
-#[test]
-fn cells_of_a_list_are_drawn(rt: HostRuntime) -> Result<(), Fail> {
-    let text = cells_of_a_list(rt.alloc())?;
-    let picture = "
-+-------+-----+
-| name  | age |
-*********-----+
-* Alice * 30  |
-***************
-| Bob   * 7   *
-+-------*******
-";
-    assert!(rt; is_picture(text.as_str(), picture));
-    Ok(())
-}
-
 /// A text down a vertical line.
 pub fn title_down_the_side(alloc: Global) -> Result<String, TableError> {
     let mut table = people(alloc)?;
@@ -203,41 +81,12 @@ pub fn title_down_the_side(alloc: Global) -> Result<String, TableError> {
     Ok(table.to_text()?)
 }
 
-#[test]
-fn title_down_the_side_is_drawn(rt: HostRuntime) -> Result<(), Fail> {
-    let text = title_down_the_side(rt.alloc())?;
-    let picture = "
-s-------+-----+
-t name  | age |
-a-------+-----+
-f Alice | 30  |
-f-------+-----+
-| Bob   | 7   |
-+-------+-----+
-";
-    assert!(rt; is_picture(text.as_str(), picture));
-    Ok(())
-}
-
 /// A character at the end of each edge above a row.
 pub fn marks_above_a_row(alloc: Global) -> Result<String, TableError> {
     let mut table = people(alloc)?;
     let mark = LineChar::horizontal(':', Offset::End(0));
     table.with(Style::markdown())?.modify(Rows::one(1), mark)?;
     Ok(table.to_text()?)
-}
-
-#[test]
-fn marks_above_a_row_are_drawn(rt: HostRuntime) -> Result<(), Fail> {
-    let text = marks_above_a_row(rt.alloc())?;
-    let picture = "
-| name  | age |
-|------:|----:|
-| Alice | 30  |
-| Bob   | 7   |
-";
-    assert!(rt; is_picture(text.as_str(), picture));
-    Ok(())
 }
 
 /// A theme: a style that is changed field by field and line by line.
@@ -250,22 +99,6 @@ pub fn theme(alloc: Global) -> Result<String, TableError> {
     Ok(table.to_text()?)
 }
 
-#[test]
-fn theme_is_drawn(rt: HostRuntime) -> Result<(), Fail> {
-    let text = theme(rt.alloc())?;
-    let picture = "
-╭───────┬─────╮
-│ name  : age │
-├───────┼─────┤
-│ Alice : 30  │
-╞═══════╪═════╡
-│ Bob   : 7   │
-╰───────┴─────╯
-";
-    assert!(rt; is_picture(text.as_str(), picture));
-    Ok(())
-}
-
 /// A character wherever nothing else stands.
 pub fn default_character(alloc: Global) -> Result<String, TableError> {
     let mut table = people(alloc)?;
@@ -274,40 +107,9 @@ pub fn default_character(alloc: Global) -> Result<String, TableError> {
     Ok(table.to_text()?)
 }
 
-#[test]
-fn default_character_is_drawn(rt: HostRuntime) -> Result<(), Fail> {
-    let text = default_character(rt.alloc())?;
-    let picture = "
-...............
-. name  | age .
-.-------+-----.
-. Alice | 30  .
-...............
-. Bob   | 7   .
-...............
-";
-    assert!(rt; is_picture(text.as_str(), picture));
-    Ok(())
-}
-
 /// Texts of several lines, and of characters that are two columns wide.
 pub fn tall_and_wide_cells(alloc: Global) -> Result<String, TableError> {
     let mut table = TextTable::new(alloc, &[&["Ada\nLovelace", "1815"], &["東京", "都"]])?;
     table.with(Style::ascii())?;
     Ok(table.to_text()?)
-}
-
-#[test]
-fn tall_and_wide_cells_are_drawn(rt: HostRuntime) -> Result<(), Fail> {
-    let text = tall_and_wide_cells(rt.alloc())?;
-    let picture = "
-+----------+------+
-| Ada      | 1815 |
-| Lovelace |      |
-+----------+------+
-| 東京     | 都   |
-+----------+------+
-";
-    assert!(rt; is_picture(text.as_str(), picture));
-    Ok(())
 }

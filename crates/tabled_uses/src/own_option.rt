@@ -4,9 +4,8 @@ ghost use Rattle.std.specs.Prelude.{None};
 ghost use Rattle.tabled_grid.specs.Calls.{default_set};
 ghost use Rattle.tabled_config.specs.Configuration.{by_characters};
 
-use crate::recipes::{is_picture, people};
+use crate::recipes::people;
 use std::alloc::Global;
-use std::test::Fail;
 use tabled::TableError;
 use tabled::grid::config::{ColoredConfig, OutOfMemory};
 use tabled::settings::TableOption;
@@ -44,20 +43,4 @@ pub fn own_option(alloc: Global) -> Result<String, TableError> {
     let mut table = people(alloc)?;
     table.with(Everywhere { character: '*' })?;
     Ok(table.to_text()?)
-}
-
-#[test]
-fn own_option_is_drawn(rt: HostRuntime) -> Result<(), Fail> {
-    let text = own_option(rt.alloc())?;
-    let picture = "
-***************
-* name  * age *
-***************
-* Alice * 30  *
-***************
-* Bob   * 7   *
-***************
-";
-    assert!(rt; is_picture(text.as_str(), picture));
-    Ok(())
 }

@@ -1,8 +1,7 @@
-//! Tables as a user of the library draws them. Each function is one recipe, and the test below it holds the picture that it
-//! draws; `docs/GALLERY.md` is made of them.
+//! Tables as a user of the library draws them. Each function is one recipe, and a test of `tests/gallery.rs` holds the
+//! picture that it draws; `docs/GALLERY.md` is made of them.
 
 use std::alloc::Global;
-use std::test::Fail;
 use tabled::settings::object::{Cell, Columns, Combine, Rows, Segment};
 use tabled::settings::style::{Border, HorizontalLine, LineText};
 use tabled::settings::{Alignment, Highlight, Style};
@@ -13,14 +12,6 @@ pub fn people(alloc: Global) -> Result<TextTable, TableError> {
     TextTable::new(alloc, &[&["name", "age"], &["Alice", "30"], &["Bob", "7"]])
 }
 
-/// Whether a text is a picture, which stands between two line feeds.
-pub(crate) fn is_picture(text: &str, picture: &str) -> bool {
-    picture
-        .strip_prefix('\n')
-        .and_then(|rest| rest.strip_suffix('\n'))
-        == Some(text)
-}
-
 /// A table in a ready style.
 pub fn first_table(alloc: Global) -> Result<String, TableError> {
     let rows: &[&[&str]] = &[&["name", "age"], &["Alice", "30"], &["Bob", "7"]];
@@ -29,42 +20,12 @@ pub fn first_table(alloc: Global) -> Result<String, TableError> {
     Ok(table.to_text()?)
 }
 
-#[test]
-fn first_table_is_drawn(rt: HostRuntime) -> Result<(), Fail> {
-    let text = first_table(rt.alloc())?;
-    let picture = "
-╭───────┬─────╮
-│ name  │ age │
-├───────┼─────┤
-│ Alice │ 30  │
-│ Bob   │ 7   │
-╰───────┴─────╯
-";
-    assert!(rt; is_picture(text.as_str(), picture));
-    Ok(())
-}
-
 /// A line below the header.
 pub fn line_below_the_header(alloc: Global) -> Result<String, TableError> {
     let mut table = people(alloc)?;
     let line = HorizontalLine::full('=', '+', '+', '+');
     table.with(Style::ascii().remove_horizontal().horizontals([(1, line)]))?;
     Ok(table.to_text()?)
-}
-
-#[test]
-fn line_below_the_header_is_drawn(rt: HostRuntime) -> Result<(), Fail> {
-    let text = line_below_the_header(rt.alloc())?;
-    let picture = "
-+-------+-----+
-| name  | age |
-+=======+=====+
-| Alice | 30  |
-| Bob   | 7   |
-+-------+-----+
-";
-    assert!(rt; is_picture(text.as_str(), picture));
-    Ok(())
 }
 
 /// Borders around some cells, and a character at one corner.
@@ -77,22 +38,6 @@ pub fn borders_on_cells(alloc: Global) -> Result<String, TableError> {
     Ok(table.to_text()?)
 }
 
-#[test]
-fn borders_on_cells_are_drawn(rt: HostRuntime) -> Result<(), Fail> {
-    let text = borders_on_cells(rt.alloc())?;
-    let picture = "
-+-------+-----+
-| name  # age #
-+-------+-----+
-| Alice # 30  #
-+-------+-----+
-# Bob   # 7   #
-@-------+-----+
-";
-    assert!(rt; is_picture(text.as_str(), picture));
-    Ok(())
-}
-
 /// A title in the top line.
 pub fn title_in_the_top_line(alloc: Global) -> Result<String, TableError> {
     let mut table = people(alloc)?;
@@ -101,22 +46,6 @@ pub fn title_in_the_top_line(alloc: Global) -> Result<String, TableError> {
         .with(Style::modern())?
         .with(title.align(Alignment::center()))?;
     Ok(table.to_text()?)
-}
-
-#[test]
-fn title_in_the_top_line_is_drawn(rt: HostRuntime) -> Result<(), Fail> {
-    let text = title_in_the_top_line(rt.alloc())?;
-    let picture = "
-┌─── staff ───┐
-│ name  │ age │
-├───────┼─────┤
-│ Alice │ 30  │
-├───────┼─────┤
-│ Bob   │ 7   │
-└───────┴─────┘
-";
-    assert!(rt; is_picture(text.as_str(), picture));
-    Ok(())
 }
 
 /// An outline around a ring of cells, and a cell that touches it at a corner.
@@ -132,22 +61,4 @@ pub fn outline_around_cells(alloc: Global) -> Result<String, TableError> {
     let border = Border::full('─', '─', '│', '│', '┌', '┐', '└', '┘');
     table.with(Highlight::new(ring.and((3, 3))).border(border))?;
     Ok(table.to_text()?)
-}
-
-#[test]
-fn outline_around_cells_is_drawn(rt: HostRuntime) -> Result<(), Fail> {
-    let text = outline_around_cells(rt.alloc())?;
-    let picture = "
-┌───────────┐    
-│ a   b   c │ d  
-│   ┌───┐   │    
-│ e │ f │ g │ h  
-│   └───┘   │    
-│ i   j   k │ l  
-└───────────┌───┐
-  m   n   o │ p │
-            └───┘
-";
-    assert!(rt; is_picture(text.as_str(), picture));
-    Ok(())
 }

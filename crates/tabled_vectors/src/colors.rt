@@ -1,128 +1,130 @@
-//! Which color a border place has.
+//! Colors as values.
 
 use std::alloc::Global;
-use std::test::Fail;
-use tabled_config::{ColoredConfig, SpannedConfig};
-use tabled_grid::{ANSIBuf, Borders, Offset, OutOfMemory, Place, Position, Probes};
-use tabled_style::Style;
+use tabled_color::Color;
+use tabled_grid::OutOfMemory;
 
-const TOP: Place = Place::Horizontal {
-    row: 0,
-    col: 0,
-    at: 0,
-};
-
-const CORNER: Place = Place::Cross { row: 0, col: 0 };
-
-fn red(alloc: Global) -> Result<ANSIBuf, OutOfMemory> {
-    ANSIBuf::new(alloc, "\u{1b}[31m", "\u{1b}[39m")
-}
-
-fn blue(alloc: Global) -> Result<ANSIBuf, OutOfMemory> {
-    ANSIBuf::new(alloc, "\u{1b}[34m", "\u{1b}[39m")
-}
-
-/// Whether a place of a table of one cell of width 3 has a color that begins with this text.
-fn has_prefix(cfg: &SpannedConfig, place: Place, prefix: &str) -> bool {
-    match cfg.color_at(place, (1, 1), 3, &mut Probes::new()) {
-        Some(color) => color.get_prefix() == prefix,
-        None => false,
+/// Whether there was memory for a color, and it has these two texts.
+fn has_texts(color: Result<Color, OutOfMemory>, prefix: &str, suffix: &str) -> bool {
+    match color {
+        Ok(color) => color.get_prefix() == prefix && color.get_suffix() == suffix,
+        Err(OutOfMemory) => false,
     }
 }
 
-#[test]
-fn the_class_color_of_the_top_is_that_of_its_edges(rt: HostRuntime) -> Result<(), Fail> {
-    let top = red(rt.alloc())?;
-    let mut cfg = SpannedConfig::new(rt.alloc());
-    cfg.set_borders_color(Borders {
-        top: Some(top),
-        ..Borders::empty()
-    });
-    let edge = has_prefix(&cfg, TOP, "\u{1b}[31m");
-    let corner = cfg
-        .color_at(CORNER, (1, 1), 3, &mut Probes::new())
-        .is_some();
-    drop(cfg);
-    assert!(rt; edge);
-    assert!(rt; !corner);
-    Ok(())
+/// A color of the first two texts joined with one of the others.
+fn joined(
+    alloc: Global,
+    first: (&str, &str),
+    second: (&str, &str),
+) -> Result<Color, OutOfMemory> {
+    let first = Color::new(alloc, first.0, first.1)?;
+    let second = Color::new(alloc, second.0, second.1)?;
+    first.join(alloc, &second)
+}
+
+/// White behind black.
+fn black_on_white(alloc: Global) -> Result<Color, OutOfMemory> {
+    let white = Color::rgb_bg(alloc, 255, 255, 255)?;
+    white.join(alloc, &Color::rgb_fg(alloc, 0, 0, 0)?)
 }
 
 #[test]
-fn the_default_color_erases_class_colors(rt: HostRuntime) -> Result<(), Fail> {
-    let top = red(rt.alloc())?;
-    let default = blue(rt.alloc())?;
-    let mut cfg = SpannedConfig::new(rt.alloc());
-    cfg.set_borders_color(Borders {
-        top: Some(top),
-        ..Borders::empty()
-    });
-    cfg.set_border_color_default(default);
-    let edge = has_prefix(&cfg, TOP, "\u{1b}[34m");
-    let corner = has_prefix(&cfg, CORNER, "\u{1b}[34m");
-    drop(cfg);
-    assert!(rt; edge);
-    assert!(rt; corner);
-    Ok(())
+fn colors_are_joined(rt: HostRuntime) {
+    let alloc = rt.alloc();
+    let black = Color::FG_BLACK.join(alloc, &Color::FG_BLUE);
+    assert!(rt; has_texts(black, "\u{1b}[30m\u{1b}[34m", "\u{1b}[39m"));
+    let green = Color::FG_BRIGHT_GREEN.join(alloc, &Color::BG_BLUE);
+    assert!(rt; has_texts(green, "\u{1b}[92m\u{1b}[44m", "\u{1b}[39m\u{1b}[49m"));
+    let (dots, ats) = (("...", "!!!"), ("@@@", "###"));
+    assert!(rt; has_texts(joined(alloc, dots, ats), "...@@@", "!!!###"));
+    let both = joined(alloc, ("...@@@", "!!!###"), ("$$$", "%%%"));
+    assert!(rt; has_texts(both, "...@@@$$$", "!!!###%%%"));
+    let (prefix, suffix) = (
+        "\u{1b}[48;2;255;255;255m\u{1b}[38;2;0;0;0m",
+        "\u{1b}[49m\u{1b}[39m",
+    );
+    assert!(rt; has_texts(black_on_white(alloc), prefix, suffix));
+    let green = Color::rgb_bg(alloc, 0, 255, 128);
+    assert!(rt; has_texts(green, "\u{1b}[48;2;0;255;128m", "\u{1b}[49m"));
 }
 
-/// One place of the upper edge.
-fn above(at: usize) -> Place {
-    Place::Horizontal { row: 0, col: 0, at }
+/// Whether what is joined equals a color that is made of the same texts.
+fn joined_equals_made(alloc: Global) -> Result<bool, OutOfMemory> {
+    let first = joined(alloc, ("...", "!!!"), ("@@@", "###"))?;
+    let is_first = first == Color::new(alloc, "...@@@", "!!!###")?;
+    let both = first.join(alloc, &Color::new(alloc, "$$$", "%%%")?)?;
+    Ok(is_first && both == Color::new(alloc, "...@@@$$$", "!!!###%%%")?)
 }
 
-const LEFT: Place = Place::Vertical {
-    row: 0,
-    col: 0,
-    at: 0,
-};
-
-/// Colors numbered places of the upper and of the left edge, and then everything by the default.
-fn red_on_blue(alloc: Global, cfg: &mut SpannedConfig) -> Result<(), OutOfMemory> {
-    cfg.set_horizontal_char_color(Position::new(0, 0), Offset::Start(1), red(alloc)?)?;
-    cfg.set_vertical_char_color(Position::new(0, 0), Offset::End(0), red(alloc)?)?;
-    cfg.set_border_color_default(blue(alloc)?);
-    Ok(())
+/// Whether a constant is unequal to an owned color of its texts, and the lesser of the two.
+fn constant_is_lesser(alloc: Global) -> Result<bool, OutOfMemory> {
+    let owned = Color::new(alloc, "\u{1b}[31m", "\u{1b}[39m")?;
+    Ok(Color::FG_RED != owned && Color::FG_RED < owned)
 }
 
-#[test]
-fn colored_places_stay_over_the_default(rt: HostRuntime) -> Result<(), Fail> {
-    let mut cfg = SpannedConfig::new(rt.alloc());
-    let made = red_on_blue(rt.alloc(), &mut cfg);
-    let first = has_prefix(&cfg, above(0), "\u{1b}[34m");
-    let second = has_prefix(&cfg, above(1), "\u{1b}[31m");
-    let last = has_prefix(&cfg, above(2), "\u{1b}[34m");
-    let place = cfg.color_at(LEFT, (1, 1), 1, &mut Probes::new());
-    let left = place.map(|color| color.get_prefix() == "\u{1b}[31m") == Some(true);
-    drop(cfg);
-    made?;
-    assert!(rt; first);
-    assert!(rt; second);
-    assert!(rt; last);
-    assert!(rt; left);
-    Ok(())
-}
-
-fn red_then_styled(alloc: Global, cfg: &mut ColoredConfig) -> Result<(), OutOfMemory> {
-    red_on_blue(alloc, cfg.config_mut())?;
-    let style = Style::ascii();
-    cfg.config_mut().replace_borders(
-        style.get_borders(),
-        style.get_horizontals(),
-        style.get_verticals(),
-    )
+/// Whether a text is in red as it should be.
+fn is_colorized(alloc: Global) -> Result<bool, OutOfMemory> {
+    let colored = Color::FG_RED.colorize(alloc, "a\r\nb\n")?;
+    Ok(colored.as_str() == "\u{1b}[31ma\u{1b}[39m\n\u{1b}[31mb\u{1b}[39m")
 }
 
 #[test]
-fn a_style_leaves_no_color(rt: HostRuntime) -> Result<(), Fail> {
-    let mut cfg = ColoredConfig::new(SpannedConfig::new(rt.alloc()));
-    let made = red_then_styled(rt.alloc(), &mut cfg);
-    let colored = cfg
-        .config()
-        .color_at(above(1), (1, 1), 3, &mut Probes::new())
-        .is_some();
-    drop(cfg);
-    made?;
-    assert!(rt; !colored);
-    Ok(())
+fn colors_are_compared_and_put_around_texts(rt: HostRuntime) {
+    assert!(rt; joined_equals_made(rt.alloc()) == Ok(true));
+    assert!(rt; constant_is_lesser(rt.alloc()) == Ok(true));
+    assert!(rt; is_colorized(rt.alloc()) == Ok(true));
+}
+
+/// Whether a color of these texts is empty, if there was memory for it.
+fn made_is_empty(alloc: Global, prefix: &str, suffix: &str) -> Option<bool> {
+    match Color::new(alloc, prefix, suffix) {
+        Ok(color) => Some(color.is_empty()),
+        Err(OutOfMemory) => None,
+    }
+}
+
+/// The text attribute of a place in the list below.
+fn attribute(place: usize) -> Color {
+    match place {
+        0 => Color::BOLD,
+        1 => Color::DIMMED,
+        2 => Color::ITALIC,
+        3 => Color::UNDERLINE,
+        4 => Color::BLINK,
+        5 => Color::INVERT,
+        6 => Color::HIDDEN,
+        7 => Color::STRIKETHROUGH,
+        _ => Color::RESET,
+    }
+}
+
+/// The texts of the attributes.
+static ATTRIBUTE_TEXTS: [(&str, &str); 9] = [
+    ("\u{1b}[1m", "\u{1b}[22m"),
+    ("\u{1b}[2m", "\u{1b}[22m"),
+    ("\u{1b}[3m", "\u{1b}[23m"),
+    ("\u{1b}[4m", "\u{1b}[24m"),
+    ("\u{1b}[5m", "\u{1b}[25m"),
+    ("\u{1b}[7m", "\u{1b}[27m"),
+    ("\u{1b}[8m", "\u{1b}[28m"),
+    ("\u{1b}[9m", "\u{1b}[29m"),
+    ("\u{1b}[0m", "\u{1b}[0m"),
+];
+
+/// Whether a color has these texts, and is not empty.
+fn is_of(color: Color, texts: &(&str, &str)) -> bool {
+    color.get_prefix() == texts.0 && color.get_suffix() == texts.1 && !color.is_empty()
+}
+
+#[test]
+fn colors_without_texts_are_empty(rt: HostRuntime) {
+    assert!(rt; Color::empty().is_empty());
+    assert!(rt; made_is_empty(rt.alloc(), "", "") == Some(true));
+    assert!(rt; made_is_empty(rt.alloc(), "a", "b") == Some(false));
+    assert!(rt; !Color::FG_BLACK.is_empty());
+    assert!(rt; !Color::BG_RED.is_empty());
+    for (place, texts) in ATTRIBUTE_TEXTS.iter().enumerate() {
+        assert!(rt; is_of(attribute(place), texts), "{texts:?}");
+    }
 }

@@ -1,212 +1,114 @@
 //! What shows at each level: the default, custom lines, cells and offsets.
 
-use crate::tables::{ascii, prints};
+use crate::tables::{FOUR, ONE, TWO_ROWS, Table, apply, config, prints};
 use std::alloc::Global;
-use std::test::Fail;
-use tabled_config::SpannedConfig;
+use tabled_config::ColoredConfig;
 use tabled_grid::{
-    HorizontalLine, LineOf, Offset, OutOfMemory, Place, Position, Probes, Target, VerticalLine,
-    Write,
+    Border, HorizontalLine, LineOf, Offset, Place, Position, Probes, VerticalLine,
 };
+use tabled_style::Style;
 
 const CELL: Position = Position { row: 0, col: 0 };
 
-fn end_then_start(cfg: &mut SpannedConfig) -> Result<(), OutOfMemory> {
-    cfg.set_horizontal_char(CELL, Offset::End(0), 'e')?;
-    cfg.set_horizontal_char(CELL, Offset::Start(2), 's')
-}
-
-fn start_then_end(cfg: &mut SpannedConfig) -> Result<(), OutOfMemory> {
-    cfg.set_horizontal_char(CELL, Offset::Start(2), 's')?;
-    cfg.set_horizontal_char(CELL, Offset::End(0), 'e')
-}
-
-#[test]
-fn an_offset_from_the_start_shows_over_one_from_the_end(rt: HostRuntime) -> Result<(), Fail> {
-    let mut cfg = ascii(rt.alloc());
-    let made = end_then_start(&mut cfg);
-    let shown = prints(rt.alloc(), &cfg, &[&[" a "]], 1, "+--s+\n| a |\n+---+");
-    drop(cfg);
-    made?;
-    assert!(rt; shown);
-    Ok(())
-}
-
-#[test]
-fn it_does_so_in_either_order(rt: HostRuntime) -> Result<(), Fail> {
-    let mut cfg = ascii(rt.alloc());
-    let made = start_then_end(&mut cfg);
-    let shown = prints(rt.alloc(), &cfg, &[&[" a "]], 1, "+--s+\n| a |\n+---+");
-    drop(cfg);
-    made?;
-    assert!(rt; shown);
-    Ok(())
-}
-
-#[test]
-fn an_offset_past_the_width_shows_nowhere(rt: HostRuntime) -> Result<(), Fail> {
-    let mut cfg = ascii(rt.alloc());
-    let made = cfg.set_horizontal_char(CELL, Offset::End(3), 'e');
-    let shown = prints(rt.alloc(), &cfg, &[&[" a "]], 1, "+---+\n| a |\n+---+");
-    drop(cfg);
-    made?;
-    assert!(rt; shown);
-    Ok(())
-}
-
-#[test]
-fn removed_offsets_show_no_more(rt: HostRuntime) -> Result<(), Fail> {
-    let mut cfg = ascii(rt.alloc());
-    let made = end_then_start(&mut cfg);
-    cfg.remove_horizontal_chars();
-    let shown = prints(rt.alloc(), &cfg, &[&[" a "]], 1, "+---+\n| a |\n+---+");
-    drop(cfg);
-    made?;
-    assert!(rt; shown);
-    Ok(())
-}
-
-#[test]
-fn the_default_alone_frames_a_table(rt: HostRuntime) {
-    let mut cfg = SpannedConfig::new(rt.alloc());
-    cfg.set_border_default('*');
-    let shown = prints(rt.alloc(), &cfg, &[&[" a "]], 1, "*****\n* a *\n*****");
-    drop(cfg);
-    assert!(rt; shown);
-}
-
-#[test]
-fn a_vertical_line_alone_draws_itself(rt: HostRuntime) -> Result<(), Fail> {
-    let mut cfg = SpannedConfig::new(rt.alloc());
-    let made = cfg.insert_vertical_line(1, VerticalLine::new(Some('|'), Some('+'), None, None));
-    let rows: &[&[&str]] = &[&[" a ", " b "], &[" c ", " d "]];
-    let shown = prints(rt.alloc(), &cfg, rows, 2, " a | b \n c | d ");
-    drop(cfg);
-    made?;
-    assert!(rt; shown);
-    Ok(())
-}
-
-#[test]
-fn a_fresh_configuration_has_nothing(rt: HostRuntime) {
-    let cfg = SpannedConfig::new(rt.alloc());
-    let mut probes = Probes::new();
-    let edge = Place::Horizontal {
-        row: 0,
-        col: 0,
-        at: 0,
-    };
-    assert_eq!(rt; cfg.char_at(edge, (1, 1), 3, &mut probes), None);
-    assert!(rt; probes.count() <= 6);
-    let mut probes = Probes::new();
-    assert!(rt; !cfg.draws(LineOf::Horizontal(0), 1, &mut probes));
-    assert!(rt; probes.count() <= 6);
-}
-
-fn two_lines_at_one(cfg: &mut SpannedConfig) -> Result<(), OutOfMemory> {
-    cfg.insert_horizontal_line(1, HorizontalLine::new(Some('='), None, Some('L'), None))?;
-    cfg.insert_horizontal_line(1, HorizontalLine::new(Some('='), None, None, None))
-}
-
-#[test]
-fn a_line_put_over_another_keeps_nothing_of_it(rt: HostRuntime) -> Result<(), Fail> {
-    let mut cfg = ascii(rt.alloc());
-    let made = two_lines_at_one(&mut cfg);
-    let rows: &[&[&str]] = &[&[" a "], &[" b "]];
-    let shown = prints(
-        rt.alloc(),
-        &cfg,
-        rows,
-        1,
-        "+---+\n| a |\n+===+\n| b |\n+---+",
-    );
-    drop(cfg);
-    made?;
-    assert!(rt; shown);
-    Ok(())
-}
-
-fn crossing_lines(cfg: &mut SpannedConfig) -> Result<(), OutOfMemory> {
-    cfg.insert_horizontal_line(1, HorizontalLine::new(Some('-'), Some('h'), None, None))?;
-    cfg.insert_vertical_line(1, VerticalLine::new(Some('|'), Some('v'), None, None))
-}
-
-#[test]
-fn a_horizontal_line_shows_over_a_vertical_one_where_they_cross(
-    rt: HostRuntime,
-) -> Result<(), Fail> {
-    let mut cfg = SpannedConfig::new(rt.alloc());
-    let made = crossing_lines(&mut cfg);
-    let rows: &[&[&str]] = &[&[" a ", " b "], &[" c ", " d "]];
-    let shown = prints(rt.alloc(), &cfg, rows, 2, " a | b \n---h---\n c | d ");
-    drop(cfg);
-    made?;
-    assert!(rt; shown);
-    Ok(())
-}
-
-#[test]
-fn a_vertical_offset_shows_beside_its_row(rt: HostRuntime) -> Result<(), Fail> {
-    let mut cfg = ascii(rt.alloc());
-    let made = cfg.set_vertical_char(CELL, Offset::Start(0), 'v');
-    let shown = prints(rt.alloc(), &cfg, &[&[" a "]], 1, "+---+\nv a |\n+---+");
-    cfg.remove_vertical_chars();
-    let removed = prints(rt.alloc(), &cfg, &[&[" a "]], 1, "+---+\n| a |\n+---+");
-    drop(cfg);
-    made?;
-    assert!(rt; shown);
-    assert!(rt; removed);
-    Ok(())
-}
-
-/// Whether a copy of the lines of each direction has the two that were put at 1.
-fn copies_have_both(cfg: &SpannedConfig) -> Result<bool, OutOfMemory> {
-    let horizontal = cfg.get_horizontal_lines()?;
-    let vertical = cfg.get_vertical_lines()?;
-    Ok(
-        horizontal.get(&1) == Some(&HorizontalLine::new(Some('-'), Some('h'), None, None))
-            && vertical.get(&1) == Some(&VerticalLine::new(Some('|'), Some('v'), None, None))
-            && horizontal.len() == 1
-            && vertical.len() == 1,
-    )
-}
-
-#[test]
-fn custom_lines_are_copied_out(rt: HostRuntime) -> Result<(), Fail> {
-    let mut cfg = SpannedConfig::new(rt.alloc());
-    let made = crossing_lines(&mut cfg);
-    let copied = copies_have_both(&cfg);
-    drop(cfg);
-    made?;
-    assert!(rt; copied?);
-    Ok(())
-}
-
-/// Writes an edge and an offset of it by one list.
-fn apply_two(cfg: &mut SpannedConfig, alloc: Global) -> Result<(), OutOfMemory> {
-    let edge = Place::Horizontal {
-        row: 0,
-        col: 0,
-        at: 0,
-    };
-    let targets = [Target::Horizontal(CELL, Offset::End(0)), Target::Cell(edge)];
-    let mut characters = Vec::new(alloc);
-    for (target, character) in targets.iter().zip(['e', '*']) {
-        characters.push(Write {
-            target: Some(*target),
-            value: Some(character),
-        })?;
+/// Whether one cell in a full frame is printed so with these offset characters, and as before once they are removed.
+fn offsets_show(alloc: Global, offsets: &[(Offset, char)], text: &str) -> bool {
+    let mut cfg = config(alloc);
+    let mut made = apply(alloc, &mut cfg, ONE, Style::ascii());
+    for (offset, character) in offsets {
+        let set = cfg.config_mut().set_horizontal_char(CELL, *offset, *character);
+        made &= set.is_ok();
     }
-    cfg.apply(characters, Vec::new(alloc))
+    made && prints(alloc, &cfg, ONE, text) && {
+        cfg.config_mut().remove_horizontal_chars();
+        prints(alloc, &cfg, ONE, "+---+\n| a |\n+---+")
+    }
 }
 
 #[test]
-fn a_list_of_writes_shows_at_each_level(rt: HostRuntime) -> Result<(), Fail> {
-    let mut cfg = ascii(rt.alloc());
-    let made = apply_two(&mut cfg, rt.alloc());
-    let shown = prints(rt.alloc(), &cfg, &[&[" a "]], 1, "+**e+\n| a |\n+---+");
-    drop(cfg);
-    made?;
-    assert!(rt; shown);
-    Ok(())
+fn offsets_show_until_they_are_removed(rt: HostRuntime) {
+    let (start, end) = ((Offset::Start(2), 's'), (Offset::End(0), 'e'));
+    let text = "+--s+\n| a |\n+---+";
+    assert!(rt; offsets_show(rt.alloc(), &[end, start], text));
+    assert!(rt; offsets_show(rt.alloc(), &[start, end], text));
+    let past = (Offset::End(3), 'e');
+    assert!(rt; offsets_show(rt.alloc(), &[past], "+---+\n| a |\n+---+"));
+}
+
+/// Puts a border with its lower left corner alone around the first cell: whether there was memory for it.
+fn put_corner(cfg: &mut ColoredConfig) -> bool {
+    let corner = Border {
+        left_bottom_corner: Some('#'),
+        ..Border::empty()
+    };
+    cfg.config_mut().set_border(CELL, corner).is_ok()
+}
+
+/// Whether a corner alone draws its row and its column, until it is removed.
+fn corner_shows(alloc: Global) -> bool {
+    let mut cfg = config(alloc);
+    put_corner(&mut cfg) && prints(alloc, &cfg, TWO_ROWS, "  a \n#   \n  b ") && {
+        cfg.config_mut().remove_border(CELL);
+        prints(alloc, &cfg, TWO_ROWS, " a \n b ")
+    }
+}
+
+/// Whether a corner that was put twice and removed once draws no row, which is found by at most six readings.
+fn corner_is_removed_at_once(alloc: Global) -> bool {
+    let mut cfg = config(alloc);
+    let mut probes = Probes::new();
+    put_corner(&mut cfg) && put_corner(&mut cfg) && {
+        cfg.config_mut().remove_border(CELL);
+        let line = LineOf::Horizontal(1);
+        !cfg.config().draws(line, 2, &mut probes) && probes.count() <= 6
+    }
+}
+
+#[test]
+fn a_corner_alone_draws_its_row_and_its_column(rt: HostRuntime) {
+    assert!(rt; corner_shows(rt.alloc()));
+    assert!(rt; corner_is_removed_at_once(rt.alloc()));
+}
+
+/// Whether the default alone frames a table.
+fn default_shows(alloc: Global) -> bool {
+    let mut cfg = config(alloc);
+    cfg.config_mut().set_border_default('*');
+    prints(alloc, &cfg, ONE, "*****\n* a *\n*****")
+}
+
+/// Whether a vertical line alone draws itself.
+fn vertical_line_shows(alloc: Global) -> bool {
+    let mut cfg = config(alloc);
+    let line = VerticalLine::new(Some('|'), Some('+'), None, None);
+    let made = cfg.config_mut().insert_vertical_line(1, line);
+    made.is_ok() && prints(alloc, &cfg, FOUR, " a | b \n c | d ")
+}
+
+/// Whether a new configuration has no character at an edge, which is found by at most six readings.
+fn nothing_shows(alloc: Global) -> bool {
+    let cfg = config(alloc);
+    let mut probes = Probes::new();
+    let (row, col, at) = (0, 0, 0);
+    let edge = Place::Horizontal { row, col, at };
+    let character = cfg.config().char_at(edge, (1, 1), 3, &mut probes);
+    character.is_none() && probes.count() <= 6
+}
+
+/// Whether a line that is put over another keeps nothing of it.
+fn later_line_shows(alloc: Global, table: Table) -> bool {
+    let mut cfg = config(alloc);
+    let first = HorizontalLine::new(Some('='), None, Some('L'), None);
+    let second = HorizontalLine::new(Some('='), None, None, None);
+    apply(alloc, &mut cfg, table, Style::ascii())
+        && cfg.config_mut().insert_horizontal_line(1, first).is_ok()
+        && cfg.config_mut().insert_horizontal_line(1, second).is_ok()
+        && prints(alloc, &cfg, table, "+---+\n| a |\n+===+\n| b |\n+---+")
+}
+
+#[test]
+fn each_level_shows_what_was_set_there(rt: HostRuntime) {
+    assert!(rt; default_shows(rt.alloc()));
+    assert!(rt; vertical_line_shows(rt.alloc()));
+    assert!(rt; nothing_shows(rt.alloc()));
+    assert!(rt; later_line_shows(rt.alloc(), TWO_ROWS));
 }

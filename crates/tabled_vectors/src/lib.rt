@@ -1,34 +1,27 @@
-//! Tests of the crates below, over their public calls: each expected text is drawn by hand.
+//! Worked tables, values and pages of the crates below, over their public calls: each expected text is drawn by hand.
 #![tactic(auto)]
 
 #[cfg(test)]
-mod borders;
+mod colored;
 #[cfg(test)]
 mod colors;
 #[cfg(test)]
-mod copies;
-#[cfg(test)]
-mod crossings;
-#[cfg(test)]
-mod errors;
-#[cfg(test)]
 mod levels;
 #[cfg(test)]
-mod markers;
-#[cfg(test)]
-mod options;
-#[cfg(test)]
+mod outlines;
 #[cfg(test)]
 mod pages;
 #[cfg(test)]
 mod printing;
 #[cfg(test)]
-mod readme;
+mod settings;
 #[cfg(test)]
-mod ready;
-#[cfg(test)]
-mod single;
+mod spans;
 #[cfg(test)]
 mod styles;
 #[cfg(test)]
 mod tables;
+#[cfg(test)]
+mod texts;
+#[cfg(test)]
+mod themes;

@@ -1,109 +1,70 @@
 //! Printed tables, and what is refused where cells do not fit.
 
-use crate::tables::{ascii_borders, printed};
+use crate::tables::cells_of;
 use std::alloc::Global;
-use tabled_config::{PrintError, SpannedConfig};
-use tabled_grid::{Borders, FixedDimension, OutOfMemory};
+use tabled_config::{PrintError, SpannedConfig, TableOption, print_plain};
+use tabled_config::ColoredConfig;
+use tabled_grid::{FixedDimension, OutOfMemory, Shape};
+use tabled_style::Style;
 
-/// A table: the widths of its columns, the heights of its rows, and its cells.
-type Table = (
+/// The widths of the columns, the heights of the rows, and the cells.
+type Sized = (
     &'static [usize],
     &'static [usize],
     &'static [&'static [&'static str]],
 );
 
-/// What printing with this class record returns, and what it makes of the text `before:`.
-fn printed_with(
+/// What printing in a full frame returns, and what it makes of the text `before:`.
+fn printed(
     alloc: Global,
-    borders: Borders<char>,
-    table: Table,
+    table: Sized,
 ) -> Result<(Result<(), PrintError>, String), OutOfMemory> {
     let (widths, heights, rows) = table;
-    let widths = widths.to_vec(alloc)?;
-    let dims = FixedDimension::new(widths, heights.to_vec(alloc)?);
-    let mut cfg = SpannedConfig::new(alloc);
-    cfg.set_borders(borders);
-    printed(alloc, &cfg, rows, &dims, "before:")
+    let mut dims = FixedDimension::new(widths.to_vec(alloc)?, heights.to_vec(alloc)?);
+    let mut shape = Shape {
+        rows: heights.len(),
+        cols: widths.len(),
+    };
+    let mut cfg = ColoredConfig::new(SpannedConfig::new(alloc));
+    Style::ascii().change(&mut shape, &mut cfg, &mut dims)?;
+    let cells = cells_of(alloc, rows)?;
+    let mut text = String::from_str(alloc, "before:")?;
+    let returned = print_plain(&mut text, cfg.config(), &dims, shape.into(), &cells);
+    Ok((returned, text))
 }
 
-/// Whether printing with this class record returns this and makes this text of `before:`.
-fn gives(
-    alloc: Global,
-    borders: Borders<char>,
-    table: Table,
-    returned: Result<(), PrintError>,
-    text: &str,
-) -> bool {
-    match printed_with(alloc, borders, table) {
+/// Whether printing in a full frame returns this and makes this text of `before:`.
+fn gives(alloc: Global, table: Sized, returned: Result<(), PrintError>, text: &str) -> bool {
+    match printed(alloc, table) {
         Ok((given, shown)) => given == returned && shown.as_str() == text,
         Err(OutOfMemory) => false,
     }
 }
 
-/// Whether a table in a full frame is refused so, with the text `before:` left as it was.
-fn refused(alloc: Global, table: Table, refusal: PrintError) -> bool {
-    gives(alloc, ascii_borders(), table, Err(refusal), "before:")
-}
-
 /// Tables, and what is made of `before:` in a full frame.
-static FRAMED: [(Table, &str); 8] = [
+static FRAMED: [(Sized, &str); 8] = [
+    ((&[], &[], &[]), "before:"),
     ((&[3], &[1], &[&[" a "]]), "before:+---+\n| a |\n+---+"),
     (
         (&[3], &[2], &[&[" a \n b "]]),
         "before:+---+\n| a |\n| b |\n+---+",
     ),
     ((&[3], &[0], &[&[""]]), "before:+---+\n+---+"),
-    ((&[0], &[1], &[&[""]]), "before:++\n||\n++"),
     ((&[4], &[1], &[&[" 漢 "]]), "before:+----+\n| 漢 |\n+----+"),
-    (
-        (&[3, 4], &[1, 1], &[&[" a ", " bb "], &[" c ", " dd "]]),
-        "before:+---+----+\n| a | bb |\n+---+----+\n| c | dd |\n+---+----+",
-    ),
-    ((&[], &[], &[]), "before:"),
+    ((&[0], &[1], &[&[""]]), "before:++\n||\n++"),
+    ((&[3, 3, 3], &[], &[]), "before:"),
     ((&[], &[1, 1], &[&[], &[]]), "before:"),
 ];
 
 #[test]
 fn cells_are_printed_in_a_full_frame(rt: HostRuntime) {
     for (table, text) in FRAMED.iter() {
-        let shown = gives(rt.alloc(), ascii_borders(), *table, Ok(()), text);
-        assert!(rt; shown, "{text}");
+        assert!(rt; gives(rt.alloc(), *table, Ok(()), text), "{text}");
     }
 }
 
-static TWO_CELLS: Table = (&[3, 3], &[1], &[&[" a ", " b "]]);
-
-static ONE_CELL: Table = (&[3], &[1], &[&[" a "]]);
-
-static NO_WIDTH: Table = (&[0], &[1], &[&[""]]);
-
-#[test]
-fn lines_are_drawn_where_the_class_record_has_something(rt: HostRuntime) {
-    let corner = Borders {
-        top_left: Some('+'),
-        ..Borders::empty()
-    };
-    let bars = Borders {
-        top: Some('-'),
-        bottom: Some('-'),
-        ..Borders::empty()
-    };
-    let bare = gives(
-        rt.alloc(),
-        Borders::empty(),
-        TWO_CELLS,
-        Ok(()),
-        "before: a  b ",
-    );
-    let spaces = gives(rt.alloc(), corner, ONE_CELL, Ok(()), "before:+   \n  a ");
-    let empty_lines = gives(rt.alloc(), bars, NO_WIDTH, Ok(()), "before:\n\n");
-    assert!(rt; bare);
-    assert!(rt; spaces);
-    assert!(rt; empty_lines);
-}
-
 /// Tables that are refused, and the first fault of each.
-static REFUSED: [(Table, PrintError); 8] = [
+static REFUSED: [(Sized, PrintError); 9] = [
     ((&[3], &[1], &[&[" ab "]]), PrintError::Width(0, 0)),
     ((&[3], &[1], &[&[" a \n b "]]), PrintError::Height(0, 0)),
     ((&[3], &[0], &[&[" a "]]), PrintError::Height(0, 0)),
@@ -121,11 +82,11 @@ static REFUSED: [(Table, PrintError); 8] = [
         PrintError::Height(0, 0),
     ),
     (
-        (
-            &[3, 3],
-            &[1, 1],
-            &[&["aaaa\n", " b "], &[" c\n"], &[" a ", " b "]],
-        ),
+        (&[3, 3], &[1, 1], &[&["aaaa\n", " b "], &[" c\n"], &[]]),
+        PrintError::RowCount,
+    ),
+    (
+        (&[3, 3], &[1, 1], &[&[" a ", " bb "], &[" c "], &[]]),
         PrintError::RowCount,
     ),
 ];
@@ -133,23 +94,7 @@ static REFUSED: [(Table, PrintError); 8] = [
 #[test]
 fn the_first_fault_is_answered(rt: HostRuntime) {
     for (table, refusal) in REFUSED.iter() {
-        assert!(rt; refused(rt.alloc(), *table, *refusal), "{refusal:?}");
+        let refused = gives(rt.alloc(), *table, Err(*refusal), "before:");
+        assert!(rt; refused, "{refusal:?}");
     }
-}
-
-/// Whether printing gives the whole table, or says that memory was refused and leaves the text as it was.
-fn is_whole_or_left(given: Result<(), PrintError>, shown: &str) -> bool {
-    match given {
-        Ok(()) => shown == "before:+---+\n| a |\n+---+",
-        Err(refusal) => refusal == PrintError::OutOfMemory && shown == "before:",
-    }
-}
-
-#[test]
-fn the_text_is_kept_where_memory_is_refused(rt: HostRuntime) {
-    let kept = match printed_with(rt.alloc(), ascii_borders(), ONE_CELL) {
-        Ok((given, shown)) => is_whole_or_left(given, shown.as_str()),
-        Err(OutOfMemory) => true,
-    };
-    assert!(rt; kept);
 }

@@ -1,181 +1,81 @@
 //! Styles and borders as options.
 
-use crate::tables::{apply, config, prints, prints_at_widths};
+use crate::tables::{ONE, TWO_ROWS, Table, apply, apply_to, config, prints, prints_with, prints_with_both};
 use std::alloc::Global;
-use std::test::Fail;
-use tabled_config::{CellOption, ColoredConfig};
-use tabled_grid::{Entity, OutOfMemory, Shape};
 use tabled_style::{Border, EmptyBorder, HorizontalLine, Style};
 
-/// Applies an option to the cells of an entity of a table of three rows and one column.
-fn apply_to<O: CellOption<Shape, ColoredConfig>>(
-    cfg: &mut ColoredConfig,
-    option: &O,
-    entity: Entity,
-) -> Result<(), OutOfMemory> {
-    let mut shape = Shape { rows: 3, cols: 1 };
-    option.change(&mut shape, cfg, entity)
-}
-
-fn cell_top_in_a_frame(alloc: Global, cfg: &mut ColoredConfig) -> Result<(), OutOfMemory> {
-    apply(alloc, cfg, Style::ascii())?;
-    apply_to(cfg, &Border::new().top('x'), Entity::Cell(0, 0))?;
-    apply(alloc, cfg, Border::filled('#'))
+/// Whether a frame leaves what was written for a cell, and a style does not.
+fn frame_leaves_a_cell(alloc: Global) -> bool {
+    let mut cfg = config(alloc);
+    apply(alloc, &mut cfg, ONE, Style::ascii())
+        && apply_to(alloc, &mut cfg, ONE, &(0, 0), &Border::new().top('x'))
+        && apply(alloc, &mut cfg, ONE, Border::filled('#'))
+        && prints(alloc, &cfg, ONE, "#xxx#\n# a #\n#####")
+        && apply(alloc, &mut cfg, ONE, Style::empty())
+        && prints(alloc, &cfg, ONE, " a ")
 }
 
 #[test]
-fn a_frame_leaves_what_was_written_for_a_cell(rt: HostRuntime) -> Result<(), Fail> {
-    let mut cfg = config(rt.alloc());
-    let made = cell_top_in_a_frame(rt.alloc(), &mut cfg);
-    let framed = prints(
-        rt.alloc(),
-        cfg.config(),
-        &[&[" a "]],
-        1,
-        "#xxx#\n# a #\n#####",
-    );
-    let emptied = apply(rt.alloc(), &mut cfg, Style::empty());
-    let bare = prints(rt.alloc(), cfg.config(), &[&[" a "]], 1, " a ");
-    drop(cfg);
-    made?;
-    emptied?;
-    assert!(rt; framed);
-    assert!(rt; bare);
-    Ok(())
+fn a_frame_leaves_what_was_written_for_a_cell(rt: HostRuntime) {
+    assert!(rt; frame_leaves_a_cell(rt.alloc()));
+    assert!(rt; prints_with_both(rt.alloc(), Style::ascii(), EmptyBorder, ONE, " a "));
 }
 
-#[test]
-fn the_last_line_of_an_index_counts(rt: HostRuntime) -> Result<(), Fail> {
-    let style = Style::rounded().horizontals([
-        (1, HorizontalLine::filled('#')),
-        (1, HorizontalLine::filled('&')),
-    ]);
-    let mut cfg = config(rt.alloc());
-    let made = apply(rt.alloc(), &mut cfg, style);
-    let shown = prints(
-        rt.alloc(),
-        cfg.config(),
-        &[&[" a "], &[" b "]],
-        1,
-        "╭───╮\n│ a │\n&&&&&\n│ b │\n╰───╯",
-    );
-    drop(cfg);
-    made?;
-    assert!(rt; shown);
-    Ok(())
+/// A table of three rows.
+static LANGUAGES: Table = (&[7], &[&[" &str  "], &[" Hello "], &[" 2022  "]]);
+
+/// Whether a cell has the frame of another style.
+fn cell_is_framed(alloc: Global) -> bool {
+    let mut cfg = config(alloc);
+    let text = "┌───────┐\n│ &str  │\n└───────┘\n  Hello  \n  2022   ";
+    apply(alloc, &mut cfg, LANGUAGES, Style::psql())
+        && apply_to(
+            alloc,
+            &mut cfg,
+            LANGUAGES,
+            &(0, 0),
+            &Border::inherit(Style::modern()),
+        )
+        && prints(alloc, &cfg, LANGUAGES, text)
 }
 
-fn modern_cell(alloc: Global, cfg: &mut ColoredConfig) -> Result<(), OutOfMemory> {
-    apply(alloc, cfg, Style::psql())?;
-    apply_to(cfg, &Border::inherit(Style::modern()), Entity::Cell(0, 0))
-}
-
-#[test]
-fn a_cell_has_the_frame_of_another_style(rt: HostRuntime) -> Result<(), Fail> {
-    let widths = vec![in rt.alloc(); 7usize; 1]?;
-    let mut cfg = config(rt.alloc());
-    let made = modern_cell(rt.alloc(), &mut cfg);
-    let shown = prints_at_widths(
-        rt.alloc(),
-        cfg.config(),
-        &[&[" &str  "], &[" Hello "], &[" 2022  "]],
-        widths,
-        "┌───────┐\n│ &str  │\n└───────┘\n  Hello  \n  2022   ",
-    );
-    drop(cfg);
-    made?;
-    assert!(rt; shown);
-    Ok(())
-}
-
-#[test]
-fn a_style_has_the_frame_of_another(rt: HostRuntime) -> Result<(), Fail> {
-    let widths = vec![in rt.alloc(); 10, 7]?;
-    let mut cfg = config(rt.alloc());
-    let style = Style::ascii().frame(Border::inherit(Style::modern()));
-    let made = apply(rt.alloc(), &mut cfg, style);
-    let text = concat!(
-        "┌──────────+───────┐\n",
-        "│ 0        | 1     │\n",
-        "+----------+-------+\n",
-        "│ 2        | 3     │\n",
-        "+----------+-------+\n",
-        "│ 4        | 5     │\n",
-        "└──────────+───────┘",
-    );
-    let rows: &[&[&str]] = &[
+/// A table of three rows and two columns.
+static NUMBERS: Table = (
+    &[10, 7],
+    &[
         &[" 0        ", " 1     "],
         &[" 2        ", " 3     "],
         &[" 4        ", " 5     "],
-    ];
-    let shown = prints_at_widths(rt.alloc(), cfg.config(), rows, widths, text);
-    drop(cfg);
-    made?;
-    assert!(rt; shown);
-    Ok(())
+    ],
+);
+
+/// That table in a full frame of another style.
+static FRAMED_NUMBERS: &str = "┌──────────+───────┐
+│ 0        | 1     │
++----------+-------+
+│ 2        | 3     │
++----------+-------+
+│ 4        | 5     │
+└──────────+───────┘";
+
+#[test]
+fn a_cell_and_a_table_have_the_frame_of_another_style(rt: HostRuntime) {
+    assert!(rt; cell_is_framed(rt.alloc()));
+    let framed = Style::ascii().frame(Border::inherit(Style::modern()));
+    assert!(rt; prints_with(rt.alloc(), framed, NUMBERS, FRAMED_NUMBERS));
+    let corner = Border::new().bottom('b').left('l').corner_bottom_left('c');
+    let framed = Style::empty().frame(corner);
+    assert!(rt; prints_with(rt.alloc(), framed, ONE, "l a \ncbbb"));
 }
 
 #[test]
-fn a_line_without_crossing_and_ends_takes_columns_and_sides(rt: HostRuntime) -> Result<(), Fail> {
-    let mut cfg = config(rt.alloc());
-    let style = Style::ascii().line_horizontal(HorizontalLine::new('='));
-    let made = apply(rt.alloc(), &mut cfg, style);
-    let rows: &[&[&str]] = &[&[" a "], &[" b "]];
-    let shown = prints(rt.alloc(), cfg.config(), rows, 1, "---\n a \n===\n b \n---");
-    drop(cfg);
-    made?;
-    assert!(rt; shown);
-    Ok(())
-}
-
-#[test]
-fn a_frame_of_two_sides_and_a_corner(rt: HostRuntime) -> Result<(), Fail> {
-    let mut cfg = config(rt.alloc());
-    let frame = Border::new().bottom('b').left('l').corner_bottom_left('c');
-    let made = apply(rt.alloc(), &mut cfg, Style::empty().frame(frame));
-    let shown = prints(rt.alloc(), cfg.config(), &[&[" a "]], 1, "l a \ncbbb");
-    drop(cfg);
-    made?;
-    assert!(rt; shown);
-    Ok(())
-}
-
-fn framed_then_emptied(alloc: Global, cfg: &mut ColoredConfig) -> Result<(), OutOfMemory> {
-    apply(alloc, cfg, Style::ascii())?;
-    apply_to(cfg, &Border::new().top('x'), Entity::Cell(0, 0))?;
-    apply(alloc, cfg, EmptyBorder)
-}
-
-#[test]
-fn an_empty_border_takes_the_frame_away(rt: HostRuntime) -> Result<(), Fail> {
-    let mut cfg = config(rt.alloc());
-    let made = framed_then_emptied(rt.alloc(), &mut cfg);
-    let shown = prints(rt.alloc(), cfg.config(), &[&[" a "]], 1, " a ");
-    drop(cfg);
-    made?;
-    assert!(rt; shown);
-    Ok(())
-}
-
-fn bordered_then_unbordered(cfg: &mut ColoredConfig) -> Result<(), OutOfMemory> {
-    apply_to(cfg, &Border::filled('#'), Entity::Global)?;
-    apply_to(cfg, &EmptyBorder, Entity::Row(0))
-}
-
-#[test]
-fn an_empty_border_takes_shared_lines_too(rt: HostRuntime) -> Result<(), Fail> {
-    let mut cfg = config(rt.alloc());
-    let made = bordered_then_unbordered(&mut cfg);
-    let rows: &[&[&str]] = &[&[" a "], &[" b "], &[" c "]];
-    let shown = prints(
-        rt.alloc(),
-        cfg.config(),
-        rows,
-        1,
-        "  a  \n# b #\n#####\n# c #\n#####",
-    );
-    drop(cfg);
-    made?;
-    assert!(rt; shown);
-    Ok(())
+fn lines_take_what_they_do_not_give(rt: HostRuntime) {
+    let twice = Style::rounded().horizontals([
+        (1, HorizontalLine::filled('#')),
+        (1, HorizontalLine::filled('&')),
+    ]);
+    let text = "╭───╮\n│ a │\n&&&&&\n│ b │\n╰───╯";
+    assert!(rt; prints_with(rt.alloc(), twice, TWO_ROWS, text));
+    let bare = Style::ascii().line_horizontal(HorizontalLine::new('='));
+    assert!(rt; prints_with(rt.alloc(), bare, TWO_ROWS, "---\n a \n===\n b \n---"));
 }

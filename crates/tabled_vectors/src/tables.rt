@@ -1,51 +1,80 @@
-//! Configurations and printed tables for the worked rows.
+//! Tables to which the tests apply options, their texts, and their places.
 
 use std::alloc::Global;
-use tabled_config::{ColoredConfig, PrintError, SpannedConfig, TableOption, print_plain};
-use tabled_grid::{Borders, FixedDimension, OutOfMemory, Shape};
+use tabled_config::{
+    CellOption, ColoredConfig, SpannedConfig, TableOption, modify, print_plain,
+};
+use tabled_grid::{FixedDimension, Object, OutOfMemory, Place, Probes, Shape};
 
-/// A class record whose lines are of `-`, `|` and `+`.
-pub(crate) fn ascii_borders() -> Borders<char> {
-    Borders {
-        top: Some('-'),
-        bottom: Some('-'),
-        left: Some('|'),
-        right: Some('|'),
-        top_left: Some('+'),
-        top_right: Some('+'),
-        bottom_left: Some('+'),
-        bottom_right: Some('+'),
-        top_intersection: Some('+'),
-        bottom_intersection: Some('+'),
-        left_intersection: Some('+'),
-        right_intersection: Some('+'),
-        horizontal: Some('-'),
-        vertical: Some('|'),
-        intersection: Some('+'),
-    }
-}
+/// The widths of the columns, and the cells, each of which is one line high.
+pub(crate) type Table = (
+    &'static [usize],
+    &'static [&'static [&'static str]],
+);
 
-/// A configuration with that class record alone.
-pub(crate) fn ascii(alloc: Global) -> SpannedConfig {
-    let mut cfg = SpannedConfig::new(alloc);
-    cfg.set_borders(ascii_borders());
-    cfg
-}
+pub(crate) static ONE: Table = (&[3], &[&[" a "]]);
 
-/// A configuration that options can change, in which nothing was set.
+pub(crate) static TWO_COLUMNS: Table = (&[3, 3], &[&[" a ", " b "]]);
+
+pub(crate) static TWO_ROWS: Table = (&[3], &[&[" a "], &[" b "]]);
+
+pub(crate) static THREE_ROWS: Table = (&[3], &[&[" a "], &[" b "], &[" c "]]);
+
+pub(crate) static FOUR: Table = (&[3, 3], &[&[" a ", " b "], &[" c ", " d "]]);
+
+/// A table of nine cells.
+pub(crate) static NINE: Table = (
+    &[3, 3, 3],
+    &[&[" a ", " b ", " c "], &[" d ", " e ", " f "], &[" g ", " h ", " i "]],
+);
+
+/// A table of two rows and one column.
+pub(crate) static GREETING: Table = (&[13], &[&[" &str        "], &[" Hello World "]]);
+
+/// A configuration in which nothing was set.
 pub(crate) fn config(alloc: Global) -> ColoredConfig {
     ColoredConfig::new(SpannedConfig::new(alloc))
 }
 
-/// Applies an option to a configuration. It reads neither records nor sizes.
-pub(crate) fn apply<O: TableOption<Shape, ColoredConfig, FixedDimension>>(
+/// The shape of a table.
+pub(crate) fn shape(table: Table) -> Shape {
+    Shape {
+        rows: table.1.len(),
+        cols: table.0.len(),
+    }
+}
+
+/// The sizes of a table.
+fn sizes(alloc: Global, table: Table) -> Result<FixedDimension, OutOfMemory> {
+    let heights = vec![in alloc; 1usize; table.1.len()]?;
+    let widths = table.0.to_vec(alloc)?;
+    Ok(FixedDimension::new(widths, heights))
+}
+
+/// Applies an option to a table: whether there was memory for it.
+pub(crate) fn apply<O>(alloc: Global, cfg: &mut ColoredConfig, table: Table, option: O) -> bool
+where
+    O: TableOption<Shape, ColoredConfig, FixedDimension> + Drop,
+{
+    match sizes(alloc, table) {
+        Ok(mut dims) => option.change(&mut shape(table), cfg, &mut dims).is_ok(),
+        Err(OutOfMemory) => false,
+    }
+}
+
+/// Applies an option to the cells of an object: whether there was memory for it.
+pub(crate) fn apply_to<O, P>(
     alloc: Global,
     cfg: &mut ColoredConfig,
-    option: O,
-) -> Result<(), OutOfMemory> {
-    let mut shape = Shape { rows: 1, cols: 1 };
-    let mut dims = FixedDimension::new(Vec::new(alloc), Vec::new(alloc));
-    option.change(&mut shape, cfg, &mut dims)
+    table: Table,
+    object: &O,
+    option: &P,
+) -> bool
+where
+    O: Object<Shape>,
+    P: CellOption<Shape, ColoredConfig>,
+{
+    modify(alloc, &mut shape(table), cfg, object, option).is_ok()
 }
 
 /// The texts of one row.
@@ -58,7 +87,7 @@ fn row_of(alloc: Global, row: &[&str]) -> Result<Vec<String>, OutOfMemory> {
 }
 
 /// The texts of rows.
-fn cells_of(alloc: Global, rows: &[&[&str]]) -> Result<Vec<Vec<String>>, OutOfMemory> {
+pub(crate) fn cells_of(alloc: Global, rows: &[&[&str]]) -> Result<Vec<Vec<String>>, OutOfMemory> {
     let mut cells = Vec::new(alloc);
     for row in rows {
         cells.push(row_of(alloc, row)?)?;
@@ -66,52 +95,91 @@ fn cells_of(alloc: Global, rows: &[&[&str]]) -> Result<Vec<Vec<String>>, OutOfMe
     Ok(cells)
 }
 
-/// What printing a table of these sizes returns, and what it makes of a text that begins with the given one.
-pub(crate) fn printed(
+/// The text of a table, where it is printed.
+fn text_of(
     alloc: Global,
     cfg: &SpannedConfig,
-    rows: &[&[&str]],
-    dims: &FixedDimension,
-    beginning: &str,
-) -> Result<(Result<(), PrintError>, String), OutOfMemory> {
-    let shape = (dims.heights.len(), dims.widths.len());
-    let cells = cells_of(alloc, rows)?;
-    let mut text = String::from_str(alloc, beginning)?;
-    let returned = print_plain(&mut text, cfg, dims, shape, &cells);
-    Ok((returned, text))
+    table: Table,
+) -> Result<Option<String>, OutOfMemory> {
+    let dims = sizes(alloc, table)?;
+    let cells = cells_of(alloc, table.1)?;
+    let mut text = String::new(alloc);
+    let printed = print_plain(&mut text, cfg, &dims, shape(table).into(), &cells);
+    Ok(printed.ok().map(|()| text))
 }
 
-/// Whether a table of these cells, with columns of these widths and rows of one line, is printed as this
-/// text.
-pub(crate) fn prints_at_widths(
-    alloc: Global,
-    cfg: &SpannedConfig,
-    rows: &[&[&str]],
-    widths: Vec<usize>,
-    text: &str,
-) -> bool {
-    match vec![in alloc; 1usize; rows.len()] {
-        Ok(heights) => {
-            let dims = FixedDimension::new(widths, heights);
-            match printed(alloc, cfg, rows, &dims, "") {
-                Ok((Ok(()), shown)) => shown.as_str() == text,
-                Ok((Err(_), _)) | Err(_) => false,
-            }
-        }
-        Err(_) => false,
+/// Whether a table is printed as this text.
+pub(crate) fn prints(alloc: Global, cfg: &ColoredConfig, table: Table, text: &str) -> bool {
+    match text_of(alloc, cfg.config(), table) {
+        Ok(Some(shown)) => shown.as_str() == text,
+        Ok(None) | Err(OutOfMemory) => false,
     }
 }
 
-/// Whether a table of these cells, each three columns wide and one line high, is printed as this text.
-pub(crate) fn prints(
+/// Whether a table is printed so after an option.
+pub(crate) fn prints_with<O>(alloc: Global, option: O, table: Table, text: &str) -> bool
+where
+    O: TableOption<Shape, ColoredConfig, FixedDimension> + Drop,
+{
+    let mut cfg = config(alloc);
+    apply(alloc, &mut cfg, table, option) && prints(alloc, &cfg, table, text)
+}
+
+/// Whether a table is printed so after two options.
+pub(crate) fn prints_with_both<O, P>(
     alloc: Global,
-    cfg: &SpannedConfig,
-    rows: &[&[&str]],
-    cols: usize,
+    first: O,
+    second: P,
+    table: Table,
     text: &str,
-) -> bool {
-    match vec![in alloc; 3usize; cols] {
-        Ok(widths) => prints_at_widths(alloc, cfg, rows, widths, text),
-        Err(_) => false,
+) -> bool
+where
+    O: TableOption<Shape, ColoredConfig, FixedDimension> + Drop,
+    P: TableOption<Shape, ColoredConfig, FixedDimension> + Drop,
+{
+    let mut cfg = config(alloc);
+    apply(alloc, &mut cfg, table, first)
+        && apply(alloc, &mut cfg, table, second)
+        && prints(alloc, &cfg, table, text)
+}
+
+/// How many places the edge of a place has.
+fn size(table: Table, place: Place) -> usize {
+    match place {
+        Place::Horizontal { col, .. } => table.0.get(col).copied().unwrap_or(0),
+        Place::Vertical { .. } => 1,
+        Place::Cross { .. } => 0,
     }
+}
+
+/// The character of a place of a table.
+pub(crate) fn char_at(cfg: &ColoredConfig, table: Table, place: Place) -> Option<char> {
+    let (shape, size) = (shape(table).into(), size(table, place));
+    cfg.config().char_at(place, shape, size, &mut Probes::new())
+}
+
+/// Whether a place of a table has a color that begins with this text.
+pub(crate) fn has_color(cfg: &ColoredConfig, table: Table, place: Place, prefix: &str) -> bool {
+    let (shape, size) = (shape(table).into(), size(table, place));
+    match cfg.config().color_at(place, shape, size, &mut Probes::new()) {
+        Some(color) => color.get_prefix() == prefix,
+        None => false,
+    }
+}
+
+/// Whether a place of a table has no color.
+pub(crate) fn is_plain(cfg: &ColoredConfig, table: Table, place: Place) -> bool {
+    let (shape, size) = (shape(table).into(), size(table, place));
+    let color = cfg.config().color_at(place, shape, size, &mut Probes::new());
+    color.is_none()
+}
+
+/// A place above a cell of the first row.
+pub(crate) fn top(col: usize, at: usize) -> Place {
+    Place::Horizontal { row: 0, col, at }
+}
+
+/// A crossing.
+pub(crate) fn crossing(row: usize, col: usize) -> Place {
+    Place::Cross { row, col }
 }

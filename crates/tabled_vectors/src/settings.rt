@@ -1,0 +1,200 @@
+//! Colors in turn, fillings, trims, shadows, and options on compact configurations.
+
+use crate::tables::{FOUR, ONE, Table, apply, config};
+use std::alloc::Global;
+use tabled_color::Color;
+use tabled_config::{ColoredConfig, CompactConfig, TableOption};
+use tabled_grid::{Borders, Combine, FixedDimension, Offset, OutOfMemory, Position, Rows, Shape};
+use tabled_layout::Indent;
+use tabled_options::{
+    Alignment, Colorization, Justification, MarginColor, Shadow, TrimStrategy,
+};
+use tabled_settings::Sides;
+use tabled_style::Style;
+
+const X: &str = "\u{1b}[31m";
+
+const Y: &str = "\u{1b}[32m";
+
+const Z: &str = "\u{1b}[34m";
+
+/// A cell.
+const CELL: Position = Position { row: 0, col: 0 };
+
+/// The first colors of x, y and z.
+fn colors(alloc: Global, count: usize) -> Result<Vec<Color>, OutOfMemory> {
+    let mut colors = Vec::new(alloc);
+    colors.push(Color::FG_RED)?;
+    colors.push(Color::FG_GREEN)?;
+    colors.push(Color::FG_BLUE)?;
+    colors.truncate(count);
+    Ok(colors)
+}
+
+/// Whether the cells have colors that begin so, each with its row and column.
+fn have_colors(cfg: &ColoredConfig, cells: &[(usize, usize, &str)]) -> bool {
+    for (row, col, prefix) in cells {
+        let cell = Position {
+            row: *row,
+            col: *col,
+        };
+        match cfg.get_color(cell) {
+            Some(color) if color.get_prefix() == *prefix => {}
+            Some(_) | None => return false,
+        }
+    }
+    true
+}
+
+/// Whether cells have these colors after an option.
+fn colors_cells<O>(
+    alloc: Global,
+    option: Result<O, OutOfMemory>,
+    table: Table,
+    cells: &[(usize, usize, &str)],
+) -> bool
+where
+    O: TableOption<Shape, ColoredConfig, FixedDimension> + Drop,
+{
+    let mut cfg = config(alloc);
+    match option {
+        Ok(option) => apply(alloc, &mut cfg, table, option) && have_colors(&cfg, cells),
+        Err(OutOfMemory) => false,
+    }
+}
+
+/// Three cells in a row.
+static IN_A_ROW: Table = (&[3, 3, 3], &[&[" a ", " b ", " c "]]);
+
+/// Three rows of two cells.
+static BOARD: Table = (
+    &[3, 3],
+    &[&[" a ", " b "], &[" c ", " d "], &[" e ", " f "]],
+);
+
+#[test]
+fn cells_have_colors_in_turn(rt: HostRuntime) {
+    let alloc = rt.alloc();
+    let by_column = colors(alloc, 3).map(Colorization::by_column);
+    let cells = [(0, 0, X), (1, 0, Y), (0, 1, Z), (1, 1, X)];
+    assert!(rt; colors_cells(alloc, by_column, FOUR, &cells));
+    let columns = colors(alloc, 2).map(Colorization::columns);
+    let cells = [(0, 0, X), (0, 1, Y), (0, 2, X)];
+    assert!(rt; colors_cells(alloc, columns, IN_A_ROW, &cells));
+    let chess = Colorization::chess(alloc, Color::FG_RED, Color::FG_GREEN);
+    let cells = [(0, 1, Y), (1, 1, X), (2, 0, X)];
+    assert!(rt; colors_cells(alloc, chess, BOARD, &cells));
+}
+
+/// Whether listed entities have colors as a whole.
+fn exact_entities_are_colored(alloc: Global) -> bool {
+    match colors(alloc, 2) {
+        Ok(colors) => {
+            let exact = Colorization::exact(colors, Rows::one(1).and((0usize, 0usize)));
+            let cells = [(1, 0, X), (1, 1, X), (0, 0, Y), (0, 1, "")];
+            colors_cells(alloc, Ok(exact), FOUR, &cells)
+        }
+        Err(OutOfMemory) => false,
+    }
+}
+
+/// Whether no colors make no map of colors.
+fn no_colors_make_no_map(alloc: Global) -> bool {
+    let mut cfg = config(alloc);
+    let exact = Colorization::exact(Vec::new(alloc), Rows::one(0));
+    apply(alloc, &mut cfg, FOUR, Colorization::by_row(Vec::new(alloc)))
+        && apply(alloc, &mut cfg, FOUR, exact)
+        && cfg.get_colors().is_empty()
+}
+
+#[test]
+fn entities_have_colors_in_turn(rt: HostRuntime) {
+    assert!(rt; exact_entities_are_colored(rt.alloc()));
+    assert!(rt; no_colors_make_no_map(rt.alloc()));
+}
+
+/// Whether the default filling is a space of no color, whatever was there.
+fn default_filling_is_a_space(alloc: Global) -> bool {
+    let mut cfg = config(alloc);
+    let colored = Justification::colored('#', Color::FG_RED);
+    apply(alloc, &mut cfg, ONE, colored)
+        && apply(alloc, &mut cfg, ONE, Justification::default())
+        && cfg.config().get_justification(CELL) == ' '
+        && cfg.config().get_justification_color(CELL).is_none()
+}
+
+/// Whether one trim leaves the other.
+fn one_trim_leaves_the_other(alloc: Global) -> bool {
+    let mut cfg = config(alloc);
+    apply(alloc, &mut cfg, ONE, TrimStrategy::Vertical)
+        && apply(alloc, &mut cfg, ONE, TrimStrategy::Horizontal)
+        && cfg.config().get_trim_horizontal(CELL)
+        && cfg.config().get_trim_vertical(CELL)
+}
+
+#[test]
+fn fillings_and_trims_are_set(rt: HostRuntime) {
+    assert!(rt; default_filling_is_a_space(rt.alloc()));
+    assert!(rt; one_trim_leaves_the_other(rt.alloc()));
+}
+
+/// Whether the margin is that of a shadow at the left and below.
+fn is_shadowed(cfg: &ColoredConfig) -> bool {
+    let (shadow, nothing) = (Indent { size: 2, fill: '▒' }, Indent { size: 0, fill: ' ' });
+    let (left, bottom, none) = (Offset::Start(3), Offset::End(3), Offset::Start(0));
+    *cfg.config().get_margin() == Sides::new(shadow, nothing, nothing, shadow)
+        && *cfg.config().get_margin_offset() == Sides::new(left, none, none, bottom)
+}
+
+/// Whether a margin is red at the top and at the left.
+fn is_red(cfg: &ColoredConfig) -> bool {
+    let colors = cfg.config().get_margin_color();
+    match (&colors.top, &colors.left) {
+        (Some(top), Some(left)) => top.get_prefix() == X && left.get_prefix() == X,
+        (Some(_) | None, _) => false,
+    }
+}
+
+/// Whether a shadow makes its margin, and leaves the color that was set before.
+fn shadow_makes_its_margin(alloc: Global) -> bool {
+    let mut cfg = config(alloc);
+    match MarginColor::filled(alloc, Color::FG_RED) {
+        Ok(red) => {
+            apply(alloc, &mut cfg, ONE, red)
+                && apply(alloc, &mut cfg, ONE, Shadow::new(2).set_offset(3).set_left())
+                && is_shadowed(&cfg)
+                && is_red(&cfg)
+        }
+        Err(OutOfMemory) => false,
+    }
+}
+
+#[test]
+fn a_shadow_is_a_margin(rt: HostRuntime) {
+    assert!(rt; shadow_makes_its_margin(rt.alloc()));
+}
+
+/// A compact configuration after an option.
+fn compact<O>(option: O) -> Result<CompactConfig, OutOfMemory>
+where
+    O: TableOption<Shape, CompactConfig, ()>,
+{
+    let mut cfg = CompactConfig::new();
+    option.change(&mut Shape { rows: 1, cols: 1 }, &mut cfg, &mut ())?;
+    Ok(cfg)
+}
+
+/// A compact configuration with a vertical line alone.
+fn lined() -> CompactConfig {
+    let class: Borders<char> = Borders {
+        vertical: Some('|'),
+        ..Borders::empty()
+    };
+    CompactConfig::new().set_borders(class)
+}
+
+#[test]
+fn compact_configurations_take_what_they_have_room_for(rt: HostRuntime) {
+    assert!(rt; compact(Alignment::top()) == Ok(CompactConfig::new()));
+    assert!(rt; compact(Style::psql()) == Ok(lined()));
+}

@@ -1,0 +1,116 @@
+//! Spans, their correction, and what the printer says of them.
+
+use crate::tables::{
+    FOUR, NINE, ONE, Table, TWO_COLUMNS, apply, cells_of, char_at, config, crossing, prints,
+};
+use std::alloc::Global;
+use tabled_config::{ColoredConfig, PrintError, TableOption, print_plain};
+use tabled_grid::{FixedDimension, OutOfMemory, Position, Shape};
+use tabled_options::BorderCorrection;
+use tabled_style::Style;
+
+/// The position of the first cell.
+const FIRST: Position = Position { row: 0, col: 0 };
+
+/// Lets the first cell of a table in a style span columns and rows, and corrects the borders: whether there was memory.
+fn correct<O>(
+    alloc: Global,
+    cfg: &mut ColoredConfig,
+    table: Table,
+    style: O,
+    columns: usize,
+    rows: usize,
+) -> bool
+where
+    O: TableOption<Shape, ColoredConfig, FixedDimension> + Drop,
+{
+    apply(alloc, cfg, table, style)
+        && cfg.config_mut().set_column_span(FIRST, columns).is_ok()
+        && cfg.config_mut().set_row_span(FIRST, rows).is_ok()
+        && apply(alloc, cfg, table, BorderCorrection::span())
+}
+
+/// Whether the crossings of a table are these characters, row by row.
+fn has_crossings(cfg: &ColoredConfig, table: Table, rows: &[&str]) -> bool {
+    for (row, characters) in rows.iter().enumerate() {
+        for (col, character) in characters.chars().enumerate() {
+            if char_at(cfg, table, crossing(row, col)) != Some(character) {
+                return false;
+            }
+        }
+    }
+    true
+}
+
+/// Whether spans in a style leave these crossings.
+fn leaves<O>(
+    alloc: Global,
+    table: Table,
+    style: O,
+    columns: usize,
+    rows: usize,
+    crossings: &[&str],
+) -> bool
+where
+    O: TableOption<Shape, ColoredConfig, FixedDimension> + Drop,
+{
+    let mut cfg = config(alloc);
+    correct(alloc, &mut cfg, table, style, columns, rows) && has_crossings(&cfg, table, crossings)
+}
+
+#[test]
+fn spans_are_corrected(rt: HostRuntime) {
+    let alloc = rt.alloc();
+    let crossings = ["+--+", "++++", "++++", "++++"];
+    assert!(rt; leaves(alloc, NINE, Style::ascii(), 3, 1, &crossings));
+    assert!(rt; leaves(alloc, FOUR, Style::ascii(), 1, 2, &["+++", "|++", "+++"]));
+    let crossings = ["┌─┬┐", "││├┤", "├┬┼┤", "└┴┴┘"];
+    assert!(rt; leaves(alloc, NINE, Style::modern(), 2, 2, &crossings));
+    assert!(rt; leaves(alloc, TWO_COLUMNS, Style::ascii(), usize::MAX, 1, &["+-+", "+-+"]));
+}
+
+/// What printing a cell that is too wide returns, and what it makes of the text `before:`.
+fn printed_wide(
+    alloc: Global,
+    cfg: &ColoredConfig,
+) -> Result<(Result<(), PrintError>, String), OutOfMemory> {
+    let widths = vec![in alloc; 3usize; 1]?;
+    let dims = FixedDimension::new(widths, vec![in alloc; 1usize; 1]?);
+    let cells = cells_of(alloc, &[&[" ab "]])?;
+    let mut text = String::from_str(alloc, "before:")?;
+    let returned = print_plain(&mut text, cfg.config(), &dims, (1, 1), &cells);
+    Ok((returned, text))
+}
+
+/// Whether a cell that is too wide is refused so, and the text stays.
+fn refuses_wide(alloc: Global, cfg: &ColoredConfig, refusal: PrintError) -> bool {
+    match printed_wide(alloc, cfg) {
+        Ok((returned, text)) => returned == Err(refusal) && text.as_str() == "before:",
+        Err(OutOfMemory) => false,
+    }
+}
+
+/// Whether a width is refused, and a span before it.
+fn spans_are_refused_first(alloc: Global) -> bool {
+    let mut cfg = config(alloc);
+    refuses_wide(alloc, &cfg, PrintError::Width(0, 0))
+        && cfg.config_mut().set_column_span(FIRST, 2).is_ok()
+        && refuses_wide(alloc, &cfg, PrintError::Spans)
+        && cfg.config_mut().set_column_span(FIRST, usize::MAX).is_ok()
+        && refuses_wide(alloc, &cfg, PrintError::Spans)
+}
+
+/// Whether a span that is taken back is none, and the table is printed.
+fn span_is_taken_back(alloc: Global) -> bool {
+    let mut cfg = config(alloc);
+    cfg.config_mut().set_column_span(FIRST, 3).is_ok()
+        && cfg.config_mut().set_column_span(FIRST, 1).is_ok()
+        && cfg.config().get_column_spans().is_empty()
+        && prints(alloc, &cfg, ONE, " a ")
+}
+
+#[test]
+fn spans_are_refused_until_they_are_taken_back(rt: HostRuntime) {
+    assert!(rt; spans_are_refused_first(rt.alloc()));
+    assert!(rt; span_is_taken_back(rt.alloc()));
+}

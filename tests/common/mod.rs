@@ -1,0 +1,10 @@
+//! What the tests share: tables, their texts and their places, and plain readings that the library is held beside.
+
+pub(crate) mod configs;
+pub(crate) mod corrected;
+pub(crate) mod dice;
+pub(crate) mod drawings;
+pub(crate) mod outlined;
+pub(crate) mod printing;
+pub(crate) mod spanned;
+pub(crate) mod tables;

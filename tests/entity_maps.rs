@@ -1,0 +1,133 @@
+//! Values of cells, by entity.
+
+use std::alloc::Global;
+use std::test::Fail;
+use tabled_border::{Keep, OutOfMemory};
+use tabled_object::{Entity, Position};
+use tabled_settings::{AlignmentHorizontal, EntityMap, Sides};
+
+/// The value of a cell.
+fn value(map: &EntityMap<char>, row: usize, col: usize) -> char {
+    *map.get(Position::new(row, col))
+}
+
+/// A map of full stops in which row 1 has `r`, and then column 2 has `c`.
+fn row_and_column(alloc: Global) -> Result<EntityMap<char>, OutOfMemory> {
+    let mut map = EntityMap::new(alloc, '.');
+    map.insert(Entity::Row(1), 'r')?;
+    map.insert(Entity::Column(2), 'c')?;
+    Ok(map)
+}
+
+/// Whether the later of a row and a column shows where they meet, whichever it is.
+fn later_one_shows(alloc: Global) -> Result<bool, OutOfMemory> {
+    let mut map = row_and_column(alloc)?;
+    let column_shows = value(&map, 1, 2) == 'c'
+        && value(&map, 1, 1) == 'r'
+        && value(&map, 0, 0) == '.';
+    map.insert(Entity::Row(1), 'R')?;
+    let row_shows = value(&map, 1, 2) == 'R' && value(&map, 0, 2) == 'c';
+    Ok(column_shows && row_shows)
+}
+
+/// Whether a cell whose value is removed has the default, though its row has a value.
+fn removal_shows_the_default(alloc: Global) -> Result<bool, OutOfMemory> {
+    let mut map = row_and_column(alloc)?;
+    map.remove(Entity::Cell(1, 1))?;
+    Ok(value(&map, 1, 1) == '.' && value(&map, 1, 0) == 'r')
+}
+
+#[test]
+fn the_last_event_of_a_cell_shows(rt: HostRuntime) -> Result<(), Fail> {
+    assert!(rt; later_one_shows(rt.alloc())?);
+    assert!(rt; removal_shows_the_default(rt.alloc())?);
+    Ok(())
+}
+
+/// Whether a value for all cells ends what was written before, and its removal gives the default.
+fn all_cells_end_the_others(alloc: Global) -> Result<bool, OutOfMemory> {
+    let mut map = row_and_column(alloc)?;
+    let had_events = !map.is_empty();
+    map.insert(Entity::Global, 'g')?;
+    let all_have_it = value(&map, 1, 2) == 'g' && map.is_empty();
+    map.insert(Entity::Cell(0, 0), 'x')?;
+    map.remove(Entity::Global)?;
+    Ok(had_events && all_have_it && value(&map, 0, 0) == '.' && map == EntityMap::new(alloc, '.'))
+}
+
+/// Whether a removal of a cell and a write of the default are told apart, and those of all cells are not.
+fn removal_differs_but_for_all(alloc: Global) -> Result<bool, OutOfMemory> {
+    let mut removed = EntityMap::new(alloc, '.');
+    let mut written = EntityMap::new(alloc, '.');
+    removed.remove(Entity::Global)?;
+    written.insert(Entity::Global, '.')?;
+    let same_for_all = removed == written;
+    removed.remove(Entity::Row(0))?;
+    written.insert(Entity::Row(0), '.')?;
+    Ok(same_for_all && removed != written)
+}
+
+#[test]
+fn all_cells_stand_apart(rt: HostRuntime) -> Result<(), Fail> {
+    assert!(rt; all_cells_end_the_others(rt.alloc())?);
+    assert!(rt; removal_differs_but_for_all(rt.alloc())?);
+    Ok(())
+}
+
+/// Whether a map in which one cell is written often keeps its events in their order, and so does its copy.
+fn many_writes_keep_the_order(alloc: Global) -> Result<bool, OutOfMemory> {
+    let mut map = row_and_column(alloc)?;
+    for _ in 0..20 {
+        map.insert(Entity::Cell(1, 2), 'x')?;
+        map.insert(Entity::Column(2), 'C')?;
+    }
+    let copy = map.keep(alloc)?;
+    Ok(value(&map, 1, 2) == 'C' && value(&map, 1, 1) == 'r' && copy == map)
+}
+
+#[test]
+fn holes_are_closed_and_copies_are_equal(rt: HostRuntime) -> Result<(), Fail> {
+    assert!(rt; many_writes_keep_the_order(rt.alloc())?);
+    Ok(())
+}
+
+#[test]
+fn values_of_cells(rt: HostRuntime) -> Result<(), Fail> {
+    let sides = Sides::new(1u8, 2, 3, 4);
+    assert!(rt; sides.left == 1 && sides.right == 2 && sides.top == 3 && sides.bottom == 4);
+    assert!(rt; Sides::filled(false) == Sides::default());
+    assert!(rt; AlignmentHorizontal::Left < AlignmentHorizontal::Center);
+    assert!(rt; Sides::filled('x').keep(rt.alloc())? == Sides::filled('x'));
+    Ok(())
+}
+
+/// A list of one event.
+fn event(
+    alloc: Global,
+    entity: Entity,
+    value: Option<char>,
+) -> Result<Vec<(Entity, Option<char>)>, OutOfMemory> {
+    let mut events = Vec::new(alloc);
+    events.push((entity, value))?;
+    Ok(events)
+}
+
+/// What a cell has in three maps after an event of a row, of the given entity, and a removal of all cells.
+fn after_three(alloc: Global, entity: Entity) -> Result<[char; 3], OutOfMemory> {
+    let mut first = EntityMap::new(alloc, '.');
+    let mut second = row_and_column(alloc)?;
+    let mut third = row_and_column(alloc)?;
+    let row = event(alloc, Entity::Row(1), Some('x'))?;
+    let other = event(alloc, entity, Some('y'))?;
+    let none = event(alloc, entity, None)?;
+    first.apply_three(alloc, row, &mut second, other, &mut third, none)?;
+    Ok([value(&first, 1, 2), value(&second, 1, 2), value(&third, 1, 2)])
+}
+
+#[test]
+fn three_maps_are_changed_at_once(rt: HostRuntime) -> Result<(), Fail> {
+    for entity in [Entity::Global, Entity::Column(2), Entity::Cell(1, 2)] {
+        assert!(rt; after_three(rt.alloc(), entity)? == ['x', 'y', '.'], "{entity:?}");
+    }
+    Ok(())
+}

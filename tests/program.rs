@@ -1,0 +1,197 @@
+//! What the program does with its words, a reader and a writer: pages that are drawn by hand, each refusal, and
+//! what happens where reading or writing fails.
+
+use std::alloc::{AllocError, Global};
+use std::io;
+use std::io::{Cursor, ErrorKind, Read, Write};
+use tabled_pages::{ShowError, run};
+
+/// Words that are given between spaces.
+fn words_of(alloc: Global, text: &str) -> Result<Vec<String>, AllocError> {
+    let mut words = Vec::new(alloc);
+    for word in text.split_whitespace() {
+        words.push(String::from_str(alloc, word)?)?;
+    }
+    Ok(words)
+}
+
+/// What the program returns and writes over these words and this input.
+fn shown(
+    alloc: Global,
+    words: &str,
+    input: &[u8],
+) -> Result<(Result<(), ShowError>, Vec<u8>), AllocError> {
+    let words = words_of(alloc, words)?;
+    let mut reader = Cursor::new(input);
+    let mut written = Vec::new(alloc);
+    let returned = run(alloc, &words, &mut reader, &mut written);
+    Ok((returned, written))
+}
+
+/// Whether the program returns Ok and writes this text.
+fn shows(alloc: Global, words: &str, input: &str, text: &str) -> bool {
+    match shown(alloc, words, input.as_bytes()) {
+        Ok((Ok(()), written)) => written.as_slice() == text.as_bytes(),
+        Ok((Err(_), _)) | Err(AllocError) => false,
+    }
+}
+
+/// Whether the program gives this refusal and writes nothing.
+fn refuses(alloc: Global, words: &str, input: &[u8], refusal: ShowError) -> bool {
+    match shown(alloc, words, input) {
+        Ok((Err(given), written)) => given == refusal && written.is_empty(),
+        Ok((Ok(()), _)) | Err(AllocError) => false,
+    }
+}
+
+/// Each style, and the table of two rows and two columns that it draws.
+static STYLES: [(&str, &str); 13] = [
+    ("empty", " a  b  \n 1  22 \n"),
+    ("blank", " a   b  \n 1   22 \n"),
+    (
+        "ascii",
+        "+---+----+\n| a | b  |\n+---+----+\n| 1 | 22 |\n+---+----+\n",
+    ),
+    ("psql", " a | b  \n---+----\n 1 | 22 \n"),
+    ("markdown", "| a | b  |\n|---|----|\n| 1 | 22 |\n"),
+    (
+        "modern",
+        "┌───┬────┐\n│ a │ b  │\n├───┼────┤\n│ 1 │ 22 │\n└───┴────┘\n",
+    ),
+    (
+        "sharp",
+        "┌───┬────┐\n│ a │ b  │\n├───┼────┤\n│ 1 │ 22 │\n└───┴────┘\n",
+    ),
+    (
+        "rounded",
+        "╭───┬────╮\n│ a │ b  │\n├───┼────┤\n│ 1 │ 22 │\n╰───┴────╯\n",
+    ),
+    (
+        "modern_rounded",
+        "╭───┬────╮\n│ a │ b  │\n├───┼────┤\n│ 1 │ 22 │\n╰───┴────╯\n",
+    ),
+    (
+        "extended",
+        "╔═══╦════╗\n║ a ║ b  ║\n╠═══╬════╣\n║ 1 ║ 22 ║\n╚═══╩════╝\n",
+    ),
+    (
+        "dots",
+        "..........\n: a : b  :\n:...:....:\n: 1 : 22 :\n:...:....:\n",
+    ),
+    (
+        "re_structured_text",
+        "=== ====\n a   b  \n=== ====\n 1   22 \n=== ====\n",
+    ),
+    (
+        "ascii_rounded",
+        ".--------.\n| a | b  |\n| 1 | 22 |\n'--------'\n",
+    ),
+];
+
+#[test]
+fn each_style_is_drawn(rt: HostRuntime) {
+    for (style, text) in STYLES.iter() {
+        assert!(rt; shows(rt.alloc(), style, "a\tb\n1\t22\n", text), "{style}");
+    }
+}
+
+/// Styles, inputs and the tables that are drawn of them.
+static PAGES: [(&str, &str, &str); 10] = [
+    ("psql", "a\nb\nc\n", " a \n---\n b \n c \n"),
+    (
+        "sharp",
+        "a\nb\nc\n",
+        "┌───┐\n│ a │\n├───┤\n│ b │\n│ c │\n└───┘\n",
+    ),
+    (
+        "modern_rounded",
+        "a\nb\nc\n",
+        "╭───╮\n│ a │\n├───┤\n│ b │\n├───┤\n│ c │\n╰───╯\n",
+    ),
+    ("psql", "a\n", " a \n---\n"),
+    ("ascii", "", ""),
+    ("ascii", "\n", "+--+\n|  |\n+--+\n"),
+    ("ascii", "a", "+---+\n| a |\n+---+\n"),
+    ("ascii", "\t\n", "+--+--+\n|  |  |\n+--+--+\n"),
+    (
+        "ascii",
+        "ab\n\n",
+        "+----+\n| ab |\n+----+\n|    |\n+----+\n",
+    ),
+    (
+        "ascii_rounded",
+        "C\tDennis Ritchie\t1972\nGo\tRob Pike\t2009\nRust\tGraydon Hoare\t2010\n",
+        concat!(
+            ".------------------------------.\n",
+            "| C    | Dennis Ritchie | 1972 |\n",
+            "| Go   | Rob Pike       | 2009 |\n",
+            "| Rust | Graydon Hoare  | 2010 |\n",
+            "'------------------------------'\n",
+        ),
+    ),
+];
+
+#[test]
+fn pages_of_many_shapes_are_drawn(rt: HostRuntime) {
+    for (style, input, text) in PAGES.iter() {
+        assert!(rt; shows(rt.alloc(), style, input, text), "{style} of {input}");
+    }
+}
+
+#[test]
+fn words_that_are_no_style_are_refused(rt: HostRuntime) {
+    for words in ["", "fancy", "ASCII", "asciii", "dots modern"] {
+        assert!(rt;
+            refuses(rt.alloc(), words, b"\r", ShowError::Usage),
+            "{words}"
+        );
+    }
+}
+
+#[test]
+fn inputs_are_refused(rt: HostRuntime) {
+    for (input, refusal) in [
+        ("a\tb\nc\n", ShowError::UnequalRows),
+        ("a\n\tb\n", ShowError::UnequalRows),
+        ("a\r\n", ShowError::ByteOutOfRange),
+        ("a\tb\nc\r\n", ShowError::ByteOutOfRange),
+        ("é", ShowError::ByteOutOfRange),
+        ("\u{7f}", ShowError::ByteOutOfRange),
+    ] {
+        let refused = refuses(rt.alloc(), "ascii", input.as_bytes(), refusal);
+        assert!(rt; refused, "{input}");
+    }
+}
+
+/// A reader that gives its bytes in one read each, and then a fault.
+#[derive(Drop)]
+struct FailsAfter {
+    /// How many reads succeed.
+    reads: usize,
+}
+
+impl Read for FailsAfter {
+    fn read(&mut self, buf: &mut [u8]) -> io::Result<usize> {
+        if self.reads == 0 || buf.is_empty() {
+            return Err(io::Error::from(ErrorKind::Interrupted));
+        }
+        self.reads -= 1;
+        buf[0] = b'a';
+        Ok(1)
+    }
+}
+
+/// A writer that takes nothing.
+#[derive(Drop)]
+struct TakesNothing;
+
+impl Write for TakesNothing {
+    fn write(&mut self, _buf: &[u8]) -> io::Result<usize> {
+        Err(io::Error::from(ErrorKind::BrokenPipe))
+    }
+
+    fn flush(&mut self) -> io::Result<()> {
+        Ok(())
+    }
+}
+
