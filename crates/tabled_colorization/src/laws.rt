@@ -4,7 +4,7 @@ ghost use Rattle.std.specs.Prelude.{◌≡◌, ℕ, ◌+◌, ◌%◌, ◌==◌, 
 ghost use Rattle.tabled_border.specs.Texts.{Texts};
 ghost use Rattle.tabled_object.specs.Entities.{position};
 ghost use Rattle.tabled_settings.specs.Setting.{setting};
-ghost use Rattle.tabled_config.specs.EntitiesColored.{entities_colored, text_writes};
+ghost use Rattle.tabled_configuration.specs.EntitiesColored.{entities_colored, text_writes};
 ghost use Rattle.tabled_color.specs.Shade.{Shade, texts_of};
 ghost use Rattle.tabled_colorization.specs.declared.pattern.Pattern.{Pattern as Order};
 ghost use Rattle.tabled_colorization.specs.declared.pattern.Pattern.TheVariants as pattern;

@@ -17,8 +17,8 @@ ghost use Rattle.tabled_grid.specs.Event.{replay};
 ghost use Rattle.tabled_grid.specs.Value.{value};
 ghost use Rattle.tabled_grid.specs.Drawn.{Drawn, drawn};
 ghost use Rattle.tabled_grid.specs.State.{state_at};
-ghost use Rattle.tabled_config.specs.Colored.{Colored, Changes};
-ghost use Rattle.tabled_config.specs.Configuration.{borders_replaced};
+ghost use Rattle.tabled_configuration.specs.Colored.{Colored, Changes};
+ghost use Rattle.tabled_configuration.specs.Configuration.{borders_replaced};
 ghost use Rattle.tabled_style.specs.Deciding.{written_by};
 
 use crate::HorizontalLine;

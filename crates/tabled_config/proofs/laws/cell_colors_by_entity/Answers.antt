@@ -1,5 +1,0 @@
-use Rattle.tabled_config.proofs.ColorsLemmas.{by_entity}
-use Rattle.tabled_config.proofs.laws.cell_colors_by_entity.Goals as goal
-
-pub returns : goal.returns
-returns c = λ events cell. by_entity events cell
