@@ -83,11 +83,28 @@ fn two_colors() -> BorderColor {
 }
 
 #[test]
-fn cells_rows_and_columns_are_colored_on_each_side(rt: HostRuntime) -> Result<(), Fail> {
-    let (alloc, colors) = (rt.alloc(), two_colors());
-    assert!(rt; colors_cells(alloc, &(1, 1), &colors, "..... ... ...r. .b. ..b.. ")?);
-    assert!(rt; colors_cells(alloc, &Rows::one(0), &colors, ".r.r. bb. b.b.. ... ..... ")?);
-    assert!(rt; colors_cells(alloc, &Columns::one(0), &colors, ".r... b.. br... b.. b.... ")?);
+fn a_cell_is_colored_on_each_side(rt: HostRuntime) -> Result<(), Fail> {
+    let colors: BorderColor = two_colors();
+    let mut table = Table::of_shape(rt.alloc(), 2, 2)?;
+    table.modify(rt.alloc(), &(1, 1), &colors)?;
+    assert_eq!(rt;
+        drawn(rt.alloc(), &table)?.as_str(),
+        "..... ... ...r. .b. ..b.. "
+    );
+    Ok(())
+}
+
+#[test]
+fn the_cells_of_a_row_are_colored_on_each_side(rt: HostRuntime) -> Result<(), Fail> {
+    let (alloc, row) = (rt.alloc(), Rows::one(0));
+    assert!(rt; colors_cells(alloc, &row, &two_colors(), ".r.r. bb. b.b.. ... ..... ")?);
+    Ok(())
+}
+
+#[test]
+fn the_cells_of_a_column_are_colored_on_each_side(rt: HostRuntime) -> Result<(), Fail> {
+    let (alloc, column) = (rt.alloc(), Columns::one(0));
+    assert!(rt; colors_cells(alloc, &column, &two_colors(), ".r... b.. br... b.. b.... ")?);
     Ok(())
 }
 
@@ -112,16 +129,34 @@ where
 }
 
 #[test]
-fn each_side_of_a_table_is_colored_but_for_its_corners(rt: HostRuntime) -> Result<(), Fail> {
-    let (alloc, red) = (rt.alloc(), Color::FG_RED);
-    let side = BorderColor::new().top(red.keep(alloc)?);
-    assert!(rt; colors_table(alloc, side, ".rrr. ... ..... ... ..... ")?);
-    let side = BorderColor::new().bottom(red.keep(alloc)?);
-    assert!(rt; colors_table(alloc, side, "..... ... ..... ... .rrr. ")?);
-    let side = BorderColor::new().left(red.keep(alloc)?);
-    assert!(rt; colors_table(alloc, side, "..... r.. r.... r.. ..... ")?);
-    let side = BorderColor::new().right(red);
-    assert!(rt; colors_table(alloc, side, "..... ..r ....r ..r ..... ")?);
+fn the_top_of_a_table_is_colored_but_for_its_corners(rt: HostRuntime) -> Result<(), Fail> {
+    let side = BorderColor::new().top(Color::FG_RED);
+    assert!(rt; colors_table(rt.alloc(), side, ".rrr. ... ..... ... ..... ")?);
+    Ok(())
+}
+
+#[test]
+fn the_bottom_of_a_table_is_colored_but_for_its_corners(rt: HostRuntime) -> Result<(), Fail> {
+    let mut table = Table::of_shape(rt.alloc(), 2, 2)?;
+    table.with(BorderColor::new().bottom(Color::FG_RED))?;
+    assert_eq!(rt;
+        drawn(rt.alloc(), &table)?.as_str(),
+        "..... ... ..... ... .rrr. "
+    );
+    Ok(())
+}
+
+#[test]
+fn the_left_of_a_table_is_colored_but_for_its_corners(rt: HostRuntime) -> Result<(), Fail> {
+    let side = BorderColor::new().left(Color::FG_RED);
+    assert!(rt; colors_table(rt.alloc(), side, "..... r.. r.... r.. ..... ")?);
+    Ok(())
+}
+
+#[test]
+fn the_right_of_a_table_is_colored_but_for_its_corners(rt: HostRuntime) -> Result<(), Fail> {
+    let side = BorderColor::new().right(Color::FG_RED);
+    assert!(rt; colors_table(rt.alloc(), side, "..... ..r ....r ..r ..... ")?);
     Ok(())
 }
 

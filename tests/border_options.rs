@@ -144,7 +144,8 @@ fn shown(cfg: &ColoredConfig) -> [Option<char>; 7] {
 fn shown_around(alloc: Global, entity: Entity) -> Result<[Option<char>; 7], OutOfMemory> {
     let mut shape = SHAPE;
     let mut cfg = config(alloc);
-    let made = CellOption::change(&top_and_corner(), &mut shape, &mut cfg, entity);
+    let border: Border<char> = top_and_corner();
+    let made = CellOption::change(&border, &mut shape, &mut cfg, entity);
     let shown = shown(&cfg);
     drop(cfg);
     made?;

@@ -135,7 +135,8 @@ fn the_last_number_has_no_line_after_it(rt: HostRuntime) -> Result<(), Fail> {
 fn comes_whole_or_not_at_all(store: &mut Layers<char>, alloc: Global) -> bool {
     if store
         .set_cell(Place::Cross { row: 1, col: 2 }, '+')
-        .is_err() {
+        .is_err()
+    {
         return true;
     }
     let Ok(before) = store.keep(alloc) else {

@@ -24,7 +24,8 @@ fn crossing(row: usize, col: usize) -> Place {
 fn has_prefix(cfg: &ColoredConfig, cols: usize, place: Place, prefix: &str) -> bool {
     match cfg
         .config()
-        .color_at(place, (1, cols), 3, &mut Probes::new()) {
+        .color_at(place, (1, cols), 3, &mut Probes::new())
+    {
         Some(color) => color.get_prefix() == prefix,
         None => false,
     }

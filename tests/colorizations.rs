@@ -6,7 +6,8 @@ use std::alloc::Global;
 use std::test::Fail;
 use tabled_color::Color;
 use tabled_grid::{Combine, Keep, OutOfMemory, Position, Rows, Segment};
-use tabled_options::Colorization;
+use tabled_object::SegmentAll;
+use tabled_options::{Colorization, ExactColorization};
 
 const X: &str = "\u{1b}[31m";
 
@@ -98,7 +99,11 @@ fn colorizations_are_compared_and_copied(rt: HostRuntime) -> Result<(), Fail> {
 #[test]
 fn all_cells_are_colored_as_one_entity(rt: HostRuntime) -> Result<(), Fail> {
     let mut table = Table::of_shape(rt.alloc(), 2, 2)?;
-    table.with(Colorization::exact(colors(rt.alloc(), 2)?, Segment::all()))?;
+    let option: ExactColorization<SegmentAll> = Colorization::exact(
+        colors(rt.alloc(), 2)?,
+        Segment::all(),
+    );
+    table.with(option)?;
     assert!(rt; table.has_cell_color(0, 0, X));
     assert!(rt; table.has_cell_color(1, 1, X));
     let cell = Position::new(0, 1);

@@ -106,3 +106,15 @@ fn settings_for_many_lines_are_read(rt: HostRuntime) {
     assert_eq!(rt; cfg.get_alignment_vertical(), AlignmentVertical::Bottom);
     assert!(rt; cfg.get_formatting().horizontal_trim && !cfg.get_formatting().vertical_trim);
 }
+
+#[test]
+fn a_compact_configuration_takes_records_and_themes(rt: HostRuntime) -> Result<(), Fail> {
+    let class: Borders<char> = Style::markdown().get_borders();
+    let mut cfg = CompactConfig::new();
+    apply(&mut cfg, class)?;
+    assert_eq!(rt; cfg, CompactConfig::new().set_borders(class));
+    let theme: Theme = Theme::new(rt.alloc());
+    apply(&mut cfg, theme)?;
+    assert_eq!(rt; cfg, CompactConfig::new());
+    Ok(())
+}

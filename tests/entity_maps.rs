@@ -81,7 +81,7 @@ fn many_writes_keep_the_order(alloc: Global) -> Result<bool, OutOfMemory> {
         map.insert(Entity::Cell(1, 2), 'x')?;
         map.insert(Entity::Column(2), 'C')?;
     }
-    let copy = map.keep(alloc)?;
+    let copy: EntityMap<char> = map.keep(alloc)?;
     Ok(value(&map, 1, 2) == 'C' && value(&map, 1, 1) == 'r' && copy == map)
 }
 
@@ -121,13 +121,20 @@ fn after_three(alloc: Global, entity: Entity) -> Result<[char; 3], OutOfMemory> 
     let other = event(alloc, entity, Some('y'))?;
     let none = event(alloc, entity, None)?;
     first.apply_three(alloc, row, &mut second, other, &mut third, none)?;
-    Ok([value(&first, 1, 2), value(&second, 1, 2), value(&third, 1, 2)])
+    Ok([
+        value(&first, 1, 2),
+        value(&second, 1, 2),
+        value(&third, 1, 2),
+    ])
 }
 
 #[test]
 fn three_maps_are_changed_at_once(rt: HostRuntime) -> Result<(), Fail> {
     for entity in [Entity::Global, Entity::Column(2), Entity::Cell(1, 2)] {
-        assert!(rt; after_three(rt.alloc(), entity)? == ['x', 'y', '.'], "{entity:?}");
+        assert!(rt;
+            after_three(rt.alloc(), entity)? == ['x', 'y', '.'],
+            "{entity:?}"
+        );
     }
     Ok(())
 }

@@ -1,7 +1,7 @@
 //! Each two spans in a table of three rows and three columns, beside the plain reading of their correction.
 
-use crate::common::drawings::{Drawing, Lines, columns, frame, grid, rows};
 use crate::common::corrected::{Span, corrected};
+use crate::common::drawings::{Drawing, Lines, columns, frame, grid, rows};
 use crate::common::tables::Table;
 use std::alloc::Global;
 use tabled_grid::OutOfMemory;

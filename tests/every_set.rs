@@ -5,6 +5,7 @@ use crate::common::outlined::{
 };
 use crate::common::tables::Table;
 use std::alloc::Global;
+use std::test::Fail;
 use tabled_color::{BorderColor, Color};
 use tabled_grid::{Combine, OutOfMemory, Place, Union};
 use tabled_options::Highlight;
@@ -137,38 +138,39 @@ fn colors() -> BorderColor {
 }
 
 /// Whether a set of cells is outlined as the plain reading says, in characters and in colors.
-fn is_outlined(alloc: Global, cells: &Nine) -> bool {
+fn is_outlined(alloc: Global, cells: &Nine) -> Result<bool, OutOfMemory> {
     let border = Border::full('1', '2', '3', '4', '5', '6', '7', '8');
     let outline = Highlight::new(target(cells)).border(border).color(colors());
-    match empty(alloc) {
-        Ok(mut table) => table.with(outline).is_ok() && has_outline(&table, &CROSSINGS, cells, true),
-        Err(OutOfMemory) => false,
-    }
+    let mut table = empty(alloc)?;
+    table.with(outline)?;
+    Ok(has_outline(&table, &CROSSINGS, cells, true))
 }
 
 /// The same with a border that does not give its upper corners, in characters alone.
-fn is_outlined_below(alloc: Global, cells: &Nine) -> bool {
+fn is_outlined_below(alloc: Global, cells: &Nine) -> Result<bool, OutOfMemory> {
     let border = Border::new().top('1').bottom('2').left('3').right('4');
     let border = border.corner_bottom_left('7').corner_bottom_right('8');
     let outline = Highlight::new(target(cells)).border(border);
-    match empty(alloc) {
-        Ok(mut table) => {
-            table.with(outline).is_ok() && has_outline(&table, &WITHOUT_UPPER_CORNERS, cells, false)
-        }
-        Err(OutOfMemory) => false,
-    }
+    let mut table = empty(alloc)?;
+    table.with(outline)?;
+    Ok(has_outline(&table, &WITHOUT_UPPER_CORNERS, cells, false))
 }
 
 #[test]
-fn every_set_has_its_outline(rt: HostRuntime) {
+fn every_set_has_its_outline(rt: HostRuntime) -> Result<(), Fail> {
     for number in 0..512usize {
-        assert!(rt; is_outlined(rt.alloc(), &set_of(number)));
+        assert!(rt; is_outlined(rt.alloc(), &set_of(number))?, "set {number}");
     }
+    Ok(())
 }
 
 #[test]
-fn every_set_has_its_outline_without_upper_corners(rt: HostRuntime) {
+fn every_set_has_its_outline_without_upper_corners(rt: HostRuntime) -> Result<(), Fail> {
     for number in 0..512usize {
-        assert!(rt; is_outlined_below(rt.alloc(), &set_of(number)));
+        assert!(rt;
+            is_outlined_below(rt.alloc(), &set_of(number))?,
+            "set {number}"
+        );
     }
+    Ok(())
 }

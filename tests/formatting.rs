@@ -83,7 +83,11 @@ fn both_trims_are_set_at_once(rt: HostRuntime) -> Result<(), Fail> {
 fn filled(alloc: Global) -> Result<Table, OutOfMemory> {
     let mut table = Table::of_shape(alloc, 2, 1)?;
     table.with(Justification::colored('#', Color::FG_RED))?;
-    table.modify(alloc, &Entity::Row(1), &Justification::default().keep(alloc)?)?;
+    table.modify(
+        alloc,
+        &Entity::Row(1),
+        &Justification::default().keep(alloc)?,
+    )?;
     Ok(table)
 }
 

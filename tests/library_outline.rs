@@ -2,8 +2,8 @@
 
 use crate::common::printing::Cells;
 use crate::common::tables::Table;
-use std::alloc::Global;
-use tabled_grid::{Columns, Combine, OutOfMemory, Rows, Segment};
+use std::test::Fail;
+use tabled_grid::{Columns, Combine, Rows, Segment};
 use tabled_options::Highlight;
 use tabled_style::Border;
 
@@ -28,18 +28,13 @@ const RING: &str = concat!(
     "            └───┘",
 );
 
-/// Whether the ring is outlined.
-fn is_ring_outlined(alloc: Global) -> bool {
+#[test]
+fn a_ring_is_outlined(rt: HostRuntime) -> Result<(), Fail> {
     let ring = Segment::all().not(Rows::last().and(Columns::last()).and((1, 1)));
     let border = Border::full('─', '─', '│', '│', '┌', '┐', '└', '┘');
     let outline = Highlight::new(ring.and((3, 3))).border(border);
-    match Table::new(alloc, &[3, 3, 3, 3], LETTERS) {
-        Ok(mut table) => table.with(outline).is_ok() && table.prints(alloc, RING) == Ok(true),
-        Err(OutOfMemory) => false,
-    }
-}
-
-#[test]
-fn a_ring_is_outlined(rt: HostRuntime) {
-    assert!(rt; is_ring_outlined(rt.alloc()));
+    let mut table = Table::new(rt.alloc(), &[3, 3, 3, 3], LETTERS)?;
+    table.with(outline)?;
+    assert!(rt; table.prints(rt.alloc(), RING)?);
+    Ok(())
 }

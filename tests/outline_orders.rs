@@ -2,6 +2,7 @@
 
 use crate::common::tables::Table;
 use std::alloc::Global;
+use std::test::Fail;
 use tabled_grid::{Combine, OutOfMemory};
 use tabled_options::Highlight;
 
@@ -18,17 +19,14 @@ fn five(alloc: Global) -> Result<Table, OutOfMemory> {
 }
 
 /// Whether the five cells, in this order, and then the first two again, are outlined as one.
-fn are_outlined(alloc: Global, order: [usize; 5]) -> bool {
+fn are_outlined(alloc: Global, order: [usize; 5]) -> Result<bool, OutOfMemory> {
     let [first, second, third, fourth, fifth] = order;
     let target = (0, first).and((0, second)).and((0, third));
     let target = target.and((0, fourth)).and((0, fifth));
     let target = target.and((0, first).and((0, second)));
-    match five(alloc) {
-        Ok(mut table) => {
-            table.with(Highlight::outline(target, '*')).is_ok() && table.prints(alloc, STARS) == Ok(true)
-        }
-        Err(OutOfMemory) => false,
-    }
+    let mut table = five(alloc)?;
+    table.with(Highlight::outline(target, '*'))?;
+    table.prints(alloc, STARS)
 }
 
 /// Whether these are five different numbers.
@@ -50,22 +48,16 @@ fn digits(number: usize) -> [usize; 5] {
     ]
 }
 
-/// How many orders there are, or nothing where one is not outlined.
-fn outlined_orders(alloc: Global) -> Option<usize> {
-    let mut count: usize = 0;
+#[test]
+fn a_row_is_outlined_in_every_order(rt: HostRuntime) -> Result<(), Fail> {
+    let mut count = 0usize;
     for number in 0..3125usize {
         let order = digits(number);
         if is_order(order) {
-            if !are_outlined(alloc, order) {
-                return None;
-            }
-            count = count.saturating_add(1);
+            assert!(rt; are_outlined(rt.alloc(), order)?, "{order:?}");
+            count += 1;
         }
     }
-    Some(count)
-}
-
-#[test]
-fn a_row_is_outlined_in_every_order(rt: HostRuntime) {
-    assert!(rt; outlined_orders(rt.alloc()) == Some(120));
+    assert_eq!(rt; count, 120);
+    Ok(())
 }

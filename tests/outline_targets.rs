@@ -2,8 +2,8 @@
 
 use crate::common::tables::four;
 use std::alloc::Global;
-use tabled_config::{ColoredConfig, TableOption};
-use tabled_grid::{Columns, Combine, FixedDimension, OutOfMemory, Rows, Segment, Shape};
+use std::test::Fail;
+use tabled_grid::{Columns, Combine, Object, OutOfMemory, Rows, Segment, Shape};
 use tabled_options::Highlight;
 
 /// Four cells of which nothing is drawn.
@@ -18,47 +18,51 @@ const FIRST_ROW: &str = "*********\n* a   b *\n*********\n  c   d  ";
 /// The second column of them outlined.
 const SECOND_COLUMN: &str = "   *****\n a * b *\n   *   *\n c * d *\n   *****";
 
-/// Whether four cells with an outline print this text.
-fn prints<P>(alloc: Global, outline: P, text: &str) -> bool
+/// Whether four cells with stars around an object print this text.
+fn prints<O>(alloc: Global, target: O, text: &str) -> Result<bool, OutOfMemory>
 where
-    P: TableOption<Shape, ColoredConfig, FixedDimension> + Drop,
+    O: Object<Shape> + Drop,
 {
-    match four(alloc) {
-        Ok(mut table) => table.with(outline).is_ok() && table.prints(alloc, text) == Ok(true),
-        Err(OutOfMemory) => false,
-    }
-}
-
-/// Stars around an object.
-fn stars<O>(target: O) -> Highlight<O> {
-    Highlight::outline(target, '*')
+    let mut table = four(alloc)?;
+    table.with(Highlight::outline(target, '*'))?;
+    table.prints(alloc, text)
 }
 
 #[test]
-fn rows_and_columns_are_outlined(rt: HostRuntime) {
-    assert!(rt; prints(rt.alloc(), stars(Rows::first()), FIRST_ROW));
-    assert!(rt; prints(rt.alloc(), stars(Columns::one(1)), SECOND_COLUMN));
-    assert!(rt; prints(rt.alloc(), stars(Rows::first().and(Rows::last())), ALL));
-    assert!(rt; prints(rt.alloc(), stars(Segment::all()), ALL));
+fn rows_and_columns_are_outlined(rt: HostRuntime) -> Result<(), Fail> {
+    assert!(rt; prints(rt.alloc(), Rows::first(), FIRST_ROW)?);
+    assert!(rt; prints(rt.alloc(), Columns::one(1), SECOND_COLUMN)?);
+    assert!(rt; prints(rt.alloc(), Rows::first().and(Rows::last()), ALL)?);
+    assert!(rt; prints(rt.alloc(), Segment::all(), ALL)?);
+    Ok(())
 }
 
 #[test]
-fn differences_are_outlined(rt: HostRuntime) {
+fn differences_are_outlined(rt: HostRuntime) -> Result<(), Fail> {
     let nothing = Segment::all().not(Segment::all());
-    assert!(rt; prints(rt.alloc(), stars(Rows::first().and(nothing)), FIRST_ROW));
-    let without = Segment::all().not(Rows::one(1));
-    assert!(rt; prints(rt.alloc(), stars(without), FIRST_ROW));
-    let nothing = Segment::all().not(Segment::all());
-    assert!(rt; prints(rt.alloc(), stars(nothing), NOTHING));
+    assert!(rt; prints(rt.alloc(), Rows::first().and(nothing), FIRST_ROW)?);
+    assert!(rt; prints(rt.alloc(), Segment::all().not(Rows::one(1)), FIRST_ROW)?);
+    assert!(rt; prints(rt.alloc(), Segment::all().not(Segment::all()), NOTHING)?);
+    Ok(())
 }
 
 #[test]
-fn cells_outside_are_passed_over(rt: HostRuntime) {
-    assert!(rt; prints(rt.alloc(), stars((5, 5)), NOTHING));
-    let outside = Rows::one(2).and(Columns::one(7));
-    assert!(rt; prints(rt.alloc(), stars(outside), NOTHING));
-    let first = Columns::one(usize::MAX).and(Rows::first());
-    assert!(rt; prints(rt.alloc(), stars(first), FIRST_ROW));
-    let second = (usize::MAX, 0).and(Columns::one(1));
-    assert!(rt; prints(rt.alloc(), stars(second), SECOND_COLUMN));
+fn cells_outside_are_passed_over(rt: HostRuntime) -> Result<(), Fail> {
+    assert!(rt; prints(rt.alloc(), (5, 5), NOTHING)?);
+    assert!(rt; prints(rt.alloc(), Rows::one(2).and(Columns::one(7)), NOTHING)?);
+    assert!(rt;
+        prints(
+            rt.alloc(),
+            Columns::one(usize::MAX).and(Rows::first()),
+            FIRST_ROW
+        )?
+    );
+    assert!(rt;
+        prints(
+            rt.alloc(),
+            (usize::MAX, 0).and(Columns::one(1)),
+            SECOND_COLUMN
+        )?
+    );
+    Ok(())
 }

@@ -194,4 +194,3 @@ impl Write for TakesNothing {
         Ok(())
     }
 }
-

@@ -2,7 +2,6 @@
 
 use crate::common::configs::{apply, config, prints};
 use std::alloc::Global;
-use std::test::Fail;
 use tabled_grid::Borders;
 use tabled_style::{ReadyStyle, Style, UnknownStyle};
 

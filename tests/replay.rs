@@ -21,6 +21,35 @@ const TABLES: [(usize, usize, usize); 5] = [
     (0, 3, 2),
 ];
 
+/// What a class record gives to edges.
+fn edges_of(class: Borders<char>) -> [(Class, Option<char>); 6] {
+    let (across, down) = (Direction::Horizontal, Direction::Vertical);
+    [
+        (Class::Edges(across, Rank::First), class.top),
+        (Class::Edges(across, Rank::Inner), class.horizontal),
+        (Class::Edges(across, Rank::Last), class.bottom),
+        (Class::Edges(down, Rank::First), class.left),
+        (Class::Edges(down, Rank::Inner), class.vertical),
+        (Class::Edges(down, Rank::Last), class.right),
+    ]
+}
+
+/// What a class record gives to crossings.
+fn crossings_of(class: Borders<char>) -> [(Class, Option<char>); 9] {
+    let (first, inner, last) = (Rank::First, Rank::Inner, Rank::Last);
+    [
+        (Class::Crossings(first, first), class.top_left),
+        (Class::Crossings(first, inner), class.top_intersection),
+        (Class::Crossings(first, last), class.top_right),
+        (Class::Crossings(inner, first), class.left_intersection),
+        (Class::Crossings(inner, inner), class.intersection),
+        (Class::Crossings(inner, last), class.right_intersection),
+        (Class::Crossings(last, first), class.bottom_left),
+        (Class::Crossings(last, inner), class.bottom_intersection),
+        (Class::Crossings(last, last), class.bottom_right),
+    ]
+}
+
 /// A store, and the events of the calls that were made on it.
 #[derive(Drop)]
 struct Both {
@@ -44,66 +73,13 @@ impl Both {
     fn set_class(&mut self, class: Borders<char>) -> Result<(), OutOfMemory> {
         self.store.set_class(class);
         self.erase(Region::Level(1))?;
-        self.write(
-            Site::Class(Class::Edges(Direction::Horizontal, Rank::First)),
-            class.top,
-        )?;
-        self.write(
-            Site::Class(Class::Edges(Direction::Horizontal, Rank::Inner)),
-            class.horizontal,
-        )?;
-        self.write(
-            Site::Class(Class::Edges(Direction::Horizontal, Rank::Last)),
-            class.bottom,
-        )?;
-        self.write(
-            Site::Class(Class::Edges(Direction::Vertical, Rank::First)),
-            class.left,
-        )?;
-        self.write(
-            Site::Class(Class::Edges(Direction::Vertical, Rank::Inner)),
-            class.vertical,
-        )?;
-        self.write(
-            Site::Class(Class::Edges(Direction::Vertical, Rank::Last)),
-            class.right,
-        )?;
-        self.write(
-            Site::Class(Class::Crossings(Rank::First, Rank::First)),
-            class.top_left,
-        )?;
-        self.write(
-            Site::Class(Class::Crossings(Rank::First, Rank::Inner)),
-            class.top_intersection,
-        )?;
-        self.write(
-            Site::Class(Class::Crossings(Rank::First, Rank::Last)),
-            class.top_right,
-        )?;
-        self.write(
-            Site::Class(Class::Crossings(Rank::Inner, Rank::First)),
-            class.left_intersection,
-        )?;
-        self.write(
-            Site::Class(Class::Crossings(Rank::Inner, Rank::Inner)),
-            class.intersection,
-        )?;
-        self.write(
-            Site::Class(Class::Crossings(Rank::Inner, Rank::Last)),
-            class.right_intersection,
-        )?;
-        self.write(
-            Site::Class(Class::Crossings(Rank::Last, Rank::First)),
-            class.bottom_left,
-        )?;
-        self.write(
-            Site::Class(Class::Crossings(Rank::Last, Rank::Inner)),
-            class.bottom_intersection,
-        )?;
-        self.write(
-            Site::Class(Class::Crossings(Rank::Last, Rank::Last)),
-            class.bottom_right,
-        )
+        for (class, value) in edges_of(class) {
+            self.write(Site::Class(class), value)?;
+        }
+        for (class, value) in crossings_of(class) {
+            self.write(Site::Class(class), value)?;
+        }
+        Ok(())
     }
 
     fn stand(
@@ -171,17 +147,36 @@ impl Both {
                 self.store.set_default(value);
                 self.write(Site::Default, Some(value))
             }
+            3 => self.set_class(dice.class_record()),
+            5..=8 => self.insert_line(dice),
+            9..=11 => self.remove_line(dice),
+            14..=18 => {
+                let place = dice.place();
+                self.store.erase_cell(place);
+                self.erase(Region::One(Site::Cell(place.spot())))
+            }
+            19..=23 => self.set_offset(dice),
+            roll if roll < 26 => self.erase_many(roll),
+            _ => {
+                let place = dice.place();
+                let value = dice.sign();
+                self.store.set_cell(place, value)?;
+                self.write(Site::Cell(place.spot()), Some(value))
+            }
+        }
+    }
+
+    /// Erases one level, the custom lines, or the offsets of one direction.
+    fn erase_many(&mut self, roll: u32) -> Result<(), OutOfMemory> {
+        match roll {
             1 | 2 => {
                 self.store.erase_default();
                 self.erase(Region::Level(0))
             }
-            3 => self.set_class(dice.class_record()),
             4 => {
                 self.store.erase_class();
                 self.erase(Region::Level(1))
             }
-            5..=8 => self.insert_line(dice),
-            9..=11 => self.remove_line(dice),
             12 => {
                 self.store.erase_lines();
                 self.erase(Region::Level(2))?;
@@ -191,25 +186,13 @@ impl Both {
                 self.store.erase_cells();
                 self.erase(Region::Level(4))
             }
-            14..=18 => {
-                let place = dice.place();
-                self.store.erase_cell(place);
-                self.erase(Region::One(Site::Cell(place.spot())))
-            }
-            19..=23 => self.set_offset(dice),
             24 => {
                 self.store.erase_horizontal_offsets();
                 self.erase(Region::Offsets(Direction::Horizontal))
             }
-            25 => {
+            _ => {
                 self.store.erase_vertical_offsets();
                 self.erase(Region::Offsets(Direction::Vertical))
-            }
-            _ => {
-                let place = dice.place();
-                let value = dice.sign();
-                self.store.set_cell(place, value)?;
-                self.write(Site::Cell(place.spot()), Some(value))
             }
         }
     }
@@ -275,9 +258,6 @@ impl Both {
     }
 }
 
-// A store is lent to what may be refused, and let go before the test ends: an owned one would have to be let go
-// at each exit, of which the checker would take long to follow the many.
-
 #[test]
 fn reads_what_the_events_leave(rt: HostRuntime) -> Result<(), Fail> {
     let mut dice = Dice { state: 7 };
@@ -287,9 +267,7 @@ fn reads_what_the_events_leave(rt: HostRuntime) -> Result<(), Fail> {
                 store: Layers::new(rt.alloc()),
                 events: Vec::new(rt.alloc()),
             };
-            let walked = both.walk(&rt, &mut dice, swept);
-            drop(both);
-            walked?;
+            both.walk(&rt, &mut dice, swept)?;
         }
     }
     Ok(())

@@ -3,9 +3,9 @@
 use std::alloc::Global;
 use std::fmt;
 use std::test::Fail;
+use tabled::settings::Style;
 use tabled::settings::object::{Columns, Rows};
 use tabled::settings::style::Border;
-use tabled::settings::Style;
 use tabled::{TableError, TextTable};
 use tabled_config::PrintError;
 use tabled_grid::Position;

@@ -92,7 +92,7 @@ fn colored(alloc: Global) -> Result<Theme, OutOfMemory> {
 
 /// Whether a copy of a theme is equal to it, and no longer where it is changed.
 fn copy_is_kept(alloc: Global) -> Result<bool, OutOfMemory> {
-    let theme = colored(alloc)?;
+    let theme: Theme = colored(alloc)?;
     let mut copy = theme.keep(alloc)?;
     let same = copy == theme;
     copy.set_borders_corner_top_left('x');

@@ -2,7 +2,6 @@
 
 use std::alloc::Global;
 use std::env::{Env, FillError};
-use std::test::Fail;
 use tabled_pages::{ShowError, all_words};
 
 /// A program that was called with these arguments, its name among them.
@@ -38,7 +37,10 @@ impl Env for Called<'_> {
 /// Whether these are the words after the name.
 fn has_words(alloc: Global, arguments: &[&str], expected: &[&str]) -> Result<bool, ShowError> {
     let words = all_words(alloc, &Called { arguments })?;
-    let same = words.iter().zip(expected).all(|(word, text)| word.as_str() == *text);
+    let same = words
+        .iter()
+        .zip(expected)
+        .all(|(word, text)| word.as_str() == *text);
     Ok(same && words.len() == expected.len())
 }
 

@@ -4,9 +4,7 @@ use crate::common::configs::{begins, config};
 use crate::common::printing::{Cells, printed};
 use std::alloc::Global;
 use tabled_config::{CellOption, ColoredConfig, SpannedConfig, TableOption, modify};
-use tabled_grid::{
-    Dimension, FixedDimension, Object, OutOfMemory, Place, Position, Probes, Shape,
-};
+use tabled_grid::{Dimension, FixedDimension, Object, OutOfMemory, Place, Position, Probes, Shape};
 
 /// Four cells, of which nothing is drawn.
 pub(crate) fn four(alloc: Global) -> Result<Table, OutOfMemory> {

@@ -1,12 +1,12 @@
 //! How any option changes a configuration, and what each option of this library makes.
 
 ghost use Rattle.std.specs.Prelude.{◌≡◌, ◌++◌, ℕ, List, [], map, take, IsOk, OnOk, OnErr};
-ghost use Rattle.tabled_object.specs.declared.entity.Entity.TheVariants.{Global};
+ghost use Rattle.tabled_object.specs.declared.entity.Entity.TheVariants as cells;
 ghost use Rattle.tabled_settings.specs.Setting.{write_of};
-ghost use Rattle.tabled_config.specs.Colored.{Shows, Changes, by_cell_color};
-ghost use Rattle.tabled_config.specs.Configuration.{ConfigEvent, all_writes, borders_replaced};
-ghost use Rattle.tabled_config.specs.EntitiesColored.{entities_colored};
-ghost use Rattle.tabled_config.specs.Options.{MakesInTurn, entity_bordered, entity_unbordered, table_bordered, table_unbordered};
+ghost use Rattle.tabled_configuration.specs.Colored.{Shows, Changes, by_cell_color};
+ghost use Rattle.tabled_configuration.specs.Configuration.{ConfigEvent, all_writes, borders_replaced};
+ghost use Rattle.tabled_configuration.specs.EntitiesColored.{entities_colored};
+ghost use Rattle.tabled_configuration.specs.Options.{MakesInTurn, entity_bordered, entity_unbordered, table_bordered, table_unbordered};
 ghost use Rattle.tabled_config.specs.Picture.{look};
 ghost use Rattle.tabled_color.specs.BorderColors.{border_texts};
 ghost use Rattle.tabled_color.specs.Coloring.{entity_colored, table_colored};
@@ -426,7 +426,7 @@ pub fn color_on_a_table<R, D>(
     cfg: &mut ColoredConfig,
     dims: &mut D,
 ) -> Result<(), OutOfMemory>
-    ensures { OnOk result (Changes (by_cell_color (write_of Global (texts_of option))) cfg.old cfg.new) }
+    ensures { OnOk result (Changes (by_cell_color (write_of cells.Global (texts_of option))) cfg.old cfg.new) }
 {
     option.change(records, cfg, dims)
 }
@@ -481,7 +481,7 @@ pub fn padding_colors_on_a_table<C, R, D>(
 ) -> Result<(), OutOfMemory>
 where
     C: AnsiText + Drop,
-    ensures { OnOk result (Changes (padding_set C.prefix_text C.suffix_text option Global) cfg.old cfg.new) }
+    ensures { OnOk result (Changes (padding_set C.prefix_text C.suffix_text option cells.Global) cfg.old cfg.new) }
 {
     option.change(records, cfg, dims)
 }
@@ -533,7 +533,7 @@ pub fn alignment_on_a_table<R, D>(
     cfg: &mut ColoredConfig,
     dims: &mut D,
 ) -> Result<(), OutOfMemory>
-    ensures changed { OnOk result (Changes (alignment_set option Global) cfg.old cfg.new) }
+    ensures changed { OnOk result (Changes (alignment_set option cells.Global) cfg.old cfg.new) }
     ensures always { IsOk result }
 {
     option.change(records, cfg, dims)
@@ -558,7 +558,7 @@ pub fn alignment_by_line_on_a_table<R, D>(
     cfg: &mut ColoredConfig,
     dims: &mut D,
 ) -> Result<(), OutOfMemory>
-    ensures changed { OnOk result (Changes (strategy_set option Global) cfg.old cfg.new) }
+    ensures changed { OnOk result (Changes (strategy_set option cells.Global) cfg.old cfg.new) }
     ensures always { IsOk result }
 {
     option.change(records, cfg, dims)
@@ -583,7 +583,7 @@ pub fn trim_on_a_table<R, D>(
     cfg: &mut ColoredConfig,
     dims: &mut D,
 ) -> Result<(), OutOfMemory>
-    ensures changed { OnOk result (Changes (trim_set option Global) cfg.old cfg.new) }
+    ensures changed { OnOk result (Changes (trim_set option cells.Global) cfg.old cfg.new) }
     ensures always { IsOk result }
 {
     option.change(records, cfg, dims)
@@ -608,7 +608,7 @@ pub fn filling_on_a_table<R, D>(
     cfg: &mut ColoredConfig,
     dims: &mut D,
 ) -> Result<(), OutOfMemory>
-    ensures { OnOk result (Changes (justification_set option Global) cfg.old cfg.new) }
+    ensures { OnOk result (Changes (justification_set option cells.Global) cfg.old cfg.new) }
 {
     option.change(records, cfg, dims)
 }

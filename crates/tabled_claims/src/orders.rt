@@ -1,8 +1,10 @@
 //! The orders of values: by variants and by fields, as they stand in their types.
 
 ghost use Rattle.std.specs.Prelude.{◌≡◌, ℕ};
-ghost use Rattle.std.specs.Ordering.{nat_cmp, ordering_then};
+ghost use Rattle.std.specs.Cmp.Lexicographic.{slice_cmp};
+ghost use Rattle.std.specs.Ordering.{bool_cmp, nat_cmp, ordering_then};
 ghost use Rattle.std.specs.declared.cmp.Ordering.TheVariants.{Less};
+ghost use Rattle.tabled_border.specs.Texts.{Texts};
 ghost use Rattle.tabled_border.specs.declared.border.Border.{Border as Eight};
 ghost use Rattle.tabled_object.specs.declared.entity.Entity.TheVariants as cells;
 ghost use Rattle.tabled_object.specs.declared.position.Position.{Position as At};
@@ -17,17 +19,27 @@ ghost use Rattle.tabled_grid.specs.declared.offset.Offset.TheVariants as places;
 ghost use Rattle.tabled_grid.specs.declared.place.LineOf.TheVariants as lines;
 ghost use Rattle.tabled_grid.specs.declared.place.Place.TheVariants as spots;
 ghost use Rattle.tabled_layout.specs.declared.indent.Indent.{Indent as Filled};
+ghost use Rattle.tabled_color.specs.Shade.{Shade};
+ghost use Rattle.tabled_style.specs.Shown.{Shown};
+ghost use Rattle.tabled_options.specs.LineChar.{EdgeChar};
+ghost use Rattle.tabled_margin.specs.declared.shadow.Shadow.{Shadow as Cast};
 ghost use Rattle.tabled_formatting.specs.declared.alignment.Alignment.TheVariants as aligned;
 ghost use Rattle.tabled_formatting.specs.declared.alignment_strategy.AlignmentStrategy.TheVariants as strategy;
 ghost use Rattle.tabled_formatting.specs.declared.trim_strategy.TrimStrategy.TheVariants as trim;
 
 use std::cmp::Ordering;
-use tabled_border::Border;
-use tabled_formatting::{Alignment, AlignmentStrategy, TrimStrategy};
+use tabled_border::{ANSIBuf, Border};
+use tabled_color::{BorderColor, Color};
+use tabled_formatting::{Alignment, AlignmentStrategy, PaddingColor, TrimStrategy};
 use tabled_grid::{Borders, HorizontalLine, LineOf, Offset, Place, VerticalLine};
 use tabled_layout::Indent;
+use tabled_margin::Shadow;
 use tabled_object::{Entity, Position, Shape};
+use tabled_options::LineChar;
 use tabled_settings::{AlignmentHorizontal, AlignmentVertical, Sides};
+use tabled_style::{
+    Border as StyleBorder, HorizontalLine as StyleHorizontal, Style, VerticalLine as StyleVertical,
+};
 
 /// Left, in the middle, right; up, in the middle, down; and what is horizontal before what is vertical.
 pub fn alignments_in_order()
@@ -118,4 +130,40 @@ pub fn class_records_in_order<T: Ord>()
         (ordering_then (⟦<Option<T> as Ord>⟧.cmp a.left_intersection b.left_intersection) (ordering_then (⟦<Option<T> as Ord>⟧.cmp a.right_intersection b.right_intersection)
         (ordering_then (⟦<Option<T> as Ord>⟧.cmp a.horizontal b.horizontal) (ordering_then (⟦<Option<T> as Ord>⟧.cmp a.vertical b.vertical)
         (⟦<Option<T> as Ord>⟧.cmp a.intersection b.intersection)))))))))))))) }
+{}
+
+/// Texts of a color by the one before, then by the one after; colors by whether they are owned, the static ones first, and then by
+/// their texts.
+pub fn colors_in_order()
+    ensures texts { (a b : Texts) → ⟦<ANSIBuf as Ord>⟧.cmp a b ≡ ordering_then (slice_cmp nat_cmp a.prefix b.prefix) (slice_cmp nat_cmp a.suffix b.suffix) }
+    ensures colors { (a b : Shade) → ⟦<Color as Ord>⟧.cmp a b
+        ≡ ordering_then (ordering_then (bool_cmp a.owned b.owned) (slice_cmp nat_cmp a.prefix b.prefix)) (slice_cmp nat_cmp a.suffix b.suffix) }
+    ensures borders { (a b : Eight Shade) → ⟦<BorderColor as Ord>⟧.cmp a b ≡ ⟦<Border<Color> as Ord>⟧.cmp a b }
+{}
+
+/// Colors of a padding as the four sides have them; a shadow by its character, its size, its offset, the sides on which it falls, and
+/// its color.
+pub fn paddings_and_shadows_in_order<C: Ord>()
+    ensures paddings { (a b : Four C) → ⟦<PaddingColor<C> as Ord>⟧.cmp a b ≡ ⟦<Sides<C> as Ord>⟧.cmp a b }
+    ensures shadows { (a b : Cast) → ⟦<Shadow as Ord>⟧.cmp a b
+        ≡ ordering_then (nat_cmp a.fill b.fill) (ordering_then (nat_cmp a.size b.size) (ordering_then (nat_cmp a.offset b.offset)
+        (ordering_then (⟦<Sides<bool> as Ord>⟧.cmp a.direction b.direction) (⟦<Option<Color> as Ord>⟧.cmp a.color b.color)))) }
+{}
+
+/// A character on edges by itself, then by its offset, then those of vertical edges first.
+pub fn line_characters_in_order()
+    ensures { (a b : EdgeChar) → ⟦<LineChar as Ord>⟧.cmp a b
+        ≡ ordering_then (nat_cmp a.character b.character) (ordering_then (⟦<Offset as Ord>⟧.cmp a.offset b.offset) (bool_cmp a.horizontal b.horizontal)) }
+{}
+
+/// Lines and borders of styles as those without markers, and styles by the class record, then by the horizontal and the vertical
+/// custom lines, each by its index first.
+pub fn styles_in_order<T, B, L, R, H, V, I, const HN: usize, const VN: usize>()
+    ensures horizontal { (a b : Horizontal ℕ) → ⟦<StyleHorizontal<L, R, I> as Ord>⟧.cmp a b ≡ ⟦<HorizontalLine<char> as Ord>⟧.cmp a b }
+    ensures vertical { (a b : Vertical ℕ) → ⟦<StyleVertical<T, B, I> as Ord>⟧.cmp a b ≡ ⟦<VerticalLine<char> as Ord>⟧.cmp a b }
+    ensures border { (a b : Eight ℕ) → ⟦<StyleBorder<T, B, L, R> as Ord>⟧.cmp a b ≡ ⟦<Border<char> as Ord>⟧.cmp a b }
+    ensures style { (a b : Shown) → ⟦<Style<T, B, L, R, H, V, HN, VN> as Ord>⟧.cmp a b
+        ≡ ordering_then (⟦<Borders<char> as Ord>⟧.cmp a.borders b.borders)
+        (ordering_then (slice_cmp (λ x y. ordering_then (nat_cmp x.0 y.0) (⟦<HorizontalLine<char> as Ord>⟧.cmp x.1 y.1)) a.horizontals b.horizontals)
+        (slice_cmp (λ x y. ordering_then (nat_cmp x.0 y.0) (⟦<VerticalLine<char> as Ord>⟧.cmp x.1 y.1)) a.verticals b.verticals)) }
 {}

@@ -1,7 +1,7 @@
 //! The plain printer.
 
 ghost use Rattle.std.specs.Prelude.{◌≡◌, ◌++◌, List, OnOk, OnErr, IsOkUnless, MatchOption, string_bytes};
-ghost use Rattle.tabled_config.specs.Configuration.{ConfigEvent, Shows};
+ghost use Rattle.tabled_configuration.specs.Configuration.{ConfigEvent, Shows};
 ghost use Rattle.tabled_config.specs.Picture.{printed};
 ghost use Rattle.tabled_config.specs.Refusal.{first_refusal};
 ghost use Rattle.tabled_config.specs.Texts.{texts};

@@ -11,7 +11,7 @@ ghost use Rattle.tabled_settings.specs.declared.cell_settings.CellSettings.{Cell
 ghost use Rattle.tabled_settings.specs.CellSettings.{SettingEvent, settings_after, first_settings, settings_left, no_colors, alignment_horizontal_event, alignment_vertical_event, trim_horizontal_event, trim_vertical_event, line_alignment_event, justification_event, justification_color_event, padding_color_event};
 ghost use Rattle.tabled_settings.specs.Live.{after, after_all, at_first, value_at};
 ghost use Rattle.tabled_settings.specs.Setting.{EntityEvent, is_global, removal_of, setting, write_of};
-ghost use Rattle.tabled_config.specs.EntitiesColored.{entities_colored, text_writes};
+ghost use Rattle.tabled_configuration.specs.EntitiesColored.{entities_colored, text_writes};
 ghost use Rattle.tabled_color.specs.Shade.{Shade, texts_of};
 ghost use Rattle.tabled_colorization.specs.declared.pattern.Pattern.{Pattern as Order};
 ghost use Rattle.tabled_colorization.specs.declared.pattern.Pattern.TheVariants as pattern;

@@ -11,7 +11,7 @@ ghost use Rattle.tabled_grid.specs.declared.event.Event.{Event};
 ghost use Rattle.tabled_grid.specs.declared.place.Place.{Place};
 ghost use Rattle.tabled_grid.specs.Event.{replay};
 ghost use Rattle.tabled_grid.specs.Value.{has_spot, plain_value};
-ghost use Rattle.tabled_config.specs.Configuration.{Configuration, Changes};
+ghost use Rattle.tabled_configuration.specs.Configuration.{Configuration, Changes};
 ghost use Rattle.tabled_correction.specs.Correction.{Write, written_over, spanned, columns_corrected, rows_corrected, inner_corrected, crossing_written, crossings_written, correction_events};
 ghost use Rattle.std.specs.FinMap as map;
 

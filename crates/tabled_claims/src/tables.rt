@@ -1,10 +1,10 @@
 //! Tables of texts.
 
 ghost use Rattle.std.specs.Prelude.{◌≡◌, ◌++◌, ◌⊎◌, ℕ, List, [], map, length, take, string_bytes, slice_get, IfOk, IfErr, OnOk, OnErr, MatchOption, IsOkUnless};
-ghost use Rattle.tabled_config.specs.Colored.{Shows, Changes};
-ghost use Rattle.tabled_config.specs.Configuration.{ConfigEvent};
-ghost use Rattle.tabled_config.specs.Configuration as borders;
-ghost use Rattle.tabled_config.specs.Options.{MakesInTurn};
+ghost use Rattle.tabled_configuration.specs.Colored.{Shows, Changes};
+ghost use Rattle.tabled_configuration.specs.Configuration.{ConfigEvent};
+ghost use Rattle.tabled_configuration.specs.Configuration as borders;
+ghost use Rattle.tabled_configuration.specs.Options.{MakesInTurn};
 ghost use Rattle.tabled_config.specs.Refusal.{span_faults};
 ghost use Rattle.tabled_config.specs.Texts.{texts};
 ghost use Rattle.tabled_config.specs.declared.print_error.PrintError.{PrintError as Fault};

@@ -6,10 +6,10 @@ ghost use Rattle.tabled_object.specs.declared.entity.Entity.TheVariants.{Cell};
 ghost use Rattle.tabled_grid.specs.declared.place.Place.TheVariants.{Cross};
 ghost use Rattle.tabled_grid.specs.Event.{replay};
 ghost use Rattle.tabled_grid.specs.Value.{value};
-ghost use Rattle.tabled_config.specs.Colored.{Colored, Changes};
-ghost use Rattle.tabled_config.specs.Configuration.{ConfigEvent, borders_replaced, characters_of};
+ghost use Rattle.tabled_configuration.specs.Colored.{Colored, Changes};
+ghost use Rattle.tabled_configuration.specs.Configuration.{ConfigEvent, borders_replaced, characters_of};
 ghost use Rattle.tabled_config.specs.Headline.{HaveMade};
-ghost use Rattle.tabled_config.specs.Options.{MakesInTurn, entity_bordered};
+ghost use Rattle.tabled_configuration.specs.Options.{MakesInTurn, entity_bordered};
 ghost use Rattle.tabled_style.specs.Ready.{ascii};
 
 use crate::lists::headline;
@@ -54,7 +54,7 @@ fn style_with_a_corner(alloc: Global, cfg: &mut ColoredConfig) -> Result<(), Out
         left_top_corner: Some('#'),
         ..Border::empty()
     };
-    corner.change(&mut shape, cfg, Entity::Cell(1, 1))
+    CellOption::change(&corner, &mut shape, cfg, Entity::Cell(1, 1))
 }
 
 /// What the table shows where its four cells meet.

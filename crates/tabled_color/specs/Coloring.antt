@@ -16,8 +16,8 @@ use Rattle.tabled_grid.specs.declared.event.Event.TheVariants.{Write as write, E
 use Rattle.tabled_grid.specs.declared.event.Written.TheVariants.{Sign as sign}
 use Rattle.tabled_grid.specs.declared.event.Region.TheVariants.{One as one_site}
 use Rattle.tabled_grid.specs.Calls.{entity_border_set, edge_of, crossing_of}
-use Rattle.tabled_config.specs.Configuration.{ConfigEvent, by_colors, default_color_set}
-use Rattle.tabled_config.specs.SameConfiguration.{same_texts}
+use Rattle.tabled_configuration.specs.Configuration.{ConfigEvent, by_colors, default_color_set}
+use Rattle.tabled_configuration.specs.SameConfiguration.{same_texts}
 
 -- ---- around cells
 

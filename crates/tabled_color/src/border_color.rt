@@ -93,15 +93,17 @@ impl BorderColor {
     pub fn filled(alloc: Global, color: Color) -> Result<Self, OutOfMemory>
         ensures { IfOk result (λ border. border ≡ full_border color color color color color color color color) }
     {
+        let (top, bottom, left, right) = four_copies(alloc, &color)?;
+        let (left_top_corner, left_bottom_corner, right_top_corner) = three_copies(alloc, &color)?;
         Ok(BorderColor {
             inner: Border {
-                top: kept(alloc, &color)?,
-                bottom: kept(alloc, &color)?,
-                left: kept(alloc, &color)?,
-                right: kept(alloc, &color)?,
-                left_top_corner: kept(alloc, &color)?,
-                left_bottom_corner: kept(alloc, &color)?,
-                right_top_corner: kept(alloc, &color)?,
+                top,
+                bottom,
+                left,
+                right,
+                left_top_corner,
+                left_bottom_corner,
+                right_top_corner,
                 right_bottom_corner: Some(color),
             },
         })
@@ -278,17 +280,92 @@ impl BorderColor {
     pub fn to_ansi(&self, alloc: Global) -> Result<Border<ANSIBuf>, OutOfMemory>
         ensures { IfOk result (λ border. border ≡ border_texts self.now) }
     {
+        let (top, bottom, left, right) = side_texts(alloc, &self.inner)?;
+        let (left_top_corner, left_bottom_corner, right_top_corner, right_bottom_corner) =
+            corner_texts(alloc, &self.inner)?;
         Ok(Border {
-            top: texts(alloc, &self.inner.top)?,
-            bottom: texts(alloc, &self.inner.bottom)?,
-            left: texts(alloc, &self.inner.left)?,
-            right: texts(alloc, &self.inner.right)?,
-            left_top_corner: texts(alloc, &self.inner.left_top_corner)?,
-            left_bottom_corner: texts(alloc, &self.inner.left_bottom_corner)?,
-            right_top_corner: texts(alloc, &self.inner.right_top_corner)?,
-            right_bottom_corner: texts(alloc, &self.inner.right_bottom_corner)?,
+            top,
+            bottom,
+            left,
+            right,
+            left_top_corner,
+            left_bottom_corner,
+            right_top_corner,
+            right_bottom_corner,
         })
     }
+}
+
+/// Three copies of a color, each of them given.
+type ThreeColors = (Option<Color>, Option<Color>, Option<Color>);
+
+/// Four copies of a color, each of them given.
+type FourColors = (Option<Color>, Option<Color>, Option<Color>, Option<Color>);
+
+/// The texts of four colors, of each where it is given.
+type FourTexts = (
+    Option<ANSIBuf>,
+    Option<ANSIBuf>,
+    Option<ANSIBuf>,
+    Option<ANSIBuf>,
+);
+
+/// Three copies of a color.
+fn three_copies(alloc: Global, color: &Color) -> Result<ThreeColors, OutOfMemory>
+    ensures first { IfOk result (λ copies. copies.0 ≡ Some color.now) }
+    ensures second { IfOk result (λ copies. copies.1 ≡ Some color.now) }
+    ensures third { IfOk result (λ copies. copies.2 ≡ Some color.now) }
+{
+    Ok((
+        kept(alloc, color)?,
+        kept(alloc, color)?,
+        kept(alloc, color)?,
+    ))
+}
+
+/// Four copies of a color.
+fn four_copies(alloc: Global, color: &Color) -> Result<FourColors, OutOfMemory>
+    ensures first { IfOk result (λ copies. copies.0 ≡ Some color.now) }
+    ensures second { IfOk result (λ copies. copies.1 ≡ Some color.now) }
+    ensures third { IfOk result (λ copies. copies.2 ≡ Some color.now) }
+    ensures fourth { IfOk result (λ copies. copies.3 ≡ Some color.now) }
+{
+    Ok((
+        kept(alloc, color)?,
+        kept(alloc, color)?,
+        kept(alloc, color)?,
+        kept(alloc, color)?,
+    ))
+}
+
+/// Copies of the texts of the colors above, below, at the left and at the right.
+fn side_texts(alloc: Global, border: &Border<Color>) -> Result<FourTexts, OutOfMemory>
+    ensures top { IfOk result (λ copies. copies.0 ≡ option_map texts_of border.now.top) }
+    ensures bottom { IfOk result (λ copies. copies.1 ≡ option_map texts_of border.now.bottom) }
+    ensures left { IfOk result (λ copies. copies.2 ≡ option_map texts_of border.now.left) }
+    ensures right { IfOk result (λ copies. copies.3 ≡ option_map texts_of border.now.right) }
+{
+    Ok((
+        texts(alloc, &border.top)?,
+        texts(alloc, &border.bottom)?,
+        texts(alloc, &border.left)?,
+        texts(alloc, &border.right)?,
+    ))
+}
+
+/// Copies of the texts of the colors of the corners: at the left above and below, at the right above and below.
+fn corner_texts(alloc: Global, border: &Border<Color>) -> Result<FourTexts, OutOfMemory>
+    ensures left_top { IfOk result (λ copies. copies.0 ≡ option_map texts_of border.now.left_top_corner) }
+    ensures left_bottom { IfOk result (λ copies. copies.1 ≡ option_map texts_of border.now.left_bottom_corner) }
+    ensures right_top { IfOk result (λ copies. copies.2 ≡ option_map texts_of border.now.right_top_corner) }
+    ensures right_bottom { IfOk result (λ copies. copies.3 ≡ option_map texts_of border.now.right_bottom_corner) }
+{
+    Ok((
+        texts(alloc, &border.left_top_corner)?,
+        texts(alloc, &border.left_bottom_corner)?,
+        texts(alloc, &border.right_top_corner)?,
+        texts(alloc, &border.right_bottom_corner)?,
+    ))
 }
 
 /// A copy of a color, given.

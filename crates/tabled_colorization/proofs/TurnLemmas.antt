@@ -8,7 +8,7 @@ use Rattle.std.proofs.lemmas.Grind.{flat_map-append}
 use Rattle.tabled_border.specs.Texts.{Texts}
 use Rattle.tabled_object.specs.declared.entity.Entity.{Entity}
 use Rattle.tabled_object.specs.Entities.{below}
-use Rattle.tabled_config.proofs.TextLemmas.{flat_map_below}
+use Rattle.tabled_configuration.proofs.Below.{flat_map_below}
 use Rattle.tabled_color.specs.Shade.{Shade}
 use Rattle.tabled_colorization.specs.Turns.{in_its_turn, in_turn, exact_colorization}
 

@@ -2,8 +2,8 @@
 
 ghost use Rattle.std.specs.Prelude.{◌≡◌, ◌∷◌, [], Some, IfOk, OnOk, OnErr};
 ghost use Rattle.tabled_object.specs.declared.entity.Entity.TheVariants as cells;
-ghost use Rattle.tabled_config.specs.Colored.{Changes};
-ghost use Rattle.tabled_config.specs.EntitiesColored.{entities_colored};
+ghost use Rattle.tabled_configuration.specs.Colored.{Changes};
+ghost use Rattle.tabled_configuration.specs.EntitiesColored.{entities_colored};
 ghost use Rattle.tabled_colorization.specs.declared.pattern.Pattern.TheVariants as pattern;
 ghost use Rattle.tabled_colorization.specs.Turns.{colorization};
 
@@ -14,7 +14,7 @@ use std::alloc::Global;
 use std::marker::Model;
 use tabled_border::{Keep, OutOfMemory};
 use tabled_color::Color;
-use tabled_config::{ColoredConfig, TableOption};
+use tabled_configuration::{ColoredConfig, TableOption};
 use tabled_object::{Entity, ExactRecords, Records};
 
 /// Colors for the cells of a table, given in turn: after the last color the first one comes again.

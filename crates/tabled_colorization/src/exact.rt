@@ -2,8 +2,8 @@
 
 ghost use Rattle.std.specs.Prelude.{◌≡◌, Some, IfOk, OnOk, OnErr};
 ghost use Rattle.tabled_object.specs.declared.entity.Entity.TheVariants as cells;
-ghost use Rattle.tabled_config.specs.Colored.{Changes};
-ghost use Rattle.tabled_config.specs.EntitiesColored.{entities_colored};
+ghost use Rattle.tabled_configuration.specs.Colored.{Changes};
+ghost use Rattle.tabled_configuration.specs.EntitiesColored.{entities_colored};
 ghost use Rattle.tabled_colorization.specs.Turns.{exact_colorization};
 
 use crate::turns::colored_exactly;
@@ -11,7 +11,7 @@ use std::alloc::Global;
 use std::marker::Model;
 use tabled_border::OutOfMemory;
 use tabled_color::Color;
-use tabled_config::{ColoredConfig, TableOption};
+use tabled_configuration::{ColoredConfig, TableOption};
 use tabled_object::{Entity, ExactRecords, Object, Records};
 
 /// Colors for the entities that an object lists, given in turn: each entity as a whole has one, and after the last color the

@@ -6,7 +6,7 @@ use Rattle.std.proofs.lemmas.List.Elements.{All-nil, All-cons}
 use Rattle.std.proofs.lemmas.List.{drop_more, drop_all, get_or-map, length-map}
 use Rattle.tabled_config.specs.declared.print_error.PrintError.{PrintError}
 use Rattle.tabled_config.specs.Texts.{Table}
-use Rattle.tabled_config.specs.Configuration.{Configuration}
+use Rattle.tabled_configuration.specs.Configuration.{Configuration}
 use Rattle.tabled_config.specs.Refusal.{unless, cell_faults, row_faults, table_faults, span_faults, first_refusal}
 
 -- the first element of a list that begins with others

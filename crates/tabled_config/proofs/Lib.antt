@@ -1,14 +1,5 @@
-pub mod ConfigurationLemmas
-pub mod ColoredLemmas
-pub mod ColorsLemmas
-pub mod SameConfigurationLemmas
 pub mod FaultLemmas
 pub mod MadeInTurn
 pub mod LookLemmas
 pub mod TextLemmas
 pub mod PieceLemmas
-pub mod InTurn
-pub mod Replacing
-pub mod SecondTime
-pub mod EntitiesColoredLemmas
-pub mod BothLemmas

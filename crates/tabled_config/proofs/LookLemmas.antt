@@ -18,10 +18,10 @@ use Rattle.tabled_grid.specs.Drawn.{drawn, Drawn}
 use Rattle.tabled_grid.specs.State.{State, state_at, edge_place, HasNoOffsets}
 use Rattle.tabled_grid.specs.Keys.{edge_place_cmp}
 use Rattle.tabled_grid.proofs.DrawnLemmas.{drawn-answer, Drawn-drawn, replay-shown, value-shown}
-use Rattle.tabled_config.specs.Configuration.{Configuration, ConfigEvent, characters_of, all_writes}
+use Rattle.tabled_configuration.specs.Configuration.{Configuration, ConfigEvent, characters_of, all_writes}
 use Rattle.tabled_object.specs.Entities.{below}
 use Rattle.tabled_config.specs.Picture.{look, edge_size}
-use Rattle.tabled_config.proofs.ConfigurationLemmas.{shown_characters}
+use Rattle.tabled_configuration.proofs.ConfigurationLemmas.{shown_characters}
 
 -- what the configuration returns of a line is how the table looks
 pub own_horizontal : (cfg : Configuration) (shape : ℕ × ℕ) (widths heights : ℕ → ℕ) (line : ℕ) (answer : Bool) → IsTrue answer ↔ Drawn (state_at cfg.characters) shape.0 (LineOf.Horizontal line) → answer ≡ (look (all_writes cfg) shape widths heights).horizontal line

@@ -12,19 +12,9 @@ use Rattle.tabled_grid.specs.declared.place.Place.{Place}
 use Rattle.tabled_grid.specs.declared.place.LineOf.{LineOf}
 use Rattle.tabled_config.specs.Texts.{texts}
 use Rattle.tabled_object.specs.Entities.{below}
+pub use Rattle.tabled_configuration.proofs.Below.{below_push, flat_map_below}
 use Rattle.tabled_config.specs.Along.{is_empty, along, along_line}
 use Rattle.tabled_config.specs.Picture.{character, text_shown}
-
--- the numbers below n + 1 are those below n, and n
-pub below_push : (n : ℕ) → below (n + 1) ≡ below n ++ n ∷ []
-below_push n = sym (map_same (below (n + 1))) ∙ map-range_with_len_more (λ k. k) 0 n n (omega arith) ∙ ap (λ xs. xs ++ n ∷ []) (map_same (below n))
-  where
-    map_same : (xs : List ℕ) → map (λ k. k) xs ≡ xs
-    map_same [] = refl
-    map_same (x ∷ xs) = ap (λ ys. x ∷ ys) (map_same xs)
-
-pub flat_map_below : {A : Type 0} (f : ℕ → List A) (n : ℕ) → flat_map f (below (n + 1)) ≡ flat_map f (below n) ++ f n
-flat_map_below f n = ap (flat_map f) (below_push n) ∙ flat_map-append f (below n) (n ∷ []) ∙ ap (λ xs. flat_map f (below n) ++ xs) (append-nil (f n))
 
 -- the text of what is shown one after another
 pub shown_append : {X : Type 0} (f : X → Option ℕ) (xs ys : List X) → text_shown (map f (xs ++ ys)) ≡ text_shown (map f xs) ++ text_shown (map f ys)

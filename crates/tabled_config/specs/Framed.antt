@@ -1,7 +1,7 @@
 -- How a frame's table looks.
 use Rattle.std.specs.Prelude.{ℕ}
 use Rattle.tabled_config.specs.declared.print.Frame.{Frame}
-use Rattle.tabled_config.specs.Configuration.{all_writes}
+use Rattle.tabled_configuration.specs.Configuration.{all_writes}
 use Rattle.tabled_config.specs.Picture.{Look, look}
 
 -- how the table of a frame looks, where two functions give the widths of columns and the heights of rows

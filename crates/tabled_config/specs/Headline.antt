@@ -1,9 +1,9 @@
 -- What stands after any list of options.
 use Rattle.std.specs.Prelude.{ℕ, List, []}
 use Rattle.tabled_grid.specs.declared.place.LineOf.{LineOf}
-use Rattle.tabled_config.specs.Configuration.{ConfigEvent}
-use Rattle.tabled_config.specs.Colored.{Colored, Shows, Changes}
-use Rattle.tabled_config.specs.Options.{MakesInTurn}
+use Rattle.tabled_configuration.specs.Configuration.{ConfigEvent}
+use Rattle.tabled_configuration.specs.Colored.{Colored, Shows, Changes}
+use Rattle.tabled_configuration.specs.Options.{MakesInTurn}
 
 -- options, each of which may read what stands before it, were applied in a row to a new configuration, and these are the
 -- events that they made, one option's after the other's

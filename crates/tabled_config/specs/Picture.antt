@@ -6,7 +6,7 @@ use Rattle.tabled_grid.specs.declared.place.LineOf.{LineOf}
 use Rattle.tabled_grid.specs.Event.{replay}
 use Rattle.tabled_grid.specs.Value.{value}
 use Rattle.tabled_grid.specs.Drawn.{drawn}
-use Rattle.tabled_config.specs.Configuration.{ConfigEvent, characters_of}
+use Rattle.tabled_configuration.specs.Configuration.{ConfigEvent, characters_of}
 use Rattle.tabled_config.specs.Texts.{Table, pieces}
 use Rattle.tabled_object.specs.Entities.{below}
 use Rattle.tabled_config.specs.Along.{is_empty, along}

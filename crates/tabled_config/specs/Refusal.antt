@@ -1,9 +1,9 @@
 -- Why a table is not printed.
-use Rattle.std.specs.Prelude.{ℕ, Bool, ◌==◌, ◌||◌, ◌&&◌, if◌then◌else◌, Option, List, [], ◌∷◌, ◌++◌, length, slice_get}
+use Rattle.std.specs.Prelude.{ℕ, Bool, ◌==◌, ◌||◌, if◌then◌else◌, Option, List, [], ◌∷◌, ◌++◌, length, slice_get}
 use Rattle.std.specs.List.{flat_map, list_all, enumerate_from}
-use Rattle.std.specs.FinMap.{len}
 use Rattle.tabled_config.specs.declared.print_error.PrintError.{PrintError}
-use Rattle.tabled_config.specs.Configuration.{Configuration}
+use Rattle.tabled_configuration.specs.Configuration.{Configuration}
+pub use Rattle.tabled_configuration.specs.Configuration.{has_no_spans}
 use Rattle.tabled_config.specs.Texts.{Table, pieces, width_of_text}
 
 -- the given fault, unless the given fact holds
@@ -30,10 +30,6 @@ module _ (widths heights : ℕ → ℕ) where
   -- the faults of the cells of a table of that shape, in the order in which they are looked for
   abbrev pub table_faults : ℕ × ℕ → Table → List PrintError
   table_faults (rows, cols) cells = unless (length cells == rows) PrintError.RowCount ++ flat_map (row_faults cols) (enumerate_from 0 cells)
-
--- whether no cell spans several columns or several rows
-abbrev pub has_no_spans : Configuration → Bool
-has_no_spans cfg = (len cfg.settings.column_spans == 0) && (len cfg.settings.row_spans == 0)
 
 -- the faults of a configuration: that it has spans
 abbrev pub span_faults : Configuration → List PrintError

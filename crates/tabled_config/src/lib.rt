@@ -1,30 +1,20 @@
-//! Configurations, the options that change them, and a plain printer.
+//! A plain printer of configurations, and the headline of the library.
 //!
+//! Configurations and the options that change them are written in `tabled_configuration`; they are passed on here.
 //! `docs/DEFINITIONS.md` explains the words of the contracts.
 #![tactic(auto)]
 
-mod border_options;
-mod cell_option;
 mod cell_rows;
-mod color_map;
-mod colored_config;
-mod compact_options;
-mod configured;
 mod print;
 mod print_error;
 mod refusals;
 mod seen;
-mod spanned_config;
-mod table_option;
 
-pub use cell_option::{CellOption, modify};
 pub use cell_rows::CellRows;
-pub use color_map::{ColorMap, Colors};
-pub use colored_config::ColoredConfig;
-pub use configured::{BorderEvent, Configured};
 pub use print::{print_plain, print_rows};
 pub use print_error::PrintError;
 pub use seen::{Seen, headline};
-pub use spanned_config::SpannedConfig;
-pub use table_option::TableOption;
-pub use tabled_compact::{CompactConfig, CompactMultilineConfig, Formatting};
+pub use tabled_configuration::{
+    BorderEvent, CellOption, ColorMap, ColoredConfig, Colors, CompactConfig,
+    CompactMultilineConfig, Configured, Formatting, SpannedConfig, TableOption, modify,
+};

@@ -4,7 +4,7 @@ ghost use Rattle.std.specs.Prelude.{◌≡◌, ℕ, ◌+◌, ◌≤◌, ◌++◌
 ghost use Rattle.std.specs.List.{All, flat_map};
 ghost use Rattle.tabled_grid.specs.declared.place.LineOf.{LineOf};
 ghost use Rattle.tabled_grid.specs.Drawn.{drawn};
-ghost use Rattle.tabled_config.specs.Configuration.{ConfigEvent, Shows, all_writes, characters_of};
+ghost use Rattle.tabled_configuration.specs.Configuration.{ConfigEvent, Shows, all_writes, characters_of};
 ghost use Rattle.tabled_config.specs.Texts.{Appends, texts};
 ghost use Rattle.tabled_config.specs.Pieces.{lent, first_piece, after_first_piece};
 ghost use Rattle.tabled_object.specs.Entities.{below};

@@ -4,8 +4,8 @@ ghost use Rattle.std.specs.Prelude.{◌≡◌, ◌≤◌, ◌++◌, List, [], On
 ghost use Rattle.tabled_grid.specs.Event.{replay};
 ghost use Rattle.tabled_grid.specs.Value.{value};
 ghost use Rattle.tabled_grid.specs.Drawn.{drawn};
-ghost use Rattle.tabled_config.specs.Configuration.{ConfigEvent, characters_of, colors_of};
-ghost use Rattle.tabled_config.specs.Colored.{Colored};
+ghost use Rattle.tabled_configuration.specs.Configuration.{ConfigEvent, characters_of, colors_of};
+ghost use Rattle.tabled_configuration.specs.Colored.{Colored};
 ghost use Rattle.tabled_config.specs.Headline.{HaveMade, line_count};
 ghost use Rattle.tabled_config.specs.Picture.{edge_size, printed};
 ghost use Rattle.tabled_config.specs.Refusal.{has_no_spans, table_faults};

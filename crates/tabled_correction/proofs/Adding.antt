@@ -8,10 +8,10 @@ use Rattle.tabled_grid.specs.declared.event.Event.{Event}
 use Rattle.tabled_grid.specs.declared.writes.Write as grid
 use Rattle.tabled_grid.specs.Writes.{writes_made}
 use Rattle.tabled_grid.proofs.EntityBorders.{writes_made-append, nothing_written}
-use Rattle.tabled_config.specs.Configuration.{Configuration, cell_colors_of}
-use Rattle.tabled_config.proofs.ColoredLemmas.{none_by_characters}
+use Rattle.tabled_configuration.specs.Configuration.{Configuration, cell_colors_of}
+use Rattle.tabled_configuration.proofs.ColoredLemmas.{none_by_characters}
 use Rattle.tabled_correction.specs.Correction.{Write, Spanned, after_writes, columns_corrected, rows_corrected, inner_corrected, corrected, spanned, crossing_written, correction_events}
-use Rattle.tabled_config.proofs.TextLemmas.{flat_map_below}
+use Rattle.tabled_configuration.proofs.Below.{flat_map_below}
 
 -- one number more
 pub one_more : {A : Type 0} (f : ℕ → List A) (k : ℕ) (start before after here : List A) → before ≡ start ++ flat_map f (below k) → after ≡ before ++ here → here ≡ f k → after ≡ start ++ flat_map f (below (k + 1))

@@ -28,8 +28,8 @@ use Rattle.tabled_grid.proofs.Replay.{replay-append}
 use Rattle.tabled_grid.proofs.PuttingBack.{same_state}
 use Rattle.tabled_layout.specs.Spans.{SpanEvent, same_position}
 use Rattle.tabled_layout.specs.TableSettings.{settings_after}
-use Rattle.tabled_config.specs.Configuration.{Configuration, Changes, of_characters, setting_event, by_characters}
-use Rattle.tabled_config.proofs.ConfigurationLemmas.{passed_over, characters_of-by_characters}
+use Rattle.tabled_configuration.specs.Configuration.{Configuration, Changes, of_characters, setting_event, by_characters}
+use Rattle.tabled_configuration.proofs.ConfigurationLemmas.{passed_over, characters_of-by_characters}
 use Rattle.tabled_correction.specs.Correction.{Write, last_at, written_over, Spanned, written_at, where_so, column_step, column_span_step, at_edge, joined, left_above, left_below, top_at_left, top_at_right, row_step, row_span_step, columns_corrected, rows_corrected, inner_corrected, after_writes, spanned, crossing_written, crossings_written, correction_events}
 
 -- ---- the sites of written crossings

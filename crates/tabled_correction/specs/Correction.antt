@@ -17,7 +17,7 @@ use Rattle.tabled_grid.specs.State.{state_at}
 use Rattle.tabled_grid.specs.Value.{plain_value}
 use Rattle.tabled_layout.specs.Spans.{SpanMap, SpanEvent, same_position}
 use Rattle.tabled_layout.specs.Covering.{covered_by_column_span, covered_by_row_span, covered_by_both_spans}
-use Rattle.tabled_config.specs.Configuration.{Configuration, ConfigEvent, by_characters}
+use Rattle.tabled_configuration.specs.Configuration.{Configuration, ConfigEvent, by_characters}
 
 -- a character for the crossing of a horizontal and a vertical line
 abbrev pub Write : Type 0

@@ -3,13 +3,13 @@
 ghost use Rattle.std.specs.Prelude.{◌≡◌, ◌++◌, map, IfOk, OnOk, OnErr, Some};
 ghost use Rattle.tabled_object.specs.declared.entity.Entity.TheVariants as cells;
 ghost use Rattle.tabled_grid.specs.Writes.{writes_made};
-ghost use Rattle.tabled_config.specs.Colored.{Changes};
+ghost use Rattle.tabled_configuration.specs.Colored.{Changes};
 ghost use Rattle.tabled_correction.specs.Correction.{spanned, corrected, crossing_written, correction_events};
 
 use crate::picture::Picture;
 use std::alloc::Global;
 use tabled_border::OutOfMemory;
-use tabled_config::{ColoredConfig, SpannedConfig, TableOption};
+use tabled_configuration::{ColoredConfig, SpannedConfig, TableOption};
 use tabled_grid::{Place, Target, Write};
 use tabled_object::{Entity, ExactRecords, Position, Records};
 

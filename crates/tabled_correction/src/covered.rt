@@ -11,7 +11,7 @@ use crate::stretch::Stretch;
 use std::alloc::Global;
 use std::collections::{BTreeMap, BTreeSet};
 use tabled_border::OutOfMemory;
-use tabled_config::SpannedConfig;
+use tabled_configuration::SpannedConfig;
 use tabled_object::Position;
 
 /// The cells of a table that spans cover.

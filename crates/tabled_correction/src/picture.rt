@@ -12,7 +12,7 @@ ghost use Rattle.tabled_correction.specs.Correction.{last_at};
 use crate::covered::Covered;
 use std::collections::BTreeMap;
 use tabled_border::OutOfMemory;
-use tabled_config::SpannedConfig;
+use tabled_configuration::SpannedConfig;
 use tabled_grid::{Borders, Place};
 use tabled_object::Position;
 

@@ -1,7 +1,7 @@
 -- What options set are no colors of cells.
 use Rattle.std.proofs.Common.{◌≡◌, [], refl}
 use Rattle.tabled_object.specs.declared.entity.Entity.{Entity}
-use Rattle.tabled_config.specs.Configuration.{cell_colors_of}
+use Rattle.tabled_configuration.specs.Configuration.{cell_colors_of}
 use Rattle.tabled_formatting.specs.declared.alignment.Alignment.{Alignment}
 use Rattle.tabled_formatting.specs.declared.trim_strategy.TrimStrategy.{TrimStrategy}
 use Rattle.tabled_formatting.specs.Formatting.{alignment_set, trim_set}

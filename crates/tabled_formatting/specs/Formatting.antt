@@ -5,7 +5,7 @@ use Rattle.tabled_object.specs.declared.entity.Entity.{Entity}
 use Rattle.tabled_settings.specs.declared.sides.Sides.{Sides}
 use Rattle.tabled_settings.specs.Setting.{write_of}
 use Rattle.tabled_settings.specs.CellSettings.{of_alignment_horizontal, of_alignment_vertical, of_trim_horizontal, of_trim_vertical, of_line_alignment, of_justification, of_justification_color, of_padding_color}
-use Rattle.tabled_config.specs.Configuration.{ConfigEvent, by_setting}
+use Rattle.tabled_configuration.specs.Configuration.{ConfigEvent, by_setting}
 use Rattle.tabled_color.specs.Shade.{Shade, texts_of}
 use Rattle.tabled_formatting.specs.declared.alignment.Alignment.{Alignment}
 use Rattle.tabled_formatting.specs.declared.alignment_strategy.AlignmentStrategy.{AlignmentStrategy}

@@ -3,12 +3,12 @@
 ghost use Rattle.std.specs.Prelude.{◌≡◌, Some, None, IsTrue, IsOk, OnOk, OnErr};
 ghost use Rattle.tabled_object.specs.declared.entity.Entity.TheVariants as cells;
 ghost use Rattle.tabled_settings.specs.Setting.{is_global};
-ghost use Rattle.tabled_config.specs.Configuration as borders;
-ghost use Rattle.tabled_config.specs.Colored.{Changes};
+ghost use Rattle.tabled_configuration.specs.Configuration as borders;
+ghost use Rattle.tabled_configuration.specs.Colored.{Changes};
 ghost use Rattle.tabled_formatting.specs.Formatting.{strategy_set, each_line};
 
 use tabled_border::OutOfMemory;
-use tabled_config::{CellOption, ColoredConfig, SpannedConfig, TableOption};
+use tabled_configuration::{CellOption, ColoredConfig, SpannedConfig, TableOption};
 use tabled_object::Entity;
 
 /// Whether the lines of a text in a cell are moved as one block, or each by itself. Here a text of two lines at the right of

@@ -7,7 +7,7 @@ ghost use Rattle.tabled_formatting.specs.Compact.{compact_aligned, multiline_ali
 
 use crate::{Alignment, AlignmentStrategy, PaddingColor};
 use tabled_border::{ANSIStr, OutOfMemory};
-use tabled_config::{CompactConfig, CompactMultilineConfig, TableOption};
+use tabled_configuration::{CompactConfig, CompactMultilineConfig, TableOption};
 use tabled_object::Entity;
 
 impl<R, D> TableOption<R, CompactConfig, D> for Alignment {

@@ -3,15 +3,15 @@
 ghost use Rattle.std.specs.Prelude.{◌≡◌, Some, None, IfOk, OnOk, OnErr, option_map, option_copied};
 ghost use Rattle.tabled_object.specs.declared.entity.Entity.TheVariants as cells;
 ghost use Rattle.tabled_color.specs.Shade.{texts_of};
-ghost use Rattle.tabled_config.specs.Configuration as borders;
-ghost use Rattle.tabled_config.specs.Colored.{Changes};
+ghost use Rattle.tabled_configuration.specs.Configuration as borders;
+ghost use Rattle.tabled_configuration.specs.Colored.{Changes};
 ghost use Rattle.tabled_formatting.specs.Formatting.{justification_set};
 
 use std::alloc::Global;
 use std::marker::Model;
 use tabled_border::{ANSIBuf, Keep, OutOfMemory};
 use tabled_color::Color;
-use tabled_config::{CellOption, ColoredConfig, SpannedConfig, TableOption};
+use tabled_configuration::{CellOption, ColoredConfig, SpannedConfig, TableOption};
 use tabled_object::Entity;
 
 /// The character that fills cells beside their texts, and its color. Here it is `#`:

@@ -2,14 +2,14 @@
 
 ghost use Rattle.std.specs.Prelude.{◌≡◌, Some, IfOk, OnOk, OnErr, ⊤};
 ghost use Rattle.tabled_object.specs.declared.entity.Entity.TheVariants as cells;
-ghost use Rattle.tabled_config.specs.Configuration as borders;
-ghost use Rattle.tabled_config.specs.Colored.{Changes};
+ghost use Rattle.tabled_configuration.specs.Configuration as borders;
+ghost use Rattle.tabled_configuration.specs.Colored.{Changes};
 ghost use Rattle.tabled_formatting.specs.Formatting.{padding_set};
 
 use std::alloc::{AllocError, Global};
 use std::marker::Model;
 use tabled_border::{ANSIBuf, ANSIStr, AnsiText, Keep, OutOfMemory};
-use tabled_config::{CellOption, ColoredConfig, SpannedConfig, TableOption};
+use tabled_configuration::{CellOption, ColoredConfig, SpannedConfig, TableOption};
 use tabled_object::Entity;
 use tabled_settings::Sides;
 
@@ -93,7 +93,7 @@ fn texts_of<C: AnsiText>(alloc: Global, color: &C) -> Result<ANSIBuf, OutOfMemor
 
 impl PaddingColor<ANSIStr<'static>> {
     ghost use Rattle.tabled_border.specs.LentTexts.{lent_texts};
-    ghost use Rattle.tabled_config.specs.CellColors.{no_color};
+    ghost use Rattle.tabled_configuration.specs.CellColors.{no_color};
 
     /// The color without texts on all sides.
     pub const fn empty() -> Self

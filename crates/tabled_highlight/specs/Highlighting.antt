@@ -4,7 +4,7 @@ use Rattle.tabled_border.specs.declared.border.Border.{Border}
 use Rattle.tabled_object.specs.declared.entity.Entity.{Entity}
 use Rattle.tabled_object.specs.Listing.{listed}
 use Rattle.tabled_grid.specs.declared.event.Event.{Event}
-use Rattle.tabled_config.specs.Configuration.{ConfigEvent, by_characters, by_colors}
+use Rattle.tabled_configuration.specs.Configuration.{ConfigEvent, by_characters, by_colors}
 use Rattle.tabled_color.specs.Shade.{Shade}
 use Rattle.tabled_color.specs.BorderColors.{border_texts}
 use Rattle.tabled_highlight.specs.Outline.{CellSet, outline}

@@ -2,8 +2,8 @@
 
 ghost use Rattle.std.specs.Prelude.{◌≡◌, Some, None, IfOk, OnOk, OnErr, option_copied, option_map};
 ghost use Rattle.tabled_grid.specs.Writes.{writes_made};
-ghost use Rattle.tabled_config.specs.Configuration as borders;
-ghost use Rattle.tabled_config.specs.Colored.{Changes};
+ghost use Rattle.tabled_configuration.specs.Configuration as borders;
+ghost use Rattle.tabled_configuration.specs.Colored.{Changes};
 ghost use Rattle.tabled_color.specs.BorderColors.{full_border, border_texts};
 ghost use Rattle.tabled_highlight.specs.Around.{written_around};
 ghost use Rattle.tabled_highlight.specs.Highlighting.{highlight_events};
@@ -15,7 +15,7 @@ use std::collections::BTreeSet;
 use std::marker::Model;
 use tabled_border::{ANSIBuf, Border as GridBorder, OutOfMemory};
 use tabled_color::{BorderColor, Color};
-use tabled_config::{ColoredConfig, SpannedConfig, TableOption};
+use tabled_configuration::{ColoredConfig, SpannedConfig, TableOption};
 use tabled_grid::Write;
 use tabled_object::{Entity, ExactRecords, Object, Position, Records};
 use tabled_style::Border;

@@ -6,7 +6,7 @@ use Rattle.tabled_config.specs.Configuration.{ConfigEvent}
 use Rattle.tabled_config.specs.Colored.{Colored, Changes}
 use Rattle.tabled_config.specs.Options.{MakesInTurn}
 use Rattle.tabled_config.specs.Texts.{Table}
-use Rattle.tabled_config.proofs.InTurn.{one_more, none_made}
+use Rattle.tabled_configuration.proofs.InTurn.{one_more, none_made}
 use Rattle.tabled_kinds.specs.EveryKind.{Step, InTurn}
 
 -- no option yet

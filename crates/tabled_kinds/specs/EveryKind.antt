@@ -35,6 +35,7 @@ use Rattle.tabled_kinds.specs.declared.kinds.ColorKinds.{ColorKinds}
 use Rattle.tabled_kinds.specs.declared.kinds.TextKinds.{TextKinds}
 use Rattle.tabled_kinds.specs.declared.kinds.OtherBorders.{OtherBorders}
 use Rattle.tabled_kinds.specs.declared.kinds.OtherSettings.{OtherSettings}
+use Rattle.tabled_kinds.specs.declared.kinds.OtherTargets.{OtherTargets}
 use Rattle.tabled_kinds.specs.declared.kinds.Kinds.{Kinds}
 
 -- the events of an option, as a function of what stands before it
@@ -117,17 +118,26 @@ other_settings kinds =
     ∷ (λ before. trim_set kinds.trim Global)
     ∷ []
 
--- all of them, on a table of these texts and sizes, and at last a correction for the spans that are set
-abbrev pub options : Kinds → Table → FixedDimension → List Step
-options kinds texts sizes =
+-- one of each kind, on a table of these texts and sizes
+abbrev pub first_targets : Kinds → Table → FixedDimension → List Step
+first_targets kinds texts sizes =
     let shape : ℕ × ℕ = (length texts, column_count texts) in
     border_options kinds.borders shape
     ++ (line_options kinds.lines shape sizes
     ++ (color_options kinds.colors shape
-    ++ (text_options kinds.texts
-    ++ (other_borders kinds.other_borders shape
-    ++ (other_settings kinds.other_settings
-    ++ (λ before. correction_events shape before.spanned) ∷ [])))))
+    ++ text_options kinds.texts))
+
+-- those that have a second target, at that one
+abbrev pub other_targets : OtherTargets → ℕ × ℕ → List Step
+other_targets others shape = other_borders others.borders shape ++ other_settings others.settings
+
+-- all of them, and at last a correction for the spans that are set
+abbrev pub options : Kinds → OtherTargets → Table → FixedDimension → List Step
+options kinds others texts sizes =
+    let shape : ℕ × ℕ = (length texts, column_count texts) in
+    first_targets kinds texts sizes
+    ++ (other_targets others shape
+    ++ (λ before. correction_events shape before.spanned) ∷ [])
 
 -- options that were applied in a row, each making its events
 abbrev pub InTurn : List Step → Colored → Colored → Type 0

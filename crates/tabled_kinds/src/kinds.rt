@@ -3,7 +3,7 @@
 
 ghost use Rattle.std.specs.Prelude.{◌≡◌, length, OnOk};
 ghost use Rattle.tabled_text.specs.Sizes.{column_count};
-ghost use Rattle.tabled_kinds.specs.EveryKind.{style_options, edge_options, border_options, line_options, color_options, text_options, other_borders, other_colors, other_settings, options, InTurn};
+ghost use Rattle.tabled_kinds.specs.EveryKind.{style_options, edge_options, border_options, line_options, color_options, text_options, first_targets, other_borders, other_colors, other_settings, other_targets, options, InTurn};
 
 use tabled::TextTable;
 use tabled::grid::config::{Border as CellBorder, Borders, Entity, OutOfMemory};
@@ -104,7 +104,7 @@ pub struct OtherSettings {
     pub trim: TrimStrategy,
 }
 
-/// An option of each kind that has something to choose, at each of its targets.
+/// An option of each kind that has something to choose.
 #[derive(Drop)]
 pub struct Kinds {
     /// Those for borders.
@@ -115,17 +115,37 @@ pub struct Kinds {
     pub colors: ColorKinds,
     /// Those for texts.
     pub texts: TextKinds,
-    /// Those for borders at their other targets.
-    pub other_borders: OtherBorders,
-    /// Those for cells at their other targets.
-    pub other_settings: OtherSettings,
 }
 
-/// Applies them all, and then a correction for the spans that are set. By its contract the configuration changes by the events
-/// of each, in this order, and by nothing else, whatever stood there before; so `headline` says of every place what it shows
-/// then, and as the texts and sizes stay, `TextTable::to_text` prints that around the same cells.
-pub fn every_kind(table: &mut TextTable, kinds: Kinds) -> Result<(), OutOfMemory>
-    ensures steps { OnOk result (InTurn (options kinds table.old.texts table.old.sizes) table.old.config table.new.config) }
+/// Those kinds that have a second target, at that one.
+#[derive(Drop)]
+pub struct OtherTargets {
+    /// Those for borders.
+    pub borders: OtherBorders,
+    /// Those for cells.
+    pub settings: OtherSettings,
+}
+
+/// Applies them all, at each of their targets, and then a correction for the spans that are set. By its contract the configuration
+/// changes by the events of each, in this order, and by nothing else, whatever stood there before; so `headline` says of every place
+/// what it shows then, and as the texts and sizes stay, `TextTable::to_text` prints that around the same cells.
+pub fn every_kind(
+    table: &mut TextTable,
+    kinds: Kinds,
+    others: OtherTargets,
+) -> Result<(), OutOfMemory>
+    ensures steps { OnOk result (InTurn (options kinds others table.old.texts table.old.sizes) table.old.config table.new.config) }
+    ensures texts { table.new.texts ≡ table.old.texts }
+    ensures sizes { table.new.sizes ≡ table.old.sizes }
+{
+    every_first_target(table, kinds)?;
+    every_other_target(table, others)?;
+    table.apply(BorderCorrection::span())
+}
+
+/// Applies an option of each kind.
+pub fn every_first_target(table: &mut TextTable, kinds: Kinds) -> Result<(), OutOfMemory>
+    ensures steps { OnOk result (InTurn (first_targets kinds table.old.texts table.old.sizes) table.old.config table.new.config) }
     ensures texts { table.new.texts ≡ table.old.texts }
     ensures sizes { table.new.sizes ≡ table.old.sizes }
 {
@@ -134,16 +154,22 @@ pub fn every_kind(table: &mut TextTable, kinds: Kinds) -> Result<(), OutOfMemory
         lines,
         colors,
         texts,
-        other_borders,
-        other_settings,
     } = kinds;
     every_border(table, borders)?;
     every_line(table, lines)?;
     every_color(table, colors)?;
-    every_text(table, texts)?;
-    every_other_border(table, other_borders)?;
-    every_other_setting(table, other_settings)?;
-    table.apply(BorderCorrection::span())
+    every_text(table, texts)
+}
+
+/// Applies those kinds that have a second target, at that one.
+pub fn every_other_target(table: &mut TextTable, others: OtherTargets) -> Result<(), OutOfMemory>
+    ensures steps { OnOk result (InTurn (other_targets others (length table.old.texts, column_count table.old.texts)) table.old.config table.new.config) }
+    ensures texts { table.new.texts ≡ table.old.texts }
+    ensures sizes { table.new.sizes ≡ table.old.sizes }
+{
+    let OtherTargets { borders, settings } = others;
+    every_other_border(table, borders)?;
+    every_other_setting(table, settings)
 }
 
 /// Applies options for borders: the first four replace them all, and the others change some of them.
@@ -263,10 +289,7 @@ pub fn every_other_border(table: &mut TextTable, kinds: OtherBorders) -> Result<
 }
 
 /// Applies options for cells at their other targets.
-pub fn every_other_setting(
-    table: &mut TextTable,
-    kinds: OtherSettings,
-) -> Result<(), OutOfMemory>
+pub fn every_other_setting(table: &mut TextTable, kinds: OtherSettings) -> Result<(), OutOfMemory>
     ensures steps { OnOk result (InTurn (other_settings kinds) table.old.config table.new.config) }
     ensures texts { table.new.texts ≡ table.old.texts }
     ensures sizes { table.new.sizes ≡ table.old.sizes }

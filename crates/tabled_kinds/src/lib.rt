@@ -6,6 +6,7 @@
 mod kinds;
 
 pub use kinds::{
-    BorderKinds, ColorKinds, Kinds, LineKinds, OtherBorders, OtherSettings, TextKinds, every_border,
-    every_color, every_kind, every_line, every_other_border, every_other_setting, every_text,
+    BorderKinds, ColorKinds, Kinds, LineKinds, OtherBorders, OtherSettings, OtherTargets,
+    TextKinds, every_border, every_color, every_first_target, every_kind, every_line,
+    every_other_border, every_other_setting, every_other_target, every_text,
 };

@@ -38,10 +38,10 @@ impl TableSettings {
 impl Keep for TableSettings {
     fn keep(&self, alloc: Global) -> Result<Self, OutOfMemory> {
         Ok(TableSettings {
-            cells: self.cells.keep(alloc)?,
             margin: self.margin.keep(alloc)?,
             column_spans: self.column_spans.keep(alloc)?,
             row_spans: self.row_spans.keep(alloc)?,
+            cells: self.cells.keep(alloc)?,
         })
     }
 }

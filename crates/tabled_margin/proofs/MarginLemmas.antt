@@ -6,8 +6,8 @@ use Rattle.tabled_settings.specs.declared.sides.Sides.{Sides}
 use Rattle.tabled_layout.specs.declared.indent.Indent.{Indent}
 use Rattle.tabled_layout.specs.Margin.{of_size, of_offset, of_color}
 use Rattle.tabled_color.specs.Shade.{Shade}
-use Rattle.tabled_config.specs.ChangeLaws.{both_change_borders}
-use Rattle.tabled_config.specs.Configuration.{Configuration, ConfigEvent, Changes, by_margin, cell_colors_of}
+use Rattle.tabled_configuration.specs.ChangeLaws.{both_change_borders}
+use Rattle.tabled_configuration.specs.Configuration.{Configuration, ConfigEvent, Changes, by_margin, cell_colors_of}
 use Rattle.tabled_margin.specs.declared.shadow.Shadow.{Shadow}
 use Rattle.tabled_margin.specs.Margins.{shadow_sizes, shadow_offsets, shadow_colors, shadow_colored, shadow_set}
 

@@ -6,7 +6,7 @@ use Rattle.tabled_grid.specs.declared.offset.Offset.TheVariants.{Start, End}
 use Rattle.tabled_settings.specs.declared.sides.Sides.{Sides}
 use Rattle.tabled_layout.specs.declared.indent.Indent.{Indent}
 use Rattle.tabled_layout.specs.Margin.{no_indent, of_size, of_offset, of_color}
-use Rattle.tabled_config.specs.Configuration.{ConfigEvent, by_margin}
+use Rattle.tabled_configuration.specs.Configuration.{ConfigEvent, by_margin}
 use Rattle.tabled_color.specs.Shade.{Shade, texts_of}
 use Rattle.tabled_margin.specs.declared.shadow.Shadow.{Shadow}
 

@@ -5,7 +5,7 @@ ghost use Rattle.tabled_object.specs.declared.entity.Entity.TheVariants as cells
 
 use crate::MarginColor;
 use tabled_border::{ANSIStr, OutOfMemory};
-use tabled_config::{CompactConfig, CompactMultilineConfig, TableOption};
+use tabled_configuration::{CompactConfig, CompactMultilineConfig, TableOption};
 use tabled_object::Entity;
 
 impl<R, D> TableOption<R, CompactConfig, D> for MarginColor<ANSIStr<'static>> {

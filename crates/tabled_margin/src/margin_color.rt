@@ -2,15 +2,15 @@
 
 ghost use Rattle.std.specs.Prelude.{◌≡◌, Some, IfOk, OnOk, OnErr, ⊤};
 ghost use Rattle.tabled_object.specs.declared.entity.Entity.TheVariants as cells;
-ghost use Rattle.tabled_config.specs.Configuration as borders;
-ghost use Rattle.tabled_config.specs.Colored.{Changes};
+ghost use Rattle.tabled_configuration.specs.Configuration as borders;
+ghost use Rattle.tabled_configuration.specs.Colored.{Changes};
 ghost use Rattle.tabled_margin.specs.Margins.{margin_colored};
 
 use crate::texts::texts_of;
 use std::alloc::{AllocError, Global};
 use std::marker::Model;
 use tabled_border::{ANSIStr, AnsiText, Keep, OutOfMemory};
-use tabled_config::{ColoredConfig, SpannedConfig, TableOption};
+use tabled_configuration::{ColoredConfig, SpannedConfig, TableOption};
 use tabled_object::Entity;
 use tabled_settings::Sides;
 
@@ -85,7 +85,7 @@ impl<C> MarginColor<C> {
 
 impl MarginColor<ANSIStr<'static>> {
     ghost use Rattle.tabled_border.specs.LentTexts.{lent_texts};
-    ghost use Rattle.tabled_config.specs.CellColors.{no_color};
+    ghost use Rattle.tabled_configuration.specs.CellColors.{no_color};
 
     /// The color without texts on all sides.
     pub const fn empty() -> Self

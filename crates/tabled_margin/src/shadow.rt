@@ -2,15 +2,15 @@
 
 ghost use Rattle.std.specs.Prelude.{◌≡◌, true, false, None, Some, IfOk, OnOk, OnErr, option_map, option_copied};
 ghost use Rattle.tabled_object.specs.declared.entity.Entity.TheVariants as cells;
-ghost use Rattle.tabled_config.specs.Configuration as borders;
-ghost use Rattle.tabled_config.specs.Colored.{Changes};
+ghost use Rattle.tabled_configuration.specs.Configuration as borders;
+ghost use Rattle.tabled_configuration.specs.Colored.{Changes};
 ghost use Rattle.tabled_margin.specs.Margins.{indent_of, shadow_sizes, offset_of, shadow_offsets, color_of, shadow_colors, shadow_set};
 
 use crate::texts::texts_of;
 use std::alloc::Global;
 use tabled_border::{ANSIBuf, Keep, OutOfMemory};
 use tabled_color::Color;
-use tabled_config::{ColoredConfig, SpannedConfig, TableOption};
+use tabled_configuration::{ColoredConfig, SpannedConfig, TableOption};
 use tabled_grid::Offset;
 use tabled_layout::Indent;
 use tabled_object::Entity;

@@ -8,7 +8,7 @@ use Rattle.tabled_grid.specs.Writes.{writes_made}
 use Rattle.tabled_grid.proofs.EntityBorders.{nothing_written}
 use Rattle.tabled_config.specs.Configuration.{Configuration, ConfigEvent, all_writes, by_characters, by_colors, cell_colors_of, writes_applied}
 use Rattle.tabled_config.specs.Picture.{Look, look}
-use Rattle.tabled_config.proofs.ColoredLemmas.{none_by_characters, none_by_both}
+use Rattle.tabled_configuration.proofs.ColoredLemmas.{none_by_characters, none_by_both}
 use Rattle.tabled_object.specs.declared.entity.Entity.{Entity}
 use Rattle.tabled_object.specs.Entities.{cells_of}
 use Rattle.tabled_grid.specs.declared.place.LineOf.{LineOf}

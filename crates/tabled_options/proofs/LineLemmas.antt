@@ -9,7 +9,7 @@ use Rattle.tabled_grid.specs.declared.place.LineOf.{LineOf}
 use Rattle.tabled_grid.proofs.Seen.{on_ok}
 use Rattle.tabled_config.specs.Along.{is_empty, along}
 use Rattle.tabled_config.specs.Picture.{Look}
-use Rattle.tabled_config.proofs.TextLemmas.{flat_map_below}
+use Rattle.tabled_configuration.proofs.Below.{flat_map_below}
 use Rattle.tabled_options.specs.declared.pen.Pen.{Pen}
 use Rattle.tabled_options.specs.LineText.{takes_character, countable, places_along}
 use Rattle.tabled_options.specs.Laying.{exists, pieces_of, size_of, crossing_places, edge_of, edge_places, places_before, all_places}

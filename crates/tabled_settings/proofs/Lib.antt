@@ -8,3 +8,4 @@ pub mod SettingsLemmas
 pub mod SameSettings
 pub mod SettingBack
 pub mod InARow
+pub mod Holes

@@ -1,5 +1,5 @@
 -- How an entity map keeps its events: in slots, in their order, with holes, and for each entity the place of its event.
-use Rattle.std.specs.Prelude.{◌≡◌, ℕ, suc, max, slice_get, slice_set, option_and_then, Bool, true, false, Option, Some, None, List, [], ◌∷◌, ◌++◌}
+use Rattle.std.specs.Prelude.{◌≡◌, ◌≤◌, ◌+◌, ◌*◌, length, ℕ, suc, max, slice_get, slice_set, option_and_then, Bool, true, false, Option, Some, None, List, [], ◌∷◌, ◌++◌}
 use Rattle.std.specs.List.{filter_map, list_any}
 use Rattle.std.specs.BTreeMap.{BTreeMap, get}
 use Rattle.std.specs.declared.cmp.Ordering.{Ordering}
@@ -54,6 +54,10 @@ entity_cmp a b = cmp-value.it a b
 -- the map has for each entity the place of its event
 abbrev pub HasPlaces : {V : Type 0} → BTreeMap Entity ℕ → List (Option (Entity × V)) → Type 0
 HasPlaces places slots = (entity : Entity) → get entity_cmp places entity ≡ place (same_entity entity) slots
+
+-- there are at most as many holes as events, and one more
+abbrev pub HasFewHoles : {A : Type 0} → List (Option A) → Type 0
+HasFewHoles slots = length slots ≤ 2 * length (standing slots) + 1
 
 -- ---- one event after the other
 

@@ -1,6 +1,6 @@
 //! What is set for the cells of a table, by entity.
 
-ghost use Rattle.std.specs.Prelude.{◌≡◌};
+ghost use Rattle.std.specs.Prelude.{◌≡◌, IfOk};
 ghost use Rattle.tabled_settings.specs.CellSettings.{first_settings};
 
 use crate::{AlignmentHorizontal, AlignmentVertical, EntityMap, Sides};
@@ -47,17 +47,69 @@ impl CellSettings {
     }
 }
 
+/// Where the texts of cells stand, and what is trimmed of them.
+type TextPlaces = (
+    EntityMap<AlignmentHorizontal>,
+    EntityMap<AlignmentVertical>,
+    EntityMap<bool>,
+    EntityMap<bool>,
+);
+
+/// How lines are aligned, and what fills a cell beside its text, with its colors.
+type TextSurroundings = (
+    EntityMap<bool>,
+    EntityMap<char>,
+    EntityMap<Option<ANSIBuf>>,
+    EntityMap<Sides<Option<ANSIBuf>>>,
+);
+
+impl CellSettings {
+    /// Copies of the alignments and of what is trimmed.
+    fn keep_text_places(&self, alloc: Global) -> Result<TextPlaces, OutOfMemory>
+        ensures alignment_horizontal { IfOk result (λ copies. copies.0 ≡ self.now.alignment_horizontal) }
+        ensures alignment_vertical { IfOk result (λ copies. copies.1 ≡ self.now.alignment_vertical) }
+        ensures trim_horizontal { IfOk result (λ copies. copies.2 ≡ self.now.trim_horizontal) }
+        ensures trim_vertical { IfOk result (λ copies. copies.3 ≡ self.now.trim_vertical) }
+    {
+        Ok((
+            self.alignment_horizontal.keep(alloc)?,
+            self.alignment_vertical.keep(alloc)?,
+            self.trim_horizontal.keep(alloc)?,
+            self.trim_vertical.keep(alloc)?,
+        ))
+    }
+
+    /// Copies of how lines are aligned, of what fills a cell, and of the colors.
+    fn keep_text_surroundings(&self, alloc: Global) -> Result<TextSurroundings, OutOfMemory>
+        ensures line_alignment { IfOk result (λ copies. copies.0 ≡ self.now.line_alignment) }
+        ensures justification { IfOk result (λ copies. copies.1 ≡ self.now.justification) }
+        ensures justification_color { IfOk result (λ copies. copies.2 ≡ self.now.justification_color) }
+        ensures padding_color { IfOk result (λ copies. copies.3 ≡ self.now.padding_color) }
+    {
+        Ok((
+            self.line_alignment.keep(alloc)?,
+            self.justification.keep(alloc)?,
+            self.justification_color.keep(alloc)?,
+            self.padding_color.keep(alloc)?,
+        ))
+    }
+}
+
 impl Keep for CellSettings {
     fn keep(&self, alloc: Global) -> Result<Self, OutOfMemory> {
+        let (alignment_horizontal, alignment_vertical, trim_horizontal, trim_vertical) =
+            self.keep_text_places(alloc)?;
+        let (line_alignment, justification, justification_color, padding_color) =
+            self.keep_text_surroundings(alloc)?;
         Ok(CellSettings {
-            alignment_horizontal: self.alignment_horizontal.keep(alloc)?,
-            alignment_vertical: self.alignment_vertical.keep(alloc)?,
-            trim_horizontal: self.trim_horizontal.keep(alloc)?,
-            trim_vertical: self.trim_vertical.keep(alloc)?,
-            line_alignment: self.line_alignment.keep(alloc)?,
-            justification: self.justification.keep(alloc)?,
-            justification_color: self.justification_color.keep(alloc)?,
-            padding_color: self.padding_color.keep(alloc)?,
+            alignment_horizontal,
+            alignment_vertical,
+            trim_horizontal,
+            trim_vertical,
+            line_alignment,
+            justification,
+            justification_color,
+            padding_color,
         })
     }
 }

@@ -18,7 +18,8 @@ use std::marker::Model;
 use tabled_border::{Keep, OutOfMemory};
 use tabled_object::{Entity, Position};
 
-/// The last event of each entity, in the order of these events. In contracts it is their list.
+/// The last event of each entity, in the order of these events. In contracts it is their list. After every call there are at most as
+/// many holes as events, and one more.
 #[derive(Debug, Drop)]
 pub(crate) struct LastEvents<T> {
     /// The events in their order, with a hole where an entity had a later one.
@@ -31,13 +32,13 @@ impl<T> Model for LastEvents<T> {
     ghost use Rattle.std.specs.Prelude.{List, Option};
     ghost use Rattle.tabled_object.specs.declared.entity.Entity.{Entity as Which};
     ghost use Rattle.tabled_settings.specs.Setting.{EntityEvent, same_entity};
-    ghost use Rattle.tabled_settings.specs.Slots.{standing, IsOnce, HasPlaces};
+    ghost use Rattle.tabled_settings.specs.Slots.{standing, IsOnce, HasPlaces, HasFewHoles};
 
     ghost Value = { List (EntityEvent T) };
 
     ghost view = { λ last. standing last.slots.items };
 
-    ghost invariant = { λ last. IsOnce same_entity (standing last.slots.items) × HasPlaces last.places last.slots.items };
+    ghost invariant = { λ last. IsOnce same_entity (standing last.slots.items) × HasPlaces last.places last.slots.items × HasFewHoles last.slots.items };
 }
 
 impl<T> LastEvents<T> {
@@ -75,11 +76,11 @@ impl<T> LastEvents<T> {
         ensures ok { OnOk result (self.new ≡ without entity self.old ++ (entity, value) ∷ []) }
         ensures err { OnErr result (self.new ≡ self.old) }
     {
-        self.close_up();
         self.slots.reserve(1)?;
         let before = self.places.insert(entity, self.slots.len())?;
         slots::empty(&mut self.slots, before);
         self.slots.push_reserved(Some((entity, value)));
+        slots::close_up(&mut self.slots, &mut self.places);
         Ok(())
     }
 
@@ -94,19 +95,6 @@ impl<T> LastEvents<T> {
         let of_cell = slots::place_of(&self.places, Entity::Cell(row, col));
         let place = slots::later(of_cell, slots::later(of_row, of_column));
         slots::value_at(&self.slots, place)
-    }
-
-    /// Closes the holes where they are more than half of the slots. Each time at least as many events came since the
-    /// last time as there are entities, so that a call takes a logarithm of these on the average.
-    fn close_up(&mut self)
-    where
-        T: Drop,
-        ensures { self.new ≡ self.old }
-    {
-        if self.slots.len() / 2 > self.places.len() {
-            self.slots.retain(|slot| slot.is_some());
-            slots::number(&self.slots, &mut self.places);
-        }
     }
 
     /// Whether both have the same events in the same order.

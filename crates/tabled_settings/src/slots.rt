@@ -5,7 +5,7 @@ ghost use Rattle.std.specs.BTreeMap.{get};
 ghost use Rattle.std.specs.Cmp.Lexicographic.{pointwise};
 ghost use Rattle.tabled_object.specs.declared.entity.Entity.{Entity as Which};
 ghost use Rattle.tabled_settings.specs.Setting.{same_entity};
-ghost use Rattle.tabled_settings.specs.Slots.{standing, place, entity_cmp, HasPlaces, emptied, all_emptied, event_at, later_of};
+ghost use Rattle.tabled_settings.specs.Slots.{standing, place, entity_cmp, IsOnce, HasPlaces, HasFewHoles, emptied, all_emptied, event_at, later_of};
 ghost use Rattle.tabled_settings.specs.Same.{same_event};
 
 use std::collections::BTreeMap;
@@ -41,6 +41,21 @@ pub(crate) fn replace_by<T: Drop>(
     }
     for place in before {
         empty(slots, *place);
+    }
+}
+
+/// Closes the holes where they are more than half of the slots. Each time at least as many events came since the last time as
+/// there are entities, so that a call takes a logarithm of these on the average.
+pub(crate) fn close_up<T: Drop>(slots: &mut Vec<Slot<T>>, places: &mut BTreeMap<Entity, usize>)
+    requires once { IsOnce same_entity (standing slots.old.items) }
+    requires placed { HasPlaces places.old slots.old.items }
+    ensures events { standing slots.new.items ≡ standing slots.old.items }
+    ensures placed { HasPlaces places.new slots.new.items }
+    ensures few_holes { HasFewHoles slots.new.items }
+{
+    if slots.len() / 2 > places.len() {
+        slots.retain(|slot| slot.is_some());
+        number(slots, places);
     }
 }
 

@@ -10,8 +10,8 @@ use Rattle.tabled_grid.specs.Value.{value, sign_or, first_sign, inside, sites}
 use Rattle.tabled_grid.specs.declared.place.Place.{Place}
 use Rattle.tabled_grid.proofs.Replay.{replay-nil, replay_cleared}
 use Rattle.tabled_grid.proofs.DrawnLemmas.{value-shown}
-use Rattle.tabled_config.specs.Configuration.{Configuration, Changes, borders_replaced, horizontal_lines_put, vertical_lines_put}
-use Rattle.tabled_config.proofs.ConfigurationLemmas.{characters_of-both, colors_of-both}
+use Rattle.tabled_configuration.specs.Configuration.{Configuration, Changes, borders_replaced, horizontal_lines_put, vertical_lines_put}
+use Rattle.tabled_configuration.proofs.ConfigurationLemmas.{characters_of-both, colors_of-both}
 use Rattle.tabled_style.specs.Shown.{Shown}
 use Rattle.tabled_style.specs.Deciding.{written_by}
 

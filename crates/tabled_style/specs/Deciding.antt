@@ -2,7 +2,7 @@
 use Rattle.std.specs.Prelude.{ℕ, List, ◌++◌}
 use Rattle.tabled_grid.specs.declared.event.Event.{Event}
 use Rattle.tabled_grid.specs.State.{class_record_set}
-use Rattle.tabled_config.specs.Configuration.{horizontal_lines_put, vertical_lines_put}
+use Rattle.tabled_configuration.specs.Configuration.{horizontal_lines_put, vertical_lines_put}
 use Rattle.tabled_style.specs.Shown.{Shown}
 
 -- all that a style writes: its custom lines at their indices, in their order, and its class record

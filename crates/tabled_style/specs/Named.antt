@@ -2,7 +2,7 @@
 use Rattle.std.specs.Prelude.{ℕ, List, [], ◌∷◌, codes, Option}
 use Rattle.std.specs.List.{find}
 use Rattle.std.specs.Str.{bytes_eq}
-use Rattle.tabled_config.specs.Configuration.{ConfigEvent, borders_replaced}
+use Rattle.tabled_configuration.specs.Configuration.{ConfigEvent, borders_replaced}
 use Rattle.tabled_style.specs.Shown.{Shown}
 use Rattle.tabled_style.specs.Ready.{empty, blank, ascii, psql, markdown, modern, sharp, rounded, modern_rounded, extended, dots, re_structured_text, ascii_rounded}
 use Rattle.tabled_style.specs.declared.ready_style.ReadyStyle.TheVariants as ready

@@ -1,14 +1,14 @@
 //! The ready styles as values, so that one is chosen while the program runs.
 
 ghost use Rattle.std.specs.Prelude.{◌≡◌, [], None, Ok, IfSome, IsErr, IsOk, MatchOption, OnErr, OnOk};
-ghost use Rattle.tabled_config.specs.Colored.{Changes as ColoredChanges};
-ghost use Rattle.tabled_config.specs.Configuration.{Changes, borders_replaced};
+ghost use Rattle.tabled_configuration.specs.Colored.{Changes as ColoredChanges};
+ghost use Rattle.tabled_configuration.specs.Configuration.{Changes, borders_replaced};
 ghost use Rattle.tabled_style.specs.declared.ready_style.ReadyStyle.{ReadyStyle as Ready};
 ghost use Rattle.tabled_style.specs.Named.{all_ready, name_of, ready_applied, shown, style_named};
 
 use crate::Style;
 use std::str::FromStr;
-use tabled_config::{ColoredConfig, SpannedConfig, TableOption};
+use tabled_configuration::{ColoredConfig, SpannedConfig, TableOption};
 use tabled_grid::{Borders, Entity, OutOfMemory};
 
 /// One of the thirteen ready styles, chosen while the program runs. As an option of a table it does what the

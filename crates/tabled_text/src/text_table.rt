@@ -89,7 +89,7 @@ impl TextTable {
     ghost use Rattle.tabled_text.specs.TextTable.{lent_rows, shape_of, text_of};
     ghost use Rattle.tabled_text.specs.declared.table_error.TableError.{TableError as Refusal};
     ghost use Rattle.tabled_text.specs.contracts.text_table.TextTable.{the_row};
-    ghost use Rattle.tabled_config.specs.contracts.colored_config.ColoredConfig.{the_row as config_row};
+    ghost use Rattle.tabled_configuration.specs.contracts.colored_config.ColoredConfig.{the_row as config_row};
 
     /// A table of these rows of texts, which are copied. Refused as by `from_rows`.
     ///

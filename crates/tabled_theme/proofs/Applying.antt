@@ -3,10 +3,10 @@ use Rattle.std.proofs.Common.{◌≡◌, [], subst}
 use Rattle.tabled_grid.specs.declared.borders.Borders.{Borders}
 use Rattle.tabled_grid.specs.State.{class_record_set}
 use Rattle.tabled_border.specs.Texts.{Texts}
-use Rattle.tabled_config.specs.Configuration.{Configuration, Changes, by_colors, cell_color_event, cell_colors_of}
-use Rattle.tabled_config.proofs.ConfigurationLemmas.{both_passed_over}
-use Rattle.tabled_config.proofs.ColoredLemmas.{none_by_colors, none_in_borders_replaced}
-use Rattle.tabled_config.specs.ChangeLaws.{both_change_borders}
+use Rattle.tabled_configuration.specs.Configuration.{Configuration, Changes, by_colors, cell_color_event, cell_colors_of}
+use Rattle.tabled_configuration.proofs.ConfigurationLemmas.{both_passed_over}
+use Rattle.tabled_configuration.proofs.ColoredLemmas.{none_by_colors, none_in_borders_replaced}
+use Rattle.tabled_configuration.specs.ChangeLaws.{both_change_borders}
 use Rattle.tabled_theme.specs.Shown.{ThemeShown}
 use Rattle.tabled_theme.specs.Events.{as_style, color_texts, style_applied, theme_applied}
 

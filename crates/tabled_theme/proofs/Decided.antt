@@ -32,8 +32,8 @@ use Rattle.tabled_grid.specs.Drawn.{Drawn}
 use Rattle.tabled_grid.proofs.DrawnLemmas.{Drawn-shown}
 use Rattle.tabled_grid.specs.CustomLines.{no_borders}
 use Rattle.tabled_grid.proofs.Replay.{replay_cleared}
-use Rattle.tabled_config.specs.Configuration.{Configuration, Changes, character_event, color_event, characters_of, colors_of, by_colors, borders_replaced, horizontal_lines_put, vertical_lines_put}
-use Rattle.tabled_config.proofs.ConfigurationLemmas.{characters_of-both, colors_of-both}
+use Rattle.tabled_configuration.specs.Configuration.{Configuration, Changes, character_event, color_event, characters_of, colors_of, by_colors, borders_replaced, horizontal_lines_put, vertical_lines_put}
+use Rattle.tabled_configuration.proofs.ConfigurationLemmas.{characters_of-both, colors_of-both}
 use Rattle.tabled_style.specs.Shown.{Shown}
 use Rattle.tabled_style.specs.Deciding.{written_by}
 use Rattle.tabled_theme.specs.Shown.{ThemeShown, of_style, of_configuration, owned_colors}

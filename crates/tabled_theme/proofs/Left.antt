@@ -29,7 +29,7 @@ use Rattle.tabled_grid.proofs.Replay.{replay_uncovered, replay_cleared}
 use Rattle.tabled_grid.proofs.Blocks.{replay_skip, replay_rest, uncovered_both, uncovered_entries, replay_entries, is_eq-nat_cmp}
 use Rattle.tabled_grid.proofs.ClassWrites.{replay_classes, uncovered_other}
 use Rattle.tabled_grid.proofs.LineWrites.{replay-horizontal_line_set, replay-vertical_line_set, covered-horizontal_line_set, covered-vertical_line_set, number_sym}
-use Rattle.tabled_config.specs.Configuration.{horizontal_lines_put, vertical_lines_put}
+use Rattle.tabled_configuration.specs.Configuration.{horizontal_lines_put, vertical_lines_put}
 use Rattle.tabled_style.specs.Shown.{Shown}
 use Rattle.tabled_style.specs.Deciding.{written_by}
 use Rattle.tabled_theme.specs.Lines.{last_under}

@@ -4,7 +4,7 @@ use Rattle.tabled_grid.specs.declared.borders.Borders.{Borders}
 use Rattle.tabled_grid.specs.State.{class_record_set}
 use Rattle.tabled_border.specs.Texts.{Texts}
 use Rattle.tabled_color.specs.Shade.{texts_of}
-use Rattle.tabled_config.specs.Configuration.{ConfigEvent, by_colors, borders_replaced}
+use Rattle.tabled_configuration.specs.Configuration.{ConfigEvent, by_colors, borders_replaced}
 use Rattle.tabled_style.specs.Shown.{Shown}
 use Rattle.tabled_theme.specs.Shown.{ThemeShown}
 use Rattle.tabled_theme.specs.Lines.{lines_put, shown_line}

@@ -11,7 +11,7 @@ use Rattle.tabled_grid.specs.declared.lines.VerticalLine.{VerticalLine}
 use Rattle.tabled_grid.specs.CustomLines.{no_borders}
 use Rattle.tabled_border.specs.Texts.{Texts}
 use Rattle.tabled_color.specs.Shade.{Shade, owned_shade}
-use Rattle.tabled_config.specs.Configuration.{Configuration}
+use Rattle.tabled_configuration.specs.Configuration.{Configuration}
 use Rattle.tabled_style.specs.Shown.{Shown}
 use Rattle.tabled_theme.specs.Lines.{last_under}
 use Rattle.tabled_theme.specs.Fields.{each_field}

@@ -19,7 +19,7 @@ use fields::copied;
 use std::alloc::Global;
 use std::marker::Model;
 use tabled_color::Color;
-use tabled_config::ColoredConfig;
+use tabled_configuration::ColoredConfig;
 use tabled_grid::{Borders, HorizontalLine, OutOfMemory, VerticalLine};
 use tabled_style::Style;
 

@@ -17,16 +17,48 @@ const CELL: Position = Position { row: 0, col: 0 };
 /// Each place of a table of one cell that is three columns wide.
 static PLACES: [Place; 12] = [
     Place::Cross { row: 0, col: 0 },
-    Place::Horizontal { row: 0, col: 0, at: 0 },
-    Place::Horizontal { row: 0, col: 0, at: 1 },
-    Place::Horizontal { row: 0, col: 0, at: 2 },
+    Place::Horizontal {
+        row: 0,
+        col: 0,
+        at: 0,
+    },
+    Place::Horizontal {
+        row: 0,
+        col: 0,
+        at: 1,
+    },
+    Place::Horizontal {
+        row: 0,
+        col: 0,
+        at: 2,
+    },
     Place::Cross { row: 0, col: 1 },
-    Place::Vertical { row: 0, col: 0, at: 0 },
-    Place::Vertical { row: 0, col: 1, at: 0 },
+    Place::Vertical {
+        row: 0,
+        col: 0,
+        at: 0,
+    },
+    Place::Vertical {
+        row: 0,
+        col: 1,
+        at: 0,
+    },
     Place::Cross { row: 1, col: 0 },
-    Place::Horizontal { row: 1, col: 0, at: 0 },
-    Place::Horizontal { row: 1, col: 0, at: 1 },
-    Place::Horizontal { row: 1, col: 0, at: 2 },
+    Place::Horizontal {
+        row: 1,
+        col: 0,
+        at: 0,
+    },
+    Place::Horizontal {
+        row: 1,
+        col: 0,
+        at: 1,
+    },
+    Place::Horizontal {
+        row: 1,
+        col: 0,
+        at: 2,
+    },
     Place::Cross { row: 1, col: 1 },
 ];
 
@@ -50,7 +82,8 @@ fn top_is_red(alloc: Global) -> bool {
 /// Makes one place above the cell red, and then all cells blue all around.
 fn red_in_blue(alloc: Global, cfg: &mut ColoredConfig) -> Result<bool, OutOfMemory> {
     let red = ANSIBuf::new(alloc, RED, "\u{1b}[39m")?;
-    cfg.config_mut().set_horizontal_char_color(CELL, Offset::Start(1), red)?;
+    cfg.config_mut()
+        .set_horizontal_char_color(CELL, Offset::Start(1), red)?;
     let blue = BorderColor::filled(alloc, Color::FG_BLUE)?;
     Ok(apply_to(alloc, cfg, ONE, &Entity::Global, &blue))
 }
@@ -107,7 +140,9 @@ fn removals_leave_the_map(alloc: Global) -> bool {
 
 /// Sets the alignment of an entity: whether there was memory for it.
 fn align(cfg: &mut ColoredConfig, entity: Entity, alignment: AlignmentHorizontal) -> bool {
-    cfg.config_mut().set_alignment_horizontal(entity, alignment).is_ok()
+    cfg.config_mut()
+        .set_alignment_horizontal(entity, alignment)
+        .is_ok()
 }
 
 /// Whether the alignment that was set last for all cells is that of a cell.

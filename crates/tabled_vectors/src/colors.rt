@@ -13,11 +13,7 @@ fn has_texts(color: Result<Color, OutOfMemory>, prefix: &str, suffix: &str) -> b
 }
 
 /// A color of the first two texts joined with one of the others.
-fn joined(
-    alloc: Global,
-    first: (&str, &str),
-    second: (&str, &str),
-) -> Result<Color, OutOfMemory> {
+fn joined(alloc: Global, first: (&str, &str), second: (&str, &str)) -> Result<Color, OutOfMemory> {
     let first = Color::new(alloc, first.0, first.1)?;
     let second = Color::new(alloc, second.0, second.1)?;
     first.join(alloc, &second)

@@ -3,9 +3,7 @@
 use crate::tables::{FOUR, ONE, TWO_ROWS, Table, apply, config, prints};
 use std::alloc::Global;
 use tabled_config::ColoredConfig;
-use tabled_grid::{
-    Border, HorizontalLine, LineOf, Offset, Place, Position, Probes, VerticalLine,
-};
+use tabled_grid::{Border, HorizontalLine, LineOf, Offset, Place, Position, Probes, VerticalLine};
 use tabled_style::Style;
 
 const CELL: Position = Position { row: 0, col: 0 };
@@ -15,13 +13,16 @@ fn offsets_show(alloc: Global, offsets: &[(Offset, char)], text: &str) -> bool {
     let mut cfg = config(alloc);
     let mut made = apply(alloc, &mut cfg, ONE, Style::ascii());
     for (offset, character) in offsets {
-        let set = cfg.config_mut().set_horizontal_char(CELL, *offset, *character);
+        let set = cfg
+            .config_mut()
+            .set_horizontal_char(CELL, *offset, *character);
         made &= set.is_ok();
     }
-    made && prints(alloc, &cfg, ONE, text) && {
-        cfg.config_mut().remove_horizontal_chars();
-        prints(alloc, &cfg, ONE, "+---+\n| a |\n+---+")
-    }
+    made && prints(alloc, &cfg, ONE, text)
+        && {
+            cfg.config_mut().remove_horizontal_chars();
+            prints(alloc, &cfg, ONE, "+---+\n| a |\n+---+")
+        }
 }
 
 #[test]
@@ -46,21 +47,25 @@ fn put_corner(cfg: &mut ColoredConfig) -> bool {
 /// Whether a corner alone draws its row and its column, until it is removed.
 fn corner_shows(alloc: Global) -> bool {
     let mut cfg = config(alloc);
-    put_corner(&mut cfg) && prints(alloc, &cfg, TWO_ROWS, "  a \n#   \n  b ") && {
-        cfg.config_mut().remove_border(CELL);
-        prints(alloc, &cfg, TWO_ROWS, " a \n b ")
-    }
+    put_corner(&mut cfg)
+        && prints(alloc, &cfg, TWO_ROWS, "  a \n#   \n  b ")
+        && {
+            cfg.config_mut().remove_border(CELL);
+            prints(alloc, &cfg, TWO_ROWS, " a \n b ")
+        }
 }
 
 /// Whether a corner that was put twice and removed once draws no row, which is found by at most six readings.
 fn corner_is_removed_at_once(alloc: Global) -> bool {
     let mut cfg = config(alloc);
     let mut probes = Probes::new();
-    put_corner(&mut cfg) && put_corner(&mut cfg) && {
-        cfg.config_mut().remove_border(CELL);
-        let line = LineOf::Horizontal(1);
-        !cfg.config().draws(line, 2, &mut probes) && probes.count() <= 6
-    }
+    put_corner(&mut cfg)
+        && put_corner(&mut cfg)
+        && {
+            cfg.config_mut().remove_border(CELL);
+            let line = LineOf::Horizontal(1);
+            !cfg.config().draws(line, 2, &mut probes) && probes.count() <= 6
+        }
 }
 
 #[test]

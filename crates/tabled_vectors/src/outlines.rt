@@ -62,10 +62,7 @@ fn most_cells_are_outlined(rt: HostRuntime) {
 }
 
 /// Five cells in a row.
-static FIVE: Table = (
-    &[3, 3, 3, 3, 3],
-    &[&[" a ", " b ", " c ", " d ", " e "]],
-);
+static FIVE: Table = (&[3, 3, 3, 3, 3], &[&[" a ", " b ", " c ", " d ", " e "]]);
 
 /// The five cells in a line of stars.
 static STARS: &str = "*********************\n* a   b   c   d   e *\n*********************";
@@ -108,8 +105,7 @@ where
     P: TableOption<Shape, ColoredConfig, FixedDimension> + Drop,
 {
     let mut cfg = config(alloc);
-    apply(alloc, &mut cfg, FOUR, outline)
-        && char_at(&cfg, FOUR, crossing(1, 1)) == Some(character)
+    apply(alloc, &mut cfg, FOUR, outline) && char_at(&cfg, FOUR, crossing(1, 1)) == Some(character)
 }
 
 #[test]
@@ -123,7 +119,14 @@ fn cells_that_touch_share_an_outline(rt: HostRuntime) {
     assert!(rt; has_middle(alloc, numbered((0, 1).and((1, 0))), '6'));
     assert!(rt; has_middle(alloc, numbered((1, 0).and((0, 1))), '6'));
     assert!(rt; prints_with(alloc, numbered((5, 5)), FOUR, " a  b \n c  d "));
-    assert!(rt; prints_with(alloc, Highlight::new(Segment::all()), FOUR, " a  b \n c  d "));
+    assert!(rt;
+        prints_with(
+            alloc,
+            Highlight::new(Segment::all()),
+            FOUR,
+            " a  b \n c  d "
+        )
+    );
 }
 
 #[test]

@@ -2,8 +2,7 @@
 
 use crate::tables::cells_of;
 use std::alloc::Global;
-use tabled_config::{PrintError, SpannedConfig, TableOption, print_plain};
-use tabled_config::ColoredConfig;
+use tabled_config::{ColoredConfig, PrintError, SpannedConfig, TableOption, print_plain};
 use tabled_grid::{FixedDimension, OutOfMemory, Shape};
 use tabled_style::Style;
 
@@ -15,10 +14,7 @@ type Sized = (
 );
 
 /// What printing in a full frame returns, and what it makes of the text `before:`.
-fn printed(
-    alloc: Global,
-    table: Sized,
-) -> Result<(Result<(), PrintError>, String), OutOfMemory> {
+fn printed(alloc: Global, table: Sized) -> Result<(Result<(), PrintError>, String), OutOfMemory> {
     let (widths, heights, rows) = table;
     let mut dims = FixedDimension::new(widths.to_vec(alloc)?, heights.to_vec(alloc)?);
     let mut shape = Shape {

@@ -6,9 +6,7 @@ use tabled_color::Color;
 use tabled_config::{ColoredConfig, CompactConfig, TableOption};
 use tabled_grid::{Borders, Combine, FixedDimension, Offset, OutOfMemory, Position, Rows, Shape};
 use tabled_layout::Indent;
-use tabled_options::{
-    Alignment, Colorization, Justification, MarginColor, Shadow, TrimStrategy,
-};
+use tabled_options::{Alignment, Colorization, Justification, MarginColor, Shadow, TrimStrategy};
 use tabled_settings::Sides;
 use tabled_style::Style;
 
@@ -161,7 +159,12 @@ fn shadow_makes_its_margin(alloc: Global) -> bool {
     match MarginColor::filled(alloc, Color::FG_RED) {
         Ok(red) => {
             apply(alloc, &mut cfg, ONE, red)
-                && apply(alloc, &mut cfg, ONE, Shadow::new(2).set_offset(3).set_left())
+                && apply(
+                    alloc,
+                    &mut cfg,
+                    ONE,
+                    Shadow::new(2).set_offset(3).set_left(),
+                )
                 && is_shadowed(&cfg)
                 && is_red(&cfg)
         }

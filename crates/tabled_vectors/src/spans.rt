@@ -1,7 +1,7 @@
 //! Spans, their correction, and what the printer says of them.
 
 use crate::tables::{
-    FOUR, NINE, ONE, Table, TWO_COLUMNS, apply, cells_of, char_at, config, crossing, prints,
+    FOUR, NINE, ONE, TWO_COLUMNS, Table, apply, cells_of, char_at, config, crossing, prints,
 };
 use std::alloc::Global;
 use tabled_config::{ColoredConfig, PrintError, TableOption, print_plain};
@@ -66,7 +66,16 @@ fn spans_are_corrected(rt: HostRuntime) {
     assert!(rt; leaves(alloc, FOUR, Style::ascii(), 1, 2, &["+++", "|++", "+++"]));
     let crossings = ["┌─┬┐", "││├┤", "├┬┼┤", "└┴┴┘"];
     assert!(rt; leaves(alloc, NINE, Style::modern(), 2, 2, &crossings));
-    assert!(rt; leaves(alloc, TWO_COLUMNS, Style::ascii(), usize::MAX, 1, &["+-+", "+-+"]));
+    assert!(rt;
+        leaves(
+            alloc,
+            TWO_COLUMNS,
+            Style::ascii(),
+            usize::MAX,
+            1,
+            &["+-+", "+-+"]
+        )
+    );
 }
 
 /// What printing a cell that is too wide returns, and what it makes of the text `before:`.

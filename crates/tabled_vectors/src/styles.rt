@@ -1,6 +1,8 @@
 //! Styles and borders as options.
 
-use crate::tables::{ONE, TWO_ROWS, Table, apply, apply_to, config, prints, prints_with, prints_with_both};
+use crate::tables::{
+    ONE, TWO_ROWS, Table, apply, apply_to, config, prints, prints_with, prints_with_both,
+};
 use std::alloc::Global;
 use tabled_style::{Border, EmptyBorder, HorizontalLine, Style};
 

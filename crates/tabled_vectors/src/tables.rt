@@ -1,16 +1,11 @@
 //! Tables to which the tests apply options, their texts, and their places.
 
 use std::alloc::Global;
-use tabled_config::{
-    CellOption, ColoredConfig, SpannedConfig, TableOption, modify, print_plain,
-};
+use tabled_config::{CellOption, ColoredConfig, SpannedConfig, TableOption, modify, print_plain};
 use tabled_grid::{FixedDimension, Object, OutOfMemory, Place, Probes, Shape};
 
 /// The widths of the columns, and the cells, each of which is one line high.
-pub(crate) type Table = (
-    &'static [usize],
-    &'static [&'static [&'static str]],
-);
+pub(crate) type Table = (&'static [usize], &'static [&'static [&'static str]]);
 
 pub(crate) static ONE: Table = (&[3], &[&[" a "]]);
 
@@ -25,7 +20,11 @@ pub(crate) static FOUR: Table = (&[3, 3], &[&[" a ", " b "], &[" c ", " d "]]);
 /// A table of nine cells.
 pub(crate) static NINE: Table = (
     &[3, 3, 3],
-    &[&[" a ", " b ", " c "], &[" d ", " e ", " f "], &[" g ", " h ", " i "]],
+    &[
+        &[" a ", " b ", " c "],
+        &[" d ", " e ", " f "],
+        &[" g ", " h ", " i "],
+    ],
 );
 
 /// A table of two rows and one column.
@@ -161,7 +160,10 @@ pub(crate) fn char_at(cfg: &ColoredConfig, table: Table, place: Place) -> Option
 /// Whether a place of a table has a color that begins with this text.
 pub(crate) fn has_color(cfg: &ColoredConfig, table: Table, place: Place, prefix: &str) -> bool {
     let (shape, size) = (shape(table).into(), size(table, place));
-    match cfg.config().color_at(place, shape, size, &mut Probes::new()) {
+    match cfg
+        .config()
+        .color_at(place, shape, size, &mut Probes::new())
+    {
         Some(color) => color.get_prefix() == prefix,
         None => false,
     }
@@ -170,7 +172,9 @@ pub(crate) fn has_color(cfg: &ColoredConfig, table: Table, place: Place, prefix:
 /// Whether a place of a table has no color.
 pub(crate) fn is_plain(cfg: &ColoredConfig, table: Table, place: Place) -> bool {
     let (shape, size) = (shape(table).into(), size(table, place));
-    let color = cfg.config().color_at(place, shape, size, &mut Probes::new());
+    let color = cfg
+        .config()
+        .color_at(place, shape, size, &mut Probes::new());
     color.is_none()
 }
 

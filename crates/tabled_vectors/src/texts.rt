@@ -7,9 +7,7 @@ use crate::tables::{
 use std::alloc::Global;
 use tabled_color::Color;
 use tabled_config::ColoredConfig;
-use tabled_grid::{
-    Columns, Combine, FirstRow, Offset, OutOfMemory, Row, Rows, VerticalLine,
-};
+use tabled_grid::{Columns, Combine, FirstRow, Offset, OutOfMemory, Row, Rows, VerticalLine};
 use tabled_options::{Alignment, LineChar, LineText};
 use tabled_settings::AlignmentHorizontal;
 use tabled_style::Style;
@@ -97,13 +95,7 @@ fn titles_make_their_top_lines(rt: HostRuntime) {
 }
 
 /// Puts a text above a row: whether there was memory for it.
-fn write_above(
-    alloc: Global,
-    cfg: &mut ColoredConfig,
-    table: Table,
-    text: &str,
-    row: Row,
-) -> bool {
+fn write_above(alloc: Global, cfg: &mut ColoredConfig, table: Table, text: &str, row: Row) -> bool {
     match LineText::new(alloc, text, row) {
         Ok(option) => apply(alloc, cfg, table, option),
         Err(OutOfMemory) => false,

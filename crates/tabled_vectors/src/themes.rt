@@ -49,12 +49,7 @@ fn lined(alloc: Global, is_vertical: bool) -> Result<Theme, OutOfMemory> {
 }
 
 /// Whether a theme is drawn so.
-fn draws(
-    alloc: Global,
-    theme: Result<Theme, OutOfMemory>,
-    table: Table,
-    text: &str,
-) -> bool {
+fn draws(alloc: Global, theme: Result<Theme, OutOfMemory>, table: Table, text: &str) -> bool {
     match theme {
         Ok(theme) => prints_with(alloc, theme, table, text),
         Err(OutOfMemory) => false,

@@ -5,16 +5,16 @@ ghost use Rattle.tabled_object.specs.declared.entity.Entity.TheVariants as cells
 ghost use Rattle.tabled_settings.specs.Setting.{is_global};
 ghost use Rattle.tabled_grid.specs.Calls.{spot_of, edge_of, crossing_of};
 ghost use Rattle.tabled_grid.specs.Writes.{writes_made};
-ghost use Rattle.tabled_config.specs.Configuration.{by_colors};
-ghost use Rattle.tabled_config.specs.Configuration as borders;
-ghost use Rattle.tabled_config.specs.Colored.{Changes};
+ghost use Rattle.tabled_configuration.specs.Configuration.{by_colors};
+ghost use Rattle.tabled_configuration.specs.Configuration as borders;
+ghost use Rattle.tabled_configuration.specs.Colored.{Changes};
 ghost use Rattle.tabled_color.specs.BorderColors.{border_texts};
 ghost use Rattle.tabled_color.specs.Coloring.{one_color, entity_colored, spot_colored, spot_cleared, line_colored, frame_colored, corners_cleared, table_colored};
 
 use crate::BorderColor;
 use std::alloc::Global;
 use tabled_border::{ANSIBuf, Border, Keep, OutOfMemory};
-use tabled_config::{CellOption, ColoredConfig, SpannedConfig, TableOption};
+use tabled_configuration::{CellOption, ColoredConfig, SpannedConfig, TableOption};
 use tabled_grid::{LineOf, Place, Target, Write, border_writes};
 use tabled_object::{Entity, ExactRecords, Records};
 

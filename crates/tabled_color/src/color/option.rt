@@ -3,12 +3,12 @@
 ghost use Rattle.std.specs.Prelude.{◌≡◌, None, IsTrue, OnOk, OnErr};
 ghost use Rattle.tabled_object.specs.declared.entity.Entity.TheVariants as cells;
 ghost use Rattle.tabled_settings.specs.Setting.{write_of};
-ghost use Rattle.tabled_config.specs.Colored.{Changes, by_cell_color};
+ghost use Rattle.tabled_configuration.specs.Colored.{Changes, by_cell_color};
 ghost use Rattle.tabled_color.specs.Shade.{texts_of};
 
 use crate::Color;
 use tabled_border::{ANSIBuf, OutOfMemory};
-use tabled_config::{CellOption, ColoredConfig, TableOption};
+use tabled_configuration::{CellOption, ColoredConfig, TableOption};
 use tabled_object::Entity;
 
 impl<R> CellOption<R, ColoredConfig> for Color {

@@ -27,7 +27,6 @@ impl<T> LastEvents<T> {
         ensures err { OnErr result (self.new ≡ self.old) }
         ensures others_err { OnErr result (others.new ≡ others.old) }
     {
-        self.close_up();
         self.slots.reserve(1)?;
         let before = self.places.insert(entity, self.slots.len())?;
         if let Err(refused) = others.put(entity, other) {
@@ -36,6 +35,7 @@ impl<T> LastEvents<T> {
         }
         slots::empty(&mut self.slots, before);
         self.slots.push_reserved(Some((entity, value)));
+        slots::close_up(&mut self.slots, &mut self.places);
         Ok(())
     }
 }

@@ -22,10 +22,10 @@ impl<T> LastEvents<T> {
         ensures ok { OnOk result (self.new ≡ put_each self.old events.items) }
         ensures err { OnErr result (self.new ≡ self.old) }
     {
-        self.close_up();
         self.slots.reserve(events.len())?;
         let before = places::note(alloc, &mut self.places, self.slots.len(), &events)?;
         slots::replace_by(&mut self.slots, events, &before);
+        slots::close_up(&mut self.slots, &mut self.places);
         Ok(())
     }
     /// Adds the events of a list here, and those of another list to others. Where memory is refused neither changes: what may be
@@ -45,7 +45,6 @@ impl<T> LastEvents<T> {
         ensures err { OnErr result (self.new ≡ self.old) }
         ensures others_err { OnErr result (others.new ≡ others.old) }
     {
-        self.close_up();
         self.slots.reserve(events.len())?;
         let before = places::note(alloc, &mut self.places, self.slots.len(), &events)?;
         if let Err(refused) = others.put_list(alloc, other_events) {
@@ -53,6 +52,7 @@ impl<T> LastEvents<T> {
             return Err(refused);
         }
         slots::replace_by(&mut self.slots, events, &before);
+        slots::close_up(&mut self.slots, &mut self.places);
         Ok(())
     }
 
@@ -77,7 +77,6 @@ impl<T> LastEvents<T> {
         ensures seconds_err { OnErr result (seconds.new ≡ seconds.old) }
         ensures thirds_err { OnErr result (thirds.new ≡ thirds.old) }
     {
-        self.close_up();
         self.slots.reserve(events.len())?;
         let before = places::note(alloc, &mut self.places, self.slots.len(), &events)?;
         if let Err(refused) = seconds.put_two_lists(alloc, second_events, thirds, third_events) {
@@ -85,6 +84,7 @@ impl<T> LastEvents<T> {
             return Err(refused);
         }
         slots::replace_by(&mut self.slots, events, &before);
+        slots::close_up(&mut self.slots, &mut self.places);
         Ok(())
     }
 }

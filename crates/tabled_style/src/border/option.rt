@@ -4,11 +4,11 @@ ghost use Rattle.std.specs.Prelude.{◌≡◌, [], Some, IsOk, OnOk, OnErr};
 ghost use Rattle.std.specs.List.{filter};
 ghost use Rattle.tabled_object.specs.Entities.{cells_of, is_inside};
 ghost use Rattle.tabled_object.specs.declared.entity.Entity.TheVariants as cells;
-ghost use Rattle.tabled_config.specs.Colored.{Changes};
-ghost use Rattle.tabled_config.specs.Options.{entity_bordered, table_bordered, entity_unbordered, table_unbordered};
+ghost use Rattle.tabled_configuration.specs.Colored.{Changes};
+ghost use Rattle.tabled_configuration.specs.Options.{entity_bordered, table_bordered, entity_unbordered, table_unbordered};
 
 use super::{Border, EmptyBorder};
-use tabled_config::{CellOption, ColoredConfig, TableOption};
+use tabled_configuration::{CellOption, ColoredConfig, TableOption};
 use tabled_grid::{Entity, ExactRecords, OutOfMemory, Records};
 
 impl<T, B, L, R, Data: Records + ExactRecords> CellOption<Data, ColoredConfig>

@@ -3,7 +3,7 @@
 ghost use Rattle.std.specs.Prelude.{◌≡◌, [], ◌∷◌, None, IsOk, OnOk, OnErr};
 
 use super::Style;
-use tabled_config::{CompactConfig, CompactMultilineConfig, TableOption};
+use tabled_configuration::{CompactConfig, CompactMultilineConfig, TableOption};
 use tabled_grid::{Entity, OutOfMemory};
 
 impl<T, B, L, R, H, V, const HN: usize, const VN: usize, Data, Dims> TableOption<

@@ -1,11 +1,11 @@
 //! A style as an option of a table.
 
 ghost use Rattle.std.specs.Prelude.{◌≡◌, [], None, IsOk, OnOk, OnErr};
-ghost use Rattle.tabled_config.specs.Colored.{Changes};
-ghost use Rattle.tabled_config.specs.Configuration.{borders_replaced};
+ghost use Rattle.tabled_configuration.specs.Colored.{Changes};
+ghost use Rattle.tabled_configuration.specs.Configuration.{borders_replaced};
 
 use super::Style;
-use tabled_config::{ColoredConfig, TableOption};
+use tabled_configuration::{ColoredConfig, TableOption};
 use tabled_grid::{Entity, OutOfMemory};
 
 impl<T, B, L, R, H, V, const HN: usize, const VN: usize, Data, Dims> TableOption<

@@ -164,7 +164,7 @@ impl<T, B, L, R, H, const HN: usize, const VN: usize> Style<T, B, L, R, H, On, H
 
 #[tactic(auto, using(crate::proofs::InPlace::each_of_each), unfolding(crate::specs::Removing::without_horizontal, crate::specs::Removing::without_vertical))]
 impl<H, V, const HN: usize, const VN: usize> Style<On, On, On, On, H, V, HN, VN> {
-    ghost use Rattle.tabled_config.specs.Options.{inner_of};
+    ghost use Rattle.tabled_configuration.specs.Options.{inner_of};
     ghost use Rattle.tabled_style.specs.Lines.{each_line};
     ghost use Rattle.tabled_style.specs.Removing.{without_ends_horizontal, without_ends_vertical};
 

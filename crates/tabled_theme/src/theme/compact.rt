@@ -4,7 +4,7 @@ ghost use Rattle.std.specs.Prelude.{◌≡◌, [], ◌∷◌, Some, IsOk, OnOk, 
 ghost use Rattle.tabled_object.specs.declared.entity.Entity.TheVariants as cells;
 
 use super::Theme;
-use tabled_config::{CompactConfig, CompactMultilineConfig, TableOption};
+use tabled_configuration::{CompactConfig, CompactMultilineConfig, TableOption};
 use tabled_grid::{Entity, OutOfMemory};
 
 impl<Data, Dims> TableOption<Data, CompactConfig, Dims> for Theme {

@@ -2,8 +2,8 @@
 
 ghost use Rattle.std.specs.Prelude.{◌≡◌, ◌++◌, IfOk, OnOk, OnErr, Some};
 ghost use Rattle.tabled_object.specs.declared.entity.Entity.TheVariants as cells;
-ghost use Rattle.tabled_config.specs.Colored.{Changes};
-ghost use Rattle.tabled_config.specs.Configuration as borders;
+ghost use Rattle.tabled_configuration.specs.Colored.{Changes};
+ghost use Rattle.tabled_configuration.specs.Configuration as borders;
 ghost use Rattle.tabled_theme.specs.Events.{as_style, style_applied, theme_applied};
 ghost use Rattle.tabled_theme.specs.Lines.{lines_put};
 
@@ -11,7 +11,7 @@ use super::Theme;
 use super::fields::texts;
 use crate::line_map::LineMap;
 use std::alloc::Global;
-use tabled_config::{ColoredConfig, SpannedConfig, TableOption};
+use tabled_configuration::{ColoredConfig, SpannedConfig, TableOption};
 use tabled_grid::{Entity, OutOfMemory};
 
 impl<Data, Dims> TableOption<Data, ColoredConfig, Dims> for Theme {

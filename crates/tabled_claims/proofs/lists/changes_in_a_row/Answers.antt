@@ -1,4 +1,4 @@
-use Rattle.tabled_config.specs.ChangeLaws.{both_change, both_change_borders}
+use Rattle.tabled_configuration.specs.ChangeLaws.{both_change, both_change_borders}
 use Rattle.tabled_claims.proofs.lists.changes_in_a_row.Goals as goal
 
 pub returns-clause-spanned : goal.returns-clause-spanned

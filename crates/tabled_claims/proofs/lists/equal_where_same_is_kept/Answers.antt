@@ -1,4 +1,4 @@
-use Rattle.tabled_config.proofs.SameConfigurationLemmas.{same_configuration-exact, same_colored-exact}
+use Rattle.tabled_configuration.proofs.SameConfigurationLemmas.{same_configuration-exact, same_colored-exact}
 use Rattle.tabled_claims.proofs.lists.equal_where_same_is_kept.Goals as goal
 
 pub returns-clause-spanned : goal.returns-clause-spanned

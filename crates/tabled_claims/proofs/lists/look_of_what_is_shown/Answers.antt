@@ -1,5 +1,5 @@
-use Rattle.tabled_config.specs.Configuration.{all_writes}
-use Rattle.tabled_config.proofs.ConfigurationLemmas.{shown_characters}
+use Rattle.tabled_configuration.specs.Configuration.{all_writes}
+use Rattle.tabled_configuration.proofs.ConfigurationLemmas.{shown_characters}
 use Rattle.tabled_config.proofs.LookLemmas.{same_look}
 use Rattle.tabled_claims.proofs.lists.look_of_what_is_shown.Goals as goal
 

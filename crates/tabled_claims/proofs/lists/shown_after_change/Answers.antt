@@ -1,5 +1,5 @@
-use Rattle.tabled_config.proofs.ColoredLemmas.{Shows_after_change_colored}
-use Rattle.tabled_config.proofs.ConfigurationLemmas.{Shows_after_change}
+use Rattle.tabled_configuration.proofs.ColoredLemmas.{Shows_after_change_colored}
+use Rattle.tabled_configuration.proofs.ConfigurationLemmas.{Shows_after_change}
 use Rattle.tabled_claims.proofs.lists.shown_after_change.Goals as goal
 
 pub returns-clause-spanned : goal.returns-clause-spanned

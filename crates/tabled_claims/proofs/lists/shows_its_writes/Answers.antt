@@ -1,5 +1,5 @@
-use Rattle.tabled_config.proofs.ColoredLemmas.{Shows-all_writes_colored}
-use Rattle.tabled_config.proofs.ConfigurationLemmas.{shown_characters, shown_colors, Shows-all_writes}
+use Rattle.tabled_configuration.proofs.ColoredLemmas.{Shows-all_writes_colored}
+use Rattle.tabled_configuration.proofs.ConfigurationLemmas.{shown_characters, shown_colors, Shows-all_writes}
 use Rattle.tabled_claims.proofs.lists.shows_its_writes.Goals as goal
 
 pub returns-clause-characters : goal.returns-clause-characters

@@ -1,4 +1,4 @@
-use Rattle.tabled_config.proofs.InTurn.{one_more, none_made, by_all_events}
+use Rattle.tabled_configuration.proofs.InTurn.{one_more, none_made, by_all_events}
 use Rattle.tabled_claims.proofs.lists.steps_in_turn.Goals as goal
 
 pub returns-clause-none : goal.returns-clause-none

@@ -2,7 +2,7 @@
 use Rattle.std.proofs.Common.{◌≡◌, map}
 use Rattle.tabled_grid.specs.declared.place.LineOf.{LineOf}
 use Rattle.tabled_grid.specs.Drawn.{drawn}
-use Rattle.tabled_config.specs.Configuration.{all_writes, characters_of}
+use Rattle.tabled_configuration.specs.Configuration.{all_writes, characters_of}
 use Rattle.tabled_object.specs.Entities.{below}
 use Rattle.tabled_config.proofs.print.drawn_sides.Given as goal
 

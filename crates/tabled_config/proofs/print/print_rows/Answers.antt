@@ -1,9 +1,9 @@
 -- Each list of events that the configuration shows gives one look, and with it one text.
 use Rattle.std.proofs.Common.{ℕ, List, ◌++◌, ap, sym, ◌∙◌, string_bytes, arith}
 use Rattle.std.specs.List.{flat_map, join_with_byte}
-use Rattle.tabled_config.specs.Configuration.{all_writes}
+use Rattle.tabled_configuration.specs.Configuration.{all_writes}
 use Rattle.tabled_config.specs.Picture.{look, text_lines}
-use Rattle.tabled_config.proofs.ConfigurationLemmas.{shown_characters}
+use Rattle.tabled_configuration.proofs.ConfigurationLemmas.{shown_characters}
 use Rattle.tabled_config.proofs.FaultLemmas.{right_rows, right_columns}
 use Rattle.tabled_config.proofs.LookLemmas.{same_look}
 use Rattle.tabled_config.proofs.TextLemmas.{ended, cut_at_start, text_cut_at_end, text_cut_joined, text_none_joined, appended, not_appended, string_len-is}

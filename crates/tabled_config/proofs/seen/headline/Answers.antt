@@ -3,7 +3,7 @@ use Rattle.tabled_grid.specs.State.{state_at}
 use Rattle.tabled_grid.specs.Value.{value}
 use Rattle.tabled_grid.proofs.DrawnLemmas.{value-shown, drawn-answer}
 use Rattle.tabled_grid.specs.Drawn.{drawn}
-use Rattle.tabled_config.specs.Configuration.{characters_of, colors_of}
+use Rattle.tabled_configuration.specs.Configuration.{characters_of, colors_of}
 use Rattle.tabled_config.specs.Picture.{edge_size}
 use Rattle.tabled_config.proofs.MadeInTurn.{lent_shown}
 use Rattle.tabled_config.proofs.seen.headline.Goals as goal

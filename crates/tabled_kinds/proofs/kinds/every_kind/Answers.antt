@@ -3,38 +3,26 @@ use Rattle.std.proofs.Common.{length, refl, ◌∙◌}
 use Rattle.tabled_object.specs.declared.dimension.FixedDimension.{FixedDimension}
 use Rattle.tabled_grid.proofs.Seen.{on_ok}
 use Rattle.tabled_config.specs.Texts.{Table}
-use Rattle.tabled_correction.specs.Correction.{correction_events}
 use Rattle.tabled_text.specs.Sizes.{column_count}
-use Rattle.tabled_kinds.specs.EveryKind.{border_options, line_options, color_options, text_options, other_borders, other_settings}
+use Rattle.tabled_correction.specs.Correction.{correction_events}
+use Rattle.tabled_kinds.specs.EveryKind.{first_targets, other_targets}
 use Rattle.tabled_kinds.proofs.Turns.{nothing_yet, then_one, then_those}
 use Rattle.tabled_kinds.proofs.kinds.every_kind.Goals as goal
 
 pub returns-clause-steps : goal.returns-clause-steps
 returns-clause-steps c =
     let kinds = c.args.kinds in
+    let others = c.args.others in
     let start = c.args.table.now in
     let texts : Table = start.texts in
     let sizes : FixedDimension = start.sizes in
-    let texts_2 = c.every_border.ensures.texts in
-    let texts_3 = c.every_line.ensures.texts ∙ texts_2 in
-    let texts_4 = c.every_color.ensures.texts ∙ texts_3 in
-    let texts_5 = c.every_text.ensures.texts ∙ texts_4 in
-    let texts_6 = c.every_other_border.ensures.texts ∙ texts_5 in
-    let texts_7 = c.every_other_setting.ensures.texts ∙ texts_6 in
-    let sizes_2 = c.every_border.ensures.sizes in
-    let sizes_3 = c.every_line.ensures.sizes ∙ sizes_2 in
-    let sizes_4 = c.every_color.ensures.sizes ∙ sizes_3 in
-    let sizes_5 = c.every_text.ensures.sizes ∙ sizes_4 in
-    let sizes_6 = c.every_other_border.ensures.sizes ∙ sizes_5 in
-    let sizes_7 = c.every_other_setting.ensures.sizes ∙ sizes_6 in
+    let texts_2 = c.every_first_target.ensures.texts in
+    let texts_3 = c.every_other_target.ensures.texts ∙ texts_2 in
+    let sizes_2 = c.every_first_target.ensures.sizes in
+    let sizes_3 = c.every_other_target.ensures.sizes ∙ sizes_2 in
     on_ok c.apply.result (λ corrected.
-    then_one (λ t s before. correction_events (length t, column_count t) before.spanned) _ texts _ sizes _ start.config _ _ texts_7 sizes_7
-    (then_those (λ t s. other_settings kinds.other_settings) _ texts _ sizes _ start.config _ _ texts_6 sizes_6
-    (then_those (λ t s. other_borders kinds.other_borders (length t, column_count t)) _ texts _ sizes _ start.config _ _ texts_5 sizes_5
-    (then_those (λ t s. text_options kinds.texts) _ texts _ sizes _ start.config _ _ texts_4 sizes_4
-    (then_those (λ t s. color_options kinds.colors (length t, column_count t)) _ texts _ sizes _ start.config _ _ texts_3 sizes_3
-    (then_those (λ t s. line_options kinds.lines (length t, column_count t) s) _ texts _ sizes _ start.config _ _ texts_2 sizes_2
-    (then_those (λ t s. border_options kinds.borders (length t, column_count t)) _ texts _ sizes _ start.config _ _ refl refl (nothing_yet start.config) c.in_ok-every_border.ensures.steps)
-    c.in_ok-every_line.ensures.steps) c.in_ok-every_color.ensures.steps) c.in_ok-every_text.ensures.steps)
-    c.in_ok-every_other_border.ensures.steps) c.in_ok-every_other_setting.ensures.steps)
+    then_one (λ t s before. correction_events (length t, column_count t) before.spanned) _ texts _ sizes _ start.config _ _ texts_3 sizes_3
+    (then_those (λ t s. other_targets others (length t, column_count t)) _ texts _ sizes _ start.config _ _ texts_2 sizes_2
+    (then_those (λ t s. first_targets kinds t s) _ texts _ sizes _ start.config _ _ refl refl (nothing_yet start.config) c.in_ok-every_first_target.ensures.steps)
+    c.in_ok-every_other_target.ensures.steps)
     corrected) c.apply.ensures.config

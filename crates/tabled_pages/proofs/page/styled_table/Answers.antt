@@ -1,7 +1,7 @@
 -- Nothing was set before, and then the style was applied, which sets no spans.
 use Rattle.std.proofs.Common.{[]}
 use Rattle.tabled_style.specs.Named.{ready_applied}
-use Rattle.tabled_config.proofs.ConfigurationLemmas.{Shows_after_change}
+use Rattle.tabled_configuration.proofs.ConfigurationLemmas.{Shows_after_change}
 use Rattle.tabled_pages.proofs.NoSpans.{no_spans}
 use Rattle.tabled_pages.proofs.page.styled_table.Goals as goal
 

@@ -1,7 +1,7 @@
 use Rattle.std.proofs.Common.{sym, subst}
 use Rattle.tabled_grid.specs.Calls.{spot_of}
-use Rattle.tabled_config.specs.Configuration.{Changes, by_colors}
-use Rattle.tabled_config.specs.ChangeLaws.{none_change_borders}
+use Rattle.tabled_configuration.specs.Configuration.{Changes, by_colors}
+use Rattle.tabled_configuration.specs.ChangeLaws.{none_change_borders}
 use Rattle.tabled_color.specs.Coloring.{spot_cleared}
 use Rattle.tabled_color.proofs.border_color.option.clear_if_none.Goals as goal
 

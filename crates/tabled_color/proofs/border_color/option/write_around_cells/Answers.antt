@@ -1,6 +1,6 @@
 use Rattle.std.proofs.Common.{Some, None, option_copied, ap, sym, subst, ◌∙◌}
 use Rattle.tabled_grid.proofs.Seen.{on_ok}
-use Rattle.tabled_config.specs.Configuration.{Changes, by_colors, default_color_set}
+use Rattle.tabled_configuration.specs.Configuration.{Changes, by_colors, default_color_set}
 use Rattle.tabled_color.proofs.ColoringLemmas.{found_colored, colors_applied}
 use Rattle.tabled_color.proofs.border_color.option.write_around_cells.Goals as goal
 

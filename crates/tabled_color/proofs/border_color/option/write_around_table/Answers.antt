@@ -1,5 +1,5 @@
 use Rattle.std.proofs.Common.{sym, subst, ◌∙◌}
-use Rattle.tabled_config.specs.Configuration.{Changes}
+use Rattle.tabled_configuration.specs.Configuration.{Changes}
 use Rattle.tabled_color.proofs.ColoringLemmas.{colors_applied, frame_in_turn, no_frame}
 use Rattle.tabled_color.proofs.border_color.option.write_around_table.Goals as goal
 

@@ -2,7 +2,7 @@
 use Rattle.std.proofs.Common.{ap, subst, ◌&&◌, ◌∙◌}
 use Rattle.tabled_object.specs.Entities.{is_inside}
 use Rattle.tabled_grid.proofs.Seen.{on_ok}
-use Rattle.tabled_config.specs.Configuration.{Changes}
+use Rattle.tabled_configuration.specs.Configuration.{Changes}
 use Rattle.tabled_highlight.specs.Highlighting.{Highlighting, highlight_events}
 use Rattle.tabled_highlight.proofs.Made.{same_events}
 use Rattle.tabled_highlight.proofs.highlight.Highlight.outline_on.Goals as goal

@@ -1,6 +1,6 @@
 use Rattle.std.proofs.Common.{refl}
 use Rattle.tabled_grid.proofs.Seen.{on_ok}
-use Rattle.tabled_config.proofs.ColoredLemmas.{Changes_lent}
+use Rattle.tabled_configuration.proofs.ColoredLemmas.{Changes_lent}
 use Rattle.tabled_margin.proofs.margin_color.MarginColorTableOptionColoredConfig.change.Goals as goal
 
 pub returns-clause-ok : goal.returns-clause-ok

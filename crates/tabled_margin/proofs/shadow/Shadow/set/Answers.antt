@@ -1,5 +1,5 @@
 use Rattle.std.proofs.Common.{sym, ◌∙◌}
-use Rattle.tabled_config.specs.ChangeLaws.{none_change_borders}
+use Rattle.tabled_configuration.specs.ChangeLaws.{none_change_borders}
 use Rattle.tabled_margin.proofs.MarginLemmas.{with_color, without_color, shadow_falls}
 use Rattle.tabled_margin.proofs.shadow.Shadow.set.Goals as goal
 

@@ -1,6 +1,6 @@
 use Rattle.std.proofs.Common.{refl}
 use Rattle.tabled_grid.proofs.Seen.{on_ok}
-use Rattle.tabled_config.proofs.ColoredLemmas.{Changes_lent}
+use Rattle.tabled_configuration.proofs.ColoredLemmas.{Changes_lent}
 use Rattle.tabled_margin.proofs.MarginLemmas.{none_in_shadow_set}
 use Rattle.tabled_margin.proofs.shadow.ShadowTableOptionColoredConfig.change.Goals as goal
 

@@ -1,5 +1,5 @@
 use Rattle.std.proofs.Common.{ap, ◌∙◌}
-use Rattle.tabled_config.specs.Configuration.{Configuration}
+use Rattle.tabled_configuration.specs.Configuration.{Configuration}
 use Rattle.tabled_theme.specs.Shown.{owned_colors}
 use Rattle.tabled_theme.proofs.theme.Theme.from_config.Goals as goal
 

@@ -1,6 +1,6 @@
 use Rattle.std.proofs.Common.{subst}
-use Rattle.tabled_config.specs.Colored.{Changes}
-use Rattle.tabled_config.specs.Options.{table_bordered}
+use Rattle.tabled_configuration.specs.Colored.{Changes}
+use Rattle.tabled_configuration.specs.Options.{table_bordered}
 use Rattle.tabled_style.proofs.border.option.BorderTableOptionColoredConfig.change.Goals as goal
 
 pub returns-clause-ok : goal.returns-clause-ok

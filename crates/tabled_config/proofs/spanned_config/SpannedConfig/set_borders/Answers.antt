@@ -1,5 +1,0 @@
-use Rattle.tabled_config.proofs.ConfigurationLemmas.{Changes-borders_set}
-use Rattle.tabled_config.proofs.spanned_config.SpannedConfig.set_borders.Goals as goal
-
-pub returns : goal.returns
-returns c = Changes-borders_set c.args.borders c.self.inside.characters _ c.self.inside.colors c.self.inside.settings c.args.self.now c.self.view_is c.set_class.ensures

@@ -1,0 +1,8 @@
+use Rattle.tabled_configuration.proofs.Replacing.{horizontal_put, no_horizontal_put}
+use Rattle.tabled_configuration.proofs.spanned_config.replacing.put_horizontals.Goals as goal
+
+pub loop-line-init : goal.loop-line-init
+loop-line-init c = no_horizontal_put c.args.store.now
+
+pub loop-line-preserved : goal.loop-line-preserved
+loop-line-preserved c = horizontal_put c.args.lines.now c.loop-line.line-index _ c.args.store.now c.loop-line.store c.insert_hline.new.self c.loop-line-test.true c.loop-line.invariant c.in_ok-insert_hline.ensures.ok

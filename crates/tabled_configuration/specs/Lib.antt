@@ -1,0 +1,8 @@
+pub mod CellColors
+pub mod Configuration
+pub mod Colored
+pub mod ChangeLaws
+pub mod SameConfiguration
+pub mod Options
+pub mod Compact
+pub mod EntitiesColored

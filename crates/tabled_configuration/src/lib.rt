@@ -1,0 +1,22 @@
+//! Configurations, and the options that change them. What prints a table of a configuration stands in `tabled_config`, which passes
+//! these items on.
+//!
+//! `docs/DEFINITIONS.md` explains the words of the contracts. Users name these items by `tabled_config`.
+#![tactic(auto)]
+
+mod border_options;
+mod cell_option;
+mod color_map;
+mod colored_config;
+mod compact_options;
+mod configured;
+mod spanned_config;
+mod table_option;
+
+pub use cell_option::{CellOption, modify};
+pub use color_map::{ColorMap, Colors};
+pub use colored_config::ColoredConfig;
+pub use configured::{BorderEvent, Configured};
+pub use spanned_config::SpannedConfig;
+pub use table_option::TableOption;
+pub use tabled_compact::{CompactConfig, CompactMultilineConfig, Formatting};

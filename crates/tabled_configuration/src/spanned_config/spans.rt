@@ -1,0 +1,83 @@
+//! Cells that span several columns or several rows.
+//!
+//! A span is kept for the position that is named, whether or not that lies inside the table. Tables with spans are not
+//! printed.
+
+ghost use Rattle.std.specs.Prelude.{◌≡◌, ◌<◌, not, IsOk, OnOk, OnErr};
+ghost use Rattle.tabled_grid.specs.Table.{table};
+ghost use Rattle.tabled_layout.specs.Spans.{position_cmp};
+ghost use Rattle.tabled_layout.specs.Covering.{covered_by_column_span, covered_by_row_span, covered_by_both_spans};
+ghost use Rattle.tabled_configuration.specs.Configuration.{Changes, by_column_span, by_row_span, has_no_spans};
+
+use super::SpannedConfig;
+use std::collections::BTreeMap;
+use tabled_grid::{OutOfMemory, Position};
+
+impl SpannedConfig {
+    /// Sets over how many columns the cell at a position spans; fewer than two remove its span, which takes no memory.
+    /// Where memory is refused nothing changes.
+    pub fn set_column_span(&mut self, position: Position, columns: usize) -> Result<(), OutOfMemory>
+        ensures ok { OnOk result (Changes (by_column_span (position, columns)) self.old self.new) }
+        ensures err { OnErr result (self.new ≡ self.old) }
+        ensures always { columns < 2 → IsOk result }
+    {
+        self.settings.column_spans.set(position, columns)
+    }
+
+    /// Sets over how many rows the cell at a position spans; fewer than two remove its span, which takes no memory.
+    /// Where memory is refused nothing changes.
+    pub fn set_row_span(&mut self, position: Position, rows: usize) -> Result<(), OutOfMemory>
+        ensures ok { OnOk result (Changes (by_row_span (position, rows)) self.old self.new) }
+        ensures err { OnErr result (self.new ≡ self.old) }
+        ensures always { rows < 2 → IsOk result }
+    {
+        self.settings.row_spans.set(position, rows)
+    }
+
+    /// The cells that span several columns, each with their number, in the order of their rows and then of their columns.
+    pub fn get_column_spans(&self) -> &BTreeMap<Position, usize>
+        ensures { table position_cmp result.now.entries ≡ self.now.settings.column_spans }
+    {
+        self.settings.column_spans.as_map()
+    }
+
+    /// The cells that span several rows, each with their number, in the order of their rows and then of their columns.
+    pub fn get_row_spans(&self) -> &BTreeMap<Position, usize>
+        ensures { table position_cmp result.now.entries ≡ self.now.settings.row_spans }
+    {
+        self.settings.row_spans.as_map()
+    }
+
+    /// Whether a cell is covered by a column span: it stands in the row of a cell that spans several columns, at its right
+    /// and within these. It is looked for among all column spans.
+    pub fn is_cell_covered_by_column_span(&self, position: Position) -> bool
+        ensures { result ≡ covered_by_column_span self.now.settings.column_spans position }
+    {
+        self.settings.column_spans.cover_in_row(position)
+    }
+
+    /// Whether a cell is covered by a row span: it stands in the column of a cell that spans several rows, below it and
+    /// within these. It is looked for among all row spans.
+    pub fn is_cell_covered_by_row_span(&self, position: Position) -> bool
+        ensures { result ≡ covered_by_row_span self.now.settings.row_spans position }
+    {
+        self.settings.row_spans.cover_in_column(position)
+    }
+
+    /// Whether a cell is covered by both spans of one cell: it stands both below that and at its right, within its rows and
+    /// within its columns. It is looked for among all column spans.
+    pub fn is_cell_covered_by_both_spans(&self, position: Position) -> bool
+        ensures { result ≡ covered_by_both_spans self.now.settings.column_spans self.now.settings.row_spans position }
+    {
+        self.settings
+            .column_spans
+            .cover_with(&self.settings.row_spans, position)
+    }
+
+    /// Whether any cell spans several columns or several rows.
+    pub fn has_spans(&self) -> bool
+        ensures { result ≡ not (has_no_spans self.now) }
+    {
+        !(self.settings.column_spans.is_empty() && self.settings.row_spans.is_empty())
+    }
+}

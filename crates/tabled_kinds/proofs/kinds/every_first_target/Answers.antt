@@ -1,0 +1,29 @@
+-- Group by group: each reads the same texts and sizes, and what stands after those before it.
+use Rattle.std.proofs.Common.{length, refl, ◌∙◌}
+use Rattle.tabled_object.specs.declared.dimension.FixedDimension.{FixedDimension}
+use Rattle.tabled_grid.proofs.Seen.{on_ok}
+use Rattle.tabled_config.specs.Texts.{Table}
+use Rattle.tabled_text.specs.Sizes.{column_count}
+use Rattle.tabled_kinds.specs.EveryKind.{border_options, line_options, color_options, text_options}
+use Rattle.tabled_kinds.proofs.Turns.{nothing_yet, then_those}
+use Rattle.tabled_kinds.proofs.kinds.every_first_target.Goals as goal
+
+pub returns-clause-steps : goal.returns-clause-steps
+returns-clause-steps c =
+    let kinds = c.args.kinds in
+    let start = c.args.table.now in
+    let texts : Table = start.texts in
+    let sizes : FixedDimension = start.sizes in
+    let texts_2 = c.every_border.ensures.texts in
+    let texts_3 = c.every_line.ensures.texts ∙ texts_2 in
+    let texts_4 = c.every_color.ensures.texts ∙ texts_3 in
+    let sizes_2 = c.every_border.ensures.sizes in
+    let sizes_3 = c.every_line.ensures.sizes ∙ sizes_2 in
+    let sizes_4 = c.every_color.ensures.sizes ∙ sizes_3 in
+    on_ok c.every_text.result (λ last.
+    then_those (λ t s. text_options kinds.texts) _ texts _ sizes _ start.config _ _ texts_4 sizes_4
+    (then_those (λ t s. color_options kinds.colors (length t, column_count t)) _ texts _ sizes _ start.config _ _ texts_3 sizes_3
+    (then_those (λ t s. line_options kinds.lines (length t, column_count t) s) _ texts _ sizes _ start.config _ _ texts_2 sizes_2
+    (then_those (λ t s. border_options kinds.borders (length t, column_count t)) _ texts _ sizes _ start.config _ _ refl refl (nothing_yet start.config) c.in_ok-every_border.ensures.steps)
+    c.in_ok-every_line.ensures.steps) c.in_ok-every_color.ensures.steps)
+    last) c.every_text.ensures.steps

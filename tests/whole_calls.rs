@@ -1,0 +1,105 @@
+//! Calls that change several things at once, whole or not at all, where there is memory.
+
+use crate::common::configs::{ascii_borders, begins, config, prints, seen};
+use std::alloc::Global;
+use std::test::Fail;
+use tabled_border::{ANSIBuf, Border};
+use tabled_config::{SpannedConfig, print_rows};
+use tabled_grid::{Entity, FixedDimension, Layers, OutOfMemory, Position, border_writes};
+use tabled_settings::EntityMap;
+use tabled_style::ReadyStyle;
+
+const CELL: Position = Position { row: 0, col: 1 };
+
+const BELOW: Position = Position { row: 1, col: 1 };
+
+#[test]
+fn two_settings_are_made_at_once(rt: HostRuntime) -> Result<(), Fail> {
+    let mut cfg = SpannedConfig::new(rt.alloc());
+    let red = ANSIBuf::new(rt.alloc(), "\u{1b}[31m", "\u{1b}[39m")?;
+    cfg.set_trims(Entity::Cell(0, 1), true, false)?;
+    cfg.set_colored_justification(Entity::Cell(0, 1), '#', Some(red))?;
+    assert!(rt; cfg.get_trim_horizontal(CELL) && !cfg.get_trim_vertical(CELL));
+    assert!(rt; cfg.get_justification(CELL) == '#');
+    assert!(rt; begins(cfg.get_justification_color(CELL), "\u{1b}[31m"));
+    assert!(rt; !cfg.get_trim_horizontal(BELOW) && cfg.get_justification(BELOW) == ' ');
+    Ok(())
+}
+
+#[test]
+fn two_maps_are_changed_at_once(rt: HostRuntime) -> Result<(), Fail> {
+    let mut first = EntityMap::new(rt.alloc(), '.');
+    let mut second = EntityMap::new(rt.alloc(), false);
+    first.insert_both(&mut second, Entity::Row(1), 'x', true)?;
+    assert!(rt; *first.get(BELOW) == 'x' && *second.get(BELOW));
+    assert!(rt; *first.get(CELL) == '.' && !*second.get(CELL));
+    Ok(())
+}
+
+/// Entities in two colors.
+fn two_colors(alloc: Global) -> Result<Vec<(Entity, ANSIBuf)>, OutOfMemory> {
+    let mut list = Vec::new(alloc);
+    list.push((Entity::Row(1), ANSIBuf::new(alloc, "a", "b")?))?;
+    list.push((Entity::Cell(1, 0), ANSIBuf::new(alloc, "c", "d")?))?;
+    Ok(list)
+}
+
+#[test]
+fn entities_are_colored_with_their_fillings_and_paddings(rt: HostRuntime) -> Result<(), Fail> {
+    let mut cfg = config(rt.alloc());
+    cfg.color_entities(&two_colors(rt.alloc())?)?;
+    let beside = Position::new(1, 0);
+    assert!(rt; begins(cfg.get_color(BELOW), "a") && begins(cfg.get_color(beside), "c"));
+    assert!(rt; begins(cfg.config().get_justification_color(BELOW), "a"));
+    assert!(rt; begins(cfg.config().get_padding_color(beside).top.as_ref(), "c"));
+    assert!(rt; begins(cfg.get_color(CELL), ""));
+    Ok(())
+}
+
+#[test]
+fn the_cells_of_an_entity_get_a_border(rt: HostRuntime) -> Result<(), Fail> {
+    let mut cfg = SpannedConfig::new(rt.alloc());
+    cfg.set_entity_border(Entity::Row(1), (2, 2), &Border::filled('x'))?;
+    let rows: &[&[&str]] = &[&[" a ", " b "], &[" c ", " d "]];
+    let text = "  a   b  \nxxxxxxxxx\nx c x d x\nxxxxxxxxx";
+    assert!(rt; prints(rt.alloc(), &cfg, rows, 2, text)?);
+    Ok(())
+}
+
+#[test]
+fn the_writes_of_a_border_are_listed(rt: HostRuntime) -> Result<(), Fail> {
+    let border = Border::full('t', 'b', 'l', 'r', '1', '2', '3', '4');
+    let writes = border_writes(rt.alloc(), Entity::Cell(1, 1), (2, 2), &border)?;
+    let mut store = Layers::new(rt.alloc());
+    store.write_all(writes)?;
+    assert!(rt; seen(store.get_border(BELOW, (2, 2))) == border);
+    let outside = border_writes(rt.alloc(), Entity::Cell(2, 1), (2, 2), &border)?;
+    assert!(rt; outside.is_empty());
+    Ok(())
+}
+
+#[test]
+fn a_ready_style_replaces_what_was_there(rt: HostRuntime) -> Result<(), Fail> {
+    let mut cfg = SpannedConfig::new(rt.alloc());
+    cfg.set_border_default('*');
+    ReadyStyle::Markdown.replace_borders(&mut cfg)?;
+    let text = "| a |\n|---|\n| b |";
+    assert!(rt; prints(rt.alloc(), &cfg, &[&[" a "], &[" b "]], 1, text)?);
+    Ok(())
+}
+
+#[test]
+fn rows_are_printed_one_by_one(rt: HostRuntime) -> Result<(), Fail> {
+    let alloc = rt.alloc();
+    let mut cfg = SpannedConfig::new(alloc);
+    cfg.set_borders(ascii_borders());
+    let dims = FixedDimension::new(vec![in alloc; 3usize; 1]?, vec![in alloc; 1usize; 1]?);
+    let mut row = Vec::new(alloc);
+    row.push(String::from_str(alloc, " a ")?)?;
+    let mut rows = Vec::new(alloc);
+    rows.push(row)?;
+    let mut text = String::from_str(alloc, "before:")?;
+    print_rows(&mut text, &cfg, &dims, (1, 1), &rows.as_slice())?;
+    assert_eq!(rt; text.as_str(), "before:+---+\n| a |\n+---+");
+    Ok(())
+}
