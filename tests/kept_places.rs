@@ -1,10 +1,9 @@
 //! What a store keeps at single places and lines, whatever its other levels have.
 
 use std::alloc::Global;
-use std::collections::btree_map::Iter;
 use std::test::Fail;
 use tabled_grid::{
-    HorizontalLine, Layers, Offset, OutOfMemory, Place, Position, Target, VerticalLine,
+    HorizontalLine, Layers, Numbered, Offset, OutOfMemory, Place, Position, Target, VerticalLine,
 };
 
 const CELL: Position = Position { row: 0, col: 0 };
@@ -92,7 +91,7 @@ fn the_default_is_read_by_itself(rt: HostRuntime) -> Result<(), Fail> {
 
 /// Puts horizontal lines, and after them vertical ones.
 fn put_lines(store: &mut Layers<char>) -> Result<(), OutOfMemory> {
-    for line in [7, 0, 3] {
+    for line in [256, 7, 300, 0, 255, 3] {
         store.insert_hline(line, HorizontalLine::empty())?;
         store.insert_vline(line + 1, VerticalLine::empty())?;
     }
@@ -100,10 +99,10 @@ fn put_lines(store: &mut Layers<char>) -> Result<(), OutOfMemory> {
 }
 
 /// The indices of lent lines, in their order.
-fn indices<L>(alloc: Global, lines: Iter<'_, usize, L>) -> Result<Vec<usize>, OutOfMemory> {
+fn indices<L>(alloc: Global, lines: Numbered<'_, L>) -> Result<Vec<usize>, OutOfMemory> {
     let mut found = Vec::new(alloc);
     for (line, _) in lines {
-        found.push(*line)?;
+        found.push(line)?;
     }
     Ok(found)
 }
@@ -113,8 +112,8 @@ fn lends_in_order(alloc: Global, store: &Layers<char>) -> Result<bool, OutOfMemo
     let horizontal = indices(alloc, store.iter_hlines())?;
     let vertical = indices(alloc, store.iter_vlines())?;
     Ok(
-        horizontal.as_slice() == [0usize, 3, 7].as_slice()
-            && vertical.as_slice() == [1usize, 4, 8].as_slice(),
+        horizontal.as_slice() == [0usize, 3, 7, 255, 256, 300].as_slice()
+            && vertical.as_slice() == [1usize, 4, 8, 256, 257, 301].as_slice(),
     )
 }
 

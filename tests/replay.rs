@@ -12,6 +12,9 @@ use tabled_replay::{drawn, value};
 /// The numbers of the lines, rows, columns and offsets that the calls name.
 const NUMBERS: [usize; 11] = [0, 1, 2, 3, 4, 5, 254, 255, 256, 257, 258];
 
+/// The numbers on both sides of the last slot.
+const FAR_NUMBERS: [usize; 11] = [250, 251, 252, 253, 254, 255, 256, 257, 258, 259, 260];
+
 /// Tables that are read, each with the length of its edges.
 const TABLES: [(usize, usize, usize); 5] = [
     (1, 2, 3),
@@ -231,7 +234,21 @@ impl Both {
                 self.compare_place(rt, dice.place(), table);
             }
         }
-        self.compare_places(rt, swept);
+        self.compare_places(rt, NUMBERS, swept);
+        Ok(())
+    }
+
+    /// Makes two hundred calls about the last slots, and then reads all that they can name.
+    fn walk_far(&mut self, rt: &impl Abort, dice: &mut Dice) -> Result<(), OutOfMemory> {
+        for _ in 0..200 {
+            self.step(dice)?;
+        }
+        let table = (300, 300, 1);
+        for number in FAR_NUMBERS {
+            self.compare_line(rt, LineOf::Horizontal(number), 300);
+            self.compare_line(rt, LineOf::Vertical(number), 300);
+        }
+        self.compare_places(rt, FAR_NUMBERS, table);
         Ok(())
     }
 
@@ -244,10 +261,10 @@ impl Both {
         }
     }
 
-    /// Compares the places of a table that the calls can name.
-    fn compare_places(&self, rt: &impl Abort, table: (usize, usize, usize)) {
-        for row in NUMBERS {
-            for col in NUMBERS {
+    /// Compares the places of a table whose lines have these numbers.
+    fn compare_places(&self, rt: &impl Abort, numbers: [usize; 11], table: (usize, usize, usize)) {
+        for row in numbers {
+            for col in numbers {
                 self.compare_place(rt, Place::Cross { row, col }, table);
                 for at in [0, 1, 2, 3, 256] {
                     self.compare_place(rt, Place::Horizontal { row, col, at }, table);
@@ -260,7 +277,10 @@ impl Both {
 
 #[test]
 fn reads_what_the_events_leave(rt: HostRuntime) -> Result<(), Fail> {
-    let mut dice = Dice { state: 7 };
+    let mut dice = Dice {
+        state: 7,
+        is_far: false,
+    };
     for _ in 0..40 {
         for swept in TABLES {
             let mut both = Both {
@@ -269,6 +289,22 @@ fn reads_what_the_events_leave(rt: HostRuntime) -> Result<(), Fail> {
             };
             both.walk(&rt, &mut dice, swept)?;
         }
+    }
+    Ok(())
+}
+
+#[test]
+fn reads_what_the_events_leave_about_the_last_slots(rt: HostRuntime) -> Result<(), Fail> {
+    let mut dice = Dice {
+        state: 11,
+        is_far: true,
+    };
+    for _ in 0..12 {
+        let mut both = Both {
+            store: Layers::new(rt.alloc()),
+            events: Vec::new(rt.alloc()),
+        };
+        both.walk_far(&rt, &mut dice)?;
     }
     Ok(())
 }

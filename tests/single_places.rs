@@ -116,8 +116,8 @@ fn put_lines(cfg: &mut SpannedConfig) -> Result<(), OutOfMemory> {
 /// The first line of each direction.
 fn first_lines(cfg: &SpannedConfig) -> (Option<usize>, Option<usize>) {
     (
-        cfg.horizontal_lines().next().map(|(line, _)| *line),
-        cfg.vertical_lines().next().map(|(line, _)| *line),
+        cfg.horizontal_lines().next().map(|(line, _)| line),
+        cfg.vertical_lines().next().map(|(line, _)| line),
     )
 }
 
@@ -126,7 +126,7 @@ fn lines_are_lent_in_rising_order(rt: HostRuntime) -> Result<(), Fail> {
     let mut cfg = SpannedConfig::new(rt.alloc());
     let made = put_lines(&mut cfg);
     let first = first_lines(&cfg);
-    let counts = (cfg.horizontal_lines().len(), cfg.vertical_lines().len());
+    let counts = (cfg.horizontal_lines().count(), cfg.vertical_lines().count());
     drop(cfg);
     made?;
     assert!(rt; first == (Some(2), Some(1)));

@@ -6,6 +6,8 @@ use tabled_grid::{Borders, Offset, Place};
 #[derive(Drop)]
 pub(crate) struct Dice {
     pub(crate) state: u32,
+    /// Whether numbers are 250 to 260 alone.
+    pub(crate) is_far: bool,
 }
 
 impl Dice {
@@ -17,8 +19,12 @@ impl Dice {
         (self.state >> 16) % count
     }
 
-    /// Mostly 0 or 1, so that calls meet, else a number of 0 to 5 or, now and then, of 254 to 258.
+    /// Mostly 0 or 1, so that calls meet, else a number of 0 to 5 or, now and then, of 254 to 258. Far numbers are those on
+    /// both sides of the last slot.
     pub(crate) fn number(&mut self) -> usize {
+        if self.is_far {
+            return (250 + self.below(11)) as usize;
+        }
         if self.below(4) > 0 {
             return self.below(2) as usize;
         }

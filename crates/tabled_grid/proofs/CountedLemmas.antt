@@ -35,7 +35,7 @@ module _ {T : Type 0} (numbers : map.FinMap line_cmp ℕ) (cells : map.FinMap sp
   pub small_number : (line : LineOf) → number_at numbers line < 2 ^ 64
   small_number line = omega (arith, h.on_lines line, count-le spots_total exact_spots (λ spot _. lies_on line spot) cells, h.few_cells)
 
-  pub cell_put : (numbers' : map.FinMap line_cmp ℕ) (cells' : map.FinMap spot_cmp T) (at : Spot) (v : T) → cells' ≡ map.insert cells at v → ((line : LineOf) → number_at numbers' line + one_if (is_some (map.get cells at) && lies_on line at) ≡ number_at numbers line + one_if (lies_on line at)) → map.len cells' < 2 ^ 63 → CellsCounted numbers' cells'
+  pub cell_put : (numbers' : map.FinMap line_cmp ℕ) (cells' : map.FinMap spot_cmp T) (at : Spot) (v : T) → cells' ≡ map.insert cells at v → ((line : LineOf) → number_at numbers' line + one_if (is_some (map.get cells at) && lies_on line at) ≡ number_at numbers line + one_if (lies_on line at)) → map.len cells' < 2 ^ 64 → CellsCounted numbers' cells'
   cell_put numbers' cells' at v e counted few = record {
     on_lines = λ line.
         let more : on_line line cells' + one_if (is_some (map.get cells at) && lies_on line at) ≡ on_line line cells + one_if (lies_on line at) =
@@ -44,7 +44,7 @@ module _ {T : Type 0} (numbers : map.FinMap line_cmp ℕ) (cells : map.FinMap sp
     few_cells = few;
   }
 
-  pub cell_taken : (numbers' : map.FinMap line_cmp ℕ) (cells' : map.FinMap spot_cmp T) (at : Spot) → cells' ≡ map.remove cells at → ((line : LineOf) → number_at numbers' line + one_if (is_some (map.get cells at) && lies_on line at) ≡ number_at numbers line) → map.len cells' < 2 ^ 63 → CellsCounted numbers' cells'
+  pub cell_taken : (numbers' : map.FinMap line_cmp ℕ) (cells' : map.FinMap spot_cmp T) (at : Spot) → cells' ≡ map.remove cells at → ((line : LineOf) → number_at numbers' line + one_if (is_some (map.get cells at) && lies_on line at) ≡ number_at numbers line) → map.len cells' < 2 ^ 64 → CellsCounted numbers' cells'
   cell_taken numbers' cells' at e counted few = record {
     on_lines = λ line.
         let less : on_line line cells' + one_if (is_some (map.get cells at) && lies_on line at) ≡ on_line line cells =
@@ -71,11 +71,11 @@ module _ {T : Type 0} (numbers : map.FinMap line_cmp ℕ) (cells : map.FinMap sp
   pub cells_kept : (numbers' : map.FinMap line_cmp ℕ) (cells' : map.FinMap spot_cmp T) → ((line : LineOf) → number_at numbers' line ≡ number_at numbers line) → cells' ≡ cells → CellsCounted numbers' cells'
   cells_kept numbers' cells' same e = record {
     on_lines = λ line. same line ∙ h.on_lines line ∙ (λ i. on_line line (sym e i));
-    few_cells = subst (λ m. map.len m < 2 ^ 63) (sym e) h.few_cells;
+    few_cells = subst (λ m. map.len m < 2 ^ 64) (sym e) h.few_cells;
   }
 
   -- whether memory was there or not
-  pub cell_either : {A E : Type 0} (result : Result A E) (numbers' : map.FinMap line_cmp ℕ) (cells' : map.FinMap spot_cmp T) (at : Spot) (v : T) → OnOk result (cells' ≡ map.insert cells at v) → OnOk result ((line : LineOf) → number_at numbers' line + one_if (is_some (map.get cells at) && lies_on line at) ≡ number_at numbers line + one_if (lies_on line at)) → OnErr result (cells' ≡ cells) → OnErr result ((line : LineOf) → number_at numbers' line ≡ number_at numbers line) → map.len cells' < 2 ^ 63 → CellsCounted numbers' cells'
+  pub cell_either : {A E : Type 0} (result : Result A E) (numbers' : map.FinMap line_cmp ℕ) (cells' : map.FinMap spot_cmp T) (at : Spot) (v : T) → OnOk result (cells' ≡ map.insert cells at v) → OnOk result ((line : LineOf) → number_at numbers' line + one_if (is_some (map.get cells at) && lies_on line at) ≡ number_at numbers line + one_if (lies_on line at)) → OnErr result (cells' ≡ cells) → OnErr result ((line : LineOf) → number_at numbers' line ≡ number_at numbers line) → map.len cells' < 2 ^ 64 → CellsCounted numbers' cells'
   cell_either (Ok x) numbers' cells' at v ok counted err same few = cell_put numbers' cells' at v ok counted few
   cell_either (Err e) numbers' cells' at v ok counted err same few = cells_kept numbers' cells' same err
 
@@ -125,7 +125,7 @@ module _ {T : Type 0} (tops bottoms : ℕ) (lines : map.FinMap nat_cmp (Vertical
   pub vertical_put : (tops' bottoms' : ℕ) (lines' : map.FinMap nat_cmp (VerticalLine T)) (n : ℕ) (line : VerticalLine T) → lines' ≡ map.insert lines n line
       → tops' + one_if (passes (λ old. is_some old.top) (map.get lines n)) ≡ tops + one_if (is_some line.top)
       → bottoms' + one_if (passes (λ old. is_some old.bottom) (map.get lines n)) ≡ bottoms + one_if (is_some line.bottom)
-      → map.len lines' < 2 ^ 63 → VerticalCounted tops' bottoms' lines'
+      → map.len lines' < 2 ^ 64 → VerticalCounted tops' bottoms' lines'
   vertical_put tops' bottoms' lines' n line e by_tops by_bottoms small = record {
     tops_are = let same : count (λ _ x. is_some x.top) lines' ≡ count (λ _ x. is_some x.top) (map.insert lines n line) = ap (count (λ _ x. is_some x.top)) e in omega (arith, h.tops_are, by_tops, count-insert nat_cmp_total map.nat_cmp-IsAntisymmetric (λ _ x. is_some x.top) lines n line, same);
     bottoms_are = let same : count (λ _ x. is_some x.bottom) lines' ≡ count (λ _ x. is_some x.bottom) (map.insert lines n line) = ap (count (λ _ x. is_some x.bottom)) e in omega (arith, h.bottoms_are, by_bottoms, count-insert nat_cmp_total map.nat_cmp-IsAntisymmetric (λ _ x. is_some x.bottom) lines n line, same);
@@ -135,7 +135,7 @@ module _ {T : Type 0} (tops bottoms : ℕ) (lines : map.FinMap nat_cmp (Vertical
   pub vertical_taken : (tops' bottoms' : ℕ) (lines' : map.FinMap nat_cmp (VerticalLine T)) (n : ℕ) → lines' ≡ map.remove lines n
       → tops' + one_if (passes (λ old. is_some old.top) (map.get lines n)) ≡ tops + 0
       → bottoms' + one_if (passes (λ old. is_some old.bottom) (map.get lines n)) ≡ bottoms + 0
-      → map.len lines' < 2 ^ 63 → VerticalCounted tops' bottoms' lines'
+      → map.len lines' < 2 ^ 64 → VerticalCounted tops' bottoms' lines'
   vertical_taken tops' bottoms' lines' n e by_tops by_bottoms small = record {
     tops_are = let same : count (λ _ x. is_some x.top) lines' ≡ count (λ _ x. is_some x.top) (map.remove lines n) = ap (count (λ _ x. is_some x.top)) e in omega (arith, h.tops_are, by_tops, count-remove nat_cmp_total map.nat_cmp-IsAntisymmetric (λ _ x. is_some x.top) lines n, same);
     bottoms_are = let same : count (λ _ x. is_some x.bottom) lines' ≡ count (λ _ x. is_some x.bottom) (map.remove lines n) = ap (count (λ _ x. is_some x.bottom)) e in omega (arith, h.bottoms_are, by_bottoms, count-remove nat_cmp_total map.nat_cmp-IsAntisymmetric (λ _ x. is_some x.bottom) lines n, same);
@@ -177,7 +177,7 @@ module _ {T : Type 0} (lefts rights betweens : ℕ) (lines : map.FinMap nat_cmp 
       → lefts' + one_if (passes (λ old. is_some old.left) (map.get lines n)) ≡ lefts + one_if (is_some line.left)
       → rights' + one_if (passes (λ old. is_some old.right) (map.get lines n)) ≡ rights + one_if (is_some line.right)
       → betweens' + one_if (passes (λ old. is_some old.intersection) (map.get lines n)) ≡ betweens + one_if (is_some line.intersection)
-      → map.len lines' < 2 ^ 63 → HorizontalCounted lefts' rights' betweens' lines'
+      → map.len lines' < 2 ^ 64 → HorizontalCounted lefts' rights' betweens' lines'
   horizontal_put lefts' rights' betweens' lines' n line e by_lefts by_rights by_betweens small = record {
     lefts_are = let same : count (λ _ x. is_some x.left) lines' ≡ count (λ _ x. is_some x.left) (map.insert lines n line) = ap (count (λ _ x. is_some x.left)) e in omega (arith, h.lefts_are, by_lefts, count-insert nat_cmp_total map.nat_cmp-IsAntisymmetric (λ _ x. is_some x.left) lines n line, same);
     rights_are = let same : count (λ _ x. is_some x.right) lines' ≡ count (λ _ x. is_some x.right) (map.insert lines n line) = ap (count (λ _ x. is_some x.right)) e in omega (arith, h.rights_are, by_rights, count-insert nat_cmp_total map.nat_cmp-IsAntisymmetric (λ _ x. is_some x.right) lines n line, same);
@@ -189,7 +189,7 @@ module _ {T : Type 0} (lefts rights betweens : ℕ) (lines : map.FinMap nat_cmp 
       → lefts' + one_if (passes (λ old. is_some old.left) (map.get lines n)) ≡ lefts + 0
       → rights' + one_if (passes (λ old. is_some old.right) (map.get lines n)) ≡ rights + 0
       → betweens' + one_if (passes (λ old. is_some old.intersection) (map.get lines n)) ≡ betweens + 0
-      → map.len lines' < 2 ^ 63 → HorizontalCounted lefts' rights' betweens' lines'
+      → map.len lines' < 2 ^ 64 → HorizontalCounted lefts' rights' betweens' lines'
   horizontal_taken lefts' rights' betweens' lines' n e by_lefts by_rights by_betweens small = record {
     lefts_are = let same : count (λ _ x. is_some x.left) lines' ≡ count (λ _ x. is_some x.left) (map.remove lines n) = ap (count (λ _ x. is_some x.left)) e in omega (arith, h.lefts_are, by_lefts, count-remove nat_cmp_total map.nat_cmp-IsAntisymmetric (λ _ x. is_some x.left) lines n, same);
     rights_are = let same : count (λ _ x. is_some x.right) lines' ≡ count (λ _ x. is_some x.right) (map.remove lines n) = ap (count (λ _ x. is_some x.right)) e in omega (arith, h.rights_are, by_rights, count-remove nat_cmp_total map.nat_cmp-IsAntisymmetric (λ _ x. is_some x.right) lines n, same);

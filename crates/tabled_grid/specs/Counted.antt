@@ -27,17 +27,17 @@ second_line (Crossing r c) = Some (LineOf.Vertical c)
 -- the number of each line is that of the edges and the crossings kept on it
 pub record CellsCounted {T : Type 0} (numbers : FinMap line_cmp ℕ) (cells : FinMap spot_cmp T) : Type 0 where
   pub on_lines : (line : LineOf) → number_at numbers line ≡ count (λ spot _. lies_on line spot) cells
-  pub few_cells : len cells < 2 ^ 63
+  pub few_cells : len cells < 2 ^ 64
 
 -- the two numbers are those of the custom vertical lines that have an upper end, and that have a lower end
 pub record VerticalCounted {T : Type 0} (tops bottoms : ℕ) (lines : FinMap nat_cmp (VerticalLine T)) : Type 0 where
   pub tops_are : tops ≡ count (λ _ line. is_some line.top) lines
   pub bottoms_are : bottoms ≡ count (λ _ line. is_some line.bottom) lines
-  pub few : len lines < 2 ^ 63
+  pub few : len lines < 2 ^ 64
 
 -- the three numbers are those of the custom horizontal lines that have a left end, a right end, and an intersection
 pub record HorizontalCounted {T : Type 0} (lefts rights betweens : ℕ) (lines : FinMap nat_cmp (HorizontalLine T)) : Type 0 where
   pub lefts_are : lefts ≡ count (λ _ line. is_some line.left) lines
   pub rights_are : rights ≡ count (λ _ line. is_some line.right) lines
   pub betweens_are : betweens ≡ count (λ _ line. is_some line.intersection) lines
-  pub few : len lines < 2 ^ 63
+  pub few : len lines < 2 ^ 64

@@ -8,6 +8,7 @@ pub mod Lines
 pub mod Probing
 pub mod Table
 pub mod Keys
+pub mod KeySlots
 pub mod Counted
 pub mod Reading
 pub mod Calls

@@ -1,19 +1,12 @@
 -- Whether two stores keep the same, where an equality of the values says which of those are the same.
 use Rattle.std.specs.Prelude.{Bool, true, false, ◌&&◌}
 use Rattle.std.specs.Option.{option_eq}
-use Rattle.std.specs.Ordering.{eq_by_cmp}
-use Rattle.std.specs.Cmp.Lexicographic.{pointwise}
-use Rattle.std.specs.declared.cmp.Ordering.{Ordering}
-use Rattle.std.specs.FinMap.{FinMap, entries}
+pub use Rattle.tabled_kept.specs.Same.{same_map}
 use Rattle.tabled_grid.specs.declared.borders.Borders.{Borders}
 use Rattle.tabled_grid.specs.declared.lines.HorizontalLine.{HorizontalLine}
 use Rattle.tabled_grid.specs.declared.lines.VerticalLine.{VerticalLine}
 use Rattle.tabled_grid.specs.Event.{Written, sign, standing}
 use Rattle.tabled_grid.specs.State.{State}
-
--- two maps: the same keys, and under each the same value
-abbrev pub same_map : {K X : Type 0} {R : K → K → Ordering} → (X → X → Bool) → FinMap R X → FinMap R X → Bool
-same_map {R = R} same m n = pointwise (λ a b. eq_by_cmp R a.0 b.0 && same a.1 b.1) (entries m) (entries n)
 
 -- two records: in each field the same, or nothing in both
 abbrev pub same_horizontal : {T : Type 0} → (T → T → Bool) → HorizontalLine T → HorizontalLine T → Bool

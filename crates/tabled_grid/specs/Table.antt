@@ -1,11 +1,8 @@
 -- Kept maps as finite maps, and how many of their keys pass a test.
-use Rattle.std.specs.Prelude.{ℕ, Option, Some, None, Bool, true, false, List}
+use Rattle.std.specs.Prelude.{ℕ, Option, Some, None, Bool, true, false}
 use Rattle.std.specs.declared.cmp.Ordering.{Ordering}
-use Rattle.std.specs.FinMap.{FinMap, from_entries, get, retain_keys, len}
-
--- the map of a list of entries with its keys in that order
-abbrev pub table : {K X : Type 0} → (R : K → K → Ordering) → List (K × X) → FinMap R X
-table R entries = from_entries {R = R} entries
+use Rattle.std.specs.FinMap.{FinMap, get, retain_keys, len}
+pub use Rattle.tabled_kept.specs.Table.{table}
 
 -- whether a value is there and passes
 abbrev pub passes : {X : Type 0} → (X → Bool) → Option X → Bool

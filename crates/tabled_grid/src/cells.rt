@@ -8,9 +8,9 @@ ghost use Rattle.tabled_grid.specs.Counted.{number_at};
 ghost use Rattle.tabled_grid.specs.Drawn.{lies_on};
 ghost use Rattle.tabled_grid.specs.declared.place.LineOf.{LineOf};
 
-use crate::counted_map::CountedMap;
 use crate::counter::{add, remove};
 use crate::{LineOf, OutOfMemory, Spot};
+use tabled_kept::CountedMap;
 
 /// Puts a value at a spot, and returns the one that stood there. Where memory is refused nothing changes, and nothing
 /// stood there.
@@ -28,7 +28,7 @@ pub(crate) fn put_cell<T: Drop>(
     ensures err { OnErr result (table spot_cmp values.new ≡ table spot_cmp values.old) }
     ensures err_counted { OnErr result ((line : LineOf) → number_at (table line_cmp numbers.new) line ≡ number_at (table line_cmp numbers.old) line) }
     ensures absent { OnErr result (map.get (table spot_cmp values.old) spot ≡ None) }
-    ensures few { map.len (table spot_cmp values.new) < 2 ^ 63 }
+    ensures few { map.len (table spot_cmp values.new) < 2 ^ 64 }
 {
     let before = values.insert(spot, value)?;
     if before.is_some() {
@@ -51,7 +51,7 @@ pub(crate) fn take_cell<T: Drop>(
     ensures taken { table spot_cmp values.new ≡ map.remove (table spot_cmp values.old) spot }
     ensures counted { (line : LineOf) → number_at (table line_cmp numbers.new) line + one_if (is_some (map.get (table spot_cmp values.old) spot) && lies_on line spot)
         ≡ number_at (table line_cmp numbers.old) line }
-    ensures few { map.len (table spot_cmp values.new) < 2 ^ 63 }
+    ensures few { map.len (table spot_cmp values.new) < 2 ^ 64 }
 {
     if values.remove(spot).is_some() {
         discount(numbers, spot);

@@ -7,8 +7,8 @@ ghost use Rattle.tabled_grid.specs.Keys.{line_cmp};
 ghost use Rattle.tabled_grid.specs.Counted.{number_at};
 ghost use Rattle.tabled_grid.specs.declared.place.LineOf.{LineOf};
 
-use crate::counted_map::CountedMap;
 use crate::{LineOf, OutOfMemory, Probes};
+use tabled_kept::CountedMap;
 
 /// Counts one more on a line. Where memory is refused nothing changes, and the line had none.
 pub(crate) fn add(numbers: &mut CountedMap<LineOf, u128>, line: LineOf) -> Result<(), OutOfMemory>

@@ -6,10 +6,10 @@ ghost use Rattle.std.specs.FinMap as map;
 ghost use Rattle.tabled_grid.specs.Table.{table};
 ghost use Rattle.tabled_grid.specs.Counted.{VerticalCounted, HorizontalCounted};
 
-use crate::counted_map::CountedMap;
 use crate::lines::{has_between, has_bottom, has_left, has_right, has_top};
 use crate::number::Number;
 use crate::{HorizontalLine, OutOfMemory, VerticalLine};
+use tabled_kept::CountedMap;
 
 /// Puts a horizontal line at an index. Where memory is refused nothing changes, and none stood there.
 pub(crate) fn put_horizontal<T: Drop>(

@@ -1,20 +1,69 @@
-//! The keys of what a store keeps: lines, edges and crossings, and the numbered places of edges.
+//! The keys of what a store keeps: lines, edges and crossings, and the numbered places of edges. Small numbers have a slot.
 
-ghost use Rattle.std.specs.Prelude.{◌≡◌};
+ghost use Rattle.std.specs.Prelude.{◌≡◌, Some, None};
 
-use crate::counted_map::Key;
-use crate::{LineOf, Offset, Spot};
+use crate::{Direction, LineOf, Offset, Spot};
+use tabled_kept::{Key, Slot};
+
+/// The first number that has no slot.
+const DENSE_END: usize = 256;
 
 impl Key for LineOf {
     ghost use Rattle.tabled_grid.specs.Keys.{exact_lines};
+    ghost use Rattle.tabled_grid.specs.KeySlots.{slot_of_line, line_at, lines_back, lines_narrow};
+
+    ghost slot_of = { slot_of_line };
+
+    ghost key_at = { line_at };
+
+    fn slot(self) -> Option<Slot> {
+        let (row, col) = match self {
+            LineOf::Horizontal(line) => (0, line),
+            LineOf::Vertical(line) => (1, line),
+        };
+        if col < DENSE_END {
+            Some(Slot { row, col })
+        } else {
+            None
+        }
+    }
 
     ghost exact = { exact_lines };
+
+    ghost back = { lines_back };
+
+    ghost narrow = { lines_narrow };
 }
 
 impl Key for Spot {
     ghost use Rattle.tabled_grid.specs.Keys.{exact_spots};
+    ghost use Rattle.tabled_grid.specs.KeySlots.{slot_of_spot, spot_at, spots_back, spots_narrow};
+
+    ghost slot_of = { slot_of_spot };
+
+    ghost key_at = { spot_at };
+
+    fn slot(self) -> Option<Slot> {
+        let (row, col, part) = match self {
+            Spot::Edge(Direction::Horizontal, row, col) => (row, col, 0),
+            Spot::Edge(Direction::Vertical, row, col) => (row, col, 1),
+            Spot::Crossing(row, col) => (row, col, 2),
+        };
+        if row < DENSE_END && col < DENSE_END {
+            Some(Slot {
+                row,
+                col: 3 * col + part,
+            })
+        } else {
+            None
+        }
+    }
 
     ghost exact = { exact_spots };
+
+    ghost back = { spots_back };
+
+    ghost narrow = { spots_narrow };
 }
 
 /// One numbered place of an edge: the key of an offset.
@@ -28,8 +77,22 @@ pub(crate) struct EdgePlace {
     pub(crate) offset: Offset,
 }
 
+/// Offsets have no slots.
 impl Key for EdgePlace {
     ghost use Rattle.tabled_grid.specs.Keys.{exact_edge_places};
+    ghost use Rattle.tabled_grid.specs.KeySlots.{no_slot, no_edge_place, no_slot_back, no_slot_narrow};
+
+    ghost slot_of = { no_slot };
+
+    ghost key_at = { no_edge_place };
+
+    fn slot(self) -> Option<Slot> {
+        None
+    }
 
     ghost exact = { exact_edge_places };
+
+    ghost back = { no_slot_back };
+
+    ghost narrow = { no_slot_narrow };
 }

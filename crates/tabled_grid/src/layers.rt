@@ -10,7 +10,6 @@ mod equality;
 mod reads;
 mod writes;
 
-use crate::counted_map::CountedMap;
 use crate::custom_lines::{put_horizontal, put_vertical, take_horizontal, take_vertical};
 use crate::keys::EdgePlace;
 use crate::number::Number;
@@ -22,6 +21,7 @@ pub use entity_border::border_writes;
 use std::alloc::Global;
 use std::marker::Model;
 use std::mem;
+use tabled_kept::CountedMap;
 
 /// What a table keeps for its border places, of one kind of value: characters, or colors.
 ///

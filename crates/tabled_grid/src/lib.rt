@@ -9,7 +9,6 @@
 
 mod borders;
 mod cells;
-mod counted_map;
 mod counter;
 mod custom_lines;
 mod event;
@@ -20,19 +19,18 @@ mod lines;
 mod number;
 mod offset;
 mod place;
-mod probes;
 mod site;
 mod writes;
 
 pub use borders::Borders;
 pub use event::{Event, Region, Written};
 pub use layers::{Layers, border_writes};
-pub use lines::{HorizontalLine, VerticalLine};
+pub use lines::{HorizontalLine, HorizontalLines, VerticalLine, VerticalLines};
 pub use offset::Offset;
 pub use place::{LineOf, Place, Rank};
-pub use probes::Probes;
 pub use site::{Class, Direction, Part, Site, Spot};
 pub use tabled_border::{ANSIBuf, ANSIFmt, ANSIStr, AnsiText, Border, Keep, OutOfMemory};
+pub use tabled_kept::{Numbered, Probes};
 pub use tabled_object::{
     Cell, Column, Columns, Combine, Difference, DifferenceIterator, Dimension, Entity,
     EntityIterator, ExactRecords, FirstColumn, FirstRow, FixedDimension, LastColumn,

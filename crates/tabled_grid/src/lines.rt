@@ -5,6 +5,7 @@ ghost use Rattle.tabled_grid.specs.Table.{passes};
 
 use crate::Rank;
 use std::alloc::AllocError;
+use tabled_kept::Numbered;
 
 /// A custom horizontal line. A character that is missing leaves the place to the levels below.
 ///
@@ -62,6 +63,12 @@ pub struct VerticalLine<T> {
     /// At the crossing with the last horizontal line.
     pub bottom: Option<T>,
 }
+
+/// Custom horizontal lines, lent, each with the index at which it stands, in rising order.
+pub type HorizontalLines<'a, T> = Numbered<'a, HorizontalLine<T>>;
+
+/// Custom vertical lines, lent, each with the index at which it stands, in rising order.
+pub type VerticalLines<'a, T> = Numbered<'a, VerticalLine<T>>;
 
 /// Values are copied where `T` is copied.
 impl<T: Copy> Clone for VerticalLine<T> {

@@ -13,8 +13,7 @@ ghost use Rattle.tabled_configuration.specs.Configuration.{Changes, by_character
 
 use super::SpannedConfig;
 use std::collections::BTreeMap;
-use std::collections::btree_map::Iter;
-use tabled_grid::{HorizontalLine, OutOfMemory, VerticalLine};
+use tabled_grid::{HorizontalLine, HorizontalLines, OutOfMemory, VerticalLine, VerticalLines};
 
 impl SpannedConfig {
     /// Puts a custom horizontal line at index `line`, in place of the one that stood there. Only a line at
@@ -50,7 +49,7 @@ impl SpannedConfig {
 
     /// The custom horizontal lines, each with the index at which it stands, in rising order. They are lent, so no
     /// memory is asked for.
-    pub fn horizontal_lines(&self) -> Iter<'_, usize, HorizontalLine<char>>
+    pub fn horizontal_lines(&self) -> HorizontalLines<'_, char>
         ensures { result ≡ map.entries self.now.characters.horizontal_lines }
     {
         self.characters.iter_hlines()
@@ -112,7 +111,7 @@ impl SpannedConfig {
 
     /// The custom vertical lines, each with the index at which it stands, in rising order. They are lent, so no
     /// memory is asked for.
-    pub fn vertical_lines(&self) -> Iter<'_, usize, VerticalLine<char>>
+    pub fn vertical_lines(&self) -> VerticalLines<'_, char>
         ensures { result ≡ map.entries self.now.characters.vertical_lines }
     {
         self.characters.iter_vlines()

@@ -3,11 +3,11 @@
 ghost use Rattle.std.specs.Prelude.{◌≡◌, IfOk};
 
 use super::Layers;
-use crate::counted_map::CountedMap;
 use crate::keys::EdgePlace;
 use crate::number::Number;
 use crate::{Borders, HorizontalLine, Keep, LineOf, OutOfMemory, Spot, VerticalLine};
 use std::alloc::Global;
+use tabled_kept::CountedMap;
 
 /// What is kept under the index of a custom line.
 type Lines<V> = CountedMap<usize, V>;

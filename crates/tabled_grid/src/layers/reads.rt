@@ -12,15 +12,14 @@ ghost use Rattle.tabled_grid.specs.Drawn.{number};
 ghost use Rattle.tabled_grid.specs.State.{class_draws as class_drawn};
 
 use super::Layers;
-use crate::counted_map::CountedMap;
 use crate::keys::EdgePlace;
 use crate::number::Number;
 use crate::{
-    Borders, HorizontalLine, Keep, LineOf, Offset, OutOfMemory, Place, Probes, Spot, Target,
-    VerticalLine,
+    Borders, HorizontalLine, HorizontalLines, Keep, LineOf, Offset, OutOfMemory, Place, Probes,
+    Spot, Target, VerticalLine, VerticalLines,
 };
 use std::collections::BTreeMap;
-use std::collections::btree_map::Iter;
+use tabled_kept::CountedMap;
 
 impl<T> Layers<T> {
     ghost use Rattle.tabled_grid.specs.Value.{value, plain_value};
@@ -52,7 +51,7 @@ impl<T> Layers<T> {
 
     /// The custom horizontal lines, each with the index at which it stands, in rising order. They are lent, so no
     /// memory is asked for.
-    pub fn iter_hlines(&self) -> Iter<'_, usize, HorizontalLine<T>>
+    pub fn iter_hlines(&self) -> HorizontalLines<'_, T>
         ensures { result ≡ map.entries self.now.horizontal_lines }
     {
         self.horizontal_lines.iter()
@@ -60,7 +59,7 @@ impl<T> Layers<T> {
 
     /// The custom vertical lines, each with the index at which it stands, in rising order. They are lent, so no
     /// memory is asked for.
-    pub fn iter_vlines(&self) -> Iter<'_, usize, VerticalLine<T>>
+    pub fn iter_vlines(&self) -> VerticalLines<'_, T>
         ensures { result ≡ map.entries self.now.vertical_lines }
     {
         self.vertical_lines.iter()
@@ -147,19 +146,26 @@ impl<T> Layers<T> {
     pub fn plain_at(&self, place: Place, shape: (usize, usize)) -> Option<&T>
         ensures { option_copied result ≡ plain_value (state_at self.now) shape place }
     {
+        self.read_plain(place, shape, &mut Probes::new())
+    }
+
+    /// The same as `plain_at`, with its readings counted: at most five are made.
+    pub fn read_plain(&self, place: Place, shape: (usize, usize), probes: &mut Probes) -> Option<&T>
+        ensures value { option_copied result ≡ plain_value (state_at self.now) shape place }
+        ensures probes { IsRaised 5 probes.old probes.new }
+    {
         if !place.has_spot(shape) {
             return None;
         }
         let (rows, cols) = shape;
-        let mut probes = Probes::new();
         match place {
             Place::Horizontal { row, col, .. } => {
-                self.plain_edge((LineOf::Horizontal(row), rows), col, &mut probes)
+                self.plain_edge((LineOf::Horizontal(row), rows), col, probes)
             }
             Place::Vertical { row, col, .. } => {
-                self.plain_edge((LineOf::Vertical(col), cols), row, &mut probes)
+                self.plain_edge((LineOf::Vertical(col), cols), row, probes)
             }
-            Place::Cross { row, col } => self.plain_crossing(row, col, rows, cols, &mut probes),
+            Place::Cross { row, col } => self.plain_crossing(row, col, rows, cols, probes),
         }
     }
 

@@ -1,6 +1,0 @@
-use Rattle.std.proofs.Common.{◌≡◌, ◌++◌}
-use Rattle.tabled_grid.proofs.counted_map.CountedMap.copy.Given as goal
-
--- what is copied and what is left are the entries
-abbrev pub invariant-loop-key : goal.invariant-loop-key
-invariant-loop-key g l = l.copy.entries ++ l.key-iterator ≡ l.self

@@ -1,0 +1,10 @@
+pub mod SlotLemmas
+pub mod SameGets
+pub mod TableLemmas
+pub mod SameRows
+pub mod Tables
+pub mod Ascending
+pub mod Joining
+pub mod KeptLemmas
+pub mod FewSlots
+pub mod NumberedLemmas

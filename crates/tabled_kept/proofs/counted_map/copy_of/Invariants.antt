@@ -1,0 +1,6 @@
+use Rattle.std.proofs.Common.{◌≡◌, ◌++◌}
+use Rattle.tabled_kept.proofs.counted_map.copy_of.Given as goal
+
+-- what is copied and what is left are the entries
+abbrev pub invariant-loop-key : goal.invariant-loop-key
+invariant-loop-key g l = l.copy.entries ++ l.key-iterator ≡ l.entries.entries

@@ -1,0 +1,6 @@
+pub mod Probing
+pub mod Table
+pub mod Same
+pub mod Slots
+pub mod Kept
+pub mod KeyLaws

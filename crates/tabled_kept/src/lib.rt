@@ -1,0 +1,20 @@
+//! What a store keeps under keys: one value under each, in tables where the numbers of the key are small, and else in an
+//! ordered map.
+//!
+//! `docs/DEFINITIONS.md` explains the words of the contracts. Users name [`Probes`] by `tabled_grid`.
+#![tactic(auto)]
+
+mod copies;
+mod counted_map;
+mod key;
+mod numbered;
+mod probes;
+mod slots;
+mod table;
+
+pub use counted_map::CountedMap;
+pub use key::Key;
+pub use numbered::Numbered;
+pub use probes::Probes;
+pub use slots::Slots;
+pub use table::{Slot, Table};

@@ -1,0 +1,43 @@
+//! The meter of look-ups.
+
+ghost use Rattle.std.specs.Prelude.{◌≡◌, ℕ};
+
+/// How many readings of a store were made: readings of a kept map, of a count, of the class record
+/// or of the default. It saturates at `u64::MAX`.
+#[derive(Debug, Drop)]
+pub struct Probes {
+    made: u64,
+}
+
+impl std::marker::Model for Probes {
+    ghost Value = { ℕ };
+
+    ghost view = { λ probes. probes.made };
+}
+
+impl Probes {
+    ghost use Rattle.tabled_kept.specs.Probing.{IsCounted, IsRaised};
+
+    /// No reading so far.
+    pub fn new() -> Self
+        ensures { result ≡ 0 }
+    {
+        Probes { made: 0 }
+    }
+
+    /// How many readings were made, up to `u64::MAX`.
+    pub fn count(&self) -> u64
+        ensures { result ≡ self.now }
+    {
+        self.made
+    }
+
+    /// Counts one reading.
+    #[tactic(auto, unfolding(crate::specs::Probing::IsCounted))]
+    pub fn raise(&mut self)
+        ensures counted { IsCounted self.old self.new }
+        ensures raised { IsRaised 1 self.old self.new }
+    {
+        self.made = self.made.saturating_add(1);
+    }
+}
