@@ -190,6 +190,22 @@ fn cells_of_one_object_and_not_of_another_are_drawn(rt: HostRuntime) -> Result<(
 }
 
 #[test]
+fn outline_of_cells_that_touch_is_drawn(rt: HostRuntime) -> Result<(), Fail> {
+    let text = options::outline_of_cells_that_touch(rt.alloc())?;
+    let picture = "
+┌───────┐      
+│ name  │ age  
+└───────┼─────┐
+  Alice │ 30  │
+┌───────┼─────┘
+│ Bob   │ 7    
+└───────┘      
+";
+    assert!(rt; is_picture(text.as_str(), picture));
+    Ok(())
+}
+
+#[test]
 fn cells_of_a_list_are_drawn(rt: HostRuntime) -> Result<(), Fail> {
     let text = options::cells_of_a_list(rt.alloc())?;
     let picture = "

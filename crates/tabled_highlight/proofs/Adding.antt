@@ -1,7 +1,6 @@
 -- Writes that are added one after the other.
 use Rattle.std.proofs.Common.{◌≡◌, Option, Some, None, List, [], ◌∷◌, ◌++◌, refl, sym, ap, ◌∙◌, append_assoc}
 use Rattle.std.proofs.lemmas.List.{append-nil}
-use Rattle.tabled_border.specs.declared.border.Border.{Border}
 use Rattle.tabled_object.specs.declared.position.Position.{Position}
 use Rattle.tabled_grid.specs.declared.place.Place.{Place}
 use Rattle.tabled_grid.specs.declared.site.Spot.{Spot}
@@ -12,7 +11,7 @@ use Rattle.tabled_grid.specs.Calls.{spot_of}
 use Rattle.tabled_grid.specs.Writes.{writes_made}
 use Rattle.tabled_grid.proofs.EntityBorders.{added}
 use Rattle.tabled_highlight.specs.declared.around.Neighbors.{Neighbors}
-use Rattle.tabled_highlight.specs.Outline.{CellSet}
+use Rattle.tabled_highlight.specs.Outline.{Outlining, CellSet}
 use Rattle.tabled_highlight.specs.Around.{written_at, all_written, neighbors, sides, corners, line_after, written_around_each}
 
 pub all_written-append : {T : Type 0} (xs ys : List (Spot × Option T)) → all_written (xs ++ ys) ≡ all_written xs ++ all_written ys
@@ -45,19 +44,19 @@ pushed all ws place value copy now more same is =
     ∙ ap (λ x. writes_made ws ++ all_written ((spot_of place, x) ∷ [])) (ap Some same ∙ sym is)
 
 -- a cell more, and what is left to be written
-pub one_cell_more : {T : Type 0} (border : Border T) (cells : CellSet) (pos : Position) (near : Neighbors) (items rest : List Position) (before es fs all : List (Event T)) → items ≡ pos ∷ rest
+pub one_cell_more : {T : Type 0} (given : Outlining T) (cells : CellSet) (pos : Position) (near : Neighbors) (items rest : List Position) (before es fs all : List (Event T)) → items ≡ pos ∷ rest
     → near ≡ neighbors cells pos.row (line_after pos.row) pos.col (line_after pos.col)
-    → es ≡ before ++ all_written (sides border near pos.row (line_after pos.row) pos.col (line_after pos.col))
-    → fs ≡ es ++ all_written (corners border near pos.row (line_after pos.row) pos.col (line_after pos.col))
-    → before ++ written_around_each border cells items ≡ all → fs ++ written_around_each border cells rest ≡ all
-one_cell_more border cells pos near items rest before es fs all next is at_sides at_corners so_far =
+    → es ≡ before ++ all_written (sides given.border near pos.row (line_after pos.row) pos.col (line_after pos.col))
+    → fs ≡ es ++ all_written (corners given near pos.row (line_after pos.row) pos.col (line_after pos.col))
+    → before ++ written_around_each given cells items ≡ all → fs ++ written_around_each given cells rest ≡ all
+one_cell_more given cells pos near items rest before es fs all next is at_sides at_corners so_far =
     let down = line_after pos.row in
     let right = line_after pos.col in
-    let left = written_around_each border cells rest in
-    ap (λ x. x ++ left) (at_corners ∙ ap (λ x. x ++ all_written (corners border near pos.row down pos.col right)) at_sides)
-    ∙ ap (λ x. x ++ left) (append_assoc before (all_written (sides border near pos.row down pos.col right)) (all_written (corners border near pos.row down pos.col right)))
-    ∙ append_assoc before (all_written (sides border near pos.row down pos.col right) ++ all_written (corners border near pos.row down pos.col right)) left
-    ∙ ap (λ x. before ++ (x ++ left)) (sym (all_written-append (sides border near pos.row down pos.col right) (corners border near pos.row down pos.col right)))
-    ∙ ap (λ n. before ++ (all_written (sides border n pos.row down pos.col right ++ corners border n pos.row down pos.col right) ++ left)) is
-    ∙ ap (λ list. before ++ written_around_each border cells list) (sym next)
+    let left = written_around_each given cells rest in
+    ap (λ x. x ++ left) (at_corners ∙ ap (λ x. x ++ all_written (corners given near pos.row down pos.col right)) at_sides)
+    ∙ ap (λ x. x ++ left) (append_assoc before (all_written (sides given.border near pos.row down pos.col right)) (all_written (corners given near pos.row down pos.col right)))
+    ∙ append_assoc before (all_written (sides given.border near pos.row down pos.col right) ++ all_written (corners given near pos.row down pos.col right)) left
+    ∙ ap (λ x. before ++ (x ++ left)) (sym (all_written-append (sides given.border near pos.row down pos.col right) (corners given near pos.row down pos.col right)))
+    ∙ ap (λ n. before ++ (all_written (sides given.border n pos.row down pos.col right ++ corners given n pos.row down pos.col right) ++ left)) is
+    ∙ ap (λ list. before ++ written_around_each given cells list) (sym next)
     ∙ so_far

@@ -20,9 +20,9 @@ use Rattle.tabled_configuration.proofs.ConfigurationLemmas.{passed_over, both_pa
 use Rattle.tabled_configuration.proofs.ColoredLemmas.{none_by_both}
 use Rattle.tabled_color.specs.Shade.{Shade}
 use Rattle.tabled_color.specs.BorderColors.{border_texts}
-use Rattle.tabled_highlight.specs.Outline.{CellSet, outline_value, outline}
+use Rattle.tabled_highlight.specs.Outline.{Outlining, CellSet, outline_value, outline}
 use Rattle.tabled_highlight.specs.Around.{has, written_around_each, written_around}
-use Rattle.tabled_highlight.specs.Highlighting.{outline_if, highlight_events}
+use Rattle.tabled_highlight.specs.Highlighting.{drawn_with, outline_if, highlight_events}
 use Rattle.tabled_highlight.proofs.Tests.{each_holds}
 use Rattle.tabled_highlight.proofs.Walk.{Fits, walk_leaves}
 use Rattle.tabled_highlight.proofs.Spots.{outline_leaves}
@@ -44,44 +44,44 @@ set_inside rows cols list cells same inside pos h = inside pos (sym (same pos) �
 
 module _ {T : Type 0} (rows cols : ℕ) (row_bound : rows < 2 ^ 64) (col_bound : cols < 2 ^ 64) (list : List Position) (cells : CellSet) (same : (pos : Position) → has list pos ≡ cells pos)
     (inside : (pos : Position) → cells pos ≡ true → is_inside rows cols pos ≡ true) where
-  each_makes : (border : Border T) (old new : Site → Option (Written T)) → grid.Changes (written_around_each border (has list) list) old new → grid.Changes (outline (rows, cols) cells border) old new
-  each_makes border old new changes =
-      subst (λ (set : CellSet). grid.Changes (outline (rows, cols) set border) old new) (λ i. λ pos. same pos i)
-      (same_change (on_spots (outline_value (has list) border)) (written_around_each border (has list) list) (outline (rows, cols) (has list) border) old new
-      (walk_leaves border list (λ pos h. inside_fits rows cols pos row_bound col_bound (set_inside rows cols list cells same inside pos h)))
-      (outline_leaves rows cols (has list) border (set_inside rows cols list cells same inside)) changes)
+  each_makes : (given : Outlining T) (old new : Site → Option (Written T)) → grid.Changes (written_around_each given (has list) list) old new → grid.Changes (outline (rows, cols) cells given) old new
+  each_makes given old new changes =
+      subst (λ (set : CellSet). grid.Changes (outline (rows, cols) set given) old new) (λ i. λ pos. same pos i)
+      (same_change (on_spots (outline_value (has list) given)) (written_around_each given (has list) list) (outline (rows, cols) (has list) given) old new
+      (walk_leaves given list (λ pos h. inside_fits rows cols pos row_bound col_bound (set_inside rows cols list cells same inside pos h)))
+      (outline_leaves rows cols (has list) given (set_inside rows cols list cells same inside)) changes)
 
-  pub makes_outline : (border : Option (Border T)) (old new : Site → Option (Written T)) → grid.Changes (written_around list border) old new → grid.Changes (outline_if (rows, cols) cells border) old new
+  pub makes_outline : (given : Option (Outlining T)) (old new : Site → Option (Written T)) → grid.Changes (written_around list given) old new → grid.Changes (outline_if (rows, cols) cells given) old new
   makes_outline None old new changes = changes
-  makes_outline (Some border) old new changes = each_makes border old new changes
+  makes_outline (Some given) old new changes = each_makes given old new changes
 
 -- characters and colors
-pub outline_made : (shape : ℕ × ℕ) (entities : List Entity) (list : List Position) (border : Option (Border ℕ)) (color : Option (Border Shade)) (characters : List (Write ℕ)) (colors : List (Write Texts)) (old new : Configuration)
+pub outline_made : (shape : ℕ × ℕ) (entities : List Entity) (list : List Position) (border : Option (Border ℕ)) (diagonal : Option ℕ) (color : Option (Border Shade)) (characters : List (Write ℕ)) (colors : List (Write Texts)) (old new : Configuration)
     → shape.0 < 2 ^ 64 → shape.1 < 2 ^ 64 → ((pos : Position) → has list pos ≡ listed entities shape.0 shape.1 pos)
-    → writes_made characters ≡ written_around list border → writes_made colors ≡ written_around list (option_map border_texts color)
-    → Changes (writes_applied characters colors) old new → Changes (highlight_events shape entities border color) old new
+    → writes_made characters ≡ written_around list (drawn_with border diagonal) → writes_made colors ≡ written_around list (drawn_with (option_map border_texts color) None)
+    → Changes (writes_applied characters colors) old new → Changes (highlight_events shape entities border diagonal color) old new
 unfolding highlight_events writes_applied
-outline_made (rows, cols) entities list border color characters colors old new row_bound col_bound same made colored changes =
+outline_made (rows, cols) entities list border diagonal color characters colors old new row_bound col_bound same made colored changes =
     let cells : CellSet = listed entities rows cols in
-    let of_border : grid.Changes (written_around list border) (state_at old.characters) (state_at new.characters) =
+    let of_border : grid.Changes (written_around list (drawn_with border diagonal)) (state_at old.characters) (state_at new.characters) =
     subst (λ es. grid.Changes es (state_at old.characters) (state_at new.characters)) (characters_of-both (writes_made characters) (writes_made colors) ∙ made) changes.characters_changed in
-    let of_color : grid.Changes (written_around list (option_map border_texts color)) (state_at old.colors) (state_at new.colors) =
+    let of_color : grid.Changes (written_around list (drawn_with (option_map border_texts color) None)) (state_at old.colors) (state_at new.colors) =
     subst (λ es. grid.Changes es (state_at old.colors) (state_at new.colors)) (colors_of-both (writes_made characters) (writes_made colors) ∙ colored) changes.colors_changed in
     let no_settings = both_passed_over setting_event (by_characters (writes_made characters)) (by_colors (writes_made colors)) (passed_over of_characters setting_event (λ e. refl) (writes_made characters)) (passed_over of_colors setting_event (λ e. refl) (writes_made colors)) in
-    Changes_by_both (outline_if (rows, cols) cells border) (outline_if (rows, cols) cells (option_map border_texts color)) old new
-    (makes_outline rows cols row_bound col_bound list cells same (listed_inside entities rows cols) border (state_at old.characters) (state_at new.characters) of_border)
-    (makes_outline rows cols row_bound col_bound list cells same (listed_inside entities rows cols) (option_map border_texts color) (state_at old.colors) (state_at new.colors) of_color)
+    Changes_by_both (outline_if (rows, cols) cells (drawn_with border diagonal)) (outline_if (rows, cols) cells (drawn_with (option_map border_texts color) None)) old new
+    (makes_outline rows cols row_bound col_bound list cells same (listed_inside entities rows cols) (drawn_with border diagonal) (state_at old.characters) (state_at new.characters) of_border)
+    (makes_outline rows cols row_bound col_bound list cells same (listed_inside entities rows cols) (drawn_with (option_map border_texts color) None) (state_at old.colors) (state_at new.colors) of_color)
     (changes.settings_changed ∙ ap (settings_after old.settings) no_settings)
 
 -- listings that cover the same cells make the same events
-pub same_events : (these those : List Entity) (rows cols : ℕ) (border : Option (Border ℕ)) (color : Option (Border Shade)) → ((pos : Position) → listed these rows cols pos ≡ listed those rows cols pos)
-    → highlight_events (rows, cols) these border color ≡ highlight_events (rows, cols) those border color
+pub same_events : (these those : List Entity) (rows cols : ℕ) (border : Option (Border ℕ)) (diagonal : Option ℕ) (color : Option (Border Shade)) → ((pos : Position) → listed these rows cols pos ≡ listed those rows cols pos)
+    → highlight_events (rows, cols) these border diagonal color ≡ highlight_events (rows, cols) those border diagonal color
 unfolding highlight_events
-same_events these those rows cols border color same =
-    λ i. by_characters (outline_if (rows, cols) (λ pos. same pos i) border) ++ by_colors (outline_if (rows, cols) (λ pos. same pos i) (option_map border_texts color))
+same_events these those rows cols border diagonal color same =
+    λ i. by_characters (outline_if (rows, cols) (λ pos. same pos i) (drawn_with border diagonal)) ++ by_colors (outline_if (rows, cols) (λ pos. same pos i) (drawn_with (option_map border_texts color) None))
 
 -- none of them is one of the colors of cells
-pub none_in_outline : (rows cols : ℕ) (entities : List Entity) (border : Option (Border ℕ)) (color : Option (Border Shade)) → cell_colors_of (highlight_events (rows, cols) entities border color) ≡ []
+pub none_in_outline : (rows cols : ℕ) (entities : List Entity) (border : Option (Border ℕ)) (diagonal : Option ℕ) (color : Option (Border Shade)) → cell_colors_of (highlight_events (rows, cols) entities border diagonal color) ≡ []
 unfolding highlight_events
-none_in_outline rows cols entities border color =
-    none_by_both (outline_if (rows, cols) (listed entities rows cols) border) (outline_if (rows, cols) (listed entities rows cols) (option_map border_texts color))
+none_in_outline rows cols entities border diagonal color =
+    none_by_both (outline_if (rows, cols) (listed entities rows cols) (drawn_with border diagonal)) (outline_if (rows, cols) (listed entities rows cols) (drawn_with (option_map border_texts color) None))

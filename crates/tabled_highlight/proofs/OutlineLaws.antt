@@ -16,7 +16,7 @@ use Rattle.tabled_grid.specs.Event.{covered, replay}
 use Rattle.tabled_grid.proofs.SameSite.{same_site-eq}
 use Rattle.tabled_grid.proofs.Replay.{replay_uncovered}
 use Rattle.tabled_grid.proofs.Leaving.{Leaves, on_spots, covered_is, left_is, covered_written}
-use Rattle.tabled_highlight.specs.Outline.{across_value, down_value, outline_value, every_spot, outline, IsSpotOf}
+use Rattle.tabled_highlight.specs.Outline.{Outlining, across_value, down_value, outline_value, every_spot, outline, IsSpotOf}
 use Rattle.tabled_highlight.proofs.Tests.{each_holds}
 use Rattle.tabled_highlight.proofs.Spots.{outline_leaves}
 use Rattle.tabled_highlight.proofs.Made.{listed_inside}
@@ -30,15 +30,15 @@ kept_is : {T : Type 0} (value : Site → Option T) (es : List (Event T)) (q : Si
 kept_is value es q true h e = left_is value es q h.all_of e
 kept_is value es q false h e = replay_uncovered q es e ∙ nothing_kept sign (value q) (sym (covered_is value es q h) ∙ e)
 
-module _ {T : Type 0} (entities : List Entity) (rows cols : ℕ) (border : Border T) where
-  leaves : Leaves (on_spots (outline_value (listed entities rows cols) border)) (outline (rows, cols) (listed entities rows cols) border)
-  leaves = outline_leaves rows cols (listed entities rows cols) border (listed_inside entities rows cols)
+module _ {T : Type 0} (entities : List Entity) (rows cols : ℕ) (given : Outlining T) where
+  leaves : Leaves (on_spots (outline_value (listed entities rows cols) given)) (outline (rows, cols) (listed entities rows cols) given)
+  leaves = outline_leaves rows cols (listed entities rows cols) given (listed_inside entities rows cols)
 
-  pub table_covered : (spot : Spot) → covered (outline (rows, cols) (listed entities rows cols) border) (at_spot spot) ≡ is_some (outline_value (listed entities rows cols) border spot)
-  table_covered spot = covered_is (on_spots (outline_value (listed entities rows cols) border)) (outline (rows, cols) (listed entities rows cols) border) (at_spot spot) leaves
+  pub table_covered : (spot : Spot) → covered (outline (rows, cols) (listed entities rows cols) given) (at_spot spot) ≡ is_some (outline_value (listed entities rows cols) given spot)
+  table_covered spot = covered_is (on_spots (outline_value (listed entities rows cols) given)) (outline (rows, cols) (listed entities rows cols) given) (at_spot spot) leaves
 
-  pub table_kept : (spot : Spot) → replay (outline (rows, cols) (listed entities rows cols) border) (at_spot spot) ≡ option_map sign (outline_value (listed entities rows cols) border spot)
-  table_kept spot = kept_is (on_spots (outline_value (listed entities rows cols) border)) (outline (rows, cols) (listed entities rows cols) border) (at_spot spot) _ leaves refl
+  pub table_kept : (spot : Spot) → replay (outline (rows, cols) (listed entities rows cols) given) (at_spot spot) ≡ option_map sign (outline_value (listed entities rows cols) given spot)
+  table_kept spot = kept_is (on_spots (outline_value (listed entities rows cols) given)) (outline (rows, cols) (listed entities rows cols) given) (at_spot spot) _ leaves refl
 
 among : (site : Site) (sites : List Site) → list_any (same_site site) sites ≡ true → Contains sites site
 among site sites h =
@@ -50,16 +50,16 @@ nowhere : {T : Type 0} (value : Site → Option T) (es : List (Event T)) (q : Si
 nowhere value es q h none c = let e : is_some (value q) ≡ true = sym (covered_is value es q h) ∙ c in let k : is_some (value q) ≡ false = ap is_some none in cc
 
 -- an event is at an edge or a crossing of the table
-pub at_its_spots : {T : Type 0} (entities : List Entity) (rows cols : ℕ) (border : Border T) (site : Site) → covered (outline (rows, cols) (listed entities rows cols) border) site ≡ true → IsSpotOf (rows, cols) site
+pub at_its_spots : {T : Type 0} (entities : List Entity) (rows cols : ℕ) (given : Outlining T) (site : Site) → covered (outline (rows, cols) (listed entities rows cols) given) site ≡ true → IsSpotOf (rows, cols) site
 unfolding outline
-at_its_spots entities rows cols border (at_spot spot) h =
+at_its_spots entities rows cols given (at_spot spot) h =
     among (at_spot spot) (map at_spot (every_spot (rows, cols)))
     (any_map (same_site (at_spot spot)) at_spot (every_spot (rows, cols))
-    ∙ (each_holds (is_some (outline_value (listed entities rows cols) border spot)) (list_any (same_spot spot) (every_spot (rows, cols))) (sym (covered_written (outline_value (listed entities rows cols) border) (every_spot (rows, cols)) spot) ∙ h)).1)
-at_its_spots entities rows cols border the_default h = absurd (nowhere _ (outline (rows, cols) (listed entities rows cols) border) the_default (leaves entities rows cols border) refl h)
-at_its_spots entities rows cols border (of_class class) h = absurd (nowhere _ (outline (rows, cols) (listed entities rows cols) border) (of_class class) (leaves entities rows cols border) refl h)
-at_its_spots entities rows cols border (of_line line part) h = absurd (nowhere _ (outline (rows, cols) (listed entities rows cols) border) (of_line line part) (leaves entities rows cols border) refl h)
-at_its_spots entities rows cols border (at_offset d r c offset) h = absurd (nowhere _ (outline (rows, cols) (listed entities rows cols) border) (at_offset d r c offset) (leaves entities rows cols border) refl h)
+    ∙ (each_holds (is_some (outline_value (listed entities rows cols) given spot)) (list_any (same_spot spot) (every_spot (rows, cols))) (sym (covered_written (outline_value (listed entities rows cols) given) (every_spot (rows, cols)) spot) ∙ h)).1)
+at_its_spots entities rows cols given the_default h = absurd (nowhere _ (outline (rows, cols) (listed entities rows cols) given) the_default (leaves entities rows cols given) refl h)
+at_its_spots entities rows cols given (of_class class) h = absurd (nowhere _ (outline (rows, cols) (listed entities rows cols) given) (of_class class) (leaves entities rows cols given) refl h)
+at_its_spots entities rows cols given (of_line line part) h = absurd (nowhere _ (outline (rows, cols) (listed entities rows cols) given) (of_line line part) (leaves entities rows cols given) refl h)
+at_its_spots entities rows cols given (at_offset d r c offset) h = absurd (nowhere _ (outline (rows, cols) (listed entities rows cols) given) (at_offset d r c offset) (leaves entities rows cols given) refl h)
 
 -- nothing stands between two cells alike
 pub nothing_across : {T : Type 0} (border : Border T) (above below : Bool) → above ≡ below → is_some (across_value border above below) ≡ false

@@ -2,7 +2,6 @@
 use Rattle.std.proofs.Common.{◌≡◌, ℕ, suc, ◌+◌, ◌&&◌, Bool, true, nat_lt, is_some, Option, Some, None, List, [], ◌∷◌, map, ap, ◌∙◌}
 use Rattle.std.specs.List.{list_any, flat_map}
 use Rattle.std.proofs.lemmas.List.Folds.{list_any-append}
-use Rattle.tabled_border.specs.declared.border.Border.{Border}
 use Rattle.tabled_object.specs.declared.position.Position.{Position}
 use Rattle.tabled_object.specs.Entities.{position, below, is_inside}
 use Rattle.tabled_object.proofs.Sets.{any_map}
@@ -16,7 +15,7 @@ use Rattle.tabled_grid.specs.Keys.{same_spot-eq}
 use Rattle.tabled_grid.specs.Event.{covered}
 use Rattle.tabled_grid.specs.Calls.{line_spots, edge_of, crossing_of}
 use Rattle.tabled_grid.proofs.Leaving.{Leaves, on_spots, leaves_on_spots, all_agree, covered_written, spot_itself}
-use Rattle.tabled_highlight.specs.Outline.{CellSet, outline_value, every_spot, outline}
+use Rattle.tabled_highlight.specs.Outline.{Outlining, CellSet, outline_value, every_spot, outline}
 use Rattle.tabled_highlight.specs.Around.{all_written, around}
 use Rattle.tabled_highlight.proofs.Tests.{or_left, or_right, both_hold, each_holds, one_holds, less_here, less_next, found_below, any_flat}
 use Rattle.tabled_highlight.proofs.CellOutline.{found}
@@ -78,8 +77,8 @@ module _ (rows cols : ℕ) where
   covered_in q ((spot, Some x) ∷ entries) all h =
       one_holds (same_spot q spot) (covered (all_written entries) (at_spot q)) h (λ e. ap in_table (same_spot-eq q spot e) ∙ all.0) (covered_in q entries all.1)
 
-  around_in : {T : Type 0} (border : Border T) (cells : CellSet) (r c : ℕ) → nat_lt r rows ≡ true → nat_lt c cols ≡ true → AllIn (around border cells r (suc r) c (suc c))
-  around_in border cells r c hr hc =
+  around_in : {T : Type 0} (given : Outlining T) (cells : CellSet) (r c : ℕ) → nat_lt r rows ≡ true → nat_lt c cols ≡ true → AllIn (around given cells r (suc r) c (suc c))
+  around_in given cells r c hr hc =
       let here = less_here r rows hr in
       let next = less_next r rows hr in
       let at = less_here c cols hc in
@@ -87,17 +86,17 @@ module _ (rows cols : ℕ) where
       (both_hold _ _ here hc, (both_hold _ _ next hc, (both_hold _ _ hr at, (both_hold _ _ hr right, (both_hold _ _ here at, (both_hold _ _ here right, (both_hold _ _ next at, (both_hold _ _ next right, tt))))))))
 
 -- the outline of cells that lie in the table has something at its edges and crossings alone
-pub outline_inside : {T : Type 0} (rows cols : ℕ) (cells : CellSet) (border : Border T) → ((pos : Position) → cells pos ≡ true → is_inside rows cols pos ≡ true)
-    → (spot : Spot) → is_some (outline_value cells border spot) ≡ true → in_table rows cols spot ≡ true
-outline_inside rows cols cells border inside spot h =
-    let cell = found border cells spot h in
+pub outline_inside : {T : Type 0} (rows cols : ℕ) (cells : CellSet) (given : Outlining T) → ((pos : Position) → cells pos ≡ true → is_inside rows cols pos ≡ true)
+    → (spot : Spot) → is_some (outline_value cells given spot) ≡ true → in_table rows cols spot ≡ true
+outline_inside rows cols cells given inside spot h =
+    let cell = found given cells spot h in
     let lies = each_holds (nat_lt cell.row rows) (nat_lt cell.col cols) (inside (position cell.row cell.col) cell.chosen) in
-    covered_in rows cols spot (around border cells cell.row (suc cell.row) cell.col (suc cell.col)) (around_in rows cols border cells cell.row cell.col lies.0 lies.1) cell.written
+    covered_in rows cols spot (around given cells cell.row (suc cell.row) cell.col (suc cell.col)) (around_in rows cols given cells cell.row cell.col lies.0 lies.1) cell.written
 
-pub outline_leaves : {T : Type 0} (rows cols : ℕ) (cells : CellSet) (border : Border T) → ((pos : Position) → cells pos ≡ true → is_inside rows cols pos ≡ true)
-    → Leaves (on_spots (outline_value cells border)) (outline (rows, cols) cells border)
+pub outline_leaves : {T : Type 0} (rows cols : ℕ) (cells : CellSet) (given : Outlining T) → ((pos : Position) → cells pos ≡ true → is_inside rows cols pos ≡ true)
+    → Leaves (on_spots (outline_value cells given)) (outline (rows, cols) cells given)
 unfolding outline
-outline_leaves rows cols cells border inside =
-    leaves_on_spots (outline_value cells border) (outline (rows, cols) cells border) (all_agree (outline_value cells border) (every_spot (rows, cols)))
-    (λ spot h. covered_written (outline_value cells border) (every_spot (rows, cols)) spot
-    ∙ both_hold (is_some (outline_value cells border spot)) (list_any (same_spot spot) (every_spot (rows, cols))) h (all_listed rows cols spot (outline_inside rows cols cells border inside spot h)))
+outline_leaves rows cols cells given inside =
+    leaves_on_spots (outline_value cells given) (outline (rows, cols) cells given) (all_agree (outline_value cells given) (every_spot (rows, cols)))
+    (λ spot h. covered_written (outline_value cells given) (every_spot (rows, cols)) spot
+    ∙ both_hold (is_some (outline_value cells given spot)) (list_any (same_spot spot) (every_spot (rows, cols))) h (all_listed rows cols spot (outline_inside rows cols cells given inside spot h)))

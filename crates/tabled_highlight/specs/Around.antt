@@ -11,7 +11,7 @@ use Rattle.tabled_grid.specs.declared.event.Written.TheVariants.{Sign as sign}
 use Rattle.tabled_grid.specs.declared.event.Event.{Event}
 use Rattle.tabled_grid.specs.declared.event.Event.TheVariants.{Write as write}
 use Rattle.tabled_highlight.specs.declared.around.Neighbors.{Neighbors}
-use Rattle.tabled_highlight.specs.Outline.{CellSet, upper_left, upper_right, lower_left, lower_right, across_value, down_value, crossing_value}
+use Rattle.tabled_highlight.specs.Outline.{Outlining, CellSet, upper_left, upper_right, lower_left, lower_right, across_value, down_value, crossing_value}
 
 -- the set of the cells of a list
 abbrev pub has : List Position → CellSet
@@ -42,34 +42,34 @@ all_written entries = flat_map written_at entries
 abbrev pub unless : {T : Type 0} → Bool → Option T → Option T
 unless left_out value = if left_out then None else value
 
-module _ {T : Type 0} (border : Border T) where
-  -- what is written at the sides of a cell of the set, whose lines are r and down, and c and right
-  abbrev pub sides : Neighbors → (r down c right : ℕ) → List (Spot × Option T)
-  sides near r down c right =
-      (Edge Horizontal r c, across_value border near.above true)
-      ∷ (Edge Horizontal down c, across_value border true near.below)
-      ∷ (Edge Vertical r c, down_value border near.left true)
-      ∷ (Edge Vertical r right, down_value border true near.right) ∷ []
+-- what is written at the sides of a cell of the set, whose lines are r and down, and c and right
+abbrev pub sides : {T : Type 0} → Border T → Neighbors → (r down c right : ℕ) → List (Spot × Option T)
+sides border near r down c right =
+    (Edge Horizontal r c, across_value border near.above true)
+    ∷ (Edge Horizontal down c, across_value border true near.below)
+    ∷ (Edge Vertical r c, down_value border near.left true)
+    ∷ (Edge Vertical r right, down_value border true near.right) ∷ []
 
+module _ {T : Type 0} (given : Outlining T) where
   -- and at its corners: each is written for the first cell of the set around it, in row order
   abbrev pub corners : Neighbors → (r down c right : ℕ) → List (Spot × Option T)
   corners near r down c right =
-      (Crossing r c, unless (near.above_left || near.above || near.left) (crossing_value border (false, false) (false, true)))
-      ∷ (Crossing r right, unless (near.above || near.above_right) (crossing_value border (false, false) (true, near.right)))
-      ∷ (Crossing down c, unless near.left (crossing_value border (false, true) (near.below_left, near.below)))
-      ∷ (Crossing down right, crossing_value border (true, near.right) (near.below, near.below_right)) ∷ []
+      (Crossing r c, unless (near.above_left || near.above || near.left) (crossing_value given (false, false) (false, true)))
+      ∷ (Crossing r right, unless (near.above || near.above_right) (crossing_value given (false, false) (true, near.right)))
+      ∷ (Crossing down c, unless near.left (crossing_value given (false, true) (near.below_left, near.below)))
+      ∷ (Crossing down right, crossing_value given (true, near.right) (near.below, near.below_right)) ∷ []
 
   abbrev pub around : CellSet → (r down c right : ℕ) → List (Spot × Option T)
-  around cells r down c right = sides (neighbors cells r down c right) r down c right ++ corners (neighbors cells r down c right) r down c right
+  around cells r down c right = sides given.border (neighbors cells r down c right) r down c right ++ corners (neighbors cells r down c right) r down c right
 
 -- the line after line n, as far as a number can count
 abbrev pub line_after : ℕ → ℕ
 line_after n = min (n + 1) (2 ^ 64 - 1)
 
--- what is written around the cells of a list, with a border, if there is one
-abbrev pub written_around_each : {T : Type 0} → Border T → CellSet → List Position → List (Event T)
-written_around_each border cells list = flat_map (λ pos. all_written (around border cells pos.row (line_after pos.row) pos.col (line_after pos.col))) list
+-- what is written around the cells of a list, with what is given, if anything is
+abbrev pub written_around_each : {T : Type 0} → Outlining T → CellSet → List Position → List (Event T)
+written_around_each given cells list = flat_map (λ pos. all_written (around given cells pos.row (line_after pos.row) pos.col (line_after pos.col))) list
 
-abbrev pub written_around : {T : Type 0} → List Position → Option (Border T) → List (Event T)
+abbrev pub written_around : {T : Type 0} → List Position → Option (Outlining T) → List (Event T)
 written_around list None = []
-written_around list (Some border) = written_around_each border (has list) list
+written_around list (Some given) = written_around_each given (has list) list

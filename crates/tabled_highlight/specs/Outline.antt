@@ -55,30 +55,35 @@ module _ {T : Type 0} (border : Border T) where
   down_value false false = None
   down_value true true = None
 
-  -- at a crossing, by the two cells above it, left and right, and the two below
-  abbrev pub crossing_value : Bool × Bool → Bool × Bool → Option T
-  crossing_value (false, false) (false, true) = border.left_top_corner
-  crossing_value (false, false) (true, false) = border.right_top_corner
-  crossing_value (false, true) (false, false) = border.left_bottom_corner
-  crossing_value (true, false) (false, false) = border.right_bottom_corner
-  crossing_value (false, false) (true, true) = border.top
-  crossing_value (true, true) (false, false) = border.bottom
-  crossing_value (false, true) (false, true) = border.left
-  crossing_value (true, false) (true, false) = border.right
-  crossing_value (true, false) (false, true) = option_or border.left_top_corner border.right_bottom_corner
-  crossing_value (false, true) (true, false) = option_or border.right_top_corner border.left_bottom_corner
-  crossing_value (false, true) (true, true) = border.right_bottom_corner
-  crossing_value (true, false) (true, true) = border.left_bottom_corner
-  crossing_value (true, true) (false, true) = border.right_top_corner
-  crossing_value (true, true) (true, false) = border.left_top_corner
-  crossing_value (false, false) (false, false) = None
-  crossing_value (true, true) (true, true) = None
+-- what an outline is drawn with: a border, and what stands where two cells touch at a corner alone, if it is given
+pub record Outlining (T : Type 0) : Type 0 where
+  pub border : Border T
+  pub diagonal : Option T
+
+-- at a crossing, by the two cells above it, left and right, and the two below
+abbrev pub crossing_value : {T : Type 0} → Outlining T → Bool × Bool → Bool × Bool → Option T
+crossing_value given (false, false) (false, true) = given.border.left_top_corner
+crossing_value given (false, false) (true, false) = given.border.right_top_corner
+crossing_value given (false, true) (false, false) = given.border.left_bottom_corner
+crossing_value given (true, false) (false, false) = given.border.right_bottom_corner
+crossing_value given (false, false) (true, true) = given.border.top
+crossing_value given (true, true) (false, false) = given.border.bottom
+crossing_value given (false, true) (false, true) = given.border.left
+crossing_value given (true, false) (true, false) = given.border.right
+crossing_value given (true, false) (false, true) = option_or given.diagonal (option_or given.border.left_top_corner given.border.right_bottom_corner)
+crossing_value given (false, true) (true, false) = option_or given.diagonal (option_or given.border.right_top_corner given.border.left_bottom_corner)
+crossing_value given (false, true) (true, true) = given.border.right_bottom_corner
+crossing_value given (true, false) (true, true) = given.border.left_bottom_corner
+crossing_value given (true, true) (false, true) = given.border.right_top_corner
+crossing_value given (true, true) (true, false) = given.border.left_top_corner
+crossing_value given (false, false) (false, false) = None
+crossing_value given (true, true) (true, true) = None
 
 -- what the outline has at an edge or a crossing
-abbrev pub outline_value : {T : Type 0} → CellSet → Border T → Spot → Option T
-outline_value cells border (Edge Horizontal r c) = across_value border (upper_right cells r c) (lower_right cells r c)
-outline_value cells border (Edge Vertical r c) = down_value border (lower_left cells r c) (lower_right cells r c)
-outline_value cells border (Crossing r c) = crossing_value border (upper_left cells r c, upper_right cells r c) (lower_left cells r c, lower_right cells r c)
+abbrev pub outline_value : {T : Type 0} → CellSet → Outlining T → Spot → Option T
+outline_value cells given (Edge Horizontal r c) = across_value given.border (upper_right cells r c) (lower_right cells r c)
+outline_value cells given (Edge Vertical r c) = down_value given.border (lower_left cells r c) (lower_right cells r c)
+outline_value cells given (Crossing r c) = crossing_value given (upper_left cells r c, upper_right cells r c) (lower_left cells r c, lower_right cells r c)
 
 -- every edge and every crossing of a table of the given numbers of rows and columns, once
 abbrev pub every_spot : ℕ × ℕ → List Spot
@@ -86,9 +91,9 @@ every_spot (rows, cols) =
     flat_map (λ line. line_spots (LineOf.Horizontal line) cols) (below (rows + 1))
     ++ flat_map (λ line. map (edge_of (LineOf.Vertical line)) (below rows)) (below (cols + 1))
 
--- the outline of a set of cells in such a table, with what a border gives
-unfoldable pub outline : {T : Type 0} → ℕ × ℕ → CellSet → Border T → List (Event T)
-outline shape cells border = filter_map (λ spot. option_map (λ value. write (at_spot spot) (sign value)) (outline_value cells border spot)) (every_spot shape)
+-- the outline of a set of cells in such a table, with what is given
+unfoldable pub outline : {T : Type 0} → ℕ × ℕ → CellSet → Outlining T → List (Event T)
+outline shape cells given = filter_map (λ spot. option_map (λ value. write (at_spot spot) (sign value)) (outline_value cells given spot)) (every_spot shape)
 
 -- the sites of the edges and the crossings of such a table, at the level of cells
 abbrev pub IsSpotOf : ℕ × ℕ → Site → Type 0

@@ -5,6 +5,7 @@ ghost use Rattle.std.specs.Option.{option_or};
 ghost use Rattle.tabled_grid.specs.Calls.{spot_of};
 ghost use Rattle.tabled_grid.specs.Writes.{writes_made};
 ghost use Rattle.tabled_highlight.specs.Outline as outline;
+ghost use Rattle.tabled_highlight.specs.Highlighting.{drawn_with};
 ghost use Rattle.tabled_highlight.specs.Around.{has, all_written, unless, neighbors, sides, corners, line_after, written_around};
 
 use std::alloc::Global;
@@ -95,18 +96,21 @@ fn has_lower_right(cells: &BTreeSet<Position>, row: usize, col: usize) -> bool
     cells.contains(&Position::new(row, col))
 }
 
-/// The writes of the outline of a set of cells, with what a border gives, if there is one: each edge and each crossing is
-/// written once.
+/// The writes of the outline of a set of cells, with what a border gives and what stands where two of them touch at a corner
+/// alone, as far as there is any: each edge and each crossing is written once.
 pub(crate) fn outline_writes<T: Keep>(
     alloc: Global,
     cells: &BTreeSet<Position>,
     border: Option<&Border<T>>,
+    diagonal: Option<&T>,
 ) -> Result<Vec<Write<T>>, OutOfMemory>
-    ensures { IfOk result (λ writes. writes_made writes.items ≡ written_around cells.now.keys (option_copied border.entry)) }
+    ensures { IfOk result (λ writes. writes_made writes.items
+        ≡ written_around cells.now.keys (drawn_with (option_copied border.entry) (option_copied diagonal.entry))) }
 {
-    match border {
-        Some(border) => writes_around(alloc, cells, border),
-        None => Ok(Vec::new(alloc)),
+    match (border, diagonal) {
+        (Some(border), _) => writes_around(alloc, cells, border, diagonal),
+        (None, Some(_)) => writes_around(alloc, cells, &Border::empty(), diagonal),
+        (None, None) => Ok(Vec::new(alloc)),
     }
 }
 
@@ -115,14 +119,16 @@ fn writes_around<T: Keep>(
     alloc: Global,
     cells: &BTreeSet<Position>,
     border: &Border<T>,
+    diagonal: Option<&T>,
 ) -> Result<Vec<Write<T>>, OutOfMemory>
-    ensures { IfOk result (λ writes. writes_made writes.items ≡ written_around cells.now.keys (Some border.now)) }
+    ensures { IfOk result (λ writes. writes_made writes.items
+        ≡ written_around cells.now.keys (Some (record { border = border.now; diagonal = option_copied diagonal.entry }))) }
 {
     let mut writes = Vec::new(alloc);
     for pos in cells {
         let near = Neighbors::of(cells, *pos);
         add_sides(&mut writes, *pos, near, border)?;
-        add_corners(&mut writes, *pos, near, border)?;
+        add_corners(&mut writes, *pos, near, border, diagonal)?;
     }
     Ok(writes)
 }
@@ -162,42 +168,27 @@ fn add_corners<T: Keep>(
     pos: Position,
     near: Neighbors,
     border: &Border<T>,
+    diagonal: Option<&T>,
 ) -> Result<(), OutOfMemory>
     ensures { OnOk result (writes_made writes.new.items ≡ writes_made writes.old.items
-        ++ all_written (corners border.now near pos.row (line_after pos.row) pos.col (line_after pos.col))) }
+        ++ all_written (corners (record { border = border.now; diagonal = option_copied diagonal.entry }) near pos.row (line_after pos.row) pos.col (line_after pos.col))) }
 {
     let (row, col) = (pos.row, pos.col);
     let (below, right) = (line_after(row), line_after(col));
-    let left_top = crossing_value(border, (false, false), (false, true));
-    let right_top = crossing_value(border, (false, false), (true, near.right));
-    let left_bottom = crossing_value(border, (false, true), (near.below_left, near.below));
-    let right_bottom = crossing_value(border, (true, near.right), (near.below, near.below_right));
-    add_unless(
-        near.share_upper_left(),
-        writes,
-        Place::Cross { row, col },
-        left_top,
-    )?;
-    add_unless(
-        near.share_upper_right(),
-        writes,
-        Place::Cross { row, col: right },
-        right_top,
-    )?;
-    add_unless(
-        near.left,
-        writes,
-        Place::Cross { row: below, col },
-        left_bottom,
-    )?;
-    add(
-        writes,
-        Place::Cross {
-            row: below,
-            col: right,
-        },
-        right_bottom,
-    )
+    let left_top = crossing_value(border, diagonal, (false, false), (false, true));
+    let right_top = crossing_value(border, diagonal, (false, false), (true, near.right));
+    let lower = (near.below_left, near.below);
+    let left_bottom = crossing_value(border, diagonal, (false, true), lower);
+    let lower = (near.below, near.below_right);
+    let right_bottom = crossing_value(border, diagonal, (true, near.right), lower);
+    let at = Place::Cross { row, col };
+    add_unless(near.share_upper_left(), writes, at, left_top)?;
+    let at = Place::Cross { row, col: right };
+    add_unless(near.share_upper_right(), writes, at, right_top)?;
+    let at = Place::Cross { row: below, col };
+    add_unless(near.left, writes, at, left_bottom)?;
+    let (row, col) = (below, right);
+    add(writes, Place::Cross { row, col }, right_bottom)
 }
 
 /// Adds a write, unless it is left out.
@@ -261,8 +252,13 @@ fn down_value<T>(border: &Border<T>, left: bool, right: bool) -> Option<&T>
 }
 
 /// What stands at a crossing, by the two cells above it, left and right, and the two below.
-fn crossing_value<T>(border: &Border<T>, upper: (bool, bool), lower: (bool, bool)) -> Option<&T>
-    ensures { option_copied result ≡ outline.crossing_value border.now upper lower }
+fn crossing_value<'a, T>(
+    border: &'a Border<T>,
+    diagonal: Option<&'a T>,
+    upper: (bool, bool),
+    lower: (bool, bool),
+) -> Option<&'a T>
+    ensures { option_copied result ≡ outline.crossing_value (record { border = border.now; diagonal = option_copied diagonal.entry }) upper lower }
 {
     match (upper, lower) {
         ((false, false), (false, true)) => border.left_top_corner.as_ref(),
@@ -274,10 +270,18 @@ fn crossing_value<T>(border: &Border<T>, upper: (bool, bool), lower: (bool, bool
         ((false, true), (false, true)) => border.left.as_ref(),
         ((true, false), (true, false)) => border.right.as_ref(),
         ((true, false), (false, true)) => {
-            first_given(&border.left_top_corner, &border.right_bottom_corner)
+            at_touch(
+                diagonal,
+                &border.left_top_corner,
+                &border.right_bottom_corner,
+            )
         }
         ((false, true), (true, false)) => {
-            first_given(&border.right_top_corner, &border.left_bottom_corner)
+            at_touch(
+                diagonal,
+                &border.right_top_corner,
+                &border.left_bottom_corner,
+            )
         }
         ((false, true), (true, true)) => border.right_bottom_corner.as_ref(),
         ((true, false), (true, true)) => border.left_bottom_corner.as_ref(),
@@ -285,6 +289,21 @@ fn crossing_value<T>(border: &Border<T>, upper: (bool, bool), lower: (bool, bool
         ((true, true), (true, false)) => border.left_top_corner.as_ref(),
         ((false, false), (false, false)) => None,
         ((true, true), (true, true)) => None,
+    }
+}
+
+/// What stands where two cells touch at a corner alone: what is given for that, and where it is missing the first of two
+/// corners that is given.
+fn at_touch<'a, T>(
+    diagonal: Option<&'a T>,
+    first: &'a Option<T>,
+    second: &'a Option<T>,
+) -> Option<&'a T>
+    ensures { option_copied result ≡ option_or (option_copied diagonal.entry) (option_or first.now second.now) }
+{
+    match diagonal {
+        Some(value) => Some(value),
+        None => first_given(first, second),
     }
 }
 

@@ -6,7 +6,7 @@ ghost use Rattle.tabled_configuration.specs.Configuration as borders;
 ghost use Rattle.tabled_configuration.specs.Colored.{Changes};
 ghost use Rattle.tabled_color.specs.BorderColors.{full_border, border_texts};
 ghost use Rattle.tabled_highlight.specs.Around.{written_around};
-ghost use Rattle.tabled_highlight.specs.Highlighting.{highlight_events};
+ghost use Rattle.tabled_highlight.specs.Highlighting.{drawn_with, highlight_events};
 
 use crate::around::outline_writes;
 use crate::cells::{cells_inside, listed_entities};
@@ -36,6 +36,7 @@ use tabled_style::Border;
 pub struct Highlight<O> {
     target: O,
     border: Option<GridBorder<char>>,
+    diagonal: Option<char>,
     color: Option<BorderColor>,
 }
 
@@ -47,18 +48,19 @@ impl<O> Model for Highlight<O> {
 
     ghost coded = { Prim.hlevel (codes, O.code) };
 
-    ghost view = { λ given. record { target = given.target; border = given.border; color = given.color } };
+    ghost view = { λ given. record { target = given.target; border = given.border; diagonal = given.diagonal; color = given.color } };
 }
 
 impl<O> Highlight<O> {
     /// An outline around the cells that the object names, with neither characters nor colors yet: without them it changes
     /// nothing.
     pub fn new(target: O) -> Self
-        ensures { result ≡ record { target = target; border = None; color = None } }
+        ensures { result ≡ record { target = target; border = None; diagonal = None; color = None } }
     {
         Highlight {
             target,
             border: None,
+            diagonal: None,
             color: None,
         }
     }
@@ -72,11 +74,12 @@ impl<O> Highlight<O> {
     ///   c   d
     /// ```
     pub fn outline(target: O, c: char) -> Self
-        ensures { result ≡ record { target = target; border = Some (full_border c c c c c c c c); color = None } }
+        ensures { result ≡ record { target = target; border = Some (full_border c c c c c c c c); diagonal = None; color = None } }
     {
         Highlight {
             target,
             border: Some(GridBorder::filled(c)),
+            diagonal: None,
             color: None,
         }
     }
@@ -96,12 +99,13 @@ impl<O> Highlight<O> {
     pub fn colored(alloc: Global, target: O, color: Color) -> Result<Self, OutOfMemory>
     where
         O: Drop,
-        ensures { IfOk result (λ given. given ≡ record { target = target; border = None; color = Some (full_border color color color color color color color color) }) }
+        ensures { IfOk result (λ given. given ≡ record { target = target; border = None; diagonal = None; color = Some (full_border color color color color color color color color) }) }
     {
         let color = BorderColor::filled(alloc, color)?;
         Ok(Highlight {
             target,
             border: None,
+            diagonal: None,
             color: Some(color),
         })
     }
@@ -120,8 +124,29 @@ impl<O> Highlight<O> {
         Highlight {
             target: self.target,
             border: Some(border.into_inner()),
+            diagonal: self.diagonal,
             color: self.color,
         }
+    }
+
+    /// Sets the character of the crossings where two of the cells touch at a corner alone, the upper left and the lower right one
+    /// or the upper right and the lower left one. It stands there in place of what the border gives, and also without a border;
+    /// colors stay as they are. It takes no memory.
+    ///
+    /// `Highlight::outline((0, 0).and((1, 1)), '*').diagonal('X')`:
+    ///
+    /// ```text
+    /// *****
+    /// * a * b
+    /// ****X****
+    ///   c * d *
+    ///     *****
+    /// ```
+    pub fn diagonal(mut self, c: char) -> Self
+        ensures { result ≡ record self { diagonal = Some c } }
+    {
+        self.diagonal = Some(c);
+        self
     }
 
     /// Sets the colors of the sides and corners. What is not given is not written.
@@ -142,6 +167,7 @@ impl<O> Highlight<O> {
         Highlight {
             target: self.target,
             border: self.border,
+            diagonal: self.diagonal,
             color: Some(color),
         }
     }
@@ -152,7 +178,7 @@ impl<O> Highlight<O> {
         R: Records + ExactRecords,
         O: Object<R>,
         ensures ok { OnOk result (borders.Changes (highlight_events (R.row_count records.now, R.column_count records.now)
-            (O.listing self.now.target (R.row_count records.now) (R.column_count records.now)) self.now.border self.now.color) config.old config.new) }
+            (O.listing self.now.target (R.row_count records.now) (R.column_count records.now)) self.now.border self.now.diagonal self.now.color) config.old config.new) }
         ensures err { OnErr result (config.new ≡ config.old) }
     {
         let shape = (records.count_rows(), records.count_columns());
@@ -162,6 +188,7 @@ impl<O> Highlight<O> {
             &entities,
             shape,
             self.border.as_ref(),
+            self.diagonal.as_ref(),
             self.color.as_ref(),
         )
     }
@@ -173,14 +200,14 @@ where
     O: Object<R> + Drop,
 {
     ghost makes = { λ given records dims old. highlight_events (R.row_count records, R.column_count records)
-        (O.listing given.target (R.row_count records) (R.column_count records)) given.border given.color };
+        (O.listing given.target (R.row_count records) (R.column_count records)) given.border given.diagonal given.color };
 
     ghost hinted = { λ given. None };
 
     /// Writes the outline of the cells of the table that the object names: what the border and the colors give at each edge with
-    /// exactly one of these cells beside it, and at the crossings where such edges meet. Cells outside the table are passed
-    /// over. Without border and colors nothing changes. Where memory is refused nothing changes, neither characters nor
-    /// colors.
+    /// exactly one of these cells beside it, and at the crossings where such edges meet; where two of the cells touch at a corner
+    /// alone, the character that was set for that. Cells outside the table are passed over. Without border, diagonal and colors
+    /// nothing changes. Where memory is refused nothing changes, neither characters nor colors.
     ///
     /// `Highlight::outline(Columns::one(0), '*')` on a table of the style `ascii`:
     ///
@@ -198,7 +225,7 @@ where
         _dims: &mut D,
     ) -> Result<(), OutOfMemory>
         ensures ok { OnOk result (Changes (highlight_events (R.row_count records.old, R.column_count records.old)
-            (O.listing self.target (R.row_count records.old) (R.column_count records.old)) self.border self.color) cfg.old cfg.new) }
+            (O.listing self.target (R.row_count records.old) (R.column_count records.old)) self.border self.diagonal self.color) cfg.old cfg.new) }
         ensures err { OnErr result (cfg.new ≡ cfg.old) }
         ensures records { records.new ≡ records.old }
         ensures sizes { _dims.new ≡ _dims.old }
@@ -217,14 +244,15 @@ fn outline_cells(
     entities: &BTreeSet<Entity>,
     shape: (usize, usize),
     border: Option<&GridBorder<char>>,
+    diagonal: Option<&char>,
     color: Option<&BorderColor>,
 ) -> Result<(), OutOfMemory>
-    ensures ok { OnOk result (borders.Changes (highlight_events shape entities.now.keys (option_copied border.entry) (option_copied color.entry)) config.old config.new) }
+    ensures ok { OnOk result (borders.Changes (highlight_events shape entities.now.keys (option_copied border.entry) (option_copied diagonal.entry) (option_copied color.entry)) config.old config.new) }
     ensures err { OnErr result (config.new ≡ config.old) }
 {
     let alloc = config.allocator();
     let cells = cells_inside(alloc, entities, shape)?;
-    let characters = outline_writes(alloc, &cells, border)?;
+    let characters = outline_writes(alloc, &cells, border, diagonal)?;
     let colors = color_writes(alloc, &cells, color)?;
     config.apply(characters, colors)
 }
@@ -235,12 +263,12 @@ fn color_writes(
     cells: &BTreeSet<Position>,
     color: Option<&BorderColor>,
 ) -> Result<Vec<Write<ANSIBuf>>, OutOfMemory>
-    ensures { IfOk result (λ writes. writes_made writes.items ≡ written_around cells.now.keys (option_map border_texts (option_copied color.entry))) }
+    ensures { IfOk result (λ writes. writes_made writes.items ≡ written_around cells.now.keys (drawn_with (option_map border_texts (option_copied color.entry)) None)) }
 {
     match color {
         Some(color) => {
             let texts = color.to_ansi(alloc)?;
-            outline_writes(alloc, cells, Some(&texts))
+            outline_writes(alloc, cells, Some(&texts), None)
         }
         None => Ok(Vec::new(alloc)),
     }

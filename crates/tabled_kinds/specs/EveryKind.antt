@@ -68,7 +68,7 @@ border_options kinds shape =
 -- options for single lines, of which a text reads the sizes too
 abbrev pub line_options : LineKinds → ℕ × ℕ → FixedDimension → List Step
 line_options kinds shape sizes =
-    (λ before. highlight_events shape (Row kinds.outline.target.index ∷ []) kinds.outline.border kinds.outline.color)
+    (λ before. highlight_events shape (Row kinds.outline.target.index ∷ []) kinds.outline.border kinds.outline.diagonal kinds.outline.color)
     ∷ (λ before. text_events kinds.title (look (all_writes before.spanned) shape (slice_index sizes.widths.items) (slice_index sizes.heights.items)) (row_line 0))
     ∷ (λ before. line_char_events kinds.mark shape (Cell 1 0))
     ∷ []

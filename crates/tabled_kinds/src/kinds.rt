@@ -38,7 +38,7 @@ pub struct BorderKinds {
 /// Options for what stands on some lines alone.
 #[derive(Drop)]
 pub struct LineKinds {
-    /// An outline around a row, with characters and colors where it has them.
+    /// An outline around a row, with characters, one of its own for touches at a corner, and colors, each where it has them.
     pub outline: Highlight<Row>,
     /// A text on the first line, which takes the places that are drawn there.
     pub title: LineText<FirstRow>,

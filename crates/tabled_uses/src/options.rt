@@ -7,7 +7,7 @@ use tabled::settings::object::{Columns, Combine, Entity, Rows};
 use tabled::settings::style::{
     Border, HorizontalLine, LineChar, LineText, Offset, ReadyStyle, VerticalLine,
 };
-use tabled::settings::{Style, Theme};
+use tabled::settings::{Highlight, Style, Theme};
 use tabled::{TableError, TextTable};
 
 /// A ready style that is chosen while the program runs.
@@ -60,6 +60,15 @@ pub fn cells_of_one_object_and_not_of_another(alloc: Global) -> Result<String, T
     let mut table = people(alloc)?;
     table.with(Style::ascii())?;
     table.modify(Columns::first().not(Rows::first()), Border::new().left('>'))?;
+    Ok(table.to_text()?)
+}
+
+/// Outlined cells that touch at a corner alone, with a character of its own there.
+pub fn outline_of_cells_that_touch(alloc: Global) -> Result<String, TableError> {
+    let mut table = people(alloc)?;
+    let border = Border::full('─', '─', '│', '│', '┌', '┐', '└', '┘');
+    let outline = Highlight::new((0, 0).and((1, 1)).and((2, 0))).border(border);
+    table.with(outline.diagonal('┼'))?;
     Ok(table.to_text()?)
 }
 

@@ -29,7 +29,7 @@ returns-clause-steps c =
     on_ok c.apply_to.result (λ last.
     then_those (λ t s. (λ before. line_char_events kinds.mark (length t, column_count t) (Cell 1 0)) ∷ []) _ texts _ sizes _ start.config _ _ texts_3 sizes_3
     (then_one (λ t s before. text_events kinds.title (look (all_writes before.spanned) (length t, column_count t) (slice_index s.widths.items) (slice_index s.heights.items)) (row_line 0)) _ texts _ sizes _ start.config _ _ texts_2 sizes_2
-    (then_one (λ t s before. highlight_events (length t, column_count t) (Row kinds.outline.target.index ∷ []) kinds.outline.border kinds.outline.color) _ texts _ sizes _ start.config _ _ refl refl
+    (then_one (λ t s before. highlight_events (length t, column_count t) (Row kinds.outline.target.index ∷ []) kinds.outline.border kinds.outline.diagonal kinds.outline.color) _ texts _ sizes _ start.config _ _ refl refl
     (nothing_yet start.config)
     c.in_ok-apply.ensures.config)
     c.in_ok-apply-2.ensures.config)

@@ -6,5 +6,5 @@ use Rattle.tabled_highlight.proofs.highlight.HighlightTableOptionColoredConfig.c
 
 pub returns-clause-ok : goal.returns-clause-ok
 returns-clause-ok g c =
-    on_ok c.outline_on.result (λ changes. Changes_lent _ _ c.args.cfg.now _ _ c.config_mut.ensures.value refl (none_in_outline _ _ _ _ _) changes)
+    on_ok c.outline_on.result (λ changes. Changes_lent _ _ c.args.cfg.now _ _ c.config_mut.ensures.value refl (none_in_outline _ _ _ _ _ _) changes)
     c.outline_on.ensures.ok
