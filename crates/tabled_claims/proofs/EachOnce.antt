@@ -2,7 +2,6 @@
 use Rattle.std.proofs.Common.{◌≡◌, ◌<◌, ◌==◌, ◌&&◌, ℕ, ◌+◌, Bool, false, true, Option, Some, None, List, [], ◌∷◌, map, option_map, refl, ap, arith}
 use Rattle.std.specs.List.{IsDistinct, cons_option, filter_map, flat_map}
 use Rattle.std.proofs.lemmas.Bool.Decides.{nat_tests}
-use Rattle.tabled_border.specs.declared.border.Border.{Border}
 use Rattle.tabled_grid.specs.declared.event.Event.TheVariants.{Write as write}
 use Rattle.tabled_grid.specs.declared.event.Written.TheVariants.{Sign as sign}
 use Rattle.tabled_grid.specs.declared.place.LineOf.{LineOf}
@@ -14,7 +13,7 @@ use Rattle.tabled_grid.specs.Calls.{crossing_of, edge_of, line_spots}
 use Rattle.tabled_grid.specs.Drawn.{written}
 use Rattle.tabled_grid.specs.Site.{same_site, same_spot}
 use Rattle.tabled_object.specs.Entities.{below}
-use Rattle.tabled_highlight.specs.Outline.{CellSet, every_spot, outline, outline_value}
+use Rattle.tabled_highlight.specs.Outline.{Outlining, CellSet, every_spot, outline, outline_value}
 use Rattle.tabled_claims.proofs.Distinct.{Apart, AllApart, apart_from_both, both_apart, distinct-append, distinct_lists, distinct_made, lists_apart, made_apart}
 
 -- of two numbers, one below the other
@@ -111,6 +110,6 @@ module _ {T : Type 0} (value : Spot → Option T) where
   sites_distinct (spot ∷ spots) each =
       distinct_more spot (value spot) (filter_map write_of spots) (sites_apart spot spots each.0) (sites_distinct spots each.1)
 
-pub each_once : {T : Type 0} (rows cols : ℕ) (cells : CellSet) (border : Border T) → IsDistinct same_site (written (outline (rows, cols) cells border))
+pub each_once : {T : Type 0} (rows cols : ℕ) (cells : CellSet) (given : Outlining T) → IsDistinct same_site (written (outline (rows, cols) cells given))
 unfolding outline
-each_once rows cols cells border = sites_distinct (outline_value cells border) (every_spot (rows, cols)) (every_spot_once rows cols)
+each_once rows cols cells given = sites_distinct (outline_value cells given) (every_spot (rows, cols)) (every_spot_once rows cols)

@@ -1,3 +1,4 @@
 pub mod Distinct
 pub mod EachOnce
+pub mod InOrder
 pub mod Shown

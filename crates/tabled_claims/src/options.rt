@@ -362,7 +362,8 @@ where
     option.change(records, cfg, entity)
 }
 
-/// An outline around the cells that an object lists, in characters and in colors.
+/// An outline around the cells that an object lists, in characters and in colors, with a character of its own where two of
+/// these cells touch at a corner alone.
 pub fn outline_on_a_table<O, R, D>(
     option: Highlight<O>,
     records: &mut R,
@@ -372,7 +373,7 @@ pub fn outline_on_a_table<O, R, D>(
 where
     R: Records + ExactRecords,
     O: Object<R> + Drop,
-    ensures { OnOk result (Changes (highlight_events (R.row_count records.old, R.column_count records.old) (O.listing option.target (R.row_count records.old) (R.column_count records.old)) option.border option.color) cfg.old cfg.new) }
+    ensures { OnOk result (Changes (highlight_events (R.row_count records.old, R.column_count records.old) (O.listing option.target (R.row_count records.old) (R.column_count records.old)) option.border option.diagonal option.color) cfg.old cfg.new) }
 {
     option.change(records, cfg, dims)
 }

@@ -1,13 +1,19 @@
 //! The plain printer.
 
-ghost use Rattle.std.specs.Prelude.{◌≡◌, ◌++◌, List, OnOk, OnErr, IsOkUnless, MatchOption, string_bytes};
+ghost use Rattle.std.specs.Prelude.{◌≡◌, ◌+◌, ◌*◌, ◌≤◌, ℕ, false, if◌then◌else◌, List, [], ◌∷◌, ◌++◌, length, map, option_map, slice_get, IfOk, OnOk, OnErr, IsOkUnless, MatchOption, string_bytes};
+ghost use Rattle.tabled_grid.specs.declared.place.LineOf.{LineOf as Line};
+ghost use Rattle.tabled_grid.specs.Probing.{IsRaised};
 ghost use Rattle.tabled_configuration.specs.Configuration.{ConfigEvent, Shows};
-ghost use Rattle.tabled_config.specs.Picture.{printed};
+ghost use Rattle.tabled_config.specs.Along.{along, is_empty};
+ghost use Rattle.tabled_config.specs.LinePieces.{lines_met};
+ghost use Rattle.tabled_config.specs.Marks.{mark_of, marks_of};
+ghost use Rattle.tabled_config.specs.Picture.{Look, text_shown, mark_at, marks_along, marks, line_if_drawn, text_lines, printed};
 ghost use Rattle.tabled_config.specs.Refusal.{first_refusal};
-ghost use Rattle.tabled_config.specs.Texts.{texts};
+ghost use Rattle.tabled_config.specs.TextOrder.{text_order, line_text, place_in};
+ghost use Rattle.tabled_config.specs.Texts.{Table, texts};
 
-use tabled_config::{PrintError, SpannedConfig, print_plain};
-use tabled_grid::Dimension;
+use tabled_config::{Mark, PrintError, Run, SpannedConfig, line_marks, line_runs, print_plain};
+use tabled_grid::{Dimension, LineOf, OutOfMemory, Probes};
 
 /// The printer appends exactly the picture that the events draw around the cells. It returns the first fault there is, and
 /// where there is none it is refused for memory alone; a refusal leaves the text as it was.
@@ -26,3 +32,54 @@ pub fn printed_or_refused<D: Dimension>(
 {
     print_plain(out, cfg, dims, shape, cells)
 }
+
+/// The marks of a line are the character and the color of each place along it, in order, for every list of events that the
+/// configuration shows, whether the line is drawn or not. They take at most twelve readings for each place and six for each line
+/// that meets this one, and are refused for memory alone.
+pub fn marks_of_a_line<'a, D: Dimension>(
+    cfg: &'a SpannedConfig,
+    dims: &D,
+    shape: (usize, usize),
+    line: LineOf,
+    probes: &mut Probes,
+) -> Result<Vec<Mark<'a>>, OutOfMemory>
+    ensures marks { (events : List ConfigEvent) → Shows events cfg.now
+        → IfOk result (λ found. map mark_of found.items ≡ marks events shape (D.width_of dims.now) (D.height_of dims.now) line) }
+    ensures readings { (events : List ConfigEvent) → Shows events cfg.now
+        → IsRaised (12 * length (marks events shape (D.width_of dims.now) (D.height_of dims.now) line) + 6 * lines_met shape line) probes.old probes.new }
+{
+    line_marks(cfg, dims, shape, line, probes)
+}
+
+/// The runs of a line have the same marks, in as many readings.
+pub fn runs_of_a_line<'a, D: Dimension>(
+    cfg: &'a SpannedConfig,
+    dims: &D,
+    shape: (usize, usize),
+    line: LineOf,
+    probes: &mut Probes,
+) -> Result<Vec<Run<'a>>, OutOfMemory>
+    ensures marks { (events : List ConfigEvent) → Shows events cfg.now
+        → IfOk result (λ found. marks_of found.items ≡ marks events shape (D.width_of dims.now) (D.height_of dims.now) line) }
+    ensures readings { (events : List ConfigEvent) → Shows events cfg.now
+        → IsRaised (12 * length (marks events shape (D.width_of dims.now) (D.height_of dims.now) line) + 6 * lines_met shape line) probes.old probes.new }
+{
+    line_runs(cfg, dims, shape, line, probes)
+}
+
+/// A drawn horizontal line of the picture, which is the characters of its marks, is what the places along it show, with a space
+/// for nothing.
+pub fn line_of_its_marks()
+    ensures { (view : Look) (row : ℕ) → line_if_drawn view row
+        ≡ (if view.horizontal row then text_shown (map view.shown (along view.horizontal view.vertical view.shape view.widths view.heights (Line.Horizontal row))) ∷ [] else []) }
+{}
+
+/// A mark is that of the place of its number; and mark n of a vertical line stands in line n of the text: both are read in
+/// one order, which says of each line of the text which horizontal line it is, or which line of the text of which row.
+pub fn marks_in_order()
+    ensures numbers { (view : Look) (line : Line) (n : ℕ)
+        → slice_get (marks_along view line) n ≡ option_map (mark_at view) (slice_get (along view.horizontal view.vertical view.shape view.widths view.heights line) n) }
+    ensures texts { (view : Look) (cells : Table) → is_empty view.shape ≡ false → text_lines view cells ≡ map (line_text view cells) (text_order view) }
+    ensures marks { (view : Look) (col : ℕ) → is_empty view.shape ≡ false → col ≤ view.shape.1
+        → marks_along view (Line.Vertical col) ≡ map (λ at. mark_at view (place_in col at)) (text_order view) }
+{}

@@ -1,6 +1,6 @@
 //! Styles, lines and themes.
 
-ghost use Rattle.std.specs.Prelude.{◌≡◌, ℕ, ◌↔◌, None, IsTrue};
+ghost use Rattle.std.specs.Prelude.{◌≡◌, ℕ, ◌↔◌, List, None, IsTrue};
 ghost use Rattle.tabled_border.specs.declared.border.Border.{Border as Frame};
 ghost use Rattle.tabled_grid.specs.declared.lines.HorizontalLine.{HorizontalLine as Horizontal};
 ghost use Rattle.tabled_grid.specs.declared.lines.VerticalLine.{VerticalLine as Vertical};
@@ -16,8 +16,9 @@ ghost use Rattle.tabled_grid.specs.Event.{replay};
 ghost use Rattle.tabled_grid.specs.Value.{value};
 ghost use Rattle.tabled_grid.specs.Drawn.{Drawn, drawn};
 ghost use Rattle.tabled_grid.specs.State.{state_at, class_record_set};
-ghost use Rattle.tabled_configuration.specs.Colored.{Colored, Changes};
-ghost use Rattle.tabled_configuration.specs.Configuration.{borders_replaced, characters_of, colors_of};
+ghost use Rattle.tabled_configuration.specs.Colored.{Colored, Shows, Changes};
+ghost use Rattle.tabled_configuration.specs.Configuration.{ConfigEvent, borders_replaced, characters_of, colors_of};
+ghost use Rattle.tabled_config.specs.Picture.{marks};
 ghost use Rattle.tabled_style.specs.Deciding.{written_by};
 ghost use Rattle.tabled_grid.specs.declared.site.Site.{Site};
 ghost use Rattle.tabled_theme.specs.Shown.{ThemeShown, of_style, of_configuration};
@@ -66,6 +67,14 @@ pub fn theme_alone_decides()
         → value (state_at new.spanned.colors) shape size place ≡ value (replay (class_record_set (color_texts theme))) shape size place }
     ensures lines { (theme : ThemeShown) (old new : Colored) (count : ℕ) (line : Line) → Changes (theme_applied theme) old new
         → Drawn (state_at new.spanned.characters) count line ↔ IsTrue (drawn (written_by (as_style theme)) count line) }
+{}
+
+/// After a theme the marks of every line, drawn or not, are those of the theme's own events, by the shape and the sizes of the
+/// table, whatever was there before.
+pub fn theme_decides_marks()
+    ensures { (theme : ThemeShown) (old new : Colored) (events : List ConfigEvent) (shape : ℕ × ℕ) (widths heights : ℕ → ℕ) (line : Line)
+        → Changes (theme_applied theme) old new → Shows events new
+        → marks events shape widths heights line ≡ marks (theme_applied theme) shape widths heights line }
 {}
 
 /// A theme that is made of a style leaves at every site what the style leaves, for every list of custom lines: so every

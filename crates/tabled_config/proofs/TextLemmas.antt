@@ -4,60 +4,16 @@ use Rattle.std.specs.List.{flat_map, join_with_byte}
 use Rattle.std.proofs.lemmas.List.{append-nil, append_assoc, map-append, take_at, take_all, length-append, take-take, get_or-map, get_or_at}
 use Rattle.std.proofs.lemmas.List.Concat.{flat_map-append}
 use Rattle.std.proofs.lemmas.List.FromFn.{map-range_with_len_more}
-use Rattle.std.proofs.lemmas.Str.{encodes-append, encode_ascii, IsCharBoundary-from_take, IsUtf8-string_bytes}
+use Rattle.std.proofs.lemmas.Str.{encode_ascii, IsCharBoundary-from_take, IsUtf8-string_bytes}
 use Rattle.std.specs.Str.{IsUtf8}
 use Rattle.std.specs.String.Boundary.{IsSplitPoint}
-use Rattle.std.proofs.lemmas.Bool.{le-ltb}
-use Rattle.tabled_grid.specs.declared.place.Place.{Place}
-use Rattle.tabled_grid.specs.declared.place.LineOf.{LineOf}
 use Rattle.tabled_config.specs.Texts.{texts}
 use Rattle.tabled_object.specs.Entities.{below}
 pub use Rattle.tabled_configuration.proofs.Below.{below_push, flat_map_below}
-use Rattle.tabled_config.specs.Along.{is_empty, along, along_line}
-use Rattle.tabled_config.specs.Picture.{character, text_shown}
 
--- the text of what is shown one after another
-pub shown_append : {X : Type 0} (f : X → Option ℕ) (xs ys : List X) → text_shown (map f (xs ++ ys)) ≡ text_shown (map f xs) ++ text_shown (map f ys)
-shown_append f xs ys =
-    ap text_shown (map-append f xs ys) ∙ ap encode_utf8_all (map-append character (map f xs) (map f ys))
-    ∙ encodes-append (map character (map f xs)) (map character (map f ys))
-
+-- one character as bytes
 pub shown_one : (c : ℕ) → encode_utf8_all (c ∷ []) ≡ encode_utf8 c
 shown_one c = append-nil (encode_utf8 c)
-
--- one more place of an edge
-pub edge_more : {X : Type 0} (f : X → Option ℕ) (place : ℕ → X) (n : ℕ) → text_shown (map f (map place (below (n + 1)))) ≡ text_shown (map f (map place (below n))) ++ encode_utf8 (character (f (place n)))
-edge_more f place n =
-    ap (λ ps. text_shown (map f ps)) (map-range_with_len_more place 0 n n (omega arith))
-    ∙ shown_append f (map place (below n)) (place n ∷ [])
-    ∙ ap (λ bs. text_shown (map f (map place (below n))) ++ bs) (shown_one (character (f (place n))))
-
--- the same, where what it shows was found before
-pub alike_more : {X : Type 0} (f : X → Option ℕ) (place : ℕ → X) (n : ℕ) (found : Option ℕ) (start middle end : List ℕ) → middle ≡ start ++ text_shown (map f (map place (below n)))
-    → end ≡ middle ++ encode_utf8 (character found) → found ≡ f (place n) → end ≡ start ++ text_shown (map f (map place (below (n + 1))))
-alike_more f place n found start middle end p q is =
-    let before : List ℕ = text_shown (map f (map place (below n))) in
-    q ∙ ap (λ bs. bs ++ encode_utf8 (character found)) p ∙ append_assoc start before (encode_utf8 (character found))
-    ∙ ap (λ bs. start ++ bs) (ap (λ shown. before ++ encode_utf8 (character shown)) is ∙ sym (edge_more f place n))
-
--- one more crossing and edge of a line
-pub line_more : {X : Type 0} (f : X → Option ℕ) (crossing edge : ℕ → List X) (n : ℕ) → text_shown (map f (flat_map (λ k. crossing k ++ edge k) (below (n + 1)))) ≡ text_shown (map f (flat_map (λ k. crossing k ++ edge k) (below n))) ++ (text_shown (map f (crossing n)) ++ text_shown (map f (edge n)))
-line_more f crossing edge n =
-    ap (λ ps. text_shown (map f ps)) (flat_map_below (λ k. crossing k ++ edge k) n)
-    ∙ shown_append f (flat_map (λ k. crossing k ++ edge k) (below n)) (crossing n ++ edge n)
-    ∙ ap (λ bs. text_shown (map f (flat_map (λ k. crossing k ++ edge k) (below n))) ++ bs) (shown_append f (crossing n) (edge n))
-
--- the last crossing
-pub line_closed : {X : Type 0} (f : X → Option ℕ) (step : ℕ → List X) (close : List X) (n count : ℕ) → n ≡ count → text_shown (map f (flat_map step (below count) ++ close)) ≡ text_shown (map f (flat_map step (below n))) ++ text_shown (map f close)
-line_closed f step close n count e =
-    shown_append f (flat_map step (below count)) close
-    ∙ ap (λ m. text_shown (map f (flat_map step (below m))) ++ text_shown (map f close)) (sym e)
-
--- a horizontal line of a table that has places, not past the last one
-pub along_any : (horizontal vertical : ℕ → Bool) (shape : ℕ × ℕ) (widths heights : ℕ → ℕ) (r : ℕ) → is_empty shape ≡ false → r ≤ shape.0 → along horizontal vertical shape widths heights (LineOf.Horizontal r) ≡ along_line vertical widths shape.1 (λ c. Place.Cross r c) (λ c k. Place.Horizontal r c k)
-along_any horizontal vertical shape widths heights r any within =
-    let places : List Place = along_line vertical widths shape.1 (λ c. Place.Cross r c) (λ c k. Place.Horizontal r c k) in
-    ap (λ b. cond (b || nat_lt shape.0 r) [] places) any ∙ ap (λ b. cond b [] places) (le-ltb shape.0 r within)
 
 -- a line feed is one byte
 pub line_fed : (middle end : List ℕ) → end ≡ middle ++ encode_utf8 10 → end ≡ middle ++ 10 ∷ []
@@ -202,4 +158,4 @@ module _ {Z : Type 0} (old new : String Z) (n m : ℕ) (lines : List (List ℕ))
       none_joined (string_bytes old) (string_bytes new) lines e no_longer
 
 -- what writes a text in parts
-pub ruleset writing = (append_assoc, append-nil, kept_after, kept_all, shown_one, edge_more, line_more)
+pub ruleset writing = (append_assoc, append-nil, kept_after, kept_all, shown_one)

@@ -16,6 +16,11 @@ pub mod Texts
 pub mod Pieces
 pub mod Along
 pub mod Picture
+pub mod LinePieces
+pub mod Marks
+pub mod Sinks
+pub mod Viewed
+pub mod TextOrder
 pub mod Framed
 pub mod Refusal
 pub mod Headline

@@ -6,12 +6,13 @@ use Rattle.tabled_grid.specs.declared.place.LineOf.{LineOf}
 use Rattle.tabled_grid.specs.Event.{replay}
 use Rattle.tabled_grid.specs.Value.{value}
 use Rattle.tabled_grid.specs.Drawn.{drawn}
-use Rattle.tabled_configuration.specs.Configuration.{ConfigEvent, characters_of}
+use Rattle.tabled_border.specs.Texts.{Texts}
+use Rattle.tabled_configuration.specs.Configuration.{ConfigEvent, characters_of, colors_of}
 use Rattle.tabled_config.specs.Texts.{Table, pieces}
 use Rattle.tabled_object.specs.Entities.{below}
 use Rattle.tabled_config.specs.Along.{is_empty, along}
 
--- how a table looks: its shape and its sizes, which of its lines are drawn, and what each place shows
+-- how a table looks: its shape and its sizes, which of its lines are drawn, and the character and the color of each place
 pub record Look : Type 0 where
   pub shape : ℕ × ℕ
   pub widths : ℕ → ℕ
@@ -19,6 +20,7 @@ pub record Look : Type 0 where
   pub horizontal : ℕ → Bool
   pub vertical : ℕ → Bool
   pub shown : Place → Option ℕ
+  pub color : Place → Option Texts
 
 -- the length of a place's edge; a crossing has none
 abbrev pub edge_size : (ℕ → ℕ) → (ℕ → ℕ) → Place → ℕ
@@ -35,6 +37,7 @@ look es (rows, cols) widths heights = record {
   horizontal = λ r. drawn (characters_of es) rows (LineOf.Horizontal r);
   vertical = λ c. drawn (characters_of es) cols (LineOf.Vertical c);
   shown = λ place. value (replay (characters_of es)) (rows, cols) (edge_size widths heights place) place;
+  color = λ place. value (replay (colors_of es)) (rows, cols) (edge_size widths heights place) place;
 }
 
 -- the character that is printed for what a place shows: a space for nothing
@@ -45,10 +48,22 @@ character shown = unwrap_or shown 32
 abbrev pub text_shown : List (Option ℕ) → List ℕ
 text_shown shown = encode_utf8_all (map character shown)
 
+-- what a place shows: its character and its color
+abbrev pub Shown : Type 0
+Shown = Option ℕ × Option Texts
+
+-- the characters of marks as a text
+abbrev pub text_marked : List Shown → List ℕ
+text_marked marks = text_shown (map (λ mark. mark.0) marks)
+
 module _ (view : Look) where
-  -- what the places along a line show
-  abbrev pub shown_along : LineOf → List (Option ℕ)
-  shown_along line = map view.shown (along view.horizontal view.vertical view.shape view.widths view.heights line)
+  -- what a place shows
+  abbrev pub mark_at : Place → Shown
+  mark_at place = (view.shown place, view.color place)
+
+  -- the marks of a line: what each place along it shows, in order
+  abbrev pub marks_along : LineOf → List Shown
+  marks_along line = map mark_at (along view.horizontal view.vertical view.shape view.widths view.heights line)
 
   -- what vertical line c shows at one line of text of row r, if the line is drawn
   abbrev pub side_shown : ℕ → ℕ → ℕ → List (Option ℕ)
@@ -62,9 +77,9 @@ module _ (view : Look) where
   abbrev pub cell_line : ℕ → List (List ℕ) → ℕ → List ℕ
   cell_line r cells k = line_of_pieces r k (λ c. slice_index_or (pieces (slice_index_or cells c [])) k [])
 
-  -- horizontal line r as a line of text, if it is drawn
+  -- horizontal line r as a line of text, if it is drawn: the characters of its marks
   abbrev pub line_if_drawn : ℕ → List (List ℕ)
-  line_if_drawn r = if view.horizontal r then text_shown (shown_along (LineOf.Horizontal r)) ∷ [] else []
+  line_if_drawn r = if view.horizontal r then text_marked (marks_along (LineOf.Horizontal r)) ∷ [] else []
 
   -- a row as lines of text
   abbrev pub row_lines : ℕ → List (List ℕ) → List (List ℕ)
@@ -75,6 +90,10 @@ module _ (view : Look) where
   text_lines cells =
       if is_empty view.shape then [] else
       flat_map (λ r. line_if_drawn r ++ row_lines r (slice_index_or cells r [])) (below view.shape.0) ++ line_if_drawn view.shape.0
+
+-- the marks of a line of a table of the given shape, widths and heights, after a list of events
+abbrev pub marks : List ConfigEvent → ℕ × ℕ → (ℕ → ℕ) → (ℕ → ℕ) → LineOf → List Shown
+marks es shape widths heights line = marks_along (look es shape widths heights) line
 
 -- the text of a table of the given shape, widths, heights and cells, after a list of events
 abbrev pub printed : List ConfigEvent → ℕ × ℕ → (ℕ → ℕ) → (ℕ → ℕ) → Table → List ℕ

@@ -1,16 +1,23 @@
-//! A plain printer of configurations, and the headline of the library.
+//! What the places of a line show, a plain printer of configurations, and the headline of the library.
 //!
 //! Configurations and the options that change them are written in `tabled_configuration`; they are passed on here.
 //! `docs/DEFINITIONS.md` explains the words of the contracts.
 #![tactic(auto)]
 
 mod cell_rows;
+mod line_pieces;
+mod mark;
+mod marks;
 mod print;
 mod print_error;
 mod refusals;
 mod seen;
+mod sink;
 
 pub use cell_rows::CellRows;
+pub use line_pieces::{crossing_line, crossing_of, edge_of, has_line, pieces_of, size_of};
+pub use mark::{Mark, Run};
+pub use marks::{line_marks, line_runs};
 pub use print::{print_plain, print_rows};
 pub use print_error::PrintError;
 pub use seen::{Seen, headline};

@@ -2,7 +2,7 @@
 
 ghost use Rattle.std.specs.Prelude.{◌≡◌, ℕ, ◌+◌, ◌≤◌, ◌++◌, [], ◌∷◌, false, OnOk, OnErr, IfOk, MatchOption, IsOkUnless, List, length, map, string_bytes, slice_index_or};
 ghost use Rattle.std.specs.List.{All, flat_map};
-ghost use Rattle.tabled_grid.specs.declared.place.LineOf.{LineOf};
+ghost use Rattle.tabled_grid.specs.declared.place.LineOf.{LineOf as Line};
 ghost use Rattle.tabled_grid.specs.Drawn.{drawn};
 ghost use Rattle.tabled_configuration.specs.Configuration.{ConfigEvent, Shows, all_writes, characters_of};
 ghost use Rattle.tabled_config.specs.Texts.{Appends, texts};
@@ -12,11 +12,13 @@ ghost use Rattle.tabled_config.specs.Along.{is_empty};
 ghost use Rattle.tabled_config.specs.Picture.{character, look, text_lines, printed};
 ghost use Rattle.tabled_config.specs.Refusal as refusal;
 
+use crate::line_pieces::edge_of;
+use crate::marks::{MarkedLine, drawn_across};
 use crate::refusals::first_refusal;
 use crate::seen::edge_size;
 use crate::{CellRows, PrintError, SpannedConfig};
 use std::alloc::{AllocError, Global};
-use tabled_grid::{Dimension, OutOfMemory, Place, Probes};
+use tabled_grid::{Dimension, LineOf, OutOfMemory, Place, Probes};
 
 /// How a table that has places is framed: its borders and its sizes, and which of its vertical lines are drawn.
 #[derive(Drop)]
@@ -26,16 +28,13 @@ struct Frame<'a, D> {
     shape: (usize, usize),
     sides: &'a [bool],
     ghost has_places: { is_empty shape ≡ false },
-    ghost sides_drawn: { sides.now ≡ map (λ c. drawn (characters_of (all_writes cfg.now)) shape.1 (LineOf.Vertical c)) (below (shape.1 + 1)) },
+    ghost sides_drawn: { sides.now ≡ map (λ c. drawn (characters_of (all_writes cfg.now)) shape.1 (Line.Vertical c)) (below (shape.1 + 1)) },
 }
 
 #[tactic(auto, using(crate::proofs::TextLemmas::writing))]
 impl<D: Dimension> Frame<'_, D> {
     ghost use Rattle.tabled_grid.specs.declared.place.Place.{Place as Spot};
-    ghost use Rattle.tabled_grid.specs.declared.place.LineOf.{LineOf as Line};
-    ghost use Rattle.tabled_object.specs.Entities.{below};
-    ghost use Rattle.tabled_config.specs.Along.{crossing_at};
-    ghost use Rattle.tabled_config.specs.Picture.{edge_size, text_shown, shown_along, side_shown, line_of_pieces, row_lines, line_if_drawn, text_lines};
+    ghost use Rattle.tabled_config.specs.Picture.{edge_size, text_shown, text_marked, marks_along, side_shown, line_of_pieces, row_lines, line_if_drawn, text_lines};
     ghost use Rattle.tabled_config.specs.Framed.{framed};
 
     /// The length of a place's edge; a crossing has none.
@@ -65,58 +64,21 @@ impl<D: Dimension> Frame<'_, D> {
         self.sides[col]
     }
 
-    /// Writes the crossing of two lines, if the vertical one is drawn.
-    fn push_crossing(&self, text: &mut String, row: usize, col: usize) -> Result<(), AllocError>
-        requires { col ≤ self.now.shape.1 }
-        ensures { let view = framed D.width_of D.height_of self.now in
-            Appends result text.old text.new (text_shown (map view.shown (crossing_at view.vertical (λ c. Spot.Cross row c) col))) }
-    {
-        if self.has_side(col) {
-            text.push(self.character(Place::Cross { row, col }))?;
-        }
-        Ok(())
-    }
-
-    /// Writes the edge of a horizontal line over a column, place by place.
-    fn push_each_place(&self, text: &mut String, row: usize, col: usize) -> Result<(), AllocError>
-        ensures { let view = framed D.width_of D.height_of self.now in
-            Appends result text.old text.new (text_shown (map view.shown (map (λ k. Spot.Horizontal row col k) (below (view.widths col))))) }
-    {
-        for at in 0..self.dims.get_width(col) {
-            text.push(self.character(Place::Horizontal { row, col, at }))?;
-        }
-        Ok(())
-    }
-
-    /// Writes the edge of a horizontal line over a column. Where no offset character is kept, all its places
-    /// show the same.
-    fn push_edge(&self, text: &mut String, row: usize, col: usize) -> Result<(), AllocError>
-        ensures { let view = framed D.width_of D.height_of self.now in
-            Appends result text.old text.new (text_shown (map view.shown (map (λ k. Spot.Horizontal row col k) (below (view.widths col))))) }
-    {
-        if self.cfg.has_horizontal_offsets() {
-            return self.push_each_place(text, row, col);
-        }
-        let edge = Place::Horizontal { row, col, at: 0 };
-        let shown = printed_as(self.cfg.plain_char_at(edge, self.shape));
-        for _ in 0..self.dims.get_width(col) {
-            text.push(shown)?;
-        }
-        Ok(())
-    }
-
     /// Writes a horizontal line, which is not past the last one.
-    fn push_places(&self, text: &mut String, row: usize) -> Result<(), AllocError>
+    fn push_places(&self, text: &mut String, row: usize) -> Result<(), OutOfMemory>
         requires { row ≤ self.now.shape.0 }
         ensures { let view = framed D.width_of D.height_of self.now in
-            Appends result text.old text.new (text_shown (shown_along view (Line.Horizontal row))) }
+            Appends result text.old text.new (text_marked (marks_along view (Line.Horizontal row))) }
     {
-        let (_, cols) = self.shape;
-        for col in 0..cols {
-            self.push_crossing(text, row, col)?;
-            self.push_edge(text, row, col)?;
-        }
-        self.push_crossing(text, row, cols)
+        let marked = MarkedLine {
+            cfg: self.cfg,
+            dims: self.dims,
+            shape: self.shape,
+            line: LineOf::Horizontal(row),
+            crossed: self.sides,
+            with_colors: false,
+        };
+        marked.put_all(text, &mut Probes::new())
     }
 
     /// Writes a horizontal line and a line feed, if the line is drawn.
@@ -132,6 +94,22 @@ impl<D: Dimension> Frame<'_, D> {
         Ok(())
     }
 
+    /// The character that is printed for a vertical line at one line of text of a row. Where no offset character is kept, it is that
+    /// of the whole edge.
+    fn side(&self, row: usize, col: usize, at: usize) -> char
+        ensures { let view = framed D.width_of D.height_of self.now in
+            result ≡ character (view.shown (Spot.Vertical row col at)) }
+    {
+        let place = Place::Vertical { row, col, at };
+        if self.cfg.has_char_offsets(LineOf::Vertical(col)) || at >= self.dims.get_height(row) {
+            return self.character(place);
+        }
+        printed_as(
+            self.cfg
+                .plain_char_at(edge_of(LineOf::Vertical(col), row, 0), self.shape),
+        )
+    }
+
     /// Writes the character of a vertical line at one line of text of a row, if the line is drawn.
     fn push_side(
         &self,
@@ -145,7 +123,7 @@ impl<D: Dimension> Frame<'_, D> {
             Appends result text.old text.new (text_shown (side_shown view row at col)) }
     {
         if self.has_side(col) {
-            text.push(self.character(Place::Vertical { row, col, at }))?;
+            text.push(self.side(row, col, at))?;
         }
         Ok(())
     }
@@ -206,7 +184,7 @@ impl<D: Dimension> Frame<'_, D> {
 }
 
 /// The character that is printed for what a place shows, a space for nothing.
-fn printed_as(shown: Option<char>) -> char
+pub(crate) fn printed_as(shown: Option<char>) -> char
     ensures { result ≡ character shown }
 {
     shown.unwrap_or(' ')
@@ -234,18 +212,6 @@ fn whole_texts(alloc: Global, cells: &[String]) -> Result<Vec<&str>, OutOfMemory
     Ok(rests)
 }
 
-/// Which of the vertical lines 0 to `cols` are drawn.
-fn drawn_sides(alloc: Global, cfg: &SpannedConfig, cols: usize) -> Result<Vec<bool>, OutOfMemory>
-    ensures { IfOk result (λ sides. sides.items ≡ map (λ c. drawn (characters_of (all_writes cfg.now)) cols (LineOf.Vertical c)) (below (cols + 1))) }
-{
-    let mut sides = Vec::new(alloc);
-    for col in 0..cols {
-        sides.push(cfg.has_vertical(col, cols))?;
-    }
-    sides.push(cfg.has_vertical(cols, cols))?;
-    Ok(sides)
-}
-
 /// Writes the lines of a table, each with a line feed. A table without rows or columns has none.
 fn push_lines<D: Dimension, R: CellRows>(
     text: &mut String,
@@ -263,7 +229,7 @@ fn push_lines<D: Dimension, R: CellRows>(
     if rows == 0 || cols == 0 {
         return Ok(());
     }
-    let sides = drawn_sides(cfg.allocator(), cfg, cols)?;
+    let sides = drawn_across(cfg, shape, LineOf::Horizontal(0), &mut Probes::new())?;
     let frame = Frame {
         cfg,
         dims,

@@ -1,12 +1,6 @@
 -- Lists of writes that an option hands to a configuration.
-use Rattle.std.proofs.Common.{◌≡◌, ℕ, Option, option_map, List, [], ◌++◌, map, filter, ap, ◌∙◌}
-use Rattle.std.proofs.lemmas.List.{append-nil}
-use Rattle.tabled_border.specs.Texts.{Texts}
-use Rattle.tabled_grid.specs.declared.event.Event.{Event}
-use Rattle.tabled_grid.specs.declared.writes.Write.{Write}
-use Rattle.tabled_grid.specs.Writes.{writes_made}
-use Rattle.tabled_grid.proofs.EntityBorders.{nothing_written}
-use Rattle.tabled_config.specs.Configuration.{Configuration, ConfigEvent, all_writes, by_characters, by_colors, cell_colors_of, writes_applied}
+use Rattle.std.proofs.Common.{◌≡◌, ℕ, Option, option_map, List, [], map, filter, ap, ◌∙◌}
+use Rattle.tabled_config.specs.Configuration.{Configuration, ConfigEvent, all_writes, cell_colors_of}
 use Rattle.tabled_config.specs.Picture.{Look, look}
 use Rattle.tabled_configuration.proofs.ColoredLemmas.{none_by_characters, none_by_both}
 use Rattle.tabled_object.specs.declared.entity.Entity.{Entity}

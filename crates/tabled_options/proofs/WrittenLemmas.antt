@@ -1,8 +1,7 @@
 -- What a text writes on the places that it takes.
-use Rattle.std.proofs.Common.{◌≡◌, ℕ, ◌+◌, ◌<◌, Bool, true, false, not, ◌&&◌, ◌||◌, cond, nat_le, nat_lt, Option, Some, None, option_map, List, [], ◌∷◌, ◌++◌, length, get_or, map, take, refl, ap, sym, ◌∙◌, append-nil, arith, Result, Ok, Err, IfOk}
+use Rattle.std.proofs.Common.{◌≡◌, ℕ, ◌+◌, ◌<◌, true, false, cond, Option, Some, None, option_map, List, [], ◌∷◌, ◌++◌, length, get_or, map, take, refl, ap, sym, ◌∙◌, append-nil, arith, Result, Ok, Err, IfOk}
 use Rattle.std.specs.Option.{option_and_then}
 use Rattle.std.specs.List.{filter, zip}
-use Rattle.std.proofs.lemmas.Bool.{leb-false, lt-ltb}
 use Rattle.std.proofs.lemmas.List.{take_more, map-append, drop_all}
 use Rattle.std.proofs.lemmas.List.Elements.{filter-append}
 use Rattle.tabled_border.specs.Texts.{Texts}
@@ -13,14 +12,14 @@ use Rattle.tabled_grid.specs.declared.offset.Offset.{Offset}
 use Rattle.tabled_grid.specs.declared.writes.Write.{Write}
 use Rattle.tabled_grid.specs.Writes.{writes_made}
 use Rattle.tabled_grid.proofs.EntityBorders.{writes_made-append, nothing_written}
-use Rattle.tabled_config.specs.Along.{is_empty, along}
 use Rattle.tabled_config.specs.Picture.{Look}
 use Rattle.tabled_config.specs.Configuration.{writes_applied, by_characters, by_colors}
 use Rattle.tabled_color.specs.Shade.{texts_of}
 use Rattle.tabled_formatting.specs.declared.alignment.Alignment.{Alignment}
 use Rattle.tabled_options.specs.TextStart.{limited, width_of, aligned_offset, moved_if_aligned, place_number, text_start}
 use Rattle.tabled_options.specs.LineText.{Lettering, countable, places_along, laid, takes_character, character_written, color_written, characters_written, colors_written, places_taken, text_events}
-use Rattle.tabled_options.specs.Laying.{exists}
+use Rattle.tabled_config.specs.LinePieces.{has_line}
+use Rattle.tabled_config.proofs.LineLemmas.{no_places}
 
 -- what follows from what is returned
 pub if_ok : {A E : Type 0} (P Q : A → Type 0) (r : Result A E) → ((x : A) → P x → Q x) → IfOk r P → IfOk r Q
@@ -86,22 +85,12 @@ unfolding colors_written
 none_colored None = refl
 none_colored (Some color) = refl
 
--- where there are no places, or the number is past the last one, nothing is left
-none_left : (empty : Bool) (n last : ℕ) (places : List Place) → not empty && nat_le n last ≡ false → cond (empty || nat_lt last n) [] places ≡ []
-none_left true n last places h = refl
-none_left false n last places h = ap (λ b. cond b [] places) (lt-ltb last n (leb-false n last h))
-
--- a line that does not exist has no place
-no_places : (view : Look) (line : LineOf) → exists view.shape line ≡ false → along view.horizontal view.vertical view.shape view.widths view.heights line ≡ []
-no_places view (LineOf.Horizontal r) none = none_left (is_empty view.shape) r view.shape.0 _ none
-no_places view (LineOf.Vertical c) none = none_left (is_empty view.shape) c view.shape.1 _ none
-
 nothing_laid : (found : Option ℕ) (letters : List ℕ) → laid found letters [] ≡ []
 nothing_laid None letters = refl
 nothing_laid (Some start) letters = ap (λ places. zip {X = ℕ} places letters) (drop_all start [] (omega arith))
 
 module _ {L : Type 0} (text : Lettering L) (view : Look) where
-  pub none_taken : (line : LineOf) (taken : List (Place × ℕ)) → taken ≡ [] → exists view.shape line ≡ false → taken ≡ places_taken text view (Some line)
+  pub none_taken : (line : LineOf) (taken : List (Place × ℕ)) → taken ≡ [] → has_line view.shape line ≡ false → taken ≡ places_taken text view (Some line)
   unfolding places_taken places_along
   none_taken line taken none there =
       let letters : List ℕ = limited text.limit text.text in

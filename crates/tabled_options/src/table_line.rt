@@ -5,7 +5,9 @@ ghost use Rattle.std.specs.List.{zip};
 
 use crate::pen::Pen;
 use std::alloc::Global;
-use tabled_config::SpannedConfig;
+use tabled_config::{
+    SpannedConfig, crossing_line, crossing_of, edge_of, has_line, pieces_of, size_of,
+};
 use tabled_grid::{Dimension, LineOf, OutOfMemory, Place, Probes};
 
 /// A line of a table, with what decides how it looks.
@@ -20,70 +22,37 @@ pub(crate) struct TableLine<'a, D> {
 impl<D: Dimension> TableLine<'_, D> {
     ghost use Rattle.tabled_grid.specs.declared.place.Place.{Place as Spot};
     ghost use Rattle.tabled_options.specs.LineText.{takes_character, places_along};
-    ghost use Rattle.tabled_options.specs.Laying.{looked, exists, pieces_of, size_of, crossed, crossing_of, edge_of, crossing_places, edge_places, all_places};
+    ghost use Rattle.tabled_config.specs.LinePieces.{has_line, pieces_of, size_of, crossed, crossing_places, edge_places, all_places};
+    ghost use Rattle.tabled_options.specs.Laying.{looked};
     ghost use Rattle.tabled_options.specs.Passing.{Passed};
 
     /// Whether the table has places and the line is not past the one that closes it.
     pub(crate) fn exists(&self) -> bool
-        ensures { result ≡ exists self.now.shape self.now.line }
+        ensures { result ≡ has_line self.now.shape self.now.line }
     {
-        let (rows, cols) = self.shape;
-        rows != 0
-            && cols != 0
-            && match self.line {
-                LineOf::Horizontal(row) => row <= rows,
-                LineOf::Vertical(col) => col <= cols,
-            }
+        has_line(self.shape, self.line)
     }
 
     /// How many columns, or rows, the line is long.
     fn pieces(&self) -> usize
-        ensures { result ≡ pieces_of (looked D.width_of D.height_of self.now) self.now.line }
+        ensures { result ≡ pieces_of self.now.shape self.now.line }
     {
-        match self.line {
-            LineOf::Horizontal(_) => self.shape.1,
-            LineOf::Vertical(_) => self.shape.0,
-        }
+        pieces_of(self.shape, self.line)
     }
 
     /// How many places its edge has at one of them.
     fn size(&self, n: usize) -> usize
-        ensures { result ≡ size_of (looked D.width_of D.height_of self.now) self.now.line n }
+        ensures { let view = looked D.width_of D.height_of self.now in result ≡ size_of view.widths view.heights self.now.line n }
     {
-        match self.line {
-            LineOf::Horizontal(_) => self.dims.get_width(n),
-            LineOf::Vertical(_) => self.dims.get_height(n),
-        }
+        size_of(self.dims, self.line, n)
     }
 
     /// Whether a line of the other direction is drawn, so that it crosses this one.
     fn is_crossed(&self, n: usize) -> bool
-        ensures { result ≡ crossed (looked D.width_of D.height_of self.now) self.now.line n }
+        ensures { let view = looked D.width_of D.height_of self.now in result ≡ crossed view.horizontal view.vertical self.now.line n }
     {
-        match self.line {
-            LineOf::Horizontal(_) => self.cfg.has_vertical(n, self.shape.1),
-            LineOf::Vertical(_) => self.cfg.has_horizontal(n, self.shape.0),
-        }
-    }
-
-    /// The crossing with a line of the other direction.
-    fn crossing(&self, n: usize) -> Place
-        ensures { result ≡ crossing_of self.now.line n }
-    {
-        match self.line {
-            LineOf::Horizontal(row) => Place::Cross { row, col: n },
-            LineOf::Vertical(col) => Place::Cross { row: n, col },
-        }
-    }
-
-    /// A place of the edge over a column, or beside a row.
-    fn edge(&self, n: usize, at: usize) -> Place
-        ensures { result ≡ edge_of self.now.line n at }
-    {
-        match self.line {
-            LineOf::Horizontal(row) => Place::Horizontal { row, col: n, at },
-            LineOf::Vertical(col) => Place::Vertical { row: n, col, at },
-        }
+        let line = crossing_line(self.line, n);
+        self.cfg.draws(line, self.pieces(), &mut Probes::new())
     }
 
     /// Whether a place takes a character that is written there: a crossing that shows none stays empty.
@@ -127,7 +96,7 @@ impl<D: Dimension> TableLine<'_, D> {
             OnOk result (Passed (crossing_places view self.now.line n) pen.old pen.new) }
     {
         if self.is_crossed(n) {
-            pen.pass(self.crossing(n))?;
+            pen.pass(crossing_of(self.line, n))?;
         }
         Ok(())
     }
@@ -143,7 +112,7 @@ impl<D: Dimension> TableLine<'_, D> {
             if pen.letters.is_empty() {
                 return Ok(());
             }
-            pen.pass(self.edge(n, at))?;
+            pen.pass(edge_of(self.line, n, at))?;
         }
         Ok(())
     }
@@ -169,7 +138,7 @@ impl<D: Dimension> TableLine<'_, D> {
         total: usize,
         letters: &[char],
     ) -> Result<Vec<(Place, char)>, OutOfMemory>
-        requires exists { exists self.now.shape self.now.line ≡ true }
+        requires exists { has_line self.now.shape self.now.line ≡ true }
         requires total { let view = looked D.width_of D.height_of self.now in total ≡ length (places_along view self.now.line) }
         ensures { let view = looked D.width_of D.height_of self.now in
             IfOk result (λ taken. taken.items ≡ zip (drop start (places_along view self.now.line)) letters.now) }

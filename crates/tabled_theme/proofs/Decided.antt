@@ -83,6 +83,17 @@ colors_shown theme old new changes q =
     subst (λ es. grid.Changes es (state_at old.colors) (state_at new.colors)) (theme_colors theme) changes.colors_changed in
     changed q ∙ replay_cleared every_site (class_record_set (color_texts theme)) q
 
+-- so it shows the theme's events by themselves
+pub own_characters_shown : (theme : ThemeShown) (old new : Configuration) → Changes (theme_applied theme) old new → grid.Shows (characters_of (theme_applied theme)) (state_at new.characters)
+unfolding grid.Shows
+own_characters_shown theme old new changes q =
+    characters_shown theme old new changes q ∙ sym (replay_cleared every_site (written_by (as_style theme)) q) ∙ sym (ap (λ es. grid.replay es q) (theme_characters theme))
+
+pub own_colors_shown : (theme : ThemeShown) (old new : Configuration) → Changes (theme_applied theme) old new → grid.Shows (colors_of (theme_applied theme)) (state_at new.colors)
+unfolding grid.Shows
+own_colors_shown theme old new changes q =
+    colors_shown theme old new changes q ∙ sym (replay_cleared every_site (class_record_set (color_texts theme)) q) ∙ sym (ap (λ es. grid.replay es q) (theme_colors theme))
+
 -- of a theme that is made of a style
 same_written : (style : Shown) (q : Site) → grid.replay (written_by (as_style (of_style style))) q ≡ grid.replay (written_by style) q
 unfolding grid.Shows

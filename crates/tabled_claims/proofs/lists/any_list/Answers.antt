@@ -29,7 +29,7 @@ returns-clause-lines c = λ es cfg count line shows.
 
 pub returns-clause-text : goal.returns-clause-text
 returns-clause-text c = λ es fs cfg shape widths heights cells by with.
-    ap (λ view. join_with_byte 10 (text_lines view cells)) (same_look cfg.spanned es fs shape widths heights by.spanned_shown.characters_shown with.spanned_shown.characters_shown)
+    ap (λ view. join_with_byte 10 (text_lines view cells)) (same_look cfg.spanned es fs shape widths heights by.spanned_shown with.spanned_shown)
 
 pub returns-clause-unread : goal.returns-clause-unread
 returns-clause-unread c = λ events entities made old new by. all_unread Changes events entities made old new by

@@ -7,11 +7,11 @@ use Rattle.tabled_highlight.proofs.OutlineLaws.{table_covered, nothing_across, n
 use Rattle.tabled_claims.proofs.outlines.no_outline_between_alike.Goals as goal
 
 pub returns-clause-across : goal.returns-clause-across
-returns-clause-across g c = λ entities rows cols r c' border alike.
+returns-clause-across g c = λ entities rows cols r c' given alike.
     let cells = listed entities rows cols in
-    table_covered entities rows cols border (Edge Horizontal r c') ∙ nothing_across border (upper_right cells r c') (lower_right cells r c') alike
+    table_covered entities rows cols given (Edge Horizontal r c') ∙ nothing_across given.border (upper_right cells r c') (lower_right cells r c') alike
 
 pub returns-clause-down : goal.returns-clause-down
-returns-clause-down g c = λ entities rows cols r c' border alike.
+returns-clause-down g c = λ entities rows cols r c' given alike.
     let cells = listed entities rows cols in
-    table_covered entities rows cols border (Edge Vertical r c') ∙ nothing_down border (lower_left cells r c') (lower_right cells r c') alike
+    table_covered entities rows cols given (Edge Vertical r c') ∙ nothing_down given.border (lower_left cells r c') (lower_right cells r c') alike

@@ -4,13 +4,13 @@ use Rattle.tabled_claims.proofs.EachOnce.{each_once}
 use Rattle.tabled_claims.proofs.outlines.outline_is_its_table.Goals as goal
 
 pub returns-clause-covered : goal.returns-clause-covered
-returns-clause-covered g c = λ entities rows cols border spot. table_covered entities rows cols border spot
+returns-clause-covered g c = λ entities rows cols given spot. table_covered entities rows cols given spot
 
 pub returns-clause-kept : goal.returns-clause-kept
-returns-clause-kept g c = λ entities rows cols border spot. table_kept entities rows cols border spot
+returns-clause-kept g c = λ entities rows cols given spot. table_kept entities rows cols given spot
 
 pub returns-clause-inside : goal.returns-clause-inside
-returns-clause-inside g c = λ entities rows cols border site h. at_its_spots entities rows cols border site h
+returns-clause-inside g c = λ entities rows cols given site h. at_its_spots entities rows cols given site h
 
 pub returns-clause-once : goal.returns-clause-once
-returns-clause-once g c = λ entities rows cols border. each_once rows cols (listed entities rows cols) border
+returns-clause-once g c = λ entities rows cols given. each_once rows cols (listed entities rows cols) given

@@ -3,9 +3,8 @@ use Rattle.std.proofs.Common.{ℕ, List, ◌++◌, ap, sym, ◌∙◌, string_by
 use Rattle.std.specs.List.{flat_map, join_with_byte}
 use Rattle.tabled_configuration.specs.Configuration.{all_writes}
 use Rattle.tabled_config.specs.Picture.{look, text_lines}
-use Rattle.tabled_configuration.proofs.ConfigurationLemmas.{shown_characters}
 use Rattle.tabled_config.proofs.FaultLemmas.{right_rows, right_columns}
-use Rattle.tabled_config.proofs.LookLemmas.{same_look}
+use Rattle.tabled_config.proofs.LookLemmas.{own_look}
 use Rattle.tabled_config.proofs.TextLemmas.{ended, cut_at_start, text_cut_at_end, text_cut_joined, text_none_joined, appended, not_appended, string_len-is}
 use Rattle.tabled_config.proofs.print.print_rows.Goals as goal
 
@@ -39,7 +38,7 @@ returns-then-start-end-clause-text g c es shows =
     c.len-start.ensures c.len-end.ensures c.if-start-end.true
     (appended c.push_lines.result (string_bytes c.args.out.now) (string_bytes c.push_lines.new.text) (flat_map ended lines) (sym c.is_err.ensures.value ∙ c.if-is_err.false) c.push_lines.ensures)
     ∙ ap (λ view. string_bytes c.args.out.now ++ join_with_byte 10 (text_lines view (g.R.CellRows.table c.args.cells.now)))
-    (same_look c.args.cfg.now (all_writes c.args.cfg.now) es c.args.shape widths heights (shown_characters c.args.cfg.now) shows.characters_shown)
+    (own_look c.args.cfg.now es c.args.shape widths heights shows)
 
 pub returns-else-start-end-clause-text : goal.returns-else-start-end-clause-text
 returns-else-start-end-clause-text g c es shows =
@@ -50,4 +49,4 @@ returns-else-start-end-clause-text g c es shows =
     c.len-start.ensures c.len-end.ensures c.if-start-end.false
     (appended c.push_lines.result (string_bytes c.args.out.now) (string_bytes c.push_lines.new.text) (flat_map ended lines) (sym c.is_err.ensures.value ∙ c.if-is_err.false) c.push_lines.ensures)
     ∙ ap (λ view. string_bytes c.args.out.now ++ join_with_byte 10 (text_lines view (g.R.CellRows.table c.args.cells.now)))
-    (same_look c.args.cfg.now (all_writes c.args.cfg.now) es c.args.shape widths heights (shown_characters c.args.cfg.now) shows.characters_shown)
+    (own_look c.args.cfg.now es c.args.shape widths heights shows)

@@ -1,16 +1,15 @@
 -- What the configuration returns is how the table looks.
-use Rattle.std.proofs.Common.{ap, sym, ◌∙◌}
-use Rattle.tabled_grid.specs.declared.place.LineOf.{LineOf}
+use Rattle.std.proofs.Common.{◌∙◌}
+use Rattle.tabled_grid.specs.Drawn.{drawn}
+use Rattle.tabled_config.specs.Configuration.{all_writes, characters_of}
+use Rattle.tabled_config.proofs.LineLemmas.{crossed_is}
 use Rattle.tabled_config.proofs.LookLemmas.{own_drawn}
-use Rattle.tabled_options.specs.Laying.{looked, crossed}
 use Rattle.tabled_options.proofs.table_line.TableLine.is_crossed.Goals as goal
 
-pub returns-in-Horizontal : goal.returns-in-Horizontal
-returns-in-Horizontal g c =
-    own_drawn c.args.self.now.cfg.now c.args.self.now.shape.1 (LineOf.Vertical c.args.n) c.has_vertical.result c.has_vertical.ensures
-    ∙ ap (λ line. crossed (looked g.D.Dimension.width_of g.D.Dimension.height_of c.args.self.now) line c.args.n) (sym c.in-Horizontal.is)
-
-pub returns-in-Vertical : goal.returns-in-Vertical
-returns-in-Vertical g c =
-    own_drawn c.args.self.now.cfg.now c.args.self.now.shape.0 (LineOf.Horizontal c.args.n) c.has_horizontal.result c.has_horizontal.ensures
-    ∙ ap (λ line. crossed (looked g.D.Dimension.width_of g.D.Dimension.height_of c.args.self.now) line c.args.n) (sym c.in-Vertical.is)
+pub returns : goal.returns
+returns g c =
+    let cfg = c.args.self.now.cfg.now in
+    let shape = c.args.self.now.shape in
+    own_drawn cfg c.pieces.result c.crossing_line-line.result c.draws.result c.draws.ensures.drawn
+    ∙ (λ i. drawn (characters_of (all_writes cfg)) (c.pieces.ensures i) (c.crossing_line-line.ensures i))
+    ∙ crossed_is (all_writes cfg) shape (g.D.Dimension.width_of c.args.self.now.dims.now) (g.D.Dimension.height_of c.args.self.now.dims.now) c.args.self.now.line c.args.n

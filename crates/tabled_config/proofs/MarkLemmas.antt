@@ -1,0 +1,105 @@
+-- Marks that are put into something, run by run, and the meter on the way.
+use Rattle.std.proofs.Common.{◌≡◌, ℕ, ◌+◌, ◌≤◌, ◌<◌, Bool, true, if◌then◌else◌, Option, List, [], ◌∷◌, ◌++◌, length, take, map, zero, suc, add-one, refl, ap, sym, subst, ◌∙◌, arith, Result, Ok, Err, IsErr, String, string_bytes}
+use Rattle.std.proofs.lemmas.List.{map-append, take_at}
+use Rattle.std.proofs.lemmas.List.FromFn.{map-range_with_len_more}
+use Rattle.tabled_border.specs.Texts.{Texts}
+use Rattle.tabled_grid.specs.Probing.{IsRaised}
+use Rattle.tabled_grid.specs.declared.place.Place.{Place}
+use Rattle.tabled_grid.specs.declared.place.LineOf.{LineOf}
+use Rattle.tabled_object.specs.Entities.{below}
+use Rattle.tabled_config.specs.Picture.{Look, Shown, text_shown, text_marked, mark_at, marks_along}
+use Rattle.tabled_config.specs.LinePieces.{has_line, size_of, edge_of, edge_places, all_places}
+use Rattle.tabled_config.specs.Along.{along}
+use Rattle.tabled_config.specs.Sinks.{Put, text_gains}
+use Rattle.tabled_config.specs.Texts.{Appends}
+use Rattle.tabled_config.specs.Viewed.{colored_if}
+use Rattle.tabled_config.proofs.LineLemmas.{along_pieces}
+
+-- the meter was not raised, by two calls in turn, or by fewer readings
+pub raised_none : (most n : ℕ) → IsRaised most n n
+raised_none most n = record { no_lower = omega arith; by_at_most = omega arith; stands_still = λ e. e }
+
+pub raised_both : (a b most old between new : ℕ) → IsRaised a old between → IsRaised b between new → a + b ≤ most → IsRaised most old new
+raised_both a b most old between new p q fits = record {
+  no_lower = omega (arith, p.no_lower, q.no_lower);
+  by_at_most = omega (arith, p.by_at_most, q.by_at_most);
+  stands_still = λ e. q.stands_still (p.stands_still e);
+}
+
+pub raised_least : (a most old new : ℕ) → IsRaised a old new → a ≤ most → IsRaised most old new
+raised_least a most old new p fits = record { no_lower = p.no_lower; by_at_most = omega (arith, p.by_at_most); stands_still = p.stands_still }
+
+-- a mark by its two parts
+pub mark_by : (a b : Option ℕ) (x y : Option Texts) → a ≡ b → x ≡ y → ◌≡◌ {A = Shown} (a, x) (b, y)
+mark_by a b x y p q = λ i. (p i, q i)
+
+-- one mark more of a run, and marks that are alike
+pub alike_more : {A : Type 0} (m : A) (n : ℕ) → map (λ _. m) (below (n + 1)) ≡ map (λ _. m) (below n) ++ m ∷ []
+alike_more {A} m n = let all : ℕ → A = λ _. m in map-range_with_len_more all 0 n n (omega arith)
+
+pub place_more : {A B : Type 0} (f : A → B) (g : ℕ → A) (n : ℕ) → map f (map g (below (n + 1))) ≡ map f (map g (below n)) ++ f (g n) ∷ []
+place_more f g n = ap (map f) (map-range_with_len_more g 0 n n (omega arith)) ∙ map-append f (map g (below n)) (g n ∷ [])
+
+pub alike_all : {A B : Type 0} (f : A → B) (g : ℕ → A) (m : B) (n : ℕ) → ((k : ℕ) → k < n → f (g k) ≡ m) → map f (map g (below n)) ≡ map (λ _. m) (below n)
+alike_all f g m zero alike = refl
+alike_all {A} {B} f g m (suc n) alike =
+    subst (λ k. map f (map g (below k)) ≡ map (λ _. m) (below k)) (add-one n)
+    (place_more f g n
+    ∙ ap (λ xs. xs ++ f (g n) ∷ []) (alike_all f g m n (λ k h. alike k (omega (arith, h, add-one n))))
+    ∙ ap (λ x. map (λ _. m) (below n) ++ x ∷ []) (alike n (omega (arith, add-one n)))
+    ∙ sym (alike_more m n))
+
+-- an edge whose places all have one mark
+pub alike_edge : (view : Look) (line : LineOf) (n size : ℕ) (mark : Shown) → size ≡ size_of view.widths view.heights line n → ((k : ℕ) → k < size_of view.widths view.heights line n → mark ≡ mark_at view (edge_of line n k))
+    → map (λ _. mark) (below size) ≡ map (mark_at view) (edge_places view line n)
+alike_edge view line n size mark sized alike =
+    ap (λ count. map (λ _. mark) (below count)) sized
+    ∙ sym (alike_all (mark_at view) (edge_of line n) mark (size_of view.widths view.heights line n) (λ k within. sym (alike k within)))
+
+-- the place of a crossing that is there
+pub crossing_there : (b : Bool) (place : Place) → b ≡ true → (if b then place ∷ [] else []) ≡ place ∷ []
+crossing_there b place is = ap (λ c. if c then place ∷ [] else []) is
+
+module _ {S : Type 0} (puts : List Shown → S → S → Type 0) where
+  -- a refusal that put some marks
+  pub put_some : {T E : Type 0} (r : Result T E) (some all : List Shown) (old new : S) → IsErr r → puts some old new → Put puts r all old new
+  put_some (Ok x) some all old new refused h = absurd cc
+  put_some (Err e) some all old new refused h = (some, h)
+
+  -- other marks that are the same
+  pub put_same : {T E : Type 0} (r : Result T E) (ms ns : List Shown) (old new : S) → ms ≡ ns → Put puts r ms old new → Put puts r ns old new
+  put_same r ms ns old new same h = subst (λ all. Put puts r all old new) same h
+
+  module _ (both : (ms ns : List Shown) (old between new : S) → puts ms old between → puts ns between new → puts (ms ++ ns) old new) where
+    -- marks put in turn
+    pub puts_more : (ms ns all : List Shown) (old between new : S) → all ≡ ms ++ ns → puts ms old between → puts ns between new → puts all old new
+    puts_more ms ns all old between new is first second = subst (λ all. puts all old new) (sym is) (both ms ns old between new first second)
+
+    pub put_more : {T E : Type 0} (r : Result T E) (ms ns all : List Shown) (old between new : S) → all ≡ ms ++ ns → puts ms old between → Put puts r ns between new → Put puts r all old new
+    put_more (Ok x) ms ns all old between new is first second = puts_more ms ns all old between new is first second
+    put_more (Err e) ms ns all old between new is first second = (ms ++ second.0, both ms second.0 old between new first second.1)
+
+    -- and where the second part is refused
+    pub put_stopped : {T E : Type 0} (r : Result T E) (ms all : List Shown) (old between new : S) → IsErr r → puts ms old between → ((some : List Shown) × puts some between new) → Put puts r all old new
+    put_stopped r ms all old between new refused first second = put_some r (ms ++ second.0) all old new refused (both ms second.0 old between new first second.1)
+
+-- the characters of marks are what the places show
+pub characters_of_marks : (view : Look) (places : List Place) → text_marked (map (mark_at view) places) ≡ text_shown (map view.shown places)
+characters_of_marks view places = ap text_shown (characters view places)
+  where
+    characters : (view : Look) (places : List Place) → map (λ mark. mark.0) (map (mark_at view) places) ≡ map view.shown places
+    characters view [] = refl
+    characters view (place ∷ places) = ap (λ rest. view.shown place ∷ rest) (characters view places)
+
+-- a text that took the marks of a line, whose colors were wanted or not, has gained their characters; one that took some marks
+-- still begins with what it was
+pub line_appended : {T E Z : Type 0} (r : Result T E) (old new : String Z) (view : Look) (line : LineOf) (wanted : Bool) → has_line view.shape line ≡ true
+    → Put text_gains r (map (mark_at (colored_if wanted view)) (all_places (colored_if wanted view) line)) old new → Appends r old new (text_marked (marks_along view line))
+line_appended (Ok x) old new view line wanted there gained =
+    gained
+    ∙ ap (λ bytes. string_bytes old ++ bytes)
+    (characters_of_marks (colored_if wanted view) (all_places (colored_if wanted view) line)
+    ∙ ap (λ places. text_shown (map view.shown places)) (sym (along_pieces (colored_if wanted view) line there))
+    ∙ sym (characters_of_marks view (along view.horizontal view.vertical view.shape view.widths view.heights line)))
+line_appended (Err e) old new view line wanted there some =
+    ap (take (length (string_bytes old))) some.1 ∙ take_at (string_bytes old) (text_marked some.0) (length (string_bytes old)) refl

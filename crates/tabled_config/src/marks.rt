@@ -1,0 +1,283 @@
+//! What the places along a line show, in order: the one walk along a line, which the printer takes too.
+
+ghost use Rattle.std.specs.Prelude.{◌≡◌, ℕ, ◌+◌, ◌*◌, ◌≤◌, true, false, if◌then◌else◌, IsFalse, Option, None, List, IfOk, length, map, option_copied};
+ghost use Rattle.tabled_grid.specs.Probing.{IsRaised};
+ghost use Rattle.tabled_grid.specs.Reading.{direction_of};
+ghost use Rattle.tabled_grid.specs.State.{state_at, HasNoOffsets};
+ghost use Rattle.tabled_grid.specs.Value.{plain_value};
+ghost use Rattle.tabled_object.specs.Entities.{below};
+ghost use Rattle.tabled_configuration.specs.Configuration.{ConfigEvent, Shows, all_writes};
+ghost use Rattle.tabled_config.specs.Picture.{edge_size, mark_at, marks};
+ghost use Rattle.tabled_config.specs.LinePieces.{has_line, pieces_of, size_of, crossed_after, crossing_places, edge_places, piece_places, all_places, lines_met};
+ghost use Rattle.tabled_config.specs.Marks.{mark_of, marks_of};
+ghost use Rattle.tabled_config.specs.Sinks.{Put};
+
+use crate::line_pieces::{crossing_line, crossing_of, edge_of, has_line, pieces_of, size_of};
+use crate::sink::Sink;
+use crate::{Mark, Run, SpannedConfig};
+use tabled_grid::{ANSIBuf, Dimension, LineOf, OutOfMemory, Place, Probes};
+
+/// A line of a table that is there, with what decides how it looks, and whether its colors are wanted.
+#[derive(Drop)]
+pub(crate) struct MarkedLine<'a, 'b, D> {
+    pub(crate) cfg: &'a SpannedConfig,
+    pub(crate) dims: &'b D,
+    pub(crate) shape: (usize, usize),
+    pub(crate) line: LineOf,
+    /// Which of the lines that it meets are drawn.
+    pub(crate) crossed: &'b [bool],
+    pub(crate) with_colors: bool,
+    ghost is_there: { has_line shape line ≡ true },
+    ghost crossed_drawn: { crossed.now ≡ map (λ n. crossed_after (all_writes cfg.now) shape line n) (below (pieces_of shape line + 1)) },
+}
+
+impl<'a, D: Dimension> MarkedLine<'a, '_, D> {
+    ghost use Rattle.tabled_config.specs.Viewed.{viewed};
+
+    /// Whether line `n` of the other direction is drawn, so that it crosses this one.
+    fn is_crossed(&self, n: usize) -> bool
+        requires { n ≤ pieces_of self.now.shape self.now.line }
+        ensures { result ≡ crossed_after (all_writes self.now.cfg.now) self.now.shape self.now.line n }
+    {
+        self.crossed[n]
+    }
+
+    /// What a place shows, whose edge has `size` places.
+    fn mark(&self, place: Place, size: usize, probes: &mut Probes) -> Mark<'a>
+        requires { size ≡ edge_size (D.width_of self.now.dims.now) (D.height_of self.now.dims.now) place }
+        ensures shown { let view = viewed D.width_of D.height_of self.now in mark_of result ≡ mark_at view place }
+        ensures probes { IsRaised 12 probes.old probes.new }
+    {
+        Mark {
+            shown: self.cfg.char_at(place, self.shape, size, probes),
+            color: self.color(place, size, probes),
+        }
+    }
+
+    /// The color of a place, if colors are wanted.
+    fn color(&self, place: Place, size: usize, probes: &mut Probes) -> Option<&'a ANSIBuf>
+        requires { size ≡ edge_size (D.width_of self.now.dims.now) (D.height_of self.now.dims.now) place }
+        ensures shown { let view = viewed D.width_of D.height_of self.now in option_copied result ≡ view.color place }
+        ensures probes { IsRaised 6 probes.old probes.new }
+    {
+        if !self.with_colors {
+            return None;
+        }
+        self.cfg.color_at(place, self.shape, size, probes)
+    }
+
+    /// The color of a crossing, or of an edge without its offsets, if colors are wanted.
+    fn plain_color(&self, place: Place, probes: &mut Probes) -> Option<&'a ANSIBuf>
+        ensures value { option_copied result ≡ (if self.now.with_colors then plain_value (state_at self.now.cfg.now.colors) self.now.shape place else None) }
+        ensures probes { IsRaised 5 probes.old probes.new }
+    {
+        if !self.with_colors {
+            return None;
+        }
+        self.cfg.read_plain_color(place, self.shape, probes)
+    }
+
+    /// What a crossing shows, or an edge without its offsets.
+    #[inline(always)]
+    fn plain_mark(&self, place: Place, probes: &mut Probes) -> Mark<'a>
+        ensures shown { result.shown ≡ plain_value (state_at self.now.cfg.now.characters) self.now.shape place }
+        ensures color { option_copied result.color ≡ (if self.now.with_colors then plain_value (state_at self.now.cfg.now.colors) self.now.shape place else None) }
+        ensures probes { IsRaised 10 probes.old probes.new }
+    {
+        Mark {
+            shown: self.cfg.read_plain_char(place, self.shape, probes),
+            color: self.plain_color(place, probes),
+        }
+    }
+
+    /// Whether a place of an edge may show something else than its edge.
+    fn has_offsets(&self) -> bool
+        ensures characters { IsFalse result → HasNoOffsets (direction_of self.now.line) self.now.cfg.now.characters }
+        ensures colors { IsFalse result → self.now.with_colors ≡ true → HasNoOffsets (direction_of self.now.line) self.now.cfg.now.colors }
+    {
+        self.cfg.has_char_offsets(self.line)
+            || (self.with_colors && self.cfg.has_color_offsets(self.line))
+    }
+
+    /// Puts the mark of a crossing, if the other line is drawn.
+    #[inline(always)]
+    fn put_crossing<S: Sink<'a>>(
+        &self,
+        sink: &mut S,
+        n: usize,
+        probes: &mut Probes,
+    ) -> Result<(), OutOfMemory>
+        requires { n ≤ pieces_of self.now.shape self.now.line }
+        ensures put { let view = viewed D.width_of D.height_of self.now in
+            Put S.puts result (map (mark_at view) (crossing_places view self.now.line n)) sink.old sink.new }
+        ensures probes { let view = viewed D.width_of D.height_of self.now in
+            IsRaised (12 * length (crossing_places view self.now.line n)) probes.old probes.new }
+    {
+        if !self.is_crossed(n) {
+            return Ok(());
+        }
+        let mark = self.plain_mark(crossing_of(self.line, n), probes);
+        sink.put(Run { mark, count: 1 })
+    }
+
+    /// Puts the marks of the `size` places of an edge, each by itself.
+    fn put_each_place<S: Sink<'a>>(
+        &self,
+        sink: &mut S,
+        n: usize,
+        size: usize,
+        probes: &mut Probes,
+    ) -> Result<(), OutOfMemory>
+        requires { size ≡ size_of (D.width_of self.now.dims.now) (D.height_of self.now.dims.now) self.now.line n }
+        ensures put { let view = viewed D.width_of D.height_of self.now in
+            Put S.puts result (map (mark_at view) (edge_places view self.now.line n)) sink.old sink.new }
+        ensures probes { IsRaised (12 * size) probes.old probes.new }
+    {
+        for at in 0..size {
+            let mark = self.mark(edge_of(self.line, n, at), size, probes);
+            sink.put(Run { mark, count: 1 })?;
+        }
+        Ok(())
+    }
+
+    /// Puts the marks of an edge: where no offset is kept, all its places show the same, which is looked up once. An edge
+    /// without places is not looked up.
+    fn put_edge<S: Sink<'a>>(
+        &self,
+        sink: &mut S,
+        n: usize,
+        probes: &mut Probes,
+    ) -> Result<(), OutOfMemory>
+        ensures put { let view = viewed D.width_of D.height_of self.now in
+            Put S.puts result (map (mark_at view) (edge_places view self.now.line n)) sink.old sink.new }
+        ensures probes { let view = viewed D.width_of D.height_of self.now in
+            IsRaised (12 * length (edge_places view self.now.line n)) probes.old probes.new }
+    {
+        let size = size_of(self.dims, self.line, n);
+        if size == 0 {
+            return Ok(());
+        }
+        if self.has_offsets() {
+            return self.put_each_place(sink, n, size, probes);
+        }
+        let edge = edge_of(self.line, n, 0);
+        let mark = self.plain_mark(edge, probes);
+        sink.put(Run { mark, count: size })
+    }
+
+    /// Puts the marks of a crossing and of the edge after it.
+    fn put_piece<S: Sink<'a>>(
+        &self,
+        sink: &mut S,
+        n: usize,
+        probes: &mut Probes,
+    ) -> Result<(), OutOfMemory>
+        requires { n ≤ pieces_of self.now.shape self.now.line }
+        ensures put { let view = viewed D.width_of D.height_of self.now in
+            Put S.puts result (map (mark_at view) (piece_places view self.now.line n)) sink.old sink.new }
+        ensures probes { let view = viewed D.width_of D.height_of self.now in
+            IsRaised (12 * length (piece_places view self.now.line n)) probes.old probes.new }
+    {
+        self.put_crossing(sink, n, probes)?;
+        self.put_edge(sink, n, probes)
+    }
+
+    /// Puts the marks of the line, run by run.
+    pub(crate) fn put_all<S: Sink<'a>>(
+        &self,
+        sink: &mut S,
+        probes: &mut Probes,
+    ) -> Result<(), OutOfMemory>
+        ensures put { let view = viewed D.width_of D.height_of self.now in
+            Put S.puts result (map (mark_at view) (all_places view self.now.line)) sink.old sink.new }
+        ensures probes { let view = viewed D.width_of D.height_of self.now in
+            IsRaised (12 * length (all_places view self.now.line)) probes.old probes.new }
+    {
+        let count = pieces_of(self.shape, self.line);
+        for n in 0..count {
+            self.put_piece(sink, n, probes)?;
+        }
+        self.put_crossing(sink, count, probes)
+    }
+}
+
+/// Which of the lines that a line meets are drawn.
+pub(crate) fn drawn_across(
+    cfg: &SpannedConfig,
+    shape: (usize, usize),
+    line: LineOf,
+    probes: &mut Probes,
+) -> Result<Vec<bool>, OutOfMemory>
+    ensures listed { IfOk result (λ crossed. crossed.items ≡ map (λ n. crossed_after (all_writes cfg.now) shape line n) (below (pieces_of shape line + 1))) }
+    ensures probes { IsRaised (6 * (pieces_of shape line + 1)) probes.old probes.new }
+{
+    let count = pieces_of(shape, line);
+    let mut crossed = Vec::new(cfg.allocator());
+    for n in 0..count {
+        crossed.push(cfg.draws(crossing_line(line, n), count, probes))?;
+    }
+    crossed.push(cfg.draws(crossing_line(line, count), count, probes))?;
+    Ok(crossed)
+}
+
+/// Puts the marks of a line, if the table has it.
+fn put_line<'a, D: Dimension, S: Sink<'a>>(
+    cfg: &'a SpannedConfig,
+    dims: &D,
+    shape: (usize, usize),
+    line: LineOf,
+    sink: &mut S,
+    probes: &mut Probes,
+) -> Result<(), OutOfMemory>
+    ensures put { Put S.puts result (marks (all_writes cfg.now) shape (D.width_of dims.now) (D.height_of dims.now) line) sink.old sink.new }
+    ensures probes { IsRaised (12 * length (marks (all_writes cfg.now) shape (D.width_of dims.now) (D.height_of dims.now) line) + 6 * lines_met shape line) probes.old probes.new }
+{
+    if !has_line(shape, line) {
+        return Ok(());
+    }
+    let crossed = drawn_across(cfg, shape, line, probes)?;
+    let marked = MarkedLine {
+        cfg,
+        dims,
+        shape,
+        line,
+        crossed: &crossed,
+        with_colors: true,
+    };
+    marked.put_all(sink, probes)
+}
+
+/// What each place along a line of a table shows, in order, whether the line is drawn or not: `shape` is the number of the
+/// table's rows and of its columns. A line past the last one, and one of a table without rows or columns, has no places. At most
+/// twelve readings are made for each place, and six for each line that meets this one, drawn or not; only memory can be refused.
+pub fn line_marks<'a, D: Dimension>(
+    cfg: &'a SpannedConfig,
+    dims: &D,
+    shape: (usize, usize),
+    line: LineOf,
+    probes: &mut Probes,
+) -> Result<Vec<Mark<'a>>, OutOfMemory>
+    ensures marks { (es : List ConfigEvent) → Shows es cfg.now → IfOk result (λ found. map mark_of found.items ≡ marks es shape (D.width_of dims.now) (D.height_of dims.now) line) }
+    ensures probes { (es : List ConfigEvent) → Shows es cfg.now → IsRaised (12 * length (marks es shape (D.width_of dims.now) (D.height_of dims.now) line) + 6 * lines_met shape line) probes.old probes.new }
+{
+    let mut marks = Vec::new(cfg.allocator());
+    put_line(cfg, dims, shape, line, &mut marks, probes)?;
+    Ok(marks)
+}
+
+/// The same marks as runs: an edge where no offset is kept is one run, which is looked up once, and else each place is one of
+/// its own.
+pub fn line_runs<'a, D: Dimension>(
+    cfg: &'a SpannedConfig,
+    dims: &D,
+    shape: (usize, usize),
+    line: LineOf,
+    probes: &mut Probes,
+) -> Result<Vec<Run<'a>>, OutOfMemory>
+    ensures marks { (es : List ConfigEvent) → Shows es cfg.now → IfOk result (λ found. marks_of found.items ≡ marks es shape (D.width_of dims.now) (D.height_of dims.now) line) }
+    ensures probes { (es : List ConfigEvent) → Shows es cfg.now → IsRaised (12 * length (marks es shape (D.width_of dims.now) (D.height_of dims.now) line) + 6 * lines_met shape line) probes.old probes.new }
+{
+    let mut runs = Vec::new(cfg.allocator());
+    put_line(cfg, dims, shape, line, &mut runs, probes)?;
+    Ok(runs)
+}
