@@ -88,13 +88,23 @@ fn red_in_blue(alloc: Global, cfg: &mut ColoredConfig) -> Result<bool, OutOfMemo
     Ok(apply_to(alloc, cfg, ONE, &Entity::Global, &blue))
 }
 
+/// Whether no place has a color.
+fn all_are_plain(cfg: &ColoredConfig) -> bool {
+    for place in PLACES.iter() {
+        if !is_plain(cfg, ONE, *place) {
+            return false;
+        }
+    }
+    true
+}
+
 /// Whether the red place stays in the blue, and no place has a color after a style.
 fn red_stays_until_a_style(alloc: Global) -> bool {
     let mut cfg = config(alloc);
     red_in_blue(alloc, &mut cfg) == Ok(true)
         && top_has(&cfg, [BLUE, RED, BLUE])
         && apply(alloc, &mut cfg, ONE, Style::ascii())
-        && PLACES.iter().all(|place| is_plain(&cfg, ONE, *place))
+        && all_are_plain(&cfg)
 }
 
 #[test]

@@ -12,17 +12,20 @@ fn has_texts(color: Result<Color, OutOfMemory>, prefix: &str, suffix: &str) -> b
     }
 }
 
-/// A color of the first two texts joined with one of the others.
-fn joined(alloc: Global, first: (&str, &str), second: (&str, &str)) -> Result<Color, OutOfMemory> {
-    let first = Color::new(alloc, first.0, first.1)?;
-    let second = Color::new(alloc, second.0, second.1)?;
-    first.join(alloc, &second)
+/// Two colors joined, if there was memory for both.
+fn joined(
+    alloc: Global,
+    first: Result<Color, OutOfMemory>,
+    second: Result<Color, OutOfMemory>,
+) -> Result<Color, OutOfMemory> {
+    let second = second?;
+    first?.join(alloc, &second)
 }
 
-/// White behind black.
-fn black_on_white(alloc: Global) -> Result<Color, OutOfMemory> {
-    let white = Color::rgb_bg(alloc, 255, 255, 255)?;
-    white.join(alloc, &Color::rgb_fg(alloc, 0, 0, 0)?)
+/// A color of dots joined with another.
+fn dots(alloc: Global) -> Result<Color, OutOfMemory> {
+    let dots = Color::new(alloc, "...", "!!!");
+    joined(alloc, dots, Color::new(alloc, "@@@", "###"))
 }
 
 #[test]
@@ -32,25 +35,23 @@ fn colors_are_joined(rt: HostRuntime) {
     assert!(rt; has_texts(black, "\u{1b}[30m\u{1b}[34m", "\u{1b}[39m"));
     let green = Color::FG_BRIGHT_GREEN.join(alloc, &Color::BG_BLUE);
     assert!(rt; has_texts(green, "\u{1b}[92m\u{1b}[44m", "\u{1b}[39m\u{1b}[49m"));
-    let (dots, ats) = (("...", "!!!"), ("@@@", "###"));
-    assert!(rt; has_texts(joined(alloc, dots, ats), "...@@@", "!!!###"));
-    let both = joined(alloc, ("...@@@", "!!!###"), ("$$$", "%%%"));
+    assert!(rt; has_texts(dots(alloc), "...@@@", "!!!###"));
+    let both = joined(alloc, dots(alloc), Color::new(alloc, "$$$", "%%%"));
     assert!(rt; has_texts(both, "...@@@$$$", "!!!###%%%"));
     let (prefix, suffix) = (
         "\u{1b}[48;2;255;255;255m\u{1b}[38;2;0;0;0m",
         "\u{1b}[49m\u{1b}[39m",
     );
-    assert!(rt; has_texts(black_on_white(alloc), prefix, suffix));
+    let white = Color::rgb_bg(alloc, 255, 255, 255);
+    let both = joined(alloc, white, Color::rgb_fg(alloc, 0, 0, 0));
+    assert!(rt; has_texts(both, prefix, suffix));
     let green = Color::rgb_bg(alloc, 0, 255, 128);
     assert!(rt; has_texts(green, "\u{1b}[48;2;0;255;128m", "\u{1b}[49m"));
 }
 
-/// Whether what is joined equals a color that is made of the same texts.
-fn joined_equals_made(alloc: Global) -> Result<bool, OutOfMemory> {
-    let first = joined(alloc, ("...", "!!!"), ("@@@", "###"))?;
-    let is_first = first == Color::new(alloc, "...@@@", "!!!###")?;
-    let both = first.join(alloc, &Color::new(alloc, "$$$", "%%%")?)?;
-    Ok(is_first && both == Color::new(alloc, "...@@@$$$", "!!!###%%%")?)
+/// Whether there was memory for two colors, and they are equal.
+fn are_equal(first: Result<Color, OutOfMemory>, second: Result<Color, OutOfMemory>) -> bool {
+    first == second && first.is_ok()
 }
 
 /// Whether a constant is unequal to an owned color of its texts, and the lesser of the two.
@@ -67,7 +68,12 @@ fn is_colorized(alloc: Global) -> Result<bool, OutOfMemory> {
 
 #[test]
 fn colors_are_compared_and_put_around_texts(rt: HostRuntime) {
-    assert!(rt; joined_equals_made(rt.alloc()) == Ok(true));
+    let alloc = rt.alloc();
+    let made = Color::new(alloc, "...@@@", "!!!###");
+    assert!(rt; are_equal(dots(alloc), made));
+    let both = joined(alloc, dots(alloc), Color::new(alloc, "$$$", "%%%"));
+    let made = Color::new(alloc, "...@@@$$$", "!!!###%%%");
+    assert!(rt; are_equal(both, made));
     assert!(rt; constant_is_lesser(rt.alloc()) == Ok(true));
     assert!(rt; is_colorized(rt.alloc()) == Ok(true));
 }
@@ -109,7 +115,7 @@ static ATTRIBUTE_TEXTS: [(&str, &str); 9] = [
 ];
 
 /// Whether a color has these texts, and is not empty.
-fn is_of(color: Color, texts: &(&str, &str)) -> bool {
+fn is_of(color: &Color, texts: &(&str, &str)) -> bool {
     color.get_prefix() == texts.0 && color.get_suffix() == texts.1 && !color.is_empty()
 }
 
@@ -121,6 +127,7 @@ fn colors_without_texts_are_empty(rt: HostRuntime) {
     assert!(rt; !Color::FG_BLACK.is_empty());
     assert!(rt; !Color::BG_RED.is_empty());
     for (place, texts) in ATTRIBUTE_TEXTS.iter().enumerate() {
-        assert!(rt; is_of(attribute(place), texts), "{texts:?}");
+        let is_attribute = is_of(&attribute(place), texts);
+        assert!(rt; is_attribute, "{texts:?}");
     }
 }

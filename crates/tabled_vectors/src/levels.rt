@@ -37,41 +37,33 @@ fn offsets_show_until_they_are_removed(rt: HostRuntime) {
 
 /// Puts a border with its lower left corner alone around the first cell: whether there was memory for it.
 fn put_corner(cfg: &mut ColoredConfig) -> bool {
-    let corner = Border {
-        left_bottom_corner: Some('#'),
-        ..Border::empty()
-    };
+    let mut corner = Border::empty();
+    corner.left_bottom_corner = Some('#');
     cfg.config_mut().set_border(CELL, corner).is_ok()
 }
 
-/// Whether a corner alone draws its row and its column, until it is removed.
-fn corner_shows(alloc: Global) -> bool {
-    let mut cfg = config(alloc);
-    put_corner(&mut cfg)
-        && prints(alloc, &cfg, TWO_ROWS, "  a \n#   \n  b ")
-        && {
-            cfg.config_mut().remove_border(CELL);
-            prints(alloc, &cfg, TWO_ROWS, " a \n b ")
-        }
-}
-
-/// Whether a corner that was put twice and removed once draws no row, which is found by at most six readings.
-fn corner_is_removed_at_once(alloc: Global) -> bool {
-    let mut cfg = config(alloc);
+/// Whether a corner alone draws its row and its column until it is removed, and, where it was put twice and removed once, draws
+/// no row, which is found by at most six readings.
+fn corner_shows(alloc: Global, cfg: &mut ColoredConfig) -> bool {
     let mut probes = Probes::new();
-    put_corner(&mut cfg)
-        && put_corner(&mut cfg)
-        && {
-            cfg.config_mut().remove_border(CELL);
-            let line = LineOf::Horizontal(1);
-            !cfg.config().draws(line, 2, &mut probes) && probes.count() <= 6
-        }
+    if !put_corner(cfg) || !prints(alloc, cfg, TWO_ROWS, "  a \n#   \n  b ") {
+        return false;
+    }
+    cfg.config_mut().remove_border(CELL);
+    if !prints(alloc, cfg, TWO_ROWS, " a \n b ") || !put_corner(cfg) || !put_corner(cfg) {
+        return false;
+    }
+    cfg.config_mut().remove_border(CELL);
+    let line = LineOf::Horizontal(1);
+    !cfg.config().draws(line, 2, &mut probes) && probes.count() <= 6
 }
 
 #[test]
 fn a_corner_alone_draws_its_row_and_its_column(rt: HostRuntime) {
-    assert!(rt; corner_shows(rt.alloc()));
-    assert!(rt; corner_is_removed_at_once(rt.alloc()));
+    let mut cfg = config(rt.alloc());
+    let shows = corner_shows(rt.alloc(), &mut cfg);
+    drop(cfg);
+    assert!(rt; shows);
 }
 
 /// Whether the default alone frames a table.

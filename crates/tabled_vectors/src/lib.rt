@@ -6,7 +6,11 @@ mod colored;
 #[cfg(test)]
 mod colors;
 #[cfg(test)]
+mod far_places;
+#[cfg(test)]
 mod levels;
+#[cfg(test)]
+mod marks;
 #[cfg(test)]
 mod outlines;
 #[cfg(test)]

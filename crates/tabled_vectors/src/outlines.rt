@@ -1,13 +1,13 @@
 //! Outlines around some cells.
 
 use crate::tables::{
-    FOUR, TWO_COLUMNS, Table, apply, char_at, config, crossing, has_color, is_plain, prints,
-    prints_with, prints_with_both, top,
+    FOUR, TWO_COLUMNS, Table, apply, apply_made, char_at, config, crossing, has_color, is_plain,
+    prints, prints_with, prints_with_both, top,
 };
 use std::alloc::Global;
 use tabled_color::Color;
 use tabled_config::{ColoredConfig, TableOption};
-use tabled_grid::{Combine, FixedDimension, OutOfMemory, Segment, Shape};
+use tabled_grid::{Combine, FixedDimension, Segment, Shape};
 use tabled_options::Highlight;
 use tabled_style::{Border, Style};
 
@@ -129,6 +129,25 @@ fn cells_that_touch_share_an_outline(rt: HostRuntime) {
     );
 }
 
+/// The same with a character of its own where cells touch at a corner alone.
+fn crossed<O>(target: O) -> Highlight<O> {
+    numbered(target).diagonal('X')
+}
+
+#[test]
+fn cells_that_touch_have_a_character_of_their_own(rt: HostRuntime) {
+    let alloc = rt.alloc();
+    let text = "51116    \n3 a 4 b  \n7222X1116\n  c 3 d 4\n    72228";
+    let (first, last) = ((0, 0), (1, 1));
+    assert!(rt; prints_with(alloc, crossed(first.and(last)), FOUR, text));
+    assert!(rt; prints_with(alloc, crossed(last.and(first)), FOUR, text));
+    assert!(rt; prints_with(alloc, crossed(last.and(first).and(last)), FOUR, text));
+    assert!(rt; has_middle(alloc, crossed((0, 1).and((1, 0))), 'X'));
+    assert!(rt; has_middle(alloc, crossed((0, 1).and((1, 0)).and(last)), '8'));
+    let alone = Highlight::new(first.and(last)).diagonal('X');
+    assert!(rt; prints_with(alloc, alone, FOUR, " a   b \n   X   \n c   d "));
+}
+
 #[test]
 fn the_later_outline_counts(rt: HostRuntime) {
     let first = Highlight::outline((0, 0), '*');
@@ -143,17 +162,15 @@ const RED: &str = "\u{1b}[31m";
 fn is_red(alloc: Global) -> bool {
     let mut cfg = config(alloc);
     let text = "+---+---+\n| a | b |\n+---+---+\n| c | d |\n+---+---+";
-    match Highlight::colored(alloc, (0, 0), Color::FG_RED) {
-        Ok(outline) => {
-            apply(alloc, &mut cfg, FOUR, Style::ascii())
-                && apply(alloc, &mut cfg, FOUR, outline)
-                && has_color(&cfg, FOUR, top(0, 0), RED)
-                && has_color(&cfg, FOUR, crossing(1, 1), RED)
-                && is_plain(&cfg, FOUR, top(1, 0))
-                && prints(alloc, &cfg, FOUR, text)
-        }
-        Err(OutOfMemory) => false,
-    }
+    let outline = Highlight::colored(alloc, (0, 0), Color::FG_RED);
+    let is_framed = apply(alloc, &mut cfg, FOUR, Style::ascii());
+    let is_outlined = apply_made(alloc, &mut cfg, FOUR, outline);
+    is_framed
+        && is_outlined
+        && has_color(&cfg, FOUR, top(0, 0), RED)
+        && has_color(&cfg, FOUR, crossing(1, 1), RED)
+        && is_plain(&cfg, FOUR, top(1, 0))
+        && prints(alloc, &cfg, FOUR, text)
 }
 
 #[test]

@@ -15,35 +15,34 @@ fn words_of(alloc: Global, text: &str) -> Result<Vec<String>, AllocError> {
     Ok(words)
 }
 
-/// What the program returns and writes over these words and this input.
-fn shown(
+/// What the program returns over these words, if there was memory for them.
+fn returned<R, W>(
+    alloc: Global,
+    words: &str,
+    reader: &mut R,
+    writer: &mut W,
+) -> Option<Result<(), ShowError>>
+where
+    R: Read,
+    W: Write,
+{
+    match words_of(alloc, words) {
+        Ok(words) => Some(run(alloc, &words, reader, writer)),
+        Err(AllocError) => None,
+    }
+}
+
+/// Whether the program returns this over these words and this input, and writes this text.
+fn gives(
     alloc: Global,
     words: &str,
     input: &[u8],
-) -> Result<(Result<(), ShowError>, Vec<u8>), AllocError> {
-    let words = words_of(alloc, words)?;
-    let mut reader = Cursor::new(input);
+    outcome: Result<(), ShowError>,
+    text: &str,
+) -> bool {
     let mut written = Vec::new(alloc);
-    let returned = run(alloc, &words, &mut reader, &mut written);
-    Ok((returned, written))
-}
-
-/// Whether the program returns Ok and writes this text.
-fn shows(alloc: Global, words: &str, input: &str, text: &str) -> bool {
-    match shown(alloc, words, input.as_bytes()) {
-        Ok((Ok(()), written)) => written.as_slice() == text.as_bytes(),
-        Ok((Err(_), _)) | Err(AllocError) => false,
-    }
-}
-
-/// Whether the program gives a refusal of this status, and writes nothing.
-fn refuses(alloc: Global, words: &str, input: &[u8], refusal: ShowError, status: u8) -> bool {
-    match shown(alloc, words, input) {
-        Ok((Err(given), written)) => {
-            given == refusal && given.status() == status && written.is_empty()
-        }
-        Ok((Ok(()), _)) | Err(AllocError) => false,
-    }
+    returned(alloc, words, &mut Cursor::new(input), &mut written) == Some(outcome)
+        && written.as_slice() == text.as_bytes()
 }
 
 /// The input of two rows and two columns that most pages show.
@@ -97,7 +96,8 @@ static PAGES: [(&str, &str, &str); 12] = [
 #[test]
 fn pages_are_drawn(rt: HostRuntime) {
     for (style, input, text) in PAGES.iter() {
-        assert!(rt; shows(rt.alloc(), style, input, text), "{style} of {input}");
+        let given = gives(rt.alloc(), style, input.as_bytes(), Ok(()), text);
+        assert!(rt; given, "{style} of {input}");
     }
 }
 
@@ -109,17 +109,17 @@ fn words_and_inputs_are_refused(rt: HostRuntime) {
         ("ascii", "a\tb\nc\n", ShowError::UnequalRows, 3),
         ("ascii", "a\r\n", ShowError::ByteOutOfRange, 4),
     ] {
-        let refused = refuses(rt.alloc(), words, input.as_bytes(), refusal, status);
-        assert!(rt; refused, "{words} of {input}");
+        let given = gives(rt.alloc(), words, input.as_bytes(), Err(refusal), "");
+        assert!(rt; given && refusal.status() == status, "{words} of {input}");
     }
 }
 
 #[test]
 fn what_is_too_long_is_refused(rt: HostRuntime) -> Result<(), Fail> {
     let long = vec![in rt.alloc(); b'a'; 16_777_217]?;
-    let refused = refuses(rt.alloc(), "ascii", &long, ShowError::TooLong, 5);
+    let given = gives(rt.alloc(), "ascii", &long, Err(ShowError::TooLong), "");
     drop(long);
-    assert!(rt; refused);
+    assert!(rt; given && ShowError::TooLong.status() == 5);
     Ok(())
 }
 
@@ -143,14 +143,10 @@ impl Read for FailsAfter {
 
 /// Whether the program says that reading failed, and writes nothing, where the given number of reads succeed.
 fn fails_after(alloc: Global, reads: usize) -> bool {
-    match words_of(alloc, "ascii") {
-        Ok(words) => {
-            let mut written = Vec::new(alloc);
-            let returned = run(alloc, &words, &mut FailsAfter { reads }, &mut written);
-            returned == Err(ShowError::ReadFailed) && written.is_empty()
-        }
-        Err(AllocError) => false,
-    }
+    let mut written = Vec::new(alloc);
+    returned(alloc, "ascii", &mut FailsAfter { reads }, &mut written)
+        == Some(Err(ShowError::ReadFailed))
+        && written.is_empty()
 }
 
 /// A writer that takes nothing.
@@ -169,14 +165,8 @@ impl Write for TakesNothing {
 
 /// Whether the program says that writing failed where nothing is taken.
 fn fails_to_write(alloc: Global) -> bool {
-    match words_of(alloc, "ascii") {
-        Ok(words) => {
-            let mut reader = Cursor::new(b"a\n".as_slice());
-            let returned = run(alloc, &words, &mut reader, &mut TakesNothing);
-            returned == Err(ShowError::WriteFailed)
-        }
-        Err(AllocError) => false,
-    }
+    let mut reader = Cursor::new(b"a\n".as_slice());
+    returned(alloc, "ascii", &mut reader, &mut TakesNothing) == Some(Err(ShowError::WriteFailed))
 }
 
 #[test]

@@ -1,40 +1,46 @@
 //! Printed tables, and what is refused where cells do not fit.
 
-use crate::tables::cells_of;
+use crate::tables::{ONE, apply, config, makes};
 use std::alloc::Global;
-use tabled_config::{ColoredConfig, PrintError, SpannedConfig, TableOption, print_plain};
-use tabled_grid::{FixedDimension, OutOfMemory, Shape};
+use tabled_config::{ColoredConfig, PrintError};
+use tabled_grid::{FixedDimension, OutOfMemory};
 use tabled_style::Style;
 
 /// The widths of the columns, the heights of the rows, and the cells.
-type Sized = (
+pub(crate) type Sized = (
     &'static [usize],
     &'static [usize],
     &'static [&'static [&'static str]],
 );
 
-/// What printing in a full frame returns, and what it makes of the text `before:`.
-fn printed(alloc: Global, table: Sized) -> Result<(Result<(), PrintError>, String), OutOfMemory> {
-    let (widths, heights, rows) = table;
-    let mut dims = FixedDimension::new(widths.to_vec(alloc)?, heights.to_vec(alloc)?);
-    let mut shape = Shape {
-        rows: heights.len(),
-        cols: widths.len(),
-    };
-    let mut cfg = ColoredConfig::new(SpannedConfig::new(alloc));
-    Style::ascii().change(&mut shape, &mut cfg, &mut dims)?;
-    let cells = cells_of(alloc, rows)?;
-    let mut text = String::from_str(alloc, "before:")?;
-    let returned = print_plain(&mut text, cfg.config(), &dims, shape.into(), &cells);
-    Ok((returned, text))
+/// The sizes of a table.
+fn sizes(alloc: Global, table: Sized) -> Result<FixedDimension, OutOfMemory> {
+    let widths = table.0.to_vec(alloc)?;
+    Ok(FixedDimension::new(widths, table.1.to_vec(alloc)?))
 }
 
-/// Whether printing in a full frame returns this and makes this text of `before:`.
-fn gives(alloc: Global, table: Sized, returned: Result<(), PrintError>, text: &str) -> bool {
-    match printed(alloc, table) {
-        Ok((given, shown)) => given == returned && shown.as_str() == text,
+/// Whether printing with a configuration returns this and makes this text of `before:`.
+pub(crate) fn makes_of_before(
+    alloc: Global,
+    cfg: &ColoredConfig,
+    table: Sized,
+    outcome: Result<(), PrintError>,
+    text: &str,
+) -> bool {
+    match sizes(alloc, table) {
+        Ok(dims) => {
+            let (shape, expected) = ((table.1.len(), table.0.len()), (outcome, text));
+            makes(alloc, cfg, &dims, shape, table.2, "before:", expected) == Ok(true)
+        }
         Err(OutOfMemory) => false,
     }
+}
+
+/// Whether printing in a full frame does.
+fn gives(alloc: Global, table: Sized, outcome: Result<(), PrintError>, text: &str) -> bool {
+    let mut cfg = config(alloc);
+    apply(alloc, &mut cfg, ONE, Style::ascii())
+        && makes_of_before(alloc, &cfg, table, outcome, text)
 }
 
 /// Tables, and what is made of `before:` in a full frame.

@@ -1,6 +1,6 @@
 //! Colors in turn, fillings, trims, shadows, and options on compact configurations.
 
-use crate::tables::{FOUR, ONE, Table, apply, config};
+use crate::tables::{FOUR, ONE, Table, apply, apply_made, begins, config};
 use std::alloc::Global;
 use tabled_color::Color;
 use tabled_config::{ColoredConfig, CompactConfig, TableOption};
@@ -36,9 +36,8 @@ fn have_colors(cfg: &ColoredConfig, cells: &[(usize, usize, &str)]) -> bool {
             row: *row,
             col: *col,
         };
-        match cfg.get_color(cell) {
-            Some(color) if color.get_prefix() == *prefix => {}
-            Some(_) | None => return false,
+        if !begins(cfg.get_color(cell), prefix) {
+            return false;
         }
     }
     true
@@ -55,10 +54,7 @@ where
     O: TableOption<Shape, ColoredConfig, FixedDimension> + Drop,
 {
     let mut cfg = config(alloc);
-    match option {
-        Ok(option) => apply(alloc, &mut cfg, table, option) && have_colors(&cfg, cells),
-        Err(OutOfMemory) => false,
-    }
+    apply_made(alloc, &mut cfg, table, option) && have_colors(&cfg, cells)
 }
 
 /// Three cells in a row.
@@ -86,14 +82,10 @@ fn cells_have_colors_in_turn(rt: HostRuntime) {
 
 /// Whether listed entities have colors as a whole.
 fn exact_entities_are_colored(alloc: Global) -> bool {
-    match colors(alloc, 2) {
-        Ok(colors) => {
-            let exact = Colorization::exact(colors, Rows::one(1).and((0usize, 0usize)));
-            let cells = [(1, 0, X), (1, 1, X), (0, 0, Y), (0, 1, "")];
-            colors_cells(alloc, Ok(exact), FOUR, &cells)
-        }
-        Err(OutOfMemory) => false,
-    }
+    let target = Rows::one(1).and((0usize, 0usize));
+    let exact = colors(alloc, 2).map(|colors| Colorization::exact(colors, target));
+    let cells = [(1, 0, X), (1, 1, X), (0, 0, Y), (0, 1, "")];
+    colors_cells(alloc, exact, FOUR, &cells)
 }
 
 /// Whether no colors make no map of colors.
@@ -147,29 +139,17 @@ fn is_shadowed(cfg: &ColoredConfig) -> bool {
 /// Whether a margin is red at the top and at the left.
 fn is_red(cfg: &ColoredConfig) -> bool {
     let colors = cfg.config().get_margin_color();
-    match (&colors.top, &colors.left) {
-        (Some(top), Some(left)) => top.get_prefix() == X && left.get_prefix() == X,
-        (Some(_) | None, _) => false,
-    }
+    begins(colors.top.as_ref(), X) && begins(colors.left.as_ref(), X)
 }
 
 /// Whether a shadow makes its margin, and leaves the color that was set before.
 fn shadow_makes_its_margin(alloc: Global) -> bool {
     let mut cfg = config(alloc);
-    match MarginColor::filled(alloc, Color::FG_RED) {
-        Ok(red) => {
-            apply(alloc, &mut cfg, ONE, red)
-                && apply(
-                    alloc,
-                    &mut cfg,
-                    ONE,
-                    Shadow::new(2).set_offset(3).set_left(),
-                )
-                && is_shadowed(&cfg)
-                && is_red(&cfg)
-        }
-        Err(OutOfMemory) => false,
-    }
+    let red = MarginColor::filled(alloc, Color::FG_RED);
+    let is_colored = apply_made(alloc, &mut cfg, ONE, red);
+    let shadow = Shadow::new(2).set_offset(3).set_left();
+    let is_applied = apply(alloc, &mut cfg, ONE, shadow);
+    is_colored && is_applied && is_shadowed(&cfg) && is_red(&cfg)
 }
 
 #[test]
@@ -177,14 +157,14 @@ fn a_shadow_is_a_margin(rt: HostRuntime) {
     assert!(rt; shadow_makes_its_margin(rt.alloc()));
 }
 
-/// A compact configuration after an option.
-fn compact<O>(option: O) -> Result<CompactConfig, OutOfMemory>
+/// Whether an option makes this of a new compact configuration.
+fn makes_compact<O>(option: O, expected: &CompactConfig) -> bool
 where
     O: TableOption<Shape, CompactConfig, ()>,
 {
     let mut cfg = CompactConfig::new();
-    option.change(&mut Shape { rows: 1, cols: 1 }, &mut cfg, &mut ())?;
-    Ok(cfg)
+    let changed = option.change(&mut Shape { rows: 1, cols: 1 }, &mut cfg, &mut ());
+    changed.is_ok() && cfg == *expected
 }
 
 /// A compact configuration with a vertical line alone.
@@ -198,6 +178,6 @@ fn lined() -> CompactConfig {
 
 #[test]
 fn compact_configurations_take_what_they_have_room_for(rt: HostRuntime) {
-    assert!(rt; compact(Alignment::top()) == Ok(CompactConfig::new()));
-    assert!(rt; compact(Style::psql()) == Ok(lined()));
+    assert!(rt; makes_compact(Alignment::top(), &CompactConfig::new()));
+    assert!(rt; makes_compact(Style::psql(), &lined()));
 }

@@ -1,11 +1,12 @@
 //! Spans, their correction, and what the printer says of them.
 
+use crate::printing::{Sized, makes_of_before};
 use crate::tables::{
-    FOUR, NINE, ONE, TWO_COLUMNS, Table, apply, cells_of, char_at, config, crossing, prints,
+    FOUR, NINE, ONE, TWO_COLUMNS, Table, apply, char_at, config, crossing, prints,
 };
 use std::alloc::Global;
-use tabled_config::{ColoredConfig, PrintError, TableOption, print_plain};
-use tabled_grid::{FixedDimension, OutOfMemory, Position, Shape};
+use tabled_config::{ColoredConfig, PrintError, TableOption};
+use tabled_grid::{FixedDimension, Position, Shape};
 use tabled_options::BorderCorrection;
 use tabled_style::Style;
 
@@ -78,25 +79,10 @@ fn spans_are_corrected(rt: HostRuntime) {
     );
 }
 
-/// What printing a cell that is too wide returns, and what it makes of the text `before:`.
-fn printed_wide(
-    alloc: Global,
-    cfg: &ColoredConfig,
-) -> Result<(Result<(), PrintError>, String), OutOfMemory> {
-    let widths = vec![in alloc; 3usize; 1]?;
-    let dims = FixedDimension::new(widths, vec![in alloc; 1usize; 1]?);
-    let cells = cells_of(alloc, &[&[" ab "]])?;
-    let mut text = String::from_str(alloc, "before:")?;
-    let returned = print_plain(&mut text, cfg.config(), &dims, (1, 1), &cells);
-    Ok((returned, text))
-}
-
 /// Whether a cell that is too wide is refused so, and the text stays.
 fn refuses_wide(alloc: Global, cfg: &ColoredConfig, refusal: PrintError) -> bool {
-    match printed_wide(alloc, cfg) {
-        Ok((returned, text)) => returned == Err(refusal) && text.as_str() == "before:",
-        Err(OutOfMemory) => false,
-    }
+    let wide: Sized = (&[3], &[1], &[&[" ab "]]);
+    makes_of_before(alloc, cfg, wide, Err(refusal), "before:")
 }
 
 /// Whether a width is refused, and a span before it.

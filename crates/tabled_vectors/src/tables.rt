@@ -1,8 +1,10 @@
 //! Tables to which the tests apply options, their texts, and their places.
 
 use std::alloc::Global;
-use tabled_config::{CellOption, ColoredConfig, SpannedConfig, TableOption, modify, print_plain};
-use tabled_grid::{FixedDimension, Object, OutOfMemory, Place, Probes, Shape};
+use tabled_config::{
+    CellOption, ColoredConfig, PrintError, SpannedConfig, TableOption, modify, print_plain,
+};
+use tabled_grid::{ANSIBuf, FixedDimension, Object, OutOfMemory, Place, Probes, Shape};
 
 /// The widths of the columns, and the cells, each of which is one line high.
 pub(crate) type Table = (&'static [usize], &'static [&'static [&'static str]]);
@@ -61,6 +63,22 @@ where
     }
 }
 
+/// Applies an option, if there was memory for it: whether there was, also for what it changes.
+pub(crate) fn apply_made<O>(
+    alloc: Global,
+    cfg: &mut ColoredConfig,
+    table: Table,
+    option: Result<O, OutOfMemory>,
+) -> bool
+where
+    O: TableOption<Shape, ColoredConfig, FixedDimension> + Drop,
+{
+    match option {
+        Ok(option) => apply(alloc, cfg, table, option),
+        Err(OutOfMemory) => false,
+    }
+}
+
 /// Applies an option to the cells of an object: whether there was memory for it.
 pub(crate) fn apply_to<O, P>(
     alloc: Global,
@@ -94,24 +112,30 @@ pub(crate) fn cells_of(alloc: Global, rows: &[&[&str]]) -> Result<Vec<Vec<String
     Ok(cells)
 }
 
-/// The text of a table, where it is printed.
-fn text_of(
+/// Whether printing onto a text returns this, and leaves that text.
+pub(crate) fn makes(
     alloc: Global,
-    cfg: &SpannedConfig,
-    table: Table,
-) -> Result<Option<String>, OutOfMemory> {
-    let dims = sizes(alloc, table)?;
-    let cells = cells_of(alloc, table.1)?;
-    let mut text = String::new(alloc);
-    let printed = print_plain(&mut text, cfg, &dims, shape(table).into(), &cells);
-    Ok(printed.ok().map(|()| text))
+    cfg: &ColoredConfig,
+    dims: &FixedDimension,
+    shape: (usize, usize),
+    rows: &[&[&str]],
+    start: &str,
+    expected: (Result<(), PrintError>, &str),
+) -> Result<bool, OutOfMemory> {
+    let cells = cells_of(alloc, rows)?;
+    let mut shown = String::from_str(alloc, start)?;
+    let returned = print_plain(&mut shown, cfg.config(), dims, shape, &cells);
+    Ok(returned == expected.0 && shown.as_str() == expected.1)
 }
 
 /// Whether a table is printed as this text.
 pub(crate) fn prints(alloc: Global, cfg: &ColoredConfig, table: Table, text: &str) -> bool {
-    match text_of(alloc, cfg.config(), table) {
-        Ok(Some(shown)) => shown.as_str() == text,
-        Ok(None) | Err(OutOfMemory) => false,
+    match sizes(alloc, table) {
+        Ok(dims) => {
+            let (shape, expected) = (shape(table).into(), (Ok(()), text));
+            makes(alloc, cfg, &dims, shape, table.1, "", expected) == Ok(true)
+        }
+        Err(OutOfMemory) => false,
     }
 }
 
@@ -137,9 +161,9 @@ where
     P: TableOption<Shape, ColoredConfig, FixedDimension> + Drop,
 {
     let mut cfg = config(alloc);
-    apply(alloc, &mut cfg, table, first)
-        && apply(alloc, &mut cfg, table, second)
-        && prints(alloc, &cfg, table, text)
+    let is_first_applied = apply(alloc, &mut cfg, table, first);
+    let is_second_applied = apply(alloc, &mut cfg, table, second);
+    is_first_applied && is_second_applied && prints(alloc, &cfg, table, text)
 }
 
 /// How many places the edge of a place has.
@@ -157,16 +181,21 @@ pub(crate) fn char_at(cfg: &ColoredConfig, table: Table, place: Place) -> Option
     cfg.config().char_at(place, shape, size, &mut Probes::new())
 }
 
-/// Whether a place of a table has a color that begins with this text.
-pub(crate) fn has_color(cfg: &ColoredConfig, table: Table, place: Place, prefix: &str) -> bool {
-    let (shape, size) = (shape(table).into(), size(table, place));
-    match cfg
-        .config()
-        .color_at(place, shape, size, &mut Probes::new())
-    {
+/// Whether there is a color, and it begins with this text.
+pub(crate) fn begins(color: Option<&ANSIBuf>, prefix: &str) -> bool {
+    match color {
         Some(color) => color.get_prefix() == prefix,
         None => false,
     }
+}
+
+/// Whether a place of a table has a color that begins with this text.
+pub(crate) fn has_color(cfg: &ColoredConfig, table: Table, place: Place, prefix: &str) -> bool {
+    let (shape, size) = (shape(table).into(), size(table, place));
+    let color = cfg
+        .config()
+        .color_at(place, shape, size, &mut Probes::new());
+    begins(color, prefix)
 }
 
 /// Whether a place of a table has no color.

@@ -1,13 +1,16 @@
 //! Texts and characters on lines.
 
 use crate::tables::{
-    FOUR, GREETING, ONE, TWO_COLUMNS, Table, apply, apply_to, char_at, config, crossing, has_color,
-    is_plain, prints, prints_with_both, top,
+    FOUR, GREETING, ONE, TWO_COLUMNS, Table, apply, apply_made, apply_to, char_at, config,
+    crossing, has_color, is_plain, prints, prints_with_both, top,
 };
 use std::alloc::Global;
 use tabled_color::Color;
-use tabled_config::ColoredConfig;
-use tabled_grid::{Columns, Combine, FirstRow, Offset, OutOfMemory, Row, Rows, VerticalLine};
+use tabled_config::{ColoredConfig, TableOption};
+use tabled_grid::{
+    Columns, Combine, FirstColumn, FirstRow, FixedDimension, Offset, OutOfMemory, Row, Rows, Shape,
+    VerticalLine,
+};
 use tabled_options::{Alignment, LineChar, LineText};
 use tabled_settings::AlignmentHorizontal;
 use tabled_style::Style;
@@ -76,14 +79,32 @@ fn titled(alloc: Global, top: &str) -> Result<String, OutOfMemory> {
     Ok(text)
 }
 
+/// Whether a table in a style is printed so after an option, if there was memory for it.
+fn prints_in<O, P>(
+    alloc: Global,
+    style: O,
+    option: Result<P, OutOfMemory>,
+    table: Table,
+    text: &str,
+) -> bool
+where
+    O: TableOption<Shape, ColoredConfig, FixedDimension> + Drop,
+    P: TableOption<Shape, ColoredConfig, FixedDimension> + Drop,
+{
+    match option {
+        Ok(option) => prints_with_both(alloc, style, option, table, text),
+        Err(OutOfMemory) => false,
+    }
+}
+
 /// Whether a title makes its top line, and nothing else.
 fn makes_its_top_line(alloc: Global, title: Title) -> bool {
-    let (_, _, _, _, top) = title;
-    match (title_of(alloc, title), titled(alloc, top)) {
-        (Ok(option), Ok(text)) => {
-            prints_with_both(alloc, Style::ascii(), option, GREETING, text.as_str())
+    match titled(alloc, title.4) {
+        Ok(text) => {
+            let option = title_of(alloc, title);
+            prints_in(alloc, Style::ascii(), option, GREETING, text.as_str())
         }
-        (Ok(_) | Err(OutOfMemory), _) => false,
+        Err(OutOfMemory) => false,
     }
 }
 
@@ -94,28 +115,10 @@ fn titles_make_their_top_lines(rt: HostRuntime) {
     }
 }
 
-/// Puts a text above a row: whether there was memory for it.
-fn write_above(alloc: Global, cfg: &mut ColoredConfig, table: Table, text: &str, row: Row) -> bool {
-    match LineText::new(alloc, text, row) {
-        Ok(option) => apply(alloc, cfg, table, option),
-        Err(OutOfMemory) => false,
-    }
-}
-
 /// Whether a table in the full frame is printed so with a text above a row.
 fn prints_above(alloc: Global, text: &str, row: Row, expected: &str) -> bool {
-    let mut cfg = config(alloc);
-    apply(alloc, &mut cfg, GREETING, Style::ascii())
-        && write_above(alloc, &mut cfg, GREETING, text, row)
-        && prints(alloc, &cfg, GREETING, expected)
-}
-
-/// Whether it is printed so with a text above the last row.
-fn prints_above_the_last(alloc: Global, text: &str, expected: &str) -> bool {
-    match LineText::new(alloc, text, Rows::last()) {
-        Ok(option) => prints_with_both(alloc, Style::ascii(), option, GREETING, expected),
-        Err(OutOfMemory) => false,
-    }
+    let option = LineText::new(alloc, text, row);
+    prints_in(alloc, Style::ascii(), option, GREETING, expected)
 }
 
 /// The table in the full frame with a text in its closing line.
@@ -145,7 +148,8 @@ fn a_text_stands_above_the_row_that_is_named(rt: HostRuntime) {
     assert!(rt; prints_above(alloc, "TABLE", Rows::one(2), CLOSED));
     assert!(rt; prints_above(alloc, "TABLE", Rows::one(3), PLAIN));
     assert!(rt; prints_above(alloc, "TABLE", Rows::one(usize::MAX), PLAIN));
-    assert!(rt; prints_above_the_last(alloc, "TABLE", INNER));
+    let above_the_last = LineText::new(alloc, "TABLE", Rows::last());
+    assert!(rt; prints_in(alloc, Style::ascii(), above_the_last, GREETING, INNER));
 }
 
 /// The table with a text down both sides.
@@ -163,76 +167,77 @@ A Hello World |
 B-------------+";
 
 /// Whether texts run down both sides.
-fn has_both_sides(alloc: Global) -> bool {
-    let mut cfg = config(alloc);
-    let left = LineText::new(alloc, "TABLE", Columns::one(0));
-    let right = LineText::new(alloc, "TABLE", Columns::one(1));
-    match (left, right) {
-        (Ok(left), Ok(right)) => {
-            apply(alloc, &mut cfg, GREETING, Style::ascii())
-                && apply(alloc, &mut cfg, GREETING, left)
-                && apply(alloc, &mut cfg, GREETING, right)
-                && prints(alloc, &cfg, GREETING, BOTH_SIDES)
-        }
-        (Ok(_) | Err(OutOfMemory), _) => false,
-    }
+fn has_both_sides(alloc: Global, cfg: &mut ColoredConfig) -> bool {
+    apply(alloc, cfg, GREETING, Style::ascii())
+        && apply_made(
+            alloc,
+            cfg,
+            GREETING,
+            LineText::new(alloc, "TABLE", Columns::one(0)),
+        )
+        && apply_made(
+            alloc,
+            cfg,
+            GREETING,
+            LineText::new(alloc, "TABLE", Columns::one(1)),
+        )
+        && prints(alloc, cfg, GREETING, BOTH_SIDES)
 }
 
-/// Whether a text ends at the bottom.
-fn has_bottom(alloc: Global) -> bool {
-    match LineText::new(alloc, "AB", Columns::first()) {
-        Ok(text) => {
-            let text = text.align(Alignment::bottom());
-            prints_with_both(alloc, Style::ascii(), text, GREETING, AT_THE_BOTTOM)
-        }
-        Err(OutOfMemory) => false,
-    }
+/// A text that ends at the bottom of the first column.
+fn at_the_bottom(alloc: Global) -> Result<LineText<FirstColumn>, OutOfMemory> {
+    Ok(LineText::new(alloc, "AB", Columns::first())?.align(Alignment::bottom()))
 }
 
 #[test]
 fn texts_run_down_the_sides(rt: HostRuntime) {
-    assert!(rt; has_both_sides(rt.alloc()));
-    assert!(rt; has_bottom(rt.alloc()));
+    let alloc = rt.alloc();
+    let mut cfg = config(alloc);
+    let has_both = has_both_sides(alloc, &mut cfg);
+    drop(cfg);
+    assert!(rt; has_both);
+    assert!(rt;
+        prints_in(
+            alloc,
+            Style::ascii(),
+            at_the_bottom(alloc),
+            GREETING,
+            AT_THE_BOTTOM
+        )
+    );
 }
 
 /// A table of three rows.
 static LANGUAGES: Table = (&[7], &[&[" &str  "], &[" Hello "], &[" 2022  "]]);
 
-/// Whether a text above one of its rows makes this text, and one above its first row draws no line.
-fn writes_on_drawn_lines(alloc: Global) -> bool {
-    let mut cfg = config(alloc);
-    apply(alloc, &mut cfg, LANGUAGES, Style::psql())
-        && write_above(alloc, &mut cfg, LANGUAGES, "Santa", Rows::one(1))
-        && prints(alloc, &cfg, LANGUAGES, " &str  \nSanta--\n Hello \n 2022  ")
-}
-
-/// Whether a text on a line that is not drawn draws none.
-fn draws_no_line(alloc: Global) -> bool {
-    match LineText::new(alloc, "Santa", Rows::first()) {
-        Ok(text) => {
-            let expected = " &str  \n-------\n Hello \n 2022  ";
-            prints_with_both(alloc, Style::psql(), text, LANGUAGES, expected)
-        }
-        Err(OutOfMemory) => false,
-    }
-}
-
 /// Whether two texts on the middle line of a table with a vertical line alone make these texts.
-fn draws_its_line(alloc: Global) -> bool {
-    let mut cfg = config(alloc);
+fn draws_its_line(alloc: Global, cfg: &mut ColoredConfig) -> bool {
     let line = VerticalLine::new(Some('|'), Some('+'), None, None);
     cfg.config_mut().insert_vertical_line(1, line).is_ok()
-        && write_above(alloc, &mut cfg, FOUR, "ABCDEFG", Rows::one(1))
-        && prints(alloc, &cfg, FOUR, " a | b \nABCDEFG\n c | d ")
-        && write_above(alloc, &mut cfg, FOUR, "xyz", Rows::one(1))
-        && prints(alloc, &cfg, FOUR, " a | b \nxyzDEFG\n c | d ")
+        && apply_made(
+            alloc,
+            cfg,
+            FOUR,
+            LineText::new(alloc, "ABCDEFG", Rows::one(1)),
+        )
+        && prints(alloc, cfg, FOUR, " a | b \nABCDEFG\n c | d ")
+        && apply_made(alloc, cfg, FOUR, LineText::new(alloc, "xyz", Rows::one(1)))
+        && prints(alloc, cfg, FOUR, " a | b \nxyzDEFG\n c | d ")
 }
 
 #[test]
 fn a_text_draws_a_line_by_its_crossings_alone(rt: HostRuntime) {
-    assert!(rt; writes_on_drawn_lines(rt.alloc()));
-    assert!(rt; draws_no_line(rt.alloc()));
-    assert!(rt; draws_its_line(rt.alloc()));
+    let alloc = rt.alloc();
+    let text = " &str  \nSanta--\n Hello \n 2022  ";
+    let drawn = LineText::new(alloc, "Santa", Rows::one(1));
+    assert!(rt; prints_in(alloc, Style::psql(), drawn, LANGUAGES, text));
+    let text = " &str  \n-------\n Hello \n 2022  ";
+    let undrawn = LineText::new(alloc, "Santa", Rows::first());
+    assert!(rt; prints_in(alloc, Style::psql(), undrawn, LANGUAGES, text));
+    let mut cfg = config(alloc);
+    let is_drawn = draws_its_line(alloc, &mut cfg);
+    drop(cfg);
+    assert!(rt; is_drawn);
 }
 
 const BLUE: &str = "\u{1b}[34m";
@@ -242,22 +247,14 @@ fn blue(alloc: Global, text: &str) -> Result<LineText<FirstRow>, OutOfMemory> {
     Ok(LineText::new(alloc, text, Rows::first())?.color(Color::FG_BLUE))
 }
 
-/// Whether each place of a title in blue is blue, and the next one plain.
-fn title_is_blue(alloc: Global) -> bool {
-    let mut cfg = config(alloc);
-    match blue(alloc, "TABLE") {
-        Ok(title) => {
-            apply(alloc, &mut cfg, GREETING, Style::ascii())
-                && apply(alloc, &mut cfg, GREETING, title)
-                && has_color(&cfg, GREETING, crossing(0, 0), BLUE)
-                && has_color(&cfg, GREETING, top(0, 0), BLUE)
-                && has_color(&cfg, GREETING, top(0, 1), BLUE)
-                && has_color(&cfg, GREETING, top(0, 2), BLUE)
-                && has_color(&cfg, GREETING, top(0, 3), BLUE)
-                && is_plain(&cfg, GREETING, top(0, 4))
-        }
-        Err(OutOfMemory) => false,
-    }
+/// Whether the first places of a title in blue are blue, and the next one plain.
+fn title_is_blue(cfg: &ColoredConfig) -> bool {
+    has_color(cfg, GREETING, crossing(0, 0), BLUE)
+        && has_color(cfg, GREETING, top(0, 0), BLUE)
+        && has_color(cfg, GREETING, top(0, 1), BLUE)
+        && has_color(cfg, GREETING, top(0, 2), BLUE)
+        && has_color(cfg, GREETING, top(0, 3), BLUE)
+        && is_plain(cfg, GREETING, top(0, 4))
 }
 
 /// A theme of a top line and of a line between columns that has nothing at their crossing.
@@ -269,56 +266,52 @@ fn open(alloc: Global) -> Theme {
 }
 
 /// Whether a crossing without a character uses up a character of the text and has its color.
-fn crossing_is_blue(alloc: Global) -> bool {
-    let mut cfg = config(alloc);
-    match blue(alloc, "ABCDEFG") {
-        Ok(text) => {
-            apply(alloc, &mut cfg, TWO_COLUMNS, open(alloc))
-                && apply(alloc, &mut cfg, TWO_COLUMNS, text)
-                && prints(alloc, &cfg, TWO_COLUMNS, "ABC EFG\n a | b ")
-                && char_at(&cfg, TWO_COLUMNS, crossing(0, 1)).is_none()
-                && has_color(&cfg, TWO_COLUMNS, crossing(0, 1), BLUE)
-        }
-        Err(OutOfMemory) => false,
-    }
+fn crossing_is_blue(alloc: Global, cfg: &ColoredConfig) -> bool {
+    prints(alloc, cfg, TWO_COLUMNS, "ABC EFG\n a | b ")
+        && char_at(cfg, TWO_COLUMNS, crossing(0, 1)).is_none()
+        && has_color(cfg, TWO_COLUMNS, crossing(0, 1), BLUE)
+}
+
+/// Whether texts in blue are blue.
+fn texts_are_blue(alloc: Global, cfg: &mut ColoredConfig) -> bool {
+    apply(alloc, cfg, GREETING, Style::ascii())
+        && apply_made(alloc, cfg, GREETING, blue(alloc, "TABLE"))
+        && title_is_blue(cfg)
+        && apply(alloc, cfg, TWO_COLUMNS, open(alloc))
+        && apply_made(alloc, cfg, TWO_COLUMNS, blue(alloc, "ABCDEFG"))
+        && crossing_is_blue(alloc, cfg)
 }
 
 #[test]
 fn a_color_stands_at_each_place_of_a_text(rt: HostRuntime) {
-    assert!(rt; title_is_blue(rt.alloc()));
-    assert!(rt; crossing_is_blue(rt.alloc()));
+    let mut cfg = config(rt.alloc());
+    let are_blue = texts_are_blue(rt.alloc(), &mut cfg);
+    drop(cfg);
+    assert!(rt; are_blue);
 }
 
 /// Whether a text of two lines stands at the right by the wider one, with its line feed on a place of its own.
-fn has_a_line_feed(alloc: Global) -> bool {
-    let mut cfg = config(alloc);
-    match title_of(alloc, ("AB\nCDE", RIGHT, HERE, None, "")) {
-        Ok(title) => {
-            apply(alloc, &mut cfg, GREETING, Style::ascii())
-                && apply(alloc, &mut cfg, GREETING, title)
-                && char_at(&cfg, GREETING, top(0, 11)) == Some('A')
-                && char_at(&cfg, GREETING, top(0, 12)) == Some('B')
-                && char_at(&cfg, GREETING, crossing(0, 1)) == Some('\n')
-        }
-        Err(OutOfMemory) => false,
-    }
+fn has_a_line_feed(cfg: &ColoredConfig) -> bool {
+    char_at(cfg, GREETING, top(0, 11)) == Some('A')
+        && char_at(cfg, GREETING, top(0, 12)) == Some('B')
+        && char_at(cfg, GREETING, crossing(0, 1)) == Some('\n')
 }
 
 /// A column without width.
 static NARROW: Table = (&[0], &[&[""]]);
 
-/// Whether a text on a column without width stands on the corners.
-fn stands_on_corners(alloc: Global) -> bool {
-    match LineText::new(alloc, "AB", Rows::first()) {
-        Ok(text) => prints_with_both(alloc, Style::ascii(), text, NARROW, "AB\n||\n++"),
-        Err(OutOfMemory) => false,
-    }
-}
-
 #[test]
 fn each_character_takes_a_place(rt: HostRuntime) {
-    assert!(rt; has_a_line_feed(rt.alloc()));
-    assert!(rt; stands_on_corners(rt.alloc()));
+    let alloc = rt.alloc();
+    let mut cfg = config(alloc);
+    let title = title_of(alloc, ("AB\nCDE", RIGHT, HERE, None, ""));
+    let has_text = apply(alloc, &mut cfg, GREETING, Style::ascii())
+        && apply_made(alloc, &mut cfg, GREETING, title)
+        && has_a_line_feed(&cfg);
+    drop(cfg);
+    assert!(rt; has_text);
+    let text = LineText::new(alloc, "AB", Rows::first());
+    assert!(rt; prints_in(alloc, Style::ascii(), text, NARROW, "AB\n||\n++"));
 }
 
 /// Whether marks stand on a row and beside cells.

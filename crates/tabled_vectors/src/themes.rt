@@ -3,7 +3,7 @@
 use crate::tables::{THREE_ROWS, TWO_ROWS, Table, prints_with};
 use std::alloc::Global;
 use std::collections::BTreeMap;
-use tabled_grid::{OutOfMemory, VerticalLine};
+use tabled_grid::{Keep, OutOfMemory, VerticalLine};
 use tabled_style::{HorizontalLine, Style};
 use tabled_theme::Theme;
 
@@ -36,15 +36,20 @@ static UNDERLINED: &str = " ======= =====
   Hello   2    
  ======= ===== ";
 
-/// A theme of the text style with the inner line of the extended style between columns, or between rows.
-fn lined(alloc: Global, is_vertical: bool) -> Result<Theme, OutOfMemory> {
-    let mut theme = Theme::from_style(alloc, Style::re_structured_text())?;
+/// Puts the inner line of the extended style between the columns of a theme, or between its rows.
+fn put_line(theme: &mut Theme, is_vertical: bool) -> Result<(), OutOfMemory> {
     let line = HorizontalLine::inherit(Style::extended());
     if is_vertical {
-        theme.insert_vertical_line(1, VerticalLine::from(line))?;
+        theme.insert_vertical_line(1, VerticalLine::from(line))
     } else {
-        theme.insert_horizontal_line(1, line.into_inner())?;
+        theme.insert_horizontal_line(1, line.into_inner())
     }
+}
+
+/// A theme of the text style with that line.
+fn lined(alloc: Global, is_vertical: bool) -> Result<Theme, OutOfMemory> {
+    let mut theme = Theme::from_style(alloc, Style::re_structured_text())?;
+    put_line(&mut theme, is_vertical)?;
     Ok(theme)
 }
 
@@ -72,35 +77,43 @@ fn two_lines(alloc: Global, first: usize, second: usize) -> Result<Theme, OutOfM
     Theme::from_style(alloc, style)
 }
 
-/// A theme of a style with two lines, the first of which is covered by one that is set.
-fn covered(alloc: Global) -> Result<Theme, OutOfMemory> {
-    let mut theme = two_lines(alloc, 1, 2)?;
-    theme.insert_horizontal_line(1, HorizontalLine::filled('=').into_inner())?;
-    Ok(theme)
+/// Whether a copy of a theme is drawn so.
+fn shows(alloc: Global, theme: &Theme, text: &str) -> bool {
+    draws(alloc, theme.keep(alloc), THREE_ROWS, text)
 }
 
-/// The same with the lines that were set replaced by none.
-fn uncovered(alloc: Global) -> Result<Theme, OutOfMemory> {
-    let mut theme = covered(alloc)?;
+/// Two lines of a style, of which the first is covered by one that is set.
+static COVERED: &str = "╭───╮\n│ a │\n=====\n│ b │\n&&&&&\n│ c │\n╰───╯";
+
+/// The same where nothing is set any more.
+static UNCOVERED: &str = "╭───╮\n│ a │\n#####\n│ b │\n&&&&&\n│ c │\n╰───╯";
+
+/// The same without horizontal lines.
+static REMOVED: &str = "╭───╮\n│ a │\n│ b │\n│ c │\n╰───╯";
+
+/// Whether a line that is set covers that of the style until it is replaced by none, so that the one beneath shows again in all
+/// its fields, and none shows once all are removed.
+fn set_line_covers(alloc: Global, theme: &mut Theme) -> bool {
+    let (first, set) = (HorizontalLine::filled('#'), HorizontalLine::filled('='));
+    if theme.insert_horizontal_line(1, set.into_inner()).is_err() || !shows(alloc, theme, COVERED) {
+        return false;
+    }
     theme.set_horizontal_lines(BTreeMap::new(alloc));
-    Ok(theme)
+    if theme.get_horizontal_line(1).copied() != Some(first.into_inner())
+        || !shows(alloc, theme, UNCOVERED)
+    {
+        return false;
+    }
+    theme.remove_horizontal_lines();
+    shows(alloc, theme, REMOVED)
 }
 
-/// Whether the line beneath shows again, in all its fields.
-fn line_is_uncovered(alloc: Global) -> bool {
-    match uncovered(alloc) {
-        Ok(theme) => {
-            theme.get_horizontal_line(1).copied() == Some(HorizontalLine::filled('#').into_inner())
-        }
+/// Whether that holds of a theme of a style with two lines.
+fn lines_are_covered(alloc: Global) -> bool {
+    match two_lines(alloc, 1, 2) {
+        Ok(mut theme) => set_line_covers(alloc, &mut theme),
         Err(OutOfMemory) => false,
     }
-}
-
-/// The same theme without horizontal lines.
-fn without_lines(alloc: Global) -> Result<Theme, OutOfMemory> {
-    let mut theme = uncovered(alloc)?;
-    theme.remove_horizontal_lines();
-    Ok(theme)
 }
 
 #[test]
@@ -108,11 +121,5 @@ fn lines_that_are_set_stand_over_those_of_a_style(rt: HostRuntime) {
     let alloc = rt.alloc();
     let text = "╭───╮\n│ a │\n&&&&&\n│ b │\n╰───╯";
     assert!(rt; draws(alloc, two_lines(alloc, 1, 1), TWO_ROWS, text));
-    let text = "╭───╮\n│ a │\n=====\n│ b │\n&&&&&\n│ c │\n╰───╯";
-    assert!(rt; draws(alloc, covered(alloc), THREE_ROWS, text));
-    let text = "╭───╮\n│ a │\n#####\n│ b │\n&&&&&\n│ c │\n╰───╯";
-    assert!(rt; draws(alloc, uncovered(alloc), THREE_ROWS, text));
-    assert!(rt; line_is_uncovered(alloc));
-    let text = "╭───╮\n│ a │\n│ b │\n│ c │\n╰───╯";
-    assert!(rt; draws(alloc, without_lines(alloc), THREE_ROWS, text));
+    assert!(rt; lines_are_covered(alloc));
 }

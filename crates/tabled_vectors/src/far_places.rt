@@ -1,0 +1,110 @@
+//! What shows about row and column 256, where the slots of a store end.
+
+use std::alloc::Global;
+use tabled_config::SpannedConfig;
+use tabled_grid::{Border, HorizontalLine, LineOf, Place, Position, Probes};
+
+const SHAPE: (usize, usize) = (300, 300);
+
+/// The crossings on both sides of the last row and the last column that have slots.
+const CROSSINGS: [(usize, usize); 4] = [(255, 255), (255, 256), (256, 255), (256, 256)];
+
+/// The crossing of two lines.
+fn crossing(at: (usize, usize)) -> Place {
+    let (row, col) = at;
+    Place::Cross { row, col }
+}
+
+/// The first place of the first edge of a horizontal line.
+fn first_of(row: usize) -> Place {
+    let (col, at) = (0, 0);
+    Place::Horizontal { row, col, at }
+}
+
+/// Whether a place shows this, found by at most six readings.
+fn shows(cfg: &SpannedConfig, place: Place, character: Option<char>) -> bool {
+    let mut probes = Probes::new();
+    cfg.char_at(place, SHAPE, 1, &mut probes) == character && probes.count() <= 6
+}
+
+/// Whether the four crossings show this.
+fn crossings_show(cfg: &SpannedConfig, character: Option<char>) -> bool {
+    CROSSINGS
+        .iter()
+        .all(|at| shows(cfg, crossing(*at), character))
+}
+
+/// Whether a line is drawn.
+fn is_drawn(cfg: &SpannedConfig, line: LineOf) -> bool {
+    cfg.draws(line, 300, &mut Probes::new())
+}
+
+/// Writes at a crossing alone: whether there was memory for it.
+fn write(cfg: &mut SpannedConfig, at: (usize, usize)) -> bool {
+    let corner = Border {
+        left_top_corner: Some('x'),
+        ..Border::empty()
+    };
+    cfg.set_border(at.into(), corner).is_ok()
+}
+
+/// Whether crossings on both sides of the end show what is written there, until it is erased.
+fn crossings_show_until_erased(alloc: Global) -> bool {
+    let mut cfg = SpannedConfig::new(alloc);
+    let [first, second, third, fourth] = CROSSINGS;
+    write(&mut cfg, first)
+        && write(&mut cfg, second)
+        && write(&mut cfg, third)
+        && write(&mut cfg, fourth)
+        && crossings_show(&cfg, Some('x'))
+        && shows(&cfg, crossing((254, 255)), None)
+        && {
+            cfg.remove_borders();
+            crossings_show(&cfg, None)
+                && !is_drawn(&cfg, LineOf::Horizontal(255))
+                && !is_drawn(&cfg, LineOf::Horizontal(256))
+                && !is_drawn(&cfg, LineOf::Vertical(255))
+                && !is_drawn(&cfg, LineOf::Vertical(256))
+        }
+}
+
+/// Puts a horizontal line of one character: whether there was memory for it.
+fn put_line(cfg: &mut SpannedConfig, line: usize, character: char) -> bool {
+    let fields = HorizontalLine::new(Some(character), None, None, None);
+    cfg.insert_horizontal_line(line, fields).is_ok()
+}
+
+/// Whether lines on both sides of the end show, one replaced and one removed.
+fn lines_show(alloc: Global) -> bool {
+    let mut cfg = SpannedConfig::new(alloc);
+    put_line(&mut cfg, 255, '=')
+        && put_line(&mut cfg, 256, '-')
+        && shows(&cfg, first_of(255), Some('='))
+        && shows(&cfg, first_of(256), Some('-'))
+        && put_line(&mut cfg, 255, '#')
+        && {
+            cfg.remove_horizontal_line(256);
+            shows(&cfg, first_of(255), Some('#'))
+                && shows(&cfg, first_of(256), None)
+                && is_drawn(&cfg, LineOf::Horizontal(255))
+                && !is_drawn(&cfg, LineOf::Horizontal(256))
+        }
+}
+
+/// Whether a configuration in which something was written and erased again equals a new one.
+fn erased_is_new(alloc: Global) -> bool {
+    let mut cfg = SpannedConfig::new(alloc);
+    let (row, col) = (200, 200);
+    write(&mut cfg, (row, col))
+        && {
+            cfg.remove_border(Position { row, col });
+            cfg == SpannedConfig::new(alloc)
+        }
+}
+
+#[test]
+fn places_show_on_both_sides_of_the_last_slots(rt: HostRuntime) {
+    assert!(rt; crossings_show_until_erased(rt.alloc()));
+    assert!(rt; lines_show(rt.alloc()));
+    assert!(rt; erased_is_new(rt.alloc()));
+}
