@@ -1,15 +1,27 @@
 //! The one refusal that every call may meet which needs memory.
 
-ghost use Rattle.std.specs.Prelude.{◌≡◌};
+ghost use Rattle.std.specs.Prelude.{◌≡◌, codes, Some};
 ghost use Rattle.std.specs.IoError.{error_kind};
 ghost use Rattle.std.specs.declared.io.ErrorKind.TheVariants.{OutOfMemory as memory_refused};
 
 use std::alloc::{AllocError, AllocFailed};
-use std::io;
+use std::error::Error;
+use std::{fmt, io};
 
 /// Memory was asked for and refused. What the call was to change is as it was before.
 #[derive(Clone, Copy, Debug, PartialEq, Eq)]
 pub struct OutOfMemory;
+
+/// One sentence: `memory was asked for and refused`.
+impl fmt::Display for OutOfMemory {
+    ghost output = { λ _. Some (codes "memory was asked for and refused") };
+
+    fn fmt<W: fmt::Write>(&self, f: &mut fmt::Formatter<W>) -> fmt::Result {
+        f.write_str("memory was asked for and refused")
+    }
+}
+
+impl Error for OutOfMemory {}
 
 impl From<AllocError> for OutOfMemory {
     fn from(_refused: AllocError) -> OutOfMemory {
