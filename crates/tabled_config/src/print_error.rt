@@ -4,6 +4,8 @@ ghost use Rattle.std.specs.Prelude.{◌≡◌};
 ghost use Rattle.tabled_config.specs.declared.print_error.PrintError.TheVariants.{OutOfMemory as Refused};
 
 use std::alloc::{AllocError, AllocFailed};
+use std::error::Error;
+use std::fmt;
 use tabled_grid::OutOfMemory;
 
 /// A refusal of the printer. Nothing was written. They stand in the order in which they are looked for,
@@ -23,6 +25,30 @@ pub enum PrintError {
     /// A line of the text of the cell at this row and column is not as wide as its column.
     Width(usize, usize),
 }
+
+/// One sentence, such as `row 3 needs one cell for each column`.
+impl fmt::Display for PrintError {
+    fn fmt<W: fmt::Write>(&self, f: &mut fmt::Formatter<W>) -> fmt::Result {
+        match self {
+            PrintError::OutOfMemory => write!(f, "{OutOfMemory}"),
+            PrintError::Spans => f.write_str("tables with spans are not printed, and one is set"),
+            PrintError::RowCount => f.write_str(
+                "the table needs one row of cells for each of its rows",
+            ),
+            PrintError::ColumnCount(row) => write!(f, "row {row} needs one cell for each column"),
+            PrintError::Height(row, col) => write!(
+                f,
+                "cell ({row}, {col}) needs as many lines as its row is high"
+            ),
+            PrintError::Width(row, col) => write!(
+                f,
+                "each line of cell ({row}, {col}) must be as wide as its column"
+            ),
+        }
+    }
+}
+
+impl Error for PrintError {}
 
 impl From<OutOfMemory> for PrintError {
     ghost from_gives = { λ _ e. e ≡ Refused };

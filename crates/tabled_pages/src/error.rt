@@ -4,6 +4,8 @@ ghost use Rattle.std.specs.Prelude.{◌≡◌};
 ghost use Rattle.tabled_pages.specs.declared.error.ShowError.TheVariants.{OutOfMemory};
 
 use std::alloc::{AllocError, AllocFailed};
+use std::error::Error;
+use std::fmt;
 
 /// Why the program shows no table, in the order in which the reasons are tested. Memory may be
 /// refused at any point after the first.
@@ -58,6 +60,15 @@ impl ShowError {
         }
     }
 }
+
+/// The text that the program says.
+impl fmt::Display for ShowError {
+    fn fmt<W: fmt::Write>(&self, f: &mut fmt::Formatter<W>) -> fmt::Result {
+        f.write_str(self.text())
+    }
+}
+
+impl Error for ShowError {}
 
 impl From<AllocError> for ShowError {
     ghost from_gives = { λ _ e. e ≡ OutOfMemory };

@@ -1,12 +1,14 @@
 //! The ready styles as values, so that one is chosen while the program runs.
 
-ghost use Rattle.std.specs.Prelude.{◌≡◌, [], None, Ok, IfSome, IsErr, IsOk, MatchOption, OnErr, OnOk};
+ghost use Rattle.std.specs.Prelude.{◌≡◌, [], None, Some, Ok, codes, IfSome, IsErr, IsOk, MatchOption, OnErr, OnOk};
 ghost use Rattle.tabled_configuration.specs.Colored.{Changes as ColoredChanges};
 ghost use Rattle.tabled_configuration.specs.Configuration.{Changes, borders_replaced};
 ghost use Rattle.tabled_style.specs.declared.ready_style.ReadyStyle.{ReadyStyle as Ready};
 ghost use Rattle.tabled_style.specs.Named.{all_ready, name_of, ready_applied, shown, style_named};
 
 use crate::Style;
+use std::error::Error;
+use std::fmt;
 use std::str::FromStr;
 use tabled_configuration::{ColoredConfig, SpannedConfig, TableOption};
 use tabled_grid::{Borders, Entity, OutOfMemory};
@@ -219,6 +221,17 @@ impl From<ReadyStyle> for Borders<char> {
 /// No ready style has this name.
 #[derive(Debug, Clone, Copy, PartialEq, Eq)]
 pub struct UnknownStyle;
+
+/// One sentence: `no style of the library has this name`.
+impl fmt::Display for UnknownStyle {
+    ghost output = { λ _. Some (codes "no style of the library has this name") };
+
+    fn fmt<W: fmt::Write>(&self, f: &mut fmt::Formatter<W>) -> fmt::Result {
+        f.write_str("no style of the library has this name")
+    }
+}
+
+impl Error for UnknownStyle {}
 
 impl FromStr for ReadyStyle {
     type Err = UnknownStyle;

@@ -8,6 +8,7 @@ use std::alloc::Global;
 use std::array;
 use std::iter::{self, Copied, Once};
 use std::slice::Iter;
+use std::vec::IntoIter;
 use tabled_border::OutOfMemory;
 
 /// An entity lists itself, also where the table has none of its cells.
@@ -39,6 +40,21 @@ impl<'a, R: Records + ExactRecords> Object<R> for &'a [Entity] {
 }
 
 impl<'a> Combine for &'a [Entity] {}
+
+/// A list of entities lists them in order, also those of which the table has no cells. A repeat is listed again. The entities are
+/// copied, which takes memory; a slice of them takes none.
+impl<R: Records + ExactRecords> Object<R> for Vec<Entity> {
+    type Iter = IntoIter<Entity>;
+
+    ghost listing = { λ entities _ _. entities.items };
+
+    fn cells(&self, alloc: Global, _records: &R) -> Result<Self::Iter, OutOfMemory> {
+        let entities = Vec::from_slice(alloc, self)?;
+        Ok(entities.into_iter())
+    }
+}
+
+impl Combine for Vec<Entity> {}
 
 /// An array of entities lists them in order, also those of which the table has no cells. A repeat is listed again.
 impl<R: Records + ExactRecords, const N: usize> Object<R> for [Entity; N] {
