@@ -36,7 +36,7 @@ pub struct TextTable {
     cells: Vec<Vec<String>>,
     shape: Shape,
     sizes: FixedDimension,
-    config: ColoredConfig,
+    config: Box<ColoredConfig>,
 }
 
 /// Written out, so that dropping a table is one call wherever its life ends.
@@ -64,7 +64,7 @@ impl Model for TextTable {
 
     ghost coded = { drawing_code };
 
-    ghost view = { λ table. record { texts = texts table.cells.items; sizes = table.sizes; config = table.config } };
+    ghost view = { λ table. record { texts = texts table.cells.items; sizes = table.sizes; config = table.config.value } };
 
     ghost invariant = { λ table.
         (unequal_row (texts table.cells.items) ≡ None)
@@ -134,11 +134,12 @@ impl TextTable {
             rows: rows.len(),
             cols: column_count(&rows),
         };
+        let config = ColoredConfig::new(SpannedConfig::new(alloc));
         Ok(TextTable {
             cells: rows,
             shape,
             sizes,
-            config: ColoredConfig::new(SpannedConfig::new(alloc)),
+            config: Box::new(alloc, config)?,
         })
     }
 
@@ -202,7 +203,7 @@ impl TextTable {
         ensures sizes { self.new.sizes ≡ self.old.sizes }
         ensures err { OnErr result (self.new ≡ self.old) }
     {
-        option.change(&mut self.shape, &mut self.config, &mut self.sizes)
+        option.change(&mut self.shape, &mut *self.config, &mut self.sizes)
     }
 
     /// Applies an option to the cells of each entity that an object lists, in turn. Where memory is refused the option may have
@@ -218,8 +219,8 @@ impl TextTable {
         ensures texts { self.new.texts ≡ self.old.texts }
         ensures sizes { self.new.sizes ≡ self.old.sizes }
     {
-        let alloc = self.config.config().allocator();
-        modify(alloc, &mut self.shape, &mut self.config, object, option)
+        let alloc = self.config().config().allocator();
+        modify(alloc, &mut self.shape, &mut *self.config, object, option)
     }
 
     /// The configuration that options change.
@@ -234,7 +235,7 @@ impl TextTable {
         ensures* writes_back { sem 𝓛 (Lends the_row config_row self.entry result (λ config. record self.old { config = config })) }
         ensures value { result.now ≡ self.old.config }
     {
-        &mut self.config
+        &mut *self.config
     }
 
     /// How many rows and columns the table has.
@@ -282,7 +283,7 @@ impl TextTable {
         ensures unchanged { OnErr result (string_bytes out.new ≡ string_bytes out.old) }
         ensures refusal { MatchOption (slice_get (span_faults self.now.config.spanned) 0) (IsOkUnless result Fault.OutOfMemory) (λ e. result ≡ Err e) }
     {
-        let cfg = self.config.config();
+        let cfg = self.config().config();
         if cfg.has_spans() {
             return Err(PrintError::Spans);
         }

@@ -1,12 +1,11 @@
 -- The cells fit, and what is printed is the text of the table.
-use Rattle.std.proofs.Common.{◌≡◌, [], ◌++◌, ap, sym, subst, ◌∙◌, string_bytes}
+use Rattle.std.proofs.Common.{◌++◌, ap, sym, subst, ◌∙◌, string_bytes}
 use Rattle.tabled_text.specs.Sizes.{column_count}
 use Rattle.tabled_text.specs.Padded.{padded_rows}
 use Rattle.tabled_text.specs.TextTable.{text_of}
 use Rattle.tabled_config.specs.Texts.{texts}
 use Rattle.tabled_config.specs.Configuration as borders
 use Rattle.tabled_text.proofs.Fits.{padded_fits, utf8_cells, all_equal, is_text_of, fits}
-use Rattle.tabled_text.proofs.PaddingLemmas.{on_done}
 use Rattle.tabled_text.proofs.text_table.TextTable.append_to.Goals as goal
 
 pub print_rows-requires : goal.print_rows-requires
@@ -19,7 +18,7 @@ print_rows-requires c =
 pub returns-clause-text : goal.returns-clause-text
 returns-clause-text c es shows =
     let rows = c.self.inside.cells.items in
-    c.in_ok-print_rows.ensures.text es (subst (λ cfg. borders.Shows es cfg) (sym c.config-cfg.ensures) (subst (λ table. borders.Shows es table.config.spanned) (sym c.self.view_is) shows))
+    c.in_ok-print_rows.ensures.text es (subst (λ cfg. borders.Shows es cfg) (sym (c.config-cfg.ensures ∙ ap (λ config. config.spanned) c.config.ensures)) shows)
     ∙ ap (λ text. string_bytes c.args.out.now ++ text)
     (is_text_of (texts rows) _ c.self.inside.shape c.self.inside.sizes.widths.items c.self.inside.sizes.heights.items
     c.self.invariant.1 c.self.invariant.2 c.self.invariant.3 (ap (λ items. padded_rows c.self.inside.sizes.widths.items c.self.inside.sizes.heights.items (texts items)) c.deref.ensures.value) es)
