@@ -1,10 +1,21 @@
 -- Why a table is not printed.
 use Rattle.std.specs.Prelude.{ℕ, Bool, ◌==◌, ◌||◌, if◌then◌else◌, Option, List, [], ◌∷◌, ◌++◌, length, slice_get}
 use Rattle.std.specs.List.{flat_map, list_all, enumerate_from}
+use Rattle.std.specs.declared.io.ErrorKind.{ErrorKind}
+use Rattle.std.specs.declared.io.ErrorKind.TheVariants as io
 use Rattle.tabled_config.specs.declared.print_error.PrintError.{PrintError}
 use Rattle.tabled_configuration.specs.Configuration.{Configuration}
 pub use Rattle.tabled_configuration.specs.Configuration.{has_no_spans}
 use Rattle.tabled_config.specs.Texts.{Table, pieces, width_of_text}
+
+-- of which kind a refusal is among the errors of input and output: one of memory, or of what was given
+abbrev pub kind_of : PrintError → ErrorKind
+kind_of PrintError.OutOfMemory = io.OutOfMemory
+kind_of PrintError.Spans = io.InvalidInput
+kind_of PrintError.RowCount = io.InvalidInput
+kind_of (PrintError.ColumnCount row) = io.InvalidInput
+kind_of (PrintError.Height row col) = io.InvalidInput
+kind_of (PrintError.Width row col) = io.InvalidInput
 
 -- the given fault, unless the given fact holds
 abbrev pub unless : Bool → PrintError → List PrintError

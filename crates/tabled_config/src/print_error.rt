@@ -1,11 +1,14 @@
 //! Why a table was not printed.
 
 ghost use Rattle.std.specs.Prelude.{◌≡◌};
+ghost use Rattle.std.specs.IoError.{error_kind};
+ghost use Rattle.tabled_config.specs.Refusal.{kind_of};
 ghost use Rattle.tabled_config.specs.declared.print_error.PrintError.TheVariants.{OutOfMemory as Refused};
 
 use std::alloc::{AllocError, AllocFailed};
 use std::error::Error;
-use std::fmt;
+use std::io::ErrorKind;
+use std::{fmt, io};
 use tabled_grid::OutOfMemory;
 
 /// A refusal of the printer. Nothing was written. They stand in the order in which they are looked for,
@@ -49,6 +52,22 @@ impl fmt::Display for PrintError {
 }
 
 impl Error for PrintError {}
+
+/// So that a program that reads and writes takes a refusal by `?`: as one of memory, or of its input. Numbers of rows and columns are
+/// not kept.
+impl From<PrintError> for io::Error {
+    ghost from_gives = { λ refused error. error_kind error ≡ kind_of refused };
+
+    fn from(refused: PrintError) -> io::Error {
+        match refused {
+            PrintError::OutOfMemory => io::Error::from(AllocError),
+            _ => io::Error::new(
+                ErrorKind::InvalidInput,
+                "the table cannot be printed with these cells",
+            ),
+        }
+    }
+}
 
 impl From<OutOfMemory> for PrintError {
     ghost from_gives = { λ _ e. e ≡ Refused };

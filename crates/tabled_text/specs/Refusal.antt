@@ -1,8 +1,10 @@
 -- The refusals of a table of texts.
 use Rattle.tabled_config.specs.declared.print_error.PrintError.{PrintError}
 use Rattle.tabled_config.specs.declared.print_error.PrintError.TheVariants as print
+use Rattle.std.specs.declared.io.ErrorKind.{ErrorKind}
+use Rattle.std.specs.declared.io.ErrorKind.TheVariants as io
 use Rattle.tabled_text.specs.declared.table_error.TableError.{TableError}
-use Rattle.tabled_text.specs.declared.table_error.TableError.TheVariants.{OutOfMemory, Print}
+use Rattle.tabled_text.specs.declared.table_error.TableError.TheVariants.{OutOfMemory, UnequalRows, Print, Write}
 
 -- what a refusal of the printer is for a table of texts: one for memory stays one for memory
 abbrev pub of_printer : PrintError → TableError
@@ -12,3 +14,10 @@ of_printer print.RowCount = Print print.RowCount
 of_printer (print.ColumnCount row) = Print (print.ColumnCount row)
 of_printer (print.Height row col) = Print (print.Height row col)
 of_printer (print.Width row col) = Print (print.Width row col)
+
+-- of which kind a refusal is among the errors of input and output
+abbrev pub kind_of : TableError → ErrorKind
+kind_of OutOfMemory = io.OutOfMemory
+kind_of (UnequalRows row) = io.InvalidInput
+kind_of (Print refused) = io.InvalidInput
+kind_of Write = io.Uncategorized

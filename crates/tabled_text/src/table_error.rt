@@ -1,15 +1,19 @@
 //! Why a call of a table of texts was refused.
 
 ghost use Rattle.std.specs.Prelude.{◌≡◌};
-ghost use Rattle.tabled_text.specs.Refusal.{of_printer};
+ghost use Rattle.std.specs.IoError.{error_kind};
+ghost use Rattle.tabled_text.specs.Refusal.{kind_of, of_printer};
 ghost use Rattle.tabled_text.specs.declared.table_error.TableError.TheVariants.{OutOfMemory as Refused, Write as NotWritten};
 
 use std::alloc::{AllocError, AllocFailed};
-use std::fmt;
+use std::error::Error;
+use std::io::ErrorKind;
+use std::{fmt, io};
 use tabled_config::PrintError;
 use tabled_grid::OutOfMemory;
 
-/// A refusal of a call of a `TextTable`. Every other error of the library becomes one of these by `?`.
+/// A refusal of a call of a `TextTable`. The refusals of memory and of the printer become one of these by `?`, and one of these
+/// becomes an `io::Error`, or an error of `anyhow`, in the same way.
 #[derive(Clone, Copy, Debug, PartialEq, Eq)]
 pub enum TableError {
     /// Memory was asked for and refused.
@@ -20,6 +24,42 @@ pub enum TableError {
     Print(PrintError),
     /// The writer failed that the text was written to.
     Write,
+}
+
+/// One sentence, such as `row 3 does not have as many cells as row 0`.
+impl fmt::Display for TableError {
+    fn fmt<W: fmt::Write>(&self, f: &mut fmt::Formatter<W>) -> fmt::Result {
+        match self {
+            TableError::OutOfMemory => write!(f, "{OutOfMemory}"),
+            TableError::UnequalRows(row) => {
+                write!(f, "row {row} does not have as many cells as row 0")
+            }
+            TableError::Print(refused) => write!(f, "{refused}"),
+            TableError::Write => f.write_str("the writer failed"),
+        }
+    }
+}
+
+impl Error for TableError {}
+
+/// So that a program that reads and writes takes a refusal by `?`. The number of an unequal row is not kept.
+impl From<TableError> for io::Error {
+    ghost from_gives = { λ refused error. error_kind error ≡ kind_of refused };
+
+    fn from(refused: TableError) -> io::Error {
+        match refused {
+            TableError::OutOfMemory => io::Error::from(AllocError),
+            TableError::UnequalRows(_) => io::Error::new(
+                ErrorKind::InvalidInput,
+                "a row does not have as many cells as row 0",
+            ),
+            TableError::Print(_) => io::Error::new(
+                ErrorKind::InvalidInput,
+                "a table with a span is not printed",
+            ),
+            TableError::Write => io::Error::from(fmt::Error),
+        }
+    }
 }
 
 impl From<OutOfMemory> for TableError {
