@@ -3,6 +3,7 @@
 //! `docs/DEFINITIONS.md` explains the words of the contracts.
 #![tactic(auto)]
 
+mod display;
 mod measure;
 mod padding;
 mod table_error;
