@@ -92,7 +92,7 @@ fn what_has_a_name_in_any_table_lists_itself(rt: HostRuntime) -> Result<(), Fail
     Ok(())
 }
 
-/// Whether entities list themselves, one, several in an array or a slice, and with repeats; and a lent object as the
+/// Whether entities list themselves, one, several in an array, a slice or a list, and with repeats; and a lent object as the
 /// object does.
 fn chosen_ones_list_themselves(alloc: Global, shape: Shape) -> Result<bool, OutOfMemory> {
     let chosen = [Entity::Row(5), Entity::Cell(7, 1), Entity::Row(5)];
@@ -100,6 +100,7 @@ fn chosen_ones_list_themselves(alloc: Global, shape: Shape) -> Result<bool, OutO
         lists(alloc, &Entity::Column(5), shape, &[Entity::Column(5)])?
             && lists(alloc, &chosen, shape, &chosen)?
             && lists(alloc, &chosen.as_slice(), shape, &chosen)?
+            && lists(alloc, &chosen.to_vec(alloc)?, shape, &chosen)?
             && lists(alloc, &&Rows::one(5), shape, &[Entity::Row(5)])?,
     )
 }

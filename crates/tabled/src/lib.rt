@@ -19,6 +19,7 @@
 #![tactic(auto)]
 
 pub mod grid;
+pub mod proved;
 pub mod settings;
 
 pub use tabled_text::{TableError, TextTable};
