@@ -108,8 +108,8 @@ fn asked(rt: &HostRuntime) -> Option<(usize, u64)> {
     Some((call.parse::<usize>().ok()?, spent.parse::<u64>().ok()?))
 }
 
-/// Makes a call after that many requests. It says what became of it, how many requests were spent before it, and how many are
-/// granted after it.
+/// Makes a call after that many requests. It says what became of it, how many requests were spent before it, and, where that is
+/// none, how many are granted after it, before one is refused.
 fn make(rt: &HostRuntime, named: Named, to_spend: u64) {
     let mut turn = Turn {
         alloc: rt.alloc(),
@@ -121,7 +121,7 @@ fn make(rt: &HostRuntime, named: Named, to_spend: u64) {
         Ok(outcome) => outcome.text(),
         Err(OutOfMemory) => "NOT BEGUN",
     };
-    let left = spendable(turn.alloc, 1_000_000);
+    let left = spendable(turn.alloc, if to_spend == 0 { u64::MAX } else { 0 });
     let _ = println!(rt; "{name}: {outcome}");
     let _ = println!(rt; "spent: {}", turn.spent);
     let _ = println!(rt; "left: {left}");
