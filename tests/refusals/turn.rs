@@ -1,11 +1,11 @@
 //! How one call is made with one of its requests for memory refused.
 //!
-//! `docs/try_refusals` has one request of a run refused, always of the same number. Standard input has two numbers: that of the
-//! call, and how many requests are spent right before it. So the refused one becomes the call's first, its second or a later
+//! `docs/try_refusals` has one request of a run refused, always of the same number. The program has two arguments: the number of
+//! the call, and how many requests are spent right before it. So the refused one becomes the call's first, its second or a later
 //! one, and what comes before the call is not refused.
 
 use std::alloc::Global;
-use std::io::Read;
+use std::env::Env;
 use std::process::ExitCode;
 use tabled_grid::OutOfMemory;
 
@@ -99,13 +99,11 @@ pub(crate) type Call = fn(&mut Turn) -> Result<Outcome, OutOfMemory>;
 /// A call and its name in `tests/refusable_calls`. Where one is made in several ways, the way follows in brackets.
 pub(crate) type Named = (&'static str, Call);
 
-/// The two numbers of standard input.
-fn asked(rt: &HostRuntime) -> Option<(usize, u64)> {
-    let mut room = [0u8; 64];
-    let count = rt.stdin().read(&mut room).ok()?;
-    let text = str::from_utf8(room.get(..count)?).ok()?;
-    let (call, spent) = text.trim().split_once(' ')?;
-    Some((call.parse::<usize>().ok()?, spent.parse::<u64>().ok()?))
+/// The number that an argument of the program is.
+fn number(rt: &HostRuntime, place: usize) -> Option<u64> {
+    let mut room = [0u8; 32];
+    let count = rt.arg(place, &mut room).ok()?;
+    str::from_utf8(room.get(..count)?).ok()?.parse::<u64>().ok()
 }
 
 /// Makes a call after that many requests. It says what became of it, how many requests were spent before it, and, where that is
@@ -127,20 +125,30 @@ fn make(rt: &HostRuntime, named: Named, to_spend: u64) {
     let _ = println!(rt; "left: {left}");
 }
 
-/// Makes the call that standard input asks for. The calls are counted over all lists.
+/// The call of this number, counted over all lists.
+fn numbered(lists: &[&[Named]], number: u64) -> Option<Named> {
+    let mut left = number;
+    for list in lists {
+        for named in list.iter() {
+            if left == 0 {
+                return Some(*named);
+            }
+            left -= 1;
+        }
+    }
+    None
+}
+
+/// Makes the call that the arguments ask for.
 pub(crate) fn make_asked(rt: &HostRuntime, lists: &[&[Named]]) -> ExitCode {
-    let Some((number, to_spend)) = asked(rt) else {
+    let (Some(call), Some(to_spend)) = (number(rt, 1), number(rt, 2)) else {
         return ExitCode::FAILURE;
     };
-    let mut before = 0usize;
-    for list in lists {
-        for (at, named) in list.iter().enumerate() {
-            if before + at == number {
-                make(rt, *named, to_spend);
-            }
+    match numbered(lists, call) {
+        Some(named) => {
+            make(rt, named, to_spend);
+            ExitCode::SUCCESS
         }
-        before += list.len();
+        None => ExitCode::FAILURE,
     }
-    let _ = println!(rt; "calls: {before}");
-    ExitCode::SUCCESS
 }

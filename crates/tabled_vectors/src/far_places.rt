@@ -1,5 +1,6 @@
 //! What shows about row and column 256, where the slots of a store end.
 
+use crate::tables::{ONE, config, prints};
 use std::alloc::Global;
 use tabled_config::SpannedConfig;
 use tabled_grid::{Border, HorizontalLine, LineOf, Place, Position, Probes};
@@ -102,9 +103,25 @@ fn erased_is_new(alloc: Global) -> bool {
         }
 }
 
+/// Whether the cell after the last row that there can be has a border above and beside it alone, which draws the lines of its
+/// column.
+fn last_row_has_no_line_below(alloc: Global) -> bool {
+    let (row, col, at) = (usize::MAX, 0, 0);
+    let mut cfg = config(alloc);
+    let config = cfg.config_mut();
+    config
+        .set_border(Position { row, col }, Border::filled('x'))
+        .is_ok()
+        && config.get_char(Place::Horizontal { row, col, at }) == Some('x')
+        && config.get_char(Place::Cross { row, col: 1 }) == Some('x')
+        && config.get_char(Place::Cross { row: 0, col }).is_none()
+        && prints(alloc, &cfg, ONE, "  a  ")
+}
+
 #[test]
 fn places_show_on_both_sides_of_the_last_slots(rt: HostRuntime) {
     assert!(rt; crossings_show_until_erased(rt.alloc()));
     assert!(rt; lines_show(rt.alloc()));
     assert!(rt; erased_is_new(rt.alloc()));
+    assert!(rt; last_row_has_no_line_below(rt.alloc()));
 }

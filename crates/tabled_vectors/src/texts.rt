@@ -150,6 +150,8 @@ fn a_text_stands_above_the_row_that_is_named(rt: HostRuntime) {
     assert!(rt; prints_above(alloc, "TABLE", Rows::one(usize::MAX), PLAIN));
     let above_the_last = LineText::new(alloc, "TABLE", Rows::last());
     assert!(rt; prints_in(alloc, Style::ascii(), above_the_last, GREETING, INNER));
+    let before_the_first = LineText::new(alloc, "TABLE", Rows::last().offset(usize::MAX));
+    assert!(rt; prints_in(alloc, Style::ascii(), before_the_first, GREETING, PLAIN));
 }
 
 /// The table with a text down both sides.
