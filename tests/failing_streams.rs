@@ -2,10 +2,9 @@
 //! where each moves one byte.
 
 use std::alloc::Global;
-use std::fmt;
-use std::io;
 use std::io::{Cursor, ErrorKind, Read, Write};
 use std::test::Fail;
+use std::{fmt, io};
 use tabled::settings::Style;
 use tabled::{TableError, TextTable};
 use tabled_color::Color;
@@ -144,11 +143,13 @@ fn a_page_is_the_same_however_few_bytes_a_read_gives(rt: HostRuntime) -> Result<
 }
 
 #[test]
-fn a_read_that_fails_ends_the_program_and_nothing_is_written(
-    rt: HostRuntime,
-) -> Result<(), Fail> {
+fn a_read_that_fails_ends_the_program_and_nothing_is_written(rt: HostRuntime) -> Result<(), Fail> {
     let failed = Err(ShowError::ReadFailed);
-    for kind in [ErrorKind::Interrupted, ErrorKind::UnexpectedEof, ErrorKind::BrokenPipe] {
+    for kind in [
+        ErrorKind::Interrupted,
+        ErrorKind::UnexpectedEof,
+        ErrorKind::BrokenPipe,
+    ] {
         // one byte a read: ten reads find nine bytes and the end
         for number in [0, 1, 4, 8, 9] {
             let fails = reads(rt.alloc(), 1, Some((number, kind)), failed, "")?;
@@ -179,9 +180,7 @@ fn writes(
 }
 
 #[test]
-fn a_page_is_written_whole_however_few_bytes_a_write_takes(
-    rt: HostRuntime,
-) -> Result<(), Fail> {
+fn a_page_is_written_whole_however_few_bytes_a_write_takes(rt: HostRuntime) -> Result<(), Fail> {
     for each in [1, 2, 7, LENGTH - 1, LENGTH, usize::MAX] {
         assert!(rt; writes(rt.alloc(), each, None, Ok(()), LENGTH)?, "{each}");
     }
@@ -191,7 +190,11 @@ fn a_page_is_written_whole_however_few_bytes_a_write_takes(
 #[test]
 fn a_write_that_fails_ends_the_program(rt: HostRuntime) -> Result<(), Fail> {
     let failed = Err(ShowError::WriteFailed);
-    for kind in [ErrorKind::BrokenPipe, ErrorKind::WriteZero, ErrorKind::UnexpectedEof] {
+    for kind in [
+        ErrorKind::BrokenPipe,
+        ErrorKind::WriteZero,
+        ErrorKind::UnexpectedEof,
+    ] {
         // one byte a write: what was taken before is what was written
         for number in [0, 1, 20, LENGTH - 1] {
             let fails = writes(rt.alloc(), 1, Some((number, kind)), failed, number)?;
@@ -272,9 +275,7 @@ fn framed(alloc: Global) -> Result<TextTable, TableError> {
 }
 
 #[test]
-fn a_table_is_written_in_one_piece_or_its_writer_has_failed(
-    rt: HostRuntime,
-) -> Result<(), Fail> {
+fn a_table_is_written_in_one_piece_or_its_writer_has_failed(rt: HostRuntime) -> Result<(), Fail> {
     let table = framed(rt.alloc())?;
     let (mut first, mut second) = (takes(0), takes(1));
     assert!(rt; table.write_to(&mut first) == Err(TableError::Write));

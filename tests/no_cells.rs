@@ -218,7 +218,11 @@ fn patterns_are_made(alloc: Global, shape: (usize, usize)) -> Result<bool, OutOf
             && with(alloc, shape, Colorization::columns(two(alloc)?))?
             && with(alloc, shape, Colorization::by_row(two(alloc)?))?
             && with(alloc, shape, Colorization::by_column(two(alloc)?))?
-            && with(alloc, shape, Colorization::exact(two(alloc)?, Rows::first()))?,
+            && with(
+                alloc,
+                shape,
+                Colorization::exact(two(alloc)?, Rows::first()),
+            )?,
     )
 }
 

@@ -55,12 +55,7 @@ fn an_outline_and_a_style_take_any_character(rt: HostRuntime) -> Result<(), Fail
 }
 
 /// Whether a text makes this top line of a frame around a cell of seven columns.
-fn makes(
-    alloc: Global,
-    text: &str,
-    alignment: Alignment,
-    top: &str,
-) -> Result<bool, OutOfMemory> {
+fn makes(alloc: Global, text: &str, alignment: Alignment, top: &str) -> Result<bool, OutOfMemory> {
     let mut table = Table::new(alloc, &[7], &[&[" abcde "]])?;
     table.with(Style::ascii())?;
     table.with(LineText::new(alloc, text, Rows::first())?.align(alignment))?;

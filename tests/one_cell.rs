@@ -9,9 +9,7 @@ use tabled_grid::{
     Border, Cell, Columns, Entity, FixedDimension, Object, Offset, OutOfMemory, Place, Position,
     Rows, Shape,
 };
-use tabled_options::{
-    BorderCorrection, Colorization, Highlight, LineChar, LineText, Shadow,
-};
+use tabled_options::{BorderCorrection, Colorization, Highlight, LineChar, LineText, Shadow};
 use tabled_style::{HorizontalLine, Style, VerticalLine};
 use tabled_theme::Theme;
 
@@ -105,8 +103,14 @@ fn a_text_stands_on_lines_up_to_the_closing_one(rt: HostRuntime) -> Result<(), F
         (2, FRAMED, FRAMED),
         (usize::MAX, FRAMED, FRAMED),
     ] {
-        assert!(rt; with(alloc, LineText::new(alloc, "AB", Rows::one(line))?, across)?, "{line}");
-        assert!(rt; with(alloc, LineText::new(alloc, "AB", Columns::one(line))?, down)?, "{line}");
+        assert!(rt;
+            with(alloc, LineText::new(alloc, "AB", Rows::one(line))?, across)?,
+            "{line}"
+        );
+        assert!(rt;
+            with(alloc, LineText::new(alloc, "AB", Columns::one(line))?, down)?,
+            "{line}"
+        );
     }
     Ok(())
 }
@@ -155,7 +159,12 @@ fn a_text_begins_at_places_of_its_line_alone(rt: HostRuntime) -> Result<(), Fail
         let text = LineText::new(alloc, "AB", Rows::one(0))?.offset(offset);
         assert!(rt; makes(alloc, text, top)?, "{offset:?}");
     }
-    for (limit, top) in [(0, "+---+"), (1, "A---+"), (2, "AB--+"), (usize::MAX, "AB--+")] {
+    for (limit, top) in [
+        (0, "+---+"),
+        (1, "A---+"),
+        (2, "AB--+"),
+        (usize::MAX, "AB--+"),
+    ] {
         let text = LineText::new(alloc, "AB", Rows::one(0))?.limit(limit);
         assert!(rt; makes(alloc, text, top)?, "{limit}");
     }
@@ -178,7 +187,10 @@ const OFFSETS: [(Offset, &str); 8] = [
 fn a_character_stands_at_places_of_its_edge_alone(rt: HostRuntime) -> Result<(), Fail> {
     for (offset, text) in OFFSETS {
         let option = LineChar::horizontal('x', offset);
-        assert!(rt; on(rt.alloc(), &Cell::new(0, 0), &option, text)?, "{offset:?}");
+        assert!(rt;
+            on(rt.alloc(), &Cell::new(0, 0), &option, text)?,
+            "{offset:?}"
+        );
     }
     Ok(())
 }
@@ -194,7 +206,10 @@ fn a_character_stands_on_lines_up_to_the_closing_one(rt: HostRuntime) -> Result<
         (usize::MAX, FRAMED, FRAMED),
     ] {
         assert!(rt; on(rt.alloc(), &Rows::one(line), &across, above)?, "{line}");
-        assert!(rt; on(rt.alloc(), &Columns::one(line), &down, beside)?, "{line}");
+        assert!(rt;
+            on(rt.alloc(), &Columns::one(line), &down, beside)?,
+            "{line}"
+        );
     }
     Ok(())
 }
@@ -208,9 +223,18 @@ fn cells_outside_have_no_border(rt: HostRuntime) -> Result<(), Fail> {
         (usize::MAX, FRAMED),
     ] {
         assert!(rt; on(alloc, &Rows::one(number), &border, text)?, "{number}");
-        assert!(rt; on(alloc, &Columns::one(number), &border, text)?, "{number}");
-        assert!(rt; on(alloc, &Cell::new(number, 0), &border, text)?, "{number}");
-        assert!(rt; on(alloc, &Cell::new(0, number), &border, text)?, "{number}");
+        assert!(rt;
+            on(alloc, &Columns::one(number), &border, text)?,
+            "{number}"
+        );
+        assert!(rt;
+            on(alloc, &Cell::new(number, 0), &border, text)?,
+            "{number}"
+        );
+        assert!(rt;
+            on(alloc, &Cell::new(0, number), &border, text)?,
+            "{number}"
+        );
     }
     Ok(())
 }
@@ -223,23 +247,38 @@ fn cells_outside_have_no_outline(rt: HostRuntime) -> Result<(), Fail> {
         (1, FRAMED),
         (usize::MAX, FRAMED),
     ] {
-        assert!(rt; with(alloc, Highlight::outline(Rows::one(number), '#'), text)?, "{number}");
-        assert!(rt; with(alloc, Highlight::outline(Columns::one(number), '#'), text)?, "{number}");
-        assert!(rt; with(alloc, Highlight::outline((number, 0), '#'), text)?, "{number}");
+        assert!(rt;
+            with(alloc, Highlight::outline(Rows::one(number), '#'), text)?,
+            "{number}"
+        );
+        assert!(rt;
+            with(alloc, Highlight::outline(Columns::one(number), '#'), text)?,
+            "{number}"
+        );
+        assert!(rt;
+            with(alloc, Highlight::outline((number, 0), '#'), text)?,
+            "{number}"
+        );
     }
     Ok(())
 }
 
 #[test]
-fn a_border_of_the_last_row_there_can_be_has_no_line_below(
-    rt: HostRuntime,
-) -> Result<(), Fail> {
+fn a_border_of_the_last_row_there_can_be_has_no_line_below(rt: HostRuntime) -> Result<(), Fail> {
     let mut table = Table::new(rt.alloc(), &[3], &[&[" a "]])?;
     let far = Position::new(usize::MAX, 0);
     table.cfg_mut().set_border(far, Border::filled('x'))?;
     let last = usize::MAX;
-    let above = Place::Horizontal { row: last, col: 0, at: 0 };
-    let beside = Place::Vertical { row: last, col: 1, at: 0 };
+    let above = Place::Horizontal {
+        row: last,
+        col: 0,
+        at: 0,
+    };
+    let beside = Place::Vertical {
+        row: last,
+        col: 1,
+        at: 0,
+    };
     assert!(rt; table.cfg().get_char(above) == Some('x'));
     assert!(rt; table.cfg().get_char(beside) == Some('x'));
     assert!(rt; table.prints(rt.alloc(), "  a  ")?);
@@ -316,7 +355,10 @@ fn a_margin_takes_any_size(rt: HostRuntime) -> Result<(), Fail> {
         let mut table = framed(rt.alloc())?;
         table.with(Shadow::new(size).set_offset(size))?;
         assert!(rt; table.cfg().get_margin().right.size == size, "{size}");
-        assert!(rt; table.cfg().get_margin_offset().right == Offset::Start(size), "{size}");
+        assert!(rt;
+            table.cfg().get_margin_offset().right == Offset::Start(size),
+            "{size}"
+        );
         assert!(rt; table.prints(rt.alloc(), FRAMED)?, "{size}");
     }
     Ok(())

@@ -6,9 +6,7 @@ use crate::values::padding;
 use tabled_color::BorderColor;
 use tabled_config::{CellOption, ColoredConfig, modify};
 use tabled_grid::{Entity, Offset, OutOfMemory, Shape};
-use tabled_options::{
-    Alignment, AlignmentStrategy, Justification, LineChar, TrimStrategy,
-};
+use tabled_options::{Alignment, AlignmentStrategy, Justification, LineChar, TrimStrategy};
 use tabled_style::{Border, EmptyBorder};
 
 /// What becomes of an option on the cells of an entity.
@@ -33,54 +31,76 @@ const ROW: Entity = Entity::Row(1);
 /// The options of settings.
 pub(crate) fn settings() -> [Named; 6] {
     [
-        ("<Alignment as CellOption<R, ColoredConfig>>::change", |turn| {
-            change(turn, Ok(Alignment::bottom()), ROW)
-        }),
-        ("<AlignmentStrategy as CellOption<R, ColoredConfig>>::change", |turn| {
-            change(turn, Ok(AlignmentStrategy::PerLine), ROW)
-        }),
-        ("<TrimStrategy as CellOption<R, ColoredConfig>>::change", |turn| {
-            change(turn, Ok(TrimStrategy::Both), ROW)
-        }),
-        ("<Justification as CellOption<R, ColoredConfig>>::change", |turn| {
-            let option = color(turn.alloc()).map(|color| Justification::colored('#', color));
-            change(turn, option, ROW)
-        }),
-        ("<PaddingColor<C> as CellOption<R, ColoredConfig>>::change", |turn| {
-            let option = padding(turn.alloc());
-            change(turn, option, ROW)
-        }),
-        ("<Color as CellOption<R, ColoredConfig>>::change", |turn| {
-            let option = color(turn.alloc());
-            change(turn, option, ROW)
-        }),
+        (
+            "<Alignment as CellOption<R, ColoredConfig>>::change",
+            |turn| { change(turn, Ok(Alignment::bottom()), ROW) },
+        ),
+        (
+            "<AlignmentStrategy as CellOption<R, ColoredConfig>>::change",
+            |turn| { change(turn, Ok(AlignmentStrategy::PerLine), ROW) },
+        ),
+        (
+            "<TrimStrategy as CellOption<R, ColoredConfig>>::change",
+            |turn| { change(turn, Ok(TrimStrategy::Both), ROW) },
+        ),
+        (
+            "<Justification as CellOption<R, ColoredConfig>>::change",
+            |turn| {
+                let option = color(turn.alloc()).map(|color| Justification::colored('#', color));
+                change(turn, option, ROW)
+            },
+        ),
+        (
+            "<PaddingColor<C> as CellOption<R, ColoredConfig>>::change",
+            |turn| {
+                let option = padding(turn.alloc());
+                change(turn, option, ROW)
+            },
+        ),
+        (
+            "<Color as CellOption<R, ColoredConfig>>::change",
+            |turn| {
+                let option = color(turn.alloc());
+                change(turn, option, ROW)
+            },
+        ),
     ]
 }
 
 /// The options of borders.
 pub(crate) fn borders() -> [Named; 6] {
     [
-        ("<BorderColor as CellOption<R, ColoredConfig>>::change", |turn| {
-            let color = color(turn.alloc());
-            change(turn, color.map(|color| BorderColor::new().top(color)), ROW)
-        }),
-        ("<BorderColor as CellOption<R, ColoredConfig>>::change (all around all cells)", |turn| {
-            let color = color(turn.alloc())?;
-            let option = BorderColor::filled(turn.alloc(), color);
-            change(turn, option, Entity::Global)
-        }),
-        ("<Border<char> as CellOption<R, ColoredConfig>>::change", |turn| {
-            change(turn, Ok(tabled_grid::Border::filled('#')), Entity::Global)
-        }),
-        ("<Border<T, B, L, R> as CellOption<Data, ColoredConfig>>::change", |turn| {
-            change(turn, Ok(Border::filled('#')), ROW)
-        }),
-        ("<EmptyBorder as CellOption<Data, ColoredConfig>>::change", |turn| {
-            change(turn, Ok(EmptyBorder), ROW)
-        }),
-        ("<LineChar as CellOption<R, ColoredConfig>>::change", |turn| {
-            change(turn, Ok(LineChar::horizontal('x', Offset::End(2))), ROW)
-        }),
+        (
+            "<BorderColor as CellOption<R, ColoredConfig>>::change",
+            |turn| {
+                let color = color(turn.alloc());
+                change(turn, color.map(|color| BorderColor::new().top(color)), ROW)
+            },
+        ),
+        (
+            "<BorderColor as CellOption<R, ColoredConfig>>::change (all around all cells)",
+            |turn| {
+                let color = color(turn.alloc())?;
+                let option = BorderColor::filled(turn.alloc(), color);
+                change(turn, option, Entity::Global)
+            },
+        ),
+        (
+            "<Border<char> as CellOption<R, ColoredConfig>>::change",
+            |turn| { change(turn, Ok(tabled_grid::Border::filled('#')), Entity::Global) },
+        ),
+        (
+            "<Border<T, B, L, R> as CellOption<Data, ColoredConfig>>::change",
+            |turn| { change(turn, Ok(Border::filled('#')), ROW) },
+        ),
+        (
+            "<EmptyBorder as CellOption<Data, ColoredConfig>>::change",
+            |turn| { change(turn, Ok(EmptyBorder), ROW) },
+        ),
+        (
+            "<LineChar as CellOption<R, ColoredConfig>>::change",
+            |turn| { change(turn, Ok(LineChar::horizontal('x', Offset::End(2))), ROW) },
+        ),
     ]
 }
 
@@ -121,7 +141,13 @@ where
     let stages = stages(turn, &option)?;
     let mut sample = Sample::new(turn.alloc())?;
     turn.spend();
-    let returned = modify(turn.alloc(), &mut sample.records, &mut sample.cfg, &CELLS, &option);
+    let returned = modify(
+        turn.alloc(),
+        &mut sample.records,
+        &mut sample.cfg,
+        &CELLS,
+        &option,
+    );
     match (returned, stage_of(&sample.cfg, &stages)) {
         (Ok(()), Some(4)) => Ok(Outcome::Done),
         (Ok(()), _) => Ok(Outcome::NotDone),
@@ -134,18 +160,28 @@ where
 /// Options on four cells, one after the other.
 pub(crate) fn listings() -> [Named; 4] {
     [
-        ("modify (borders)", |turn| modify_four(turn, Ok(Border::filled('#')))),
-        ("modify (colors of borders)", |turn| {
-            let color = color(turn.alloc());
-            let option = color.map(|color| BorderColor::new().top(color));
-            modify_four(turn, option)
-        }),
-        ("modify (paddings)", |turn| {
-            let option = padding(turn.alloc());
-            modify_four(turn, option)
-        }),
-        ("modify (characters)", |turn| {
-            modify_four(turn, Ok(LineChar::vertical('x', Offset::End(0))))
-        }),
+        (
+            "modify (borders)",
+            |turn| modify_four(turn, Ok(Border::filled('#'))),
+        ),
+        (
+            "modify (colors of borders)",
+            |turn| {
+                let color = color(turn.alloc());
+                let option = color.map(|color| BorderColor::new().top(color));
+                modify_four(turn, option)
+            },
+        ),
+        (
+            "modify (paddings)",
+            |turn| {
+                let option = padding(turn.alloc());
+                modify_four(turn, option)
+            },
+        ),
+        (
+            "modify (characters)",
+            |turn| { modify_four(turn, Ok(LineChar::vertical('x', Offset::End(0)))) },
+        ),
     ]
 }

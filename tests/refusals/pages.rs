@@ -18,7 +18,10 @@ struct Page {
 impl Page {
     /// A writer that was given nothing.
     fn new() -> Self {
-        Page { room: [0u8; 256], length: 0 }
+        Page {
+            room: [0u8; 256],
+            length: 0,
+        }
     }
 
     /// Whether this is what it was given.
@@ -114,13 +117,18 @@ pub(crate) fn calls() -> [Named; 6] {
     [
         ("run", |turn| show(turn, "ascii", "a\tb\n1\t22\n", Ok(PAGE))),
         ("run (of nothing)", |turn| show(turn, "ascii", "", Ok(""))),
-        ("run (an unknown style)", |turn| show(turn, "fancy", "a\n", Err(ShowError::Usage))),
-        ("run (a byte out of range)", |turn| {
-            show(turn, "dots", "a\r\n", Err(ShowError::ByteOutOfRange))
-        }),
-        ("run (unequal rows)", |turn| {
-            show(turn, "dots", "a\tb\nc\n", Err(ShowError::UnequalRows))
-        }),
+        (
+            "run (an unknown style)",
+            |turn| show(turn, "fancy", "a\n", Err(ShowError::Usage)),
+        ),
+        (
+            "run (a byte out of range)",
+            |turn| { show(turn, "dots", "a\r\n", Err(ShowError::ByteOutOfRange)) },
+        ),
+        (
+            "run (unequal rows)",
+            |turn| { show(turn, "dots", "a\tb\nc\n", Err(ShowError::UnequalRows)) },
+        ),
         ("all_words", gather),
     ]
 }

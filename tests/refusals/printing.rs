@@ -4,10 +4,12 @@ use crate::sample::{Sample, is_same};
 use crate::turn::{Named, Outcome, Turn};
 use std::alloc::Global;
 use tabled::{TableError, TextTable};
-use tabled_config::{CellRows, ColoredConfig, PrintError, line_marks, line_runs, print_plain, print_rows};
+use tabled_config::{
+    CellRows, ColoredConfig, PrintError, line_marks, line_runs, print_plain, print_rows,
+};
 use tabled_grid::{Cell, LineOf, OutOfMemory, Probes};
-use tabled_options::LineText;
 use tabled_object::Rows;
+use tabled_options::LineText;
 use tabled_style::{Border, HorizontalLine, Style};
 
 /// The texts of rows.
@@ -95,12 +97,14 @@ const SHORT: &[&[&str]] = &[&[" a ", " b "], &[" c "]];
 pub(crate) fn plain() -> [Named; 7] {
     [
         ("print_plain", |turn| print(turn, FITTING, Ok(()))),
-        ("print_plain (a cell too wide)", |turn| {
-            print(turn, TOO_WIDE, Err(PrintError::Width(1, 1)))
-        }),
-        ("print_plain (a row too short)", |turn| {
-            print(turn, SHORT, Err(PrintError::ColumnCount(1)))
-        }),
+        (
+            "print_plain (a cell too wide)",
+            |turn| { print(turn, TOO_WIDE, Err(PrintError::Width(1, 1))) },
+        ),
+        (
+            "print_plain (a row too short)",
+            |turn| { print(turn, SHORT, Err(PrintError::ColumnCount(1))) },
+        ),
         ("print_rows", print_fitting),
         ("<&[Vec<String>] as CellRows>::row", lend_a_row),
         ("line_marks", mark_a_line),
@@ -144,7 +148,9 @@ fn make_of_rows(turn: &mut Turn) -> Result<Outcome, OutOfMemory> {
 /// What became of a table whose second column is wider: it is refused for memory alone.
 fn of_table(made: Result<TextTable, TableError>) -> Outcome {
     match made {
-        Ok(table) => Outcome::of_value::<OutOfMemory>(Ok(table.sizes().widths.as_slice() == [3, 4].as_slice())),
+        Ok(table) => Outcome::of_value::<OutOfMemory>(Ok(
+            table.sizes().widths.as_slice() == [3, 4].as_slice(),
+        )),
         Err(TableError::OutOfMemory) => Outcome::AsBefore,
         Err(_) => Outcome::Changed,
     }
@@ -179,7 +185,9 @@ fn apply_to(turn: &mut Turn, is_lent: bool) -> Result<Outcome, OutOfMemory> {
     let (mut table, copy) = table(turn.alloc())?;
     turn.spend();
     let returned = if is_lent {
-        table.modify(Cell::new(0, 1), Border::filled('#')).map(|_| ())
+        table
+            .modify(Cell::new(0, 1), Border::filled('#'))
+            .map(|_| ())
     } else {
         table.apply_to(&Cell::new(0, 1), &Border::filled('#'))
     };

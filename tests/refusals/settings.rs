@@ -5,9 +5,7 @@ use crate::turn::{Named, Outcome, Turn};
 use std::alloc::Global;
 use tabled_border::{ANSIBuf, Border, Keep, OutOfMemory};
 use tabled_config::{ColoredConfig, SpannedConfig};
-use tabled_grid::{
-    Entity, HorizontalLine, Offset, Place, Position, Target, VerticalLine, Write,
-};
+use tabled_grid::{Entity, HorizontalLine, Offset, Place, Position, Target, VerticalLine, Write};
 use tabled_layout::{Spans, TableSettings};
 use tabled_settings::{AlignmentHorizontal, AlignmentVertical, CellSettings, EntityMap, Sides};
 use tabled_style::{ReadyStyle, Style};
@@ -82,11 +80,18 @@ fn copy_map(turn: &mut Turn) -> Result<Outcome, OutOfMemory> {
 /// Maps by entity.
 pub(crate) fn maps() -> [Named; 6] {
     [
-        ("EntityMap<T>::insert", |turn| write(turn, |map| map.insert(Entity::Column(2), 'x'))),
-        ("EntityMap<T>::remove", |turn| write(turn, |map| map.remove(Entity::Cell(1, 1)))),
-        ("EntityMap<T>::insert (of all cells)", |turn| {
-            write(turn, |map| map.insert(Entity::Global, 'x'))
-        }),
+        (
+            "EntityMap<T>::insert",
+            |turn| write(turn, |map| map.insert(Entity::Column(2), 'x')),
+        ),
+        (
+            "EntityMap<T>::remove",
+            |turn| write(turn, |map| map.remove(Entity::Cell(1, 1))),
+        ),
+        (
+            "EntityMap<T>::insert (of all cells)",
+            |turn| { write(turn, |map| map.insert(Entity::Global, 'x')) },
+        ),
         ("EntityMap<T>::insert_both", write_two),
         ("EntityMap<T>::apply_three", write_three),
         ("<EntityMap<T> as Keep>::keep", copy_map),
@@ -97,8 +102,12 @@ pub(crate) fn maps() -> [Named; 6] {
 fn settings(alloc: Global) -> Result<TableSettings, OutOfMemory> {
     let mut settings = TableSettings::new(alloc);
     let cells = &mut settings.cells;
-    cells.alignment_horizontal.insert(Entity::Row(0), AlignmentHorizontal::Right)?;
-    cells.justification_color.insert(Entity::Global, Some(owned(alloc)?))?;
+    cells
+        .alignment_horizontal
+        .insert(Entity::Row(0), AlignmentHorizontal::Right)?;
+    cells
+        .justification_color
+        .insert(Entity::Global, Some(owned(alloc)?))?;
     settings.column_spans.set(Position::new(0, 0), 2)?;
     settings.row_spans.set(Position::new(1, 0), 3)?;
     settings.margin.color.top = Some(owned(alloc)?);
@@ -137,22 +146,34 @@ fn copy_colored(turn: &mut Turn) -> Result<Outcome, OutOfMemory> {
 pub(crate) fn copies() -> [Named; 8] {
     [
         ("Spans::set", set_a_span),
-        ("<Spans as Keep>::keep", |turn| {
-            let settings = settings(turn.alloc())?;
-            Ok(keep(turn, &settings.column_spans))
-        }),
-        ("<CellSettings as Keep>::keep", |turn| {
-            let settings = settings(turn.alloc())?;
-            Ok(keep::<CellSettings>(turn, &settings.cells))
-        }),
-        ("<Margin as Keep>::keep", |turn| {
-            let settings = settings(turn.alloc())?;
-            Ok(keep(turn, &settings.margin))
-        }),
-        ("<TableSettings as Keep>::keep", |turn| {
-            let settings = settings(turn.alloc())?;
-            Ok(keep(turn, &settings))
-        }),
+        (
+            "<Spans as Keep>::keep",
+            |turn| {
+                let settings = settings(turn.alloc())?;
+                Ok(keep(turn, &settings.column_spans))
+            },
+        ),
+        (
+            "<CellSettings as Keep>::keep",
+            |turn| {
+                let settings = settings(turn.alloc())?;
+                Ok(keep::<CellSettings>(turn, &settings.cells))
+            },
+        ),
+        (
+            "<Margin as Keep>::keep",
+            |turn| {
+                let settings = settings(turn.alloc())?;
+                Ok(keep(turn, &settings.margin))
+            },
+        ),
+        (
+            "<TableSettings as Keep>::keep",
+            |turn| {
+                let settings = settings(turn.alloc())?;
+                Ok(keep(turn, &settings))
+            },
+        ),
         ("<ColorMap as Keep>::keep", copy_colors),
         ("<SpannedConfig as Keep>::keep", copy_config),
         ("<ColoredConfig as Keep>::keep", copy_colored),
@@ -190,15 +211,19 @@ fn frame() -> Border<char> {
 }
 
 /// Writes of characters and of colors.
-fn two_lists(
-    alloc: Global,
-) -> Result<(Vec<Write<char>>, Vec<Write<ANSIBuf>>), OutOfMemory> {
+fn two_lists(alloc: Global) -> Result<(Vec<Write<char>>, Vec<Write<ANSIBuf>>), OutOfMemory> {
     let mut characters = Vec::new(alloc);
     let mut colors = Vec::new(alloc);
     for row in [0usize, 1, 2] {
         let target = Target::Cell(Place::Cross { row, col: 0 });
-        characters.push(Write { target: Some(target), value: Some('x') })?;
-        colors.push(Write { target: Some(target), value: Some(owned(alloc)?) })?;
+        characters.push(Write {
+            target: Some(target),
+            value: Some('x'),
+        })?;
+        colors.push(Write {
+            target: Some(target),
+            value: Some(owned(alloc)?),
+        })?;
     }
     Ok((characters, colors))
 }
@@ -218,7 +243,11 @@ fn replace_borders(cfg: &mut SpannedConfig) -> Result<(), OutOfMemory> {
     let horizontal = HorizontalLine::new(Some('#'), None, None, None);
     let vertical = VerticalLine::new(None, Some('&'), None, None);
     let record = Style::modern().get_borders();
-    cfg.replace_borders(record, &[(1, horizontal), (300, horizontal)], &[(1, vertical)])
+    cfg.replace_borders(
+        record,
+        &[(1, horizontal), (300, horizontal)],
+        &[(1, vertical)],
+    )
 }
 
 /// What becomes of a copy of a configuration's custom lines.
@@ -237,58 +266,105 @@ fn copy_lines(turn: &mut Turn, is_vertical: bool) -> Result<Outcome, OutOfMemory
 pub(crate) fn borders() -> [Named; 10] {
     [
         ("SpannedConfig::apply", apply),
-        ("SpannedConfig::set_border", |turn| {
-            call(turn, |cfg| cfg.set_border(Position::new(0, 0), frame()))
-        }),
-        ("SpannedConfig::set_entity_border", |turn| {
-            call(turn, |cfg| cfg.set_entity_border(Entity::Row(0), (2, 2), &frame()))
-        }),
-        ("SpannedConfig::replace_borders", |turn| call(turn, replace_borders)),
-        ("ReadyStyle::replace_borders", |turn| {
-            call(turn, |cfg| ReadyStyle::Markdown.replace_borders(cfg))
-        }),
-        ("SpannedConfig::insert_horizontal_line", |turn| {
-            call(turn, |cfg| {
-                cfg.insert_horizontal_line(2, HorizontalLine::new(Some('x'), None, None, None))
-            })
-        }),
-        ("SpannedConfig::insert_vertical_line", |turn| {
-            call(turn, |cfg| {
-                cfg.insert_vertical_line(2, VerticalLine::new(Some('x'), None, None, None))
-            })
-        }),
-        ("SpannedConfig::get_horizontal_lines", |turn| copy_lines(turn, false)),
-        ("SpannedConfig::get_vertical_lines", |turn| copy_lines(turn, true)),
-        ("SpannedConfig::set_border_color", |turn| {
-            call_with(turn, |cfg, color| {
-                let top = Border { top: Some(color), ..Border::empty() };
-                cfg.config_mut().set_border_color(Position::new(0, 0), top)
-            })
-        }),
+        (
+            "SpannedConfig::set_border",
+            |turn| { call(turn, |cfg| cfg.set_border(Position::new(0, 0), frame())) },
+        ),
+        (
+            "SpannedConfig::set_entity_border",
+            |turn| {
+                call(
+                    turn,
+                    |cfg| cfg.set_entity_border(Entity::Row(0), (2, 2), &frame()),
+                )
+            },
+        ),
+        (
+            "SpannedConfig::replace_borders",
+            |turn| call(turn, replace_borders),
+        ),
+        (
+            "ReadyStyle::replace_borders",
+            |turn| { call(turn, |cfg| ReadyStyle::Markdown.replace_borders(cfg)) },
+        ),
+        (
+            "SpannedConfig::insert_horizontal_line",
+            |turn| {
+                call(turn, |cfg| {
+                    cfg.insert_horizontal_line(2, HorizontalLine::new(Some('x'), None, None, None))
+                })
+            },
+        ),
+        (
+            "SpannedConfig::insert_vertical_line",
+            |turn| {
+                call(turn, |cfg| {
+                    cfg.insert_vertical_line(2, VerticalLine::new(Some('x'), None, None, None))
+                })
+            },
+        ),
+        (
+            "SpannedConfig::get_horizontal_lines",
+            |turn| copy_lines(turn, false),
+        ),
+        (
+            "SpannedConfig::get_vertical_lines",
+            |turn| copy_lines(turn, true),
+        ),
+        (
+            "SpannedConfig::set_border_color",
+            |turn| {
+                call_with(turn, |cfg, color| {
+                    let top = Border {
+                        top: Some(color),
+                        ..Border::empty()
+                    };
+                    cfg.config_mut().set_border_color(Position::new(0, 0), top)
+                })
+            },
+        ),
     ]
 }
 
 /// The offsets of a configuration.
 pub(crate) fn offsets() -> [Named; 4] {
     [
-        ("SpannedConfig::set_horizontal_char", |turn| {
-            call(turn, |cfg| cfg.set_horizontal_char(Position::new(0, 1), Offset::Start(0), 'x'))
-        }),
-        ("SpannedConfig::set_vertical_char", |turn| {
-            call(turn, |cfg| cfg.set_vertical_char(Position::new(0, 1), Offset::Start(0), 'x'))
-        }),
-        ("SpannedConfig::set_horizontal_char_color", |turn| {
-            call_with(turn, |cfg, color| {
-                let config = cfg.config_mut();
-                config.set_horizontal_char_color(Position::new(0, 1), Offset::End(0), color)
-            })
-        }),
-        ("SpannedConfig::set_vertical_char_color", |turn| {
-            call_with(turn, |cfg, color| {
-                let config = cfg.config_mut();
-                config.set_vertical_char_color(Position::new(0, 1), Offset::End(0), color)
-            })
-        }),
+        (
+            "SpannedConfig::set_horizontal_char",
+            |turn| {
+                call(
+                    turn,
+                    |cfg| cfg.set_horizontal_char(Position::new(0, 1), Offset::Start(0), 'x'),
+                )
+            },
+        ),
+        (
+            "SpannedConfig::set_vertical_char",
+            |turn| {
+                call(
+                    turn,
+                    |cfg| cfg.set_vertical_char(Position::new(0, 1), Offset::Start(0), 'x'),
+                )
+            },
+        ),
+        (
+            "SpannedConfig::set_horizontal_char_color",
+            |turn| {
+                call_with(turn, |cfg, color| {
+                    let config = cfg.config_mut();
+                    config.set_horizontal_char_color(Position::new(0, 1), Offset::End(0), color)
+                })
+            },
+        ),
+        (
+            "SpannedConfig::set_vertical_char_color",
+            |turn| {
+                call_with(turn, |cfg, color| {
+                    let config = cfg.config_mut();
+                    config.set_vertical_char_color(Position::new(0, 1), Offset::End(0), color)
+                })
+            },
+        ),
     ]
 }
 
@@ -298,41 +374,71 @@ const COLUMN: Entity = Entity::Column(1);
 /// The settings of a configuration.
 pub(crate) fn cells() -> [Named; 10] {
     [
-        ("SpannedConfig::set_trims", |turn| call(turn, |cfg| cfg.set_trims(COLUMN, true, true))),
-        ("SpannedConfig::set_colored_justification", |turn| {
-            call_with(turn, |cfg, color| {
-                cfg.config_mut().set_colored_justification(COLUMN, '#', Some(color))
-            })
-        }),
-        ("SpannedConfig::set_alignment_horizontal", |turn| {
-            call(turn, |cfg| cfg.set_alignment_horizontal(COLUMN, AlignmentHorizontal::Right))
-        }),
-        ("SpannedConfig::set_alignment_vertical", |turn| {
-            call(turn, |cfg| cfg.set_alignment_vertical(COLUMN, AlignmentVertical::Bottom))
-        }),
-        ("SpannedConfig::set_trim_horizontal", |turn| {
-            call(turn, |cfg| cfg.set_trim_horizontal(COLUMN, true))
-        }),
-        ("SpannedConfig::set_trim_vertical", |turn| {
-            call(turn, |cfg| cfg.set_trim_vertical(COLUMN, true))
-        }),
-        ("SpannedConfig::set_line_alignment", |turn| {
-            call(turn, |cfg| cfg.set_line_alignment(COLUMN, true))
-        }),
-        ("SpannedConfig::set_justification", |turn| {
-            call(turn, |cfg| cfg.set_justification(COLUMN, '#'))
-        }),
-        ("SpannedConfig::set_justification_color", |turn| {
-            call_with(turn, |cfg, color| {
-                cfg.config_mut().set_justification_color(COLUMN, Some(color))
-            })
-        }),
-        ("SpannedConfig::set_padding_color", |turn| {
-            call_with(turn, |cfg, color| {
-                let sides = Sides::new(None, None, Some(color), None);
-                cfg.config_mut().set_padding_color(COLUMN, sides)
-            })
-        }),
+        (
+            "SpannedConfig::set_trims",
+            |turn| call(turn, |cfg| cfg.set_trims(COLUMN, true, true)),
+        ),
+        (
+            "SpannedConfig::set_colored_justification",
+            |turn| {
+                call_with(turn, |cfg, color| {
+                    cfg.config_mut()
+                        .set_colored_justification(COLUMN, '#', Some(color))
+                })
+            },
+        ),
+        (
+            "SpannedConfig::set_alignment_horizontal",
+            |turn| {
+                call(
+                    turn,
+                    |cfg| cfg.set_alignment_horizontal(COLUMN, AlignmentHorizontal::Right),
+                )
+            },
+        ),
+        (
+            "SpannedConfig::set_alignment_vertical",
+            |turn| {
+                call(
+                    turn,
+                    |cfg| cfg.set_alignment_vertical(COLUMN, AlignmentVertical::Bottom),
+                )
+            },
+        ),
+        (
+            "SpannedConfig::set_trim_horizontal",
+            |turn| { call(turn, |cfg| cfg.set_trim_horizontal(COLUMN, true)) },
+        ),
+        (
+            "SpannedConfig::set_trim_vertical",
+            |turn| { call(turn, |cfg| cfg.set_trim_vertical(COLUMN, true)) },
+        ),
+        (
+            "SpannedConfig::set_line_alignment",
+            |turn| { call(turn, |cfg| cfg.set_line_alignment(COLUMN, true)) },
+        ),
+        (
+            "SpannedConfig::set_justification",
+            |turn| { call(turn, |cfg| cfg.set_justification(COLUMN, '#')) },
+        ),
+        (
+            "SpannedConfig::set_justification_color",
+            |turn| {
+                call_with(turn, |cfg, color| {
+                    cfg.config_mut()
+                        .set_justification_color(COLUMN, Some(color))
+                })
+            },
+        ),
+        (
+            "SpannedConfig::set_padding_color",
+            |turn| {
+                call_with(turn, |cfg, color| {
+                    let sides = Sides::new(None, None, Some(color), None);
+                    cfg.config_mut().set_padding_color(COLUMN, sides)
+                })
+            },
+        ),
     ]
 }
 
@@ -366,16 +472,24 @@ fn remove_color(turn: &mut Turn) -> Result<Outcome, OutOfMemory> {
 /// Colors of cells, and spans.
 pub(crate) fn colors_and_spans() -> [Named; 5] {
     [
-        ("ColoredConfig::set_color", |turn| {
-            call_with(turn, |cfg, color| cfg.set_color(Entity::Cell(1, 1), color))
-        }),
+        (
+            "ColoredConfig::set_color",
+            |turn| { call_with(turn, |cfg, color| cfg.set_color(Entity::Cell(1, 1), color)) },
+        ),
         ("ColoredConfig::remove_color", remove_color),
         ("ColoredConfig::color_entities", color_entities),
-        ("SpannedConfig::set_column_span", |turn| {
-            call(turn, |cfg| cfg.set_column_span(Position::new(0, 0), 2))
-        }),
-        ("SpannedConfig::set_row_span", |turn| {
-            call(turn, |cfg| cfg.set_row_span(Position::new(0, 0), usize::MAX))
-        }),
+        (
+            "SpannedConfig::set_column_span",
+            |turn| { call(turn, |cfg| cfg.set_column_span(Position::new(0, 0), 2)) },
+        ),
+        (
+            "SpannedConfig::set_row_span",
+            |turn| {
+                call(
+                    turn,
+                    |cfg| cfg.set_row_span(Position::new(0, 0), usize::MAX),
+                )
+            },
+        ),
     ]
 }

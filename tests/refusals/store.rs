@@ -194,47 +194,84 @@ fn copy_table(turn: &mut Turn) -> Result<Outcome, OutOfMemory> {
 /// The writes of cells and offsets.
 pub(crate) fn cells() -> [Named; 5] {
     [
-        ("Layers<T>::set_cell (a slot)", |turn| {
-            write(turn, |store| store.set_cell(Place::Cross { row: 9, col: 9 }, 'x'))
-        }),
-        ("Layers<T>::set_cell (without a slot)", |turn| {
-            write(turn, |store| store.set_cell(Place::Cross { row: 256, col: 9 }, 'x'))
-        }),
-        ("Layers<T>::set_offset", |turn| {
-            write(turn, |store| store.set_offset(first_edge(), Offset::End(3), 'x'))
-        }),
-        ("Layers<T>::set_border", |turn| {
-            write(turn, |store| store.set_border(Position::new(4, 4), frame()))
-        }),
-        ("Layers<T>::set_entity_border", |turn| {
-            write(turn, |store| store.set_entity_border(Entity::Global, (2, 2), &frame()))
-        }),
+        (
+            "Layers<T>::set_cell (a slot)",
+            |turn| {
+                write(
+                    turn,
+                    |store| store.set_cell(Place::Cross { row: 9, col: 9 }, 'x'),
+                )
+            },
+        ),
+        (
+            "Layers<T>::set_cell (without a slot)",
+            |turn| {
+                write(
+                    turn,
+                    |store| store.set_cell(Place::Cross { row: 256, col: 9 }, 'x'),
+                )
+            },
+        ),
+        (
+            "Layers<T>::set_offset",
+            |turn| {
+                write(
+                    turn,
+                    |store| store.set_offset(first_edge(), Offset::End(3), 'x'),
+                )
+            },
+        ),
+        (
+            "Layers<T>::set_border",
+            |turn| { write(turn, |store| store.set_border(Position::new(4, 4), frame())) },
+        ),
+        (
+            "Layers<T>::set_entity_border",
+            |turn| {
+                write(
+                    turn,
+                    |store| store.set_entity_border(Entity::Global, (2, 2), &frame()),
+                )
+            },
+        ),
     ]
 }
 
 /// The writes of lines.
 pub(crate) fn lines() -> [Named; 4] {
     [
-        ("Layers<T>::insert_hline (a slot)", |turn| {
-            write(turn, |store| {
-                store.insert_hline(40, HorizontalLine::new(None, Some('x'), None, Some('x')))
-            })
-        }),
-        ("Layers<T>::insert_hline (without a slot)", |turn| {
-            write(turn, |store| {
-                store.insert_hline(256, HorizontalLine::new(Some('x'), None, None, None))
-            })
-        }),
-        ("Layers<T>::insert_vline (a slot)", |turn| {
-            write(turn, |store| {
-                store.insert_vline(40, VerticalLine::new(None, Some('x'), None, Some('x')))
-            })
-        }),
-        ("Layers<T>::insert_vline (without a slot)", |turn| {
-            write(turn, |store| {
-                store.insert_vline(256, VerticalLine::new(Some('x'), None, None, None))
-            })
-        }),
+        (
+            "Layers<T>::insert_hline (a slot)",
+            |turn| {
+                write(turn, |store| {
+                    store.insert_hline(40, HorizontalLine::new(None, Some('x'), None, Some('x')))
+                })
+            },
+        ),
+        (
+            "Layers<T>::insert_hline (without a slot)",
+            |turn| {
+                write(turn, |store| {
+                    store.insert_hline(256, HorizontalLine::new(Some('x'), None, None, None))
+                })
+            },
+        ),
+        (
+            "Layers<T>::insert_vline (a slot)",
+            |turn| {
+                write(turn, |store| {
+                    store.insert_vline(40, VerticalLine::new(None, Some('x'), None, Some('x')))
+                })
+            },
+        ),
+        (
+            "Layers<T>::insert_vline (without a slot)",
+            |turn| {
+                write(turn, |store| {
+                    store.insert_vline(256, VerticalLine::new(Some('x'), None, None, None))
+                })
+            },
+        ),
     ]
 }
 
@@ -253,8 +290,14 @@ pub(crate) fn lists() -> [Named; 6] {
 /// Kept maps, slots and tables of slots.
 pub(crate) fn maps() -> [Named; 8] {
     [
-        ("CountedMap<K, V>::insert (a slot)", |turn| keep_a_number(turn, 40)),
-        ("CountedMap<K, V>::insert (without a slot)", |turn| keep_a_number(turn, 999)),
+        (
+            "CountedMap<K, V>::insert (a slot)",
+            |turn| keep_a_number(turn, 40),
+        ),
+        (
+            "CountedMap<K, V>::insert (without a slot)",
+            |turn| keep_a_number(turn, 999),
+        ),
         ("<CountedMap<K, V> as Keep>::keep", copy_map),
         ("CountedMap<usize, V>::copy", list_map),
         ("Slots<V>::put", fill_a_slot),

@@ -10,7 +10,10 @@ use tabled_theme::Theme;
 
 /// A theme of a style with two lines, and a color of its own texts.
 fn theme(alloc: Global) -> Result<Theme, OutOfMemory> {
-    let lines = [(1, HorizontalLine::filled('#')), (2, HorizontalLine::filled('&'))];
+    let lines = [
+        (1, HorizontalLine::filled('#')),
+        (2, HorizontalLine::filled('&')),
+    ];
     let mut theme = Theme::from_style(alloc, Style::rounded().horizontals(lines))?;
     theme.set_colors_left(color(alloc)?);
     theme.insert_horizontal_line(1, HorizontalLine::filled('=').into_inner())?;
@@ -21,7 +24,10 @@ fn theme(alloc: Global) -> Result<Theme, OutOfMemory> {
 /// What becomes of the theme of a style.
 fn from_style(turn: &mut Turn) -> Result<Outcome, OutOfMemory> {
     turn.spend();
-    let lines = [(1, HorizontalLine::filled('#')), (2, HorizontalLine::filled('&'))];
+    let lines = [
+        (1, HorizontalLine::filled('#')),
+        (2, HorizontalLine::filled('&')),
+    ];
     let made = Theme::from_style(turn.alloc(), Style::rounded().horizontals(lines));
     Ok(Outcome::of_value(made.map(|theme| theme.get_horizontal_line(2).is_some())))
 }
@@ -68,15 +74,21 @@ pub(crate) fn calls() -> [Named; 5] {
         ("Theme::from_style", from_style),
         ("Theme::from_config", from_config),
         ("<Theme as Keep>::keep", keep),
-        ("Theme::insert_horizontal_line", |turn| {
-            put(turn, |theme| {
-                theme.insert_horizontal_line(7, HorizontalLine::filled('x').into_inner())
-            })
-        }),
-        ("Theme::insert_vertical_line", |turn| {
-            put(turn, |theme| {
-                theme.insert_vertical_line(7, VerticalLine::new(Some('x'), None, None, None))
-            })
-        }),
+        (
+            "Theme::insert_horizontal_line",
+            |turn| {
+                put(turn, |theme| {
+                    theme.insert_horizontal_line(7, HorizontalLine::filled('x').into_inner())
+                })
+            },
+        ),
+        (
+            "Theme::insert_vertical_line",
+            |turn| {
+                put(turn, |theme| {
+                    theme.insert_vertical_line(7, VerticalLine::new(Some('x'), None, None, None))
+                })
+            },
+        ),
     ]
 }

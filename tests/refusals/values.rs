@@ -7,10 +7,10 @@ use tabled_border::{ANSIBuf, ANSIStr, Border, Keep, OutOfMemory};
 use tabled_color::{BorderColor, Color};
 use tabled_config::{CompactConfig, CompactMultilineConfig};
 use tabled_grid::{Borders, HorizontalLine, VerticalLine};
+use tabled_object::Rows;
 use tabled_options::{
     Colorization, Highlight, Justification, LineText, MarginColor, PaddingColor, Shadow,
 };
-use tabled_object::Rows;
 use tabled_settings::{AlignmentHorizontal, AlignmentVertical, Sides};
 use tabled_style::Style;
 
@@ -66,21 +66,43 @@ fn join(turn: &mut Turn) -> Result<Outcome, OutOfMemory> {
 /// The makers of colors.
 pub(crate) fn colors() -> [Named; 7] {
     [
-        ("ANSIBuf::new", |turn| {
-            make(turn, |alloc| Ok(owned(alloc)?.get_suffix() == ">"))
-        }),
-        ("Color::new", |turn| make(turn, |alloc| Ok(has_texts(&color(alloc)?, "(", ")")))),
-        ("Color::rgb_fg", |turn| {
-            make(turn, |alloc| Ok(Color::rgb_fg(alloc, 1, 2, 3)?.get_prefix() == "\u{1b}[38;2;1;2;3m"))
-        }),
-        ("Color::rgb_bg", |turn| {
-            make(turn, |alloc| Ok(Color::rgb_bg(alloc, 1, 2, 3)?.get_suffix() == "\u{1b}[49m"))
-        }),
+        (
+            "ANSIBuf::new",
+            |turn| { make(turn, |alloc| Ok(owned(alloc)?.get_suffix() == ">")) },
+        ),
+        (
+            "Color::new",
+            |turn| make(turn, |alloc| Ok(has_texts(&color(alloc)?, "(", ")"))),
+        ),
+        (
+            "Color::rgb_fg",
+            |turn| {
+                make(
+                    turn,
+                    |alloc| Ok(Color::rgb_fg(alloc, 1, 2, 3)?.get_prefix() == "\u{1b}[38;2;1;2;3m"),
+                )
+            },
+        ),
+        (
+            "Color::rgb_bg",
+            |turn| {
+                make(
+                    turn,
+                    |alloc| Ok(Color::rgb_bg(alloc, 1, 2, 3)?.get_suffix() == "\u{1b}[49m"),
+                )
+            },
+        ),
         ("Color::colorize", colorize),
         ("Color::join", join),
-        ("Color::into_ansi", |turn| {
-            make(turn, |alloc| Ok(Color::FG_RED.into_ansi(alloc)?.get_prefix() == "\u{1b}[31m"))
-        }),
+        (
+            "Color::into_ansi",
+            |turn| {
+                make(
+                    turn,
+                    |alloc| Ok(Color::FG_RED.into_ansi(alloc)?.get_prefix() == "\u{1b}[31m"),
+                )
+            },
+        ),
     ]
 }
 
@@ -147,9 +169,15 @@ pub(crate) fn builders() -> [Named; 7] {
         ("PaddingColor<C>::filled", fill_a_padding),
         ("MarginColor<C>::filled", fill_a_margin),
         ("Highlight<O>::colored", color_an_outline),
-        ("LineText<Line>::new", |turn| {
-            make(turn, |alloc| Ok(LineText::new(alloc, "AB", Rows::one(0)).map(|_| true)?))
-        }),
+        (
+            "LineText<Line>::new",
+            |turn| {
+                make(
+                    turn,
+                    |alloc| Ok(LineText::new(alloc, "AB", Rows::one(0)).map(|_| true)?),
+                )
+            },
+        ),
     ]
 }
 
@@ -194,51 +222,80 @@ pub(crate) fn small_copies() -> [Named; 6] {
         ("<char as Keep>::keep", |turn| keep(turn, Ok('x'))),
         ("<bool as Keep>::keep", |turn| keep(turn, Ok(true))),
         ("<u128 as Keep>::keep", |turn| keep(turn, Ok(7u128))),
-        ("<ANSIStr<'a> as Keep>::keep", |turn| keep(turn, Ok(ANSIStr::new("<", ">")))),
-        ("<AlignmentHorizontal as Keep>::keep", |turn| {
-            keep(turn, Ok(AlignmentHorizontal::Right))
-        }),
-        ("<AlignmentVertical as Keep>::keep", |turn| {
-            keep(turn, Ok(AlignmentVertical::Bottom))
-        }),
+        (
+            "<ANSIStr<'a> as Keep>::keep",
+            |turn| keep(turn, Ok(ANSIStr::new("<", ">"))),
+        ),
+        (
+            "<AlignmentHorizontal as Keep>::keep",
+            |turn| { keep(turn, Ok(AlignmentHorizontal::Right)) },
+        ),
+        (
+            "<AlignmentVertical as Keep>::keep",
+            |turn| { keep(turn, Ok(AlignmentVertical::Bottom)) },
+        ),
     ]
 }
 
 /// Copies of values with texts of their own.
 pub(crate) fn copies() -> [Named; 8] {
     [
-        ("<ANSIBuf as Keep>::keep", |turn| {
-            let value = owned(turn.alloc());
-            keep(turn, value)
-        }),
-        ("<Option<T> as Keep>::keep", |turn| {
-            let value = owned(turn.alloc()).map(Some);
-            keep(turn, value)
-        }),
-        ("<Color as Keep>::keep", |turn| {
-            let value = color(turn.alloc());
-            keep(turn, value)
-        }),
-        ("<Sides<T> as Keep>::keep", |turn| {
-            let value = sides(turn.alloc());
-            keep(turn, value)
-        }),
-        ("<Border<T> as Keep>::keep", |turn| {
-            let value = border(turn.alloc());
-            keep(turn, value)
-        }),
-        ("<Borders<T> as Keep>::keep", |turn| {
-            let value = record(turn.alloc());
-            keep(turn, value)
-        }),
-        ("<HorizontalLine<T> as Keep>::keep", |turn| {
-            let value = horizontal(turn.alloc());
-            keep(turn, value)
-        }),
-        ("<VerticalLine<T> as Keep>::keep", |turn| {
-            let value = vertical(turn.alloc());
-            keep(turn, value)
-        }),
+        (
+            "<ANSIBuf as Keep>::keep",
+            |turn| {
+                let value = owned(turn.alloc());
+                keep(turn, value)
+            },
+        ),
+        (
+            "<Option<T> as Keep>::keep",
+            |turn| {
+                let value = owned(turn.alloc()).map(Some);
+                keep(turn, value)
+            },
+        ),
+        (
+            "<Color as Keep>::keep",
+            |turn| {
+                let value = color(turn.alloc());
+                keep(turn, value)
+            },
+        ),
+        (
+            "<Sides<T> as Keep>::keep",
+            |turn| {
+                let value = sides(turn.alloc());
+                keep(turn, value)
+            },
+        ),
+        (
+            "<Border<T> as Keep>::keep",
+            |turn| {
+                let value = border(turn.alloc());
+                keep(turn, value)
+            },
+        ),
+        (
+            "<Borders<T> as Keep>::keep",
+            |turn| {
+                let value = record(turn.alloc());
+                keep(turn, value)
+            },
+        ),
+        (
+            "<HorizontalLine<T> as Keep>::keep",
+            |turn| {
+                let value = horizontal(turn.alloc());
+                keep(turn, value)
+            },
+        ),
+        (
+            "<VerticalLine<T> as Keep>::keep",
+            |turn| {
+                let value = vertical(turn.alloc());
+                keep(turn, value)
+            },
+        ),
     ]
 }
 
@@ -280,24 +337,36 @@ fn copy_a_filling(turn: &mut Turn) -> Result<Outcome, OutOfMemory> {
 /// Copies of options.
 pub(crate) fn option_copies() -> [Named; 6] {
     [
-        ("<BorderColor as Keep>::keep", |turn| {
-            let value = all_around(turn.alloc());
-            keep(turn, value)
-        }),
-        ("<Colorization as Keep>::keep", |turn| {
-            let value = three(turn.alloc()).map(Colorization::by_row);
-            keep(turn, value)
-        }),
+        (
+            "<BorderColor as Keep>::keep",
+            |turn| {
+                let value = all_around(turn.alloc());
+                keep(turn, value)
+            },
+        ),
+        (
+            "<Colorization as Keep>::keep",
+            |turn| {
+                let value = three(turn.alloc()).map(Colorization::by_row);
+                keep(turn, value)
+            },
+        ),
         ("<Justification as Keep>::keep", copy_a_filling),
-        ("<PaddingColor<C> as Keep>::keep", |turn| {
-            let value = padding(turn.alloc());
-            keep(turn, value)
-        }),
+        (
+            "<PaddingColor<C> as Keep>::keep",
+            |turn| {
+                let value = padding(turn.alloc());
+                keep(turn, value)
+            },
+        ),
         ("<MarginColor<C> as Keep>::keep", copy_a_margin),
-        ("<Shadow as Keep>::keep", |turn| {
-            let value = color(turn.alloc()).map(|color| Shadow::new(1).set_color(color));
-            keep(turn, value)
-        }),
+        (
+            "<Shadow as Keep>::keep",
+            |turn| {
+                let value = color(turn.alloc()).map(|color| Shadow::new(1).set_color(color));
+                keep(turn, value)
+            },
+        ),
     ]
 }
 
@@ -318,20 +387,38 @@ fn clone_a_margin(turn: &mut Turn) -> Result<Outcome, OutOfMemory> {
 /// Clones of values that are copied, which take no memory.
 pub(crate) fn clones() -> [Named; 9] {
     [
-        ("<Border<T> as Clone>::clone", |turn| clone(turn, Border::filled('x'))),
-        ("<Borders<T> as Clone>::clone", |turn| clone(turn, Style::modern().get_borders())),
-        ("<Sides<T> as Clone>::clone", |turn| clone(turn, Sides::filled('x'))),
-        ("<HorizontalLine<T> as Clone>::clone", |turn| {
-            clone(turn, HorizontalLine::new(Some('x'), None, None, Some('y')))
-        }),
-        ("<VerticalLine<T> as Clone>::clone", |turn| {
-            clone(turn, VerticalLine::new(Some('x'), None, None, Some('y')))
-        }),
-        ("<PaddingColor<C> as Clone>::clone", |turn| clone(turn, red())),
+        (
+            "<Border<T> as Clone>::clone",
+            |turn| clone(turn, Border::filled('x')),
+        ),
+        (
+            "<Borders<T> as Clone>::clone",
+            |turn| clone(turn, Style::modern().get_borders()),
+        ),
+        (
+            "<Sides<T> as Clone>::clone",
+            |turn| clone(turn, Sides::filled('x')),
+        ),
+        (
+            "<HorizontalLine<T> as Clone>::clone",
+            |turn| { clone(turn, HorizontalLine::new(Some('x'), None, None, Some('y'))) },
+        ),
+        (
+            "<VerticalLine<T> as Clone>::clone",
+            |turn| { clone(turn, VerticalLine::new(Some('x'), None, None, Some('y'))) },
+        ),
+        (
+            "<PaddingColor<C> as Clone>::clone",
+            |turn| clone(turn, red()),
+        ),
         ("<MarginColor<C> as Clone>::clone", clone_a_margin),
-        ("<CompactConfig as Clone>::clone", |turn| clone(turn, CompactConfig::new())),
-        ("<CompactMultilineConfig as Clone>::clone", |turn| {
-            clone(turn, CompactMultilineConfig::new())
-        }),
+        (
+            "<CompactConfig as Clone>::clone",
+            |turn| clone(turn, CompactConfig::new()),
+        ),
+        (
+            "<CompactMultilineConfig as Clone>::clone",
+            |turn| { clone(turn, CompactMultilineConfig::new()) },
+        ),
     ]
 }
