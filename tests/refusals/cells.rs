@@ -3,68 +3,102 @@
 use crate::sample::{Sample, color, is_same};
 use crate::turn::{Named, Outcome, Turn};
 use crate::values::padding;
+use std::alloc::Global;
 use tabled_color::BorderColor;
 use tabled_config::{CellOption, ColoredConfig, modify};
 use tabled_grid::{Entity, Offset, OutOfMemory, Shape};
 use tabled_options::{Alignment, AlignmentStrategy, Justification, LineChar, TrimStrategy};
 use tabled_style::{Border, EmptyBorder};
 
+/// What makes an option.
+type Maker<P> = fn(Global) -> Result<P, OutOfMemory>;
+
 /// What becomes of an option on the cells of an entity.
 fn change<P>(
     turn: &mut Turn,
-    option: Result<P, OutOfMemory>,
+    begin: fn(Global) -> Result<Sample, OutOfMemory>,
+    make: Maker<P>,
     entity: Entity,
 ) -> Result<Outcome, OutOfMemory>
 where
     P: CellOption<Shape, ColoredConfig> + Drop,
 {
-    let (mut sample, option) = (Sample::new(turn.alloc())?, option?);
-    let copy = sample.config(turn.alloc())?;
+    let alloc = turn.alloc();
+    let (mut sample, mut changed, option) = (begin(alloc)?, begin(alloc)?, make(alloc)?);
+    let copy = sample.config(alloc)?;
+    option.change(&mut changed.records, &mut changed.cfg, entity)?;
     turn.spend();
     let returned = option.change(&mut sample.records, &mut sample.cfg, entity);
-    Ok(Outcome::of(returned, !sample.is_as(&copy), sample.is_as(&copy)))
+    Ok(sample.outcome(returned, &copy, &changed.cfg))
 }
 
-/// A row, whose cells have not all that the options set.
-const ROW: Entity = Entity::Row(1);
+/// What becomes of an option on a row of a table with something of each kind.
+fn on_a_row<P>(turn: &mut Turn, make: Maker<P>) -> Result<Outcome, OutOfMemory>
+where
+    P: CellOption<Shape, ColoredConfig> + Drop,
+{
+    change(turn, Sample::new, make, Entity::Row(1))
+}
+
+/// What becomes of an option on a row of a table of which nothing is set.
+fn on_a_bare_row<P>(turn: &mut Turn, make: Maker<P>) -> Result<Outcome, OutOfMemory>
+where
+    P: CellOption<Shape, ColoredConfig> + Drop,
+{
+    change(turn, Sample::bare, make, Entity::Row(1))
+}
+
+/// A filling in a color of its own texts.
+fn filling(alloc: Global) -> Result<Justification, OutOfMemory> {
+    Ok(Justification::colored('#', color(alloc)?))
+}
 
 /// The options of settings.
-pub(crate) fn settings() -> [Named; 6] {
+pub(crate) fn settings() -> [Named; 8] {
     [
         (
             "<Alignment as CellOption<R, ColoredConfig>>::change",
-            |turn| { change(turn, Ok(Alignment::bottom()), ROW) },
+            |turn| { on_a_bare_row(turn, |_| Ok(Alignment::bottom())) },
         ),
         (
             "<AlignmentStrategy as CellOption<R, ColoredConfig>>::change",
-            |turn| { change(turn, Ok(AlignmentStrategy::PerLine), ROW) },
+            |turn| { on_a_bare_row(turn, |_| Ok(AlignmentStrategy::PerLine)) },
         ),
         (
             "<TrimStrategy as CellOption<R, ColoredConfig>>::change",
-            |turn| { change(turn, Ok(TrimStrategy::Both), ROW) },
+            |turn| { on_a_bare_row(turn, |_| Ok(TrimStrategy::Both)) },
         ),
         (
             "<Justification as CellOption<R, ColoredConfig>>::change",
-            |turn| {
-                let option = color(turn.alloc()).map(|color| Justification::colored('#', color));
-                change(turn, option, ROW)
-            },
+            |turn| on_a_row(turn, filling),
+        ),
+        (
+            "<Justification as CellOption<R, ColoredConfig>>::change (the first)",
+            |turn| { on_a_bare_row(turn, filling) },
         ),
         (
             "<PaddingColor<C> as CellOption<R, ColoredConfig>>::change",
-            |turn| {
-                let option = padding(turn.alloc());
-                change(turn, option, ROW)
-            },
+            |turn| { on_a_bare_row(turn, padding) },
         ),
         (
             "<Color as CellOption<R, ColoredConfig>>::change",
-            |turn| {
-                let option = color(turn.alloc());
-                change(turn, option, ROW)
-            },
+            |turn| on_a_row(turn, color),
+        ),
+        (
+            "<Color as CellOption<R, ColoredConfig>>::change (the first)",
+            |turn| { on_a_bare_row(turn, color) },
         ),
     ]
+}
+
+/// A color above.
+fn top(alloc: Global) -> Result<BorderColor, OutOfMemory> {
+    Ok(BorderColor::new().top(color(alloc)?))
+}
+
+/// A color all around.
+fn all_around(alloc: Global) -> Result<BorderColor, OutOfMemory> {
+    BorderColor::filled(alloc, color(alloc)?)
 }
 
 /// The options of borders.
@@ -72,34 +106,34 @@ pub(crate) fn borders() -> [Named; 6] {
     [
         (
             "<BorderColor as CellOption<R, ColoredConfig>>::change",
-            |turn| {
-                let color = color(turn.alloc());
-                change(turn, color.map(|color| BorderColor::new().top(color)), ROW)
-            },
+            |turn| on_a_row(turn, top),
         ),
         (
             "<BorderColor as CellOption<R, ColoredConfig>>::change (all around all cells)",
-            |turn| {
-                let color = color(turn.alloc())?;
-                let option = BorderColor::filled(turn.alloc(), color);
-                change(turn, option, Entity::Global)
-            },
+            |turn| { change(turn, Sample::new, all_around, Entity::Global) },
         ),
         (
             "<Border<char> as CellOption<R, ColoredConfig>>::change",
-            |turn| { change(turn, Ok(tabled_grid::Border::filled('#')), Entity::Global) },
+            |turn| {
+                change(
+                    turn,
+                    Sample::new,
+                    |_| Ok(tabled_grid::Border::filled('#')),
+                    Entity::Global,
+                )
+            },
         ),
         (
             "<Border<T, B, L, R> as CellOption<Data, ColoredConfig>>::change",
-            |turn| { change(turn, Ok(Border::filled('#')), ROW) },
+            |turn| { on_a_row(turn, |_| Ok(Border::filled('#'))) },
         ),
         (
             "<EmptyBorder as CellOption<Data, ColoredConfig>>::change",
-            |turn| { change(turn, Ok(EmptyBorder), ROW) },
+            |turn| { on_a_row(turn, |_| Ok(EmptyBorder)) },
         ),
         (
             "<LineChar as CellOption<R, ColoredConfig>>::change",
-            |turn| { change(turn, Ok(LineChar::horizontal('x', Offset::End(2))), ROW) },
+            |turn| { on_a_row(turn, |_| Ok(LineChar::horizontal('x', Offset::End(2)))) },
         ),
     ]
 }

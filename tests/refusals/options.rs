@@ -6,37 +6,52 @@ use crate::values::{margin, padding, three};
 use std::alloc::Global;
 use tabled_color::{BorderColor, Color};
 use tabled_config::{ColoredConfig, CompactConfig, CompactMultilineConfig, TableOption};
-use tabled_grid::{ANSIStr, Borders, Combine, FixedDimension, OutOfMemory, Rows, Segment, Shape};
+use tabled_grid::{
+    ANSIStr, Borders, Combine, FixedDimension, OutOfMemory, Rows, Segment, Shape, Union,
+};
 use tabled_options::{
-    Alignment, AlignmentStrategy, BorderCorrection, Colorization, Highlight, Justification,
-    LineText, MarginColor, PaddingColor, Shadow, TrimStrategy,
+    Alignment, AlignmentStrategy, BorderCorrection, Colorization, ExactColorization, Highlight,
+    Justification, LineText, MarginColor, PaddingColor, Shadow, TrimStrategy,
 };
 use tabled_style::{Border, EmptyBorder, HorizontalLine, ReadyStyle, Style};
 use tabled_theme::Theme;
 
+/// What makes an option.
+type Maker<O> = fn(Global) -> Result<O, OutOfMemory>;
+
+/// Applies an option to a table.
+fn apply<O>(sample: &mut Sample, option: O) -> Result<(), OutOfMemory>
+where
+    O: TableOption<Shape, ColoredConfig, FixedDimension>,
+{
+    option.change(&mut sample.records, &mut sample.cfg, &mut sample.dims)
+}
+
 /// What becomes of an option on a table.
 fn change<O>(
     turn: &mut Turn,
-    sample: Result<Sample, OutOfMemory>,
-    option: Result<O, OutOfMemory>,
+    begin: fn(Global) -> Result<Sample, OutOfMemory>,
+    make: Maker<O>,
 ) -> Result<Outcome, OutOfMemory>
 where
     O: TableOption<Shape, ColoredConfig, FixedDimension> + Drop,
 {
-    let (mut sample, option) = (sample?, option?);
-    let copy = sample.config(turn.alloc())?;
+    let alloc = turn.alloc();
+    let (mut sample, mut changed) = (begin(alloc)?, begin(alloc)?);
+    let copy = sample.config(alloc)?;
+    apply(&mut changed, make(alloc)?)?;
+    let option = make(alloc)?;
     turn.spend();
-    let returned = option.change(&mut sample.records, &mut sample.cfg, &mut sample.dims);
-    Ok(Outcome::of(returned, !sample.is_as(&copy), sample.is_as(&copy)))
+    let returned = apply(&mut sample, option);
+    Ok(sample.outcome(returned, &copy, &changed.cfg))
 }
 
 /// What becomes of an option on a table with something of each kind.
-fn with<O>(turn: &mut Turn, option: Result<O, OutOfMemory>) -> Result<Outcome, OutOfMemory>
+fn with<O>(turn: &mut Turn, make: Maker<O>) -> Result<Outcome, OutOfMemory>
 where
     O: TableOption<Shape, ColoredConfig, FixedDimension> + Drop,
 {
-    let sample = Sample::new(turn.alloc());
-    change(turn, sample, option)
+    change(turn, Sample::new, make)
 }
 
 /// The options of settings.
@@ -44,67 +59,69 @@ pub(crate) fn settings() -> [Named; 10] {
     [
         (
             "<Alignment as TableOption<R, ColoredConfig, D>>::change",
-            |turn| { with(turn, Ok(Alignment::bottom())) },
+            |turn| with(turn, |_| Ok(Alignment::bottom())),
         ),
         (
             "<AlignmentStrategy as TableOption<R, ColoredConfig, D>>::change",
-            |turn| { with(turn, Ok(AlignmentStrategy::PerLine)) },
+            |turn| with(turn, |_| Ok(AlignmentStrategy::PerLine)),
         ),
         (
             "<TrimStrategy as TableOption<R, ColoredConfig, D>>::change",
-            |turn| { with(turn, Ok(TrimStrategy::Both)) },
+            |turn| with(turn, |_| Ok(TrimStrategy::Both)),
         ),
         (
             "<Justification as TableOption<R, ColoredConfig, D>>::change",
-            |turn| {
-                let option = color(turn.alloc()).map(|color| Justification::colored('#', color));
-                with(turn, option)
-            },
+            |turn| with(
+                turn,
+                |alloc| color(alloc).map(|color| Justification::colored('#', color)),
+            ),
         ),
         (
             "<PaddingColor<C> as TableOption<R, ColoredConfig, D>>::change",
-            |turn| {
-                let option = padding(turn.alloc());
-                with(turn, option)
-            },
+            |turn| with(turn, padding),
         ),
         (
             "<MarginColor<C> as TableOption<R, ColoredConfig, D>>::change",
-            |turn| {
-                let option = margin(turn.alloc());
-                with(turn, option)
-            },
+            |turn| with(turn, margin),
         ),
         (
             "<Shadow as TableOption<R, ColoredConfig, D>>::change",
-            |turn| {
-                let option = color(turn.alloc()).map(|color| Shadow::new(2).set_color(color));
-                with(turn, option)
-            },
+            |turn| with(
+                turn,
+                |alloc| color(alloc).map(|color| Shadow::new(2).set_color(color)),
+            ),
         ),
         (
             "<Color as TableOption<R, ColoredConfig, D>>::change",
-            |turn| {
-                let option = color(turn.alloc());
-                with(turn, option)
-            },
+            |turn| with(turn, color),
         ),
         (
             "<Colorization as TableOption<R, ColoredConfig, D>>::change",
-            |turn| {
-                let option = three(turn.alloc()).map(Colorization::by_row);
-                with(turn, option)
-            },
+            |turn| with(turn, |alloc| three(alloc).map(Colorization::by_row)),
         ),
         (
             "<ExactColorization<O> as TableOption<R, ColoredConfig, D>>::change",
-            |turn| {
-                let target = Rows::one(1).and((0usize, 0usize));
-                let option = three(turn.alloc()).map(|colors| Colorization::exact(colors, target));
-                with(turn, option)
-            },
+            |turn| with(turn, exact),
         ),
     ]
+}
+
+/// Colors for a row and a cell.
+fn exact(
+    alloc: Global,
+) -> Result<ExactColorization<Union<tabled_grid::Row, (usize, usize)>>, OutOfMemory> {
+    let target = Rows::one(1).and((0, 0));
+    Ok(Colorization::exact(three(alloc)?, target))
+}
+
+/// A color above.
+fn top(alloc: Global) -> Result<BorderColor, OutOfMemory> {
+    Ok(BorderColor::new().top(color(alloc)?))
+}
+
+/// A color all around.
+fn all_around(alloc: Global) -> Result<BorderColor, OutOfMemory> {
+    BorderColor::filled(alloc, color(alloc)?)
 }
 
 /// A text in a color of its own texts.
@@ -138,76 +155,59 @@ pub(crate) fn borders() -> [Named; 12] {
     [
         (
             "<BorderColor as TableOption<R, ColoredConfig, D>>::change",
-            |turn| {
-                let color = color(turn.alloc());
-                with(turn, color.map(|color| BorderColor::new().top(color)))
-            },
+            |turn| with(turn, top),
         ),
         (
             "<BorderColor as TableOption<R, ColoredConfig, D>>::change (all around)",
-            |turn| {
-                let color = color(turn.alloc())?;
-                let option = BorderColor::filled(turn.alloc(), color);
-                with(turn, option)
-            },
+            |turn| with(turn, all_around),
         ),
         (
             "<Border<char> as TableOption<R, ColoredConfig, D>>::change",
-            |turn| { with(turn, Ok(tabled_grid::Border::filled('#'))) },
+            |turn| with(turn, |_| Ok(tabled_grid::Border::filled('#'))),
         ),
         (
             "<Borders<char> as TableOption<R, ColoredConfig, D>>::change",
-            |turn| { with(turn, Ok(Style::modern().get_borders())) },
+            |turn| with(turn, |_| Ok(Style::modern().get_borders())),
         ),
         (
             "<Border<T, B, L, R> as TableOption<Data, ColoredConfig, Dims>>::change",
-            |turn| { with(turn, Ok(Border::filled('#'))) },
+            |turn| with(turn, |_| Ok(Border::filled('#'))),
         ),
         (
             "<EmptyBorder as TableOption<Data, ColoredConfig, Dims>>::change",
-            |turn| { with(turn, Ok(EmptyBorder)) },
+            |turn| with(turn, |_| Ok(EmptyBorder)),
         ),
         (
             "<Style<T, B, L, R, H, V, HN, VN> as TableOption<Data, ColoredConfig, Dims>>::change",
             |turn| {
-                let lines = [
-                    (1, HorizontalLine::filled('#')),
-                    (300, HorizontalLine::filled('&')),
-                ];
-                with(turn, Ok(Style::rounded().horizontals(lines)))
+                with(turn, |_| {
+                    let lines = [
+                        (1, HorizontalLine::filled('#')),
+                        (300, HorizontalLine::filled('&')),
+                    ];
+                    Ok(Style::rounded().horizontals(lines))
+                })
             },
         ),
         (
             "<ReadyStyle as TableOption<Data, ColoredConfig, Dims>>::change",
-            |turn| { with(turn, Ok(ReadyStyle::Markdown)) },
+            |turn| with(turn, |_| Ok(ReadyStyle::Markdown)),
         ),
         (
             "<Theme as TableOption<Data, ColoredConfig, Dims>>::change",
-            |turn| {
-                let option = theme(turn.alloc());
-                with(turn, option)
-            },
+            |turn| with(turn, theme),
         ),
         (
             "<LineText<Line> as TableOption<R, ColoredConfig, D>>::change",
-            |turn| {
-                let option = title(turn.alloc());
-                with(turn, option)
-            },
+            |turn| with(turn, title),
         ),
         (
             "<Highlight<O> as TableOption<R, ColoredConfig, D>>::change",
-            |turn| {
-                let option = outline(turn.alloc());
-                with(turn, option)
-            },
+            |turn| with(turn, outline),
         ),
         (
             "<BorderCorrection as TableOption<R, ColoredConfig, D>>::change",
-            |turn| {
-                let sample = Sample::spanned(turn.alloc());
-                change(turn, sample, Ok(BorderCorrection::span()))
-            },
+            |turn| change(turn, Sample::spanned, |_| Ok(BorderCorrection::span())),
         ),
     ]
 }

@@ -37,7 +37,7 @@ fn print(
     let mut text = String::from_str(turn.alloc(), "before:")?;
     turn.spend();
     let returned = print_plain(&mut text, sample.cfg.config(), &sample.dims, (2, 2), &cells);
-    let is_left = text.as_str() == "before:" && sample.is_as(&copy);
+    let is_left = text.as_str() == "before:" && is_same(&sample.cfg, &copy);
     match returned {
         Ok(()) if expected.is_ok() && text.as_str().starts_with("before:") => {
             Ok(Outcome::of::<(), OutOfMemory>(Ok(()), text.len() > 40, false))
@@ -246,14 +246,18 @@ fn write_to(turn: &mut Turn) -> Result<Outcome, OutOfMemory> {
     }
 }
 
-/// A text of a table that is lent again, in a row of options, whose second one is a text on a line.
-fn in_a_row(turn: &mut Turn) -> Result<Outcome, OutOfMemory> {
-    let (mut table, copy) = table(turn.alloc())?;
-    let title = LineText::new(turn.alloc(), "AB", Rows::first())?;
+/// What becomes of a text on a line of the table.
+fn title(turn: &mut Turn) -> Result<Outcome, OutOfMemory> {
+    let alloc = turn.alloc();
+    let (mut table, copy) = table(alloc)?;
+    let (mut changed, _copy) = self::table(alloc)?;
+    changed.with(LineText::new(alloc, "AB", Rows::first())?)?;
+    let title = LineText::new(alloc, "AB", Rows::first())?;
     turn.spend();
     let returned = table.with(title).map(|_| ());
+    let is_done = is_same(table.config(), changed.config());
     let is_as_before = is_same(table.config(), &copy);
-    Ok(Outcome::of(returned, !is_as_before, is_as_before))
+    Ok(Outcome::of(returned, is_done, is_as_before))
 }
 
 /// Tables of texts.
@@ -263,7 +267,7 @@ pub(crate) fn tables() -> [Named; 11] {
         ("TextTable::from_rows", make_of_rows),
         ("TextTable::from_rows (unequal rows)", make_of_unequal_rows),
         ("TextTable::with", |turn| apply(turn, true)),
-        ("TextTable::with (a text on a line)", in_a_row),
+        ("TextTable::with (a text on a line)", title),
         ("TextTable::apply", |turn| apply(turn, false)),
         ("TextTable::modify", |turn| apply_to(turn, true)),
         ("TextTable::apply_to", |turn| apply_to(turn, false)),

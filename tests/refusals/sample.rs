@@ -1,5 +1,6 @@
 //! A table of four cells whose configuration has something of each kind, and what is compared of two of them.
 
+use crate::turn::Outcome;
 use std::alloc::Global;
 use tabled_color::Color;
 use tabled_config::{ColoredConfig, SpannedConfig};
@@ -22,8 +23,8 @@ pub(crate) fn color(alloc: Global) -> Result<Color, OutOfMemory> {
 
 /// Something at each level of characters.
 fn set_characters(cfg: &mut SpannedConfig) -> Result<(), OutOfMemory> {
-    cfg.set_borders(Style::ascii().get_borders());
     cfg.set_border_default('*');
+    cfg.set_borders(Style::ascii().get_borders());
     cfg.insert_horizontal_line(1, HorizontalLine::new(Some('='), None, Some('L'), None))?;
     cfg.insert_vertical_line(1, VerticalLine::new(Some('!'), Some('x'), None, None))?;
     let border = Border {
@@ -38,12 +39,12 @@ fn set_characters(cfg: &mut SpannedConfig) -> Result<(), OutOfMemory> {
 
 /// Something at each level of colors.
 fn set_colors(cfg: &mut SpannedConfig, alloc: Global) -> Result<(), OutOfMemory> {
+    cfg.set_border_color_default(owned(alloc)?);
     let record = Borders {
         top: Some(owned(alloc)?),
         ..Borders::empty()
     };
     cfg.set_borders_color(record);
-    cfg.set_border_color_default(owned(alloc)?);
     let border = Border {
         left: Some(owned(alloc)?),
         ..Border::empty()
@@ -75,21 +76,31 @@ pub(crate) struct Sample {
 }
 
 impl Sample {
-    /// A table with something of each kind but spans.
-    pub(crate) fn new(alloc: Global) -> Result<Self, OutOfMemory> {
+    /// A table with that configuration.
+    fn of(alloc: Global, cfg: ColoredConfig) -> Result<Self, OutOfMemory> {
         let widths = vec![in alloc; 3usize; 2]?;
         let heights = vec![in alloc; 1usize; 2]?;
+        Ok(Sample {
+            records: Shape { rows: 2, cols: 2 },
+            dims: FixedDimension::new(widths, heights),
+            cfg,
+        })
+    }
+
+    /// A table of which nothing is set, so that the first of what is set takes memory.
+    pub(crate) fn bare(alloc: Global) -> Result<Self, OutOfMemory> {
+        Sample::of(alloc, ColoredConfig::new(SpannedConfig::new(alloc)))
+    }
+
+    /// A table with something of each kind but spans.
+    pub(crate) fn new(alloc: Global) -> Result<Self, OutOfMemory> {
         let mut config = SpannedConfig::new(alloc);
         set_characters(&mut config)?;
         set_colors(&mut config, alloc)?;
         set_settings(&mut config, alloc)?;
         let mut cfg = ColoredConfig::new(config);
         cfg.set_color(Entity::Row(0), owned(alloc)?)?;
-        Ok(Sample {
-            records: Shape { rows: 2, cols: 2 },
-            dims: FixedDimension::new(widths, heights),
-            cfg,
-        })
+        Sample::of(alloc, cfg)
     }
 
     /// The same with spans.
@@ -113,9 +124,20 @@ impl Sample {
         self.cfg.keep(alloc)
     }
 
-    /// Whether the configuration is equal to this one, and the same is read of both.
-    pub(crate) fn is_as(&self, other: &ColoredConfig) -> bool {
-        self.has_its_sizes() && is_same(&self.cfg, other)
+    /// What became of a call that returned this, from the configuration before it, and that after it where memory is granted.
+    pub(crate) fn outcome<E: Drop>(
+        &self,
+        returned: Result<(), E>,
+        before: &ColoredConfig,
+        after: &ColoredConfig,
+    ) -> Outcome {
+        let is_done = before != after && is_same(&self.cfg, after);
+        let is_as_before = is_same(&self.cfg, before);
+        Outcome::of(
+            returned,
+            self.has_its_sizes() && is_done,
+            self.has_its_sizes() && is_as_before,
+        )
     }
 }
 

@@ -21,18 +21,25 @@ fn map(alloc: Global) -> Result<EntityMap<char>, OutOfMemory> {
 /// What becomes of a call that writes into a map.
 fn write(
     turn: &mut Turn,
+    begin: fn(Global) -> Result<EntityMap<char>, OutOfMemory>,
     call: fn(&mut EntityMap<char>) -> Result<(), OutOfMemory>,
 ) -> Result<Outcome, OutOfMemory> {
-    let mut map = map(turn.alloc())?;
+    let (mut map, mut changed) = (begin(turn.alloc())?, begin(turn.alloc())?);
     let copy: EntityMap<char> = map.keep(turn.alloc())?;
+    call(&mut changed)?;
     turn.spend();
     let returned = call(&mut map);
-    Ok(Outcome::of(returned, map != copy, map == copy))
+    Ok(Outcome::of(returned, map != copy && map == changed, map == copy))
+}
+
+/// A map in which nothing is set.
+fn new_map(alloc: Global) -> Result<EntityMap<char>, OutOfMemory> {
+    Ok(EntityMap::new(alloc, '.'))
 }
 
 /// What becomes of a write into two maps.
 fn write_two(turn: &mut Turn) -> Result<Outcome, OutOfMemory> {
-    let (mut first, mut second) = (map(turn.alloc())?, map(turn.alloc())?);
+    let (mut first, mut second) = (new_map(turn.alloc())?, new_map(turn.alloc())?);
     let copy: EntityMap<char> = first.keep(turn.alloc())?;
     turn.spend();
     let returned = first.insert_both(&mut second, Entity::Column(2), 'x', 'x');
@@ -78,19 +85,23 @@ fn copy_map(turn: &mut Turn) -> Result<Outcome, OutOfMemory> {
 }
 
 /// Maps by entity.
-pub(crate) fn maps() -> [Named; 6] {
+pub(crate) fn maps() -> [Named; 7] {
     [
         (
-            "EntityMap<T>::insert",
-            |turn| write(turn, |map| map.insert(Entity::Column(2), 'x')),
+            "EntityMap<T>::insert (the first)",
+            |turn| { write(turn, new_map, |map| map.insert(Entity::Column(2), 'x')) },
         ),
         (
-            "EntityMap<T>::remove",
-            |turn| write(turn, |map| map.remove(Entity::Cell(1, 1))),
+            "EntityMap<T>::insert",
+            |turn| { write(turn, map, |map| map.insert(Entity::Column(2), 'x')) },
         ),
         (
             "EntityMap<T>::insert (of all cells)",
-            |turn| { write(turn, |map| map.insert(Entity::Global, 'x')) },
+            |turn| { write(turn, map, |map| map.insert(Entity::Global, 'x')) },
+        ),
+        (
+            "EntityMap<T>::remove",
+            |turn| { write(turn, new_map, |map| map.remove(Entity::Cell(1, 1))) },
         ),
         ("EntityMap<T>::insert_both", write_two),
         ("EntityMap<T>::apply_three", write_three),
@@ -117,11 +128,11 @@ fn settings(alloc: Global) -> Result<TableSettings, OutOfMemory> {
 /// What becomes of a span that is set.
 fn set_a_span(turn: &mut Turn) -> Result<Outcome, OutOfMemory> {
     let mut spans = Spans::new(turn.alloc());
-    spans.set(Position::new(0, 0), 2)?;
     let copy = spans.keep(turn.alloc())?;
     turn.spend();
-    let returned = spans.set(Position::new(1, 1), 2);
-    Ok(Outcome::of(returned, spans != copy, spans == copy))
+    let position = Position::new(1, 1);
+    let returned = spans.set(position, 2);
+    Ok(Outcome::of(returned, spans.get(position) == Some(2), spans == copy))
 }
 
 /// What becomes of a copy of a configuration's colors of cells.
@@ -183,26 +194,31 @@ pub(crate) fn copies() -> [Named; 8] {
 /// What becomes of a call of a configuration.
 fn call(
     turn: &mut Turn,
+    begin: fn(Global) -> Result<Sample, OutOfMemory>,
     call: fn(&mut SpannedConfig) -> Result<(), OutOfMemory>,
 ) -> Result<Outcome, OutOfMemory> {
-    let mut sample = Sample::new(turn.alloc())?;
+    let (mut sample, mut changed) = (begin(turn.alloc())?, begin(turn.alloc())?);
     let copy = sample.config(turn.alloc())?;
+    call(changed.cfg.config_mut())?;
     turn.spend();
     let returned = call(sample.cfg.config_mut());
-    Ok(Outcome::of(returned, !sample.is_as(&copy), sample.is_as(&copy)))
+    Ok(sample.outcome(returned, &copy, &changed.cfg))
 }
 
 /// What becomes of a call of a configuration that is given a color.
 fn call_with(
     turn: &mut Turn,
+    begin: fn(Global) -> Result<Sample, OutOfMemory>,
     call: fn(&mut ColoredConfig, ANSIBuf) -> Result<(), OutOfMemory>,
 ) -> Result<Outcome, OutOfMemory> {
-    let mut sample = Sample::new(turn.alloc())?;
-    let copy = sample.config(turn.alloc())?;
-    let color = ANSIBuf::new(turn.alloc(), "[", "]")?;
+    let alloc = turn.alloc();
+    let (mut sample, mut changed) = (begin(alloc)?, begin(alloc)?);
+    let copy = sample.config(alloc)?;
+    call(&mut changed.cfg, ANSIBuf::new(alloc, "[", "]")?)?;
+    let color = ANSIBuf::new(alloc, "[", "]")?;
     turn.spend();
     let returned = call(&mut sample.cfg, color);
-    Ok(Outcome::of(returned, !sample.is_as(&copy), sample.is_as(&copy)))
+    Ok(sample.outcome(returned, &copy, &changed.cfg))
 }
 
 /// A border of each side and corner.
@@ -230,12 +246,15 @@ fn two_lists(alloc: Global) -> Result<(Vec<Write<char>>, Vec<Write<ANSIBuf>>), O
 
 /// What becomes of two lists of writes.
 fn apply(turn: &mut Turn) -> Result<Outcome, OutOfMemory> {
-    let mut sample = Sample::new(turn.alloc())?;
-    let copy = sample.config(turn.alloc())?;
-    let (characters, colors) = two_lists(turn.alloc())?;
+    let alloc = turn.alloc();
+    let (mut sample, mut changed) = (Sample::bare(alloc)?, Sample::bare(alloc)?);
+    let copy = sample.config(alloc)?;
+    let (characters, colors) = two_lists(alloc)?;
+    changed.cfg.config_mut().apply(characters, colors)?;
+    let (characters, colors) = two_lists(alloc)?;
     turn.spend();
     let returned = sample.cfg.config_mut().apply(characters, colors);
-    Ok(Outcome::of(returned, !sample.is_as(&copy), sample.is_as(&copy)))
+    Ok(sample.outcome(returned, &copy, &changed.cfg))
 }
 
 /// Replaces all borders by a class record and lines of both directions.
@@ -268,29 +287,42 @@ pub(crate) fn borders() -> [Named; 10] {
         ("SpannedConfig::apply", apply),
         (
             "SpannedConfig::set_border",
-            |turn| { call(turn, |cfg| cfg.set_border(Position::new(0, 0), frame())) },
+            |turn| {
+                call(
+                    turn,
+                    Sample::bare,
+                    |cfg| cfg.set_border(Position::new(0, 0), frame()),
+                )
+            },
         ),
         (
             "SpannedConfig::set_entity_border",
             |turn| {
                 call(
                     turn,
+                    Sample::bare,
                     |cfg| cfg.set_entity_border(Entity::Row(0), (2, 2), &frame()),
                 )
             },
         ),
         (
             "SpannedConfig::replace_borders",
-            |turn| call(turn, replace_borders),
+            |turn| call(turn, Sample::new, replace_borders),
         ),
         (
             "ReadyStyle::replace_borders",
-            |turn| { call(turn, |cfg| ReadyStyle::Markdown.replace_borders(cfg)) },
+            |turn| {
+                call(
+                    turn,
+                    Sample::new,
+                    |cfg| ReadyStyle::Markdown.replace_borders(cfg),
+                )
+            },
         ),
         (
             "SpannedConfig::insert_horizontal_line",
             |turn| {
-                call(turn, |cfg| {
+                call(turn, Sample::bare, |cfg| {
                     cfg.insert_horizontal_line(2, HorizontalLine::new(Some('x'), None, None, None))
                 })
             },
@@ -298,7 +330,7 @@ pub(crate) fn borders() -> [Named; 10] {
         (
             "SpannedConfig::insert_vertical_line",
             |turn| {
-                call(turn, |cfg| {
+                call(turn, Sample::bare, |cfg| {
                     cfg.insert_vertical_line(2, VerticalLine::new(Some('x'), None, None, None))
                 })
             },
@@ -314,7 +346,7 @@ pub(crate) fn borders() -> [Named; 10] {
         (
             "SpannedConfig::set_border_color",
             |turn| {
-                call_with(turn, |cfg, color| {
+                call_with(turn, Sample::bare, |cfg, color| {
                     let top = Border {
                         top: Some(color),
                         ..Border::empty()
@@ -334,6 +366,7 @@ pub(crate) fn offsets() -> [Named; 4] {
             |turn| {
                 call(
                     turn,
+                    Sample::bare,
                     |cfg| cfg.set_horizontal_char(Position::new(0, 1), Offset::Start(0), 'x'),
                 )
             },
@@ -343,6 +376,7 @@ pub(crate) fn offsets() -> [Named; 4] {
             |turn| {
                 call(
                     turn,
+                    Sample::bare,
                     |cfg| cfg.set_vertical_char(Position::new(0, 1), Offset::Start(0), 'x'),
                 )
             },
@@ -350,7 +384,7 @@ pub(crate) fn offsets() -> [Named; 4] {
         (
             "SpannedConfig::set_horizontal_char_color",
             |turn| {
-                call_with(turn, |cfg, color| {
+                call_with(turn, Sample::bare, |cfg, color| {
                     let config = cfg.config_mut();
                     config.set_horizontal_char_color(Position::new(0, 1), Offset::End(0), color)
                 })
@@ -359,7 +393,7 @@ pub(crate) fn offsets() -> [Named; 4] {
         (
             "SpannedConfig::set_vertical_char_color",
             |turn| {
-                call_with(turn, |cfg, color| {
+                call_with(turn, Sample::bare, |cfg, color| {
                     let config = cfg.config_mut();
                     config.set_vertical_char_color(Position::new(0, 1), Offset::End(0), color)
                 })
@@ -376,12 +410,12 @@ pub(crate) fn cells() -> [Named; 10] {
     [
         (
             "SpannedConfig::set_trims",
-            |turn| call(turn, |cfg| cfg.set_trims(COLUMN, true, true)),
+            |turn| call(turn, Sample::bare, |cfg| cfg.set_trims(COLUMN, true, true)),
         ),
         (
             "SpannedConfig::set_colored_justification",
             |turn| {
-                call_with(turn, |cfg, color| {
+                call_with(turn, Sample::bare, |cfg, color| {
                     cfg.config_mut()
                         .set_colored_justification(COLUMN, '#', Some(color))
                 })
@@ -392,6 +426,7 @@ pub(crate) fn cells() -> [Named; 10] {
             |turn| {
                 call(
                     turn,
+                    Sample::bare,
                     |cfg| cfg.set_alignment_horizontal(COLUMN, AlignmentHorizontal::Right),
                 )
             },
@@ -401,30 +436,49 @@ pub(crate) fn cells() -> [Named; 10] {
             |turn| {
                 call(
                     turn,
+                    Sample::bare,
                     |cfg| cfg.set_alignment_vertical(COLUMN, AlignmentVertical::Bottom),
                 )
             },
         ),
         (
             "SpannedConfig::set_trim_horizontal",
-            |turn| { call(turn, |cfg| cfg.set_trim_horizontal(COLUMN, true)) },
+            |turn| {
+                call(
+                    turn,
+                    Sample::bare,
+                    |cfg| cfg.set_trim_horizontal(COLUMN, true),
+                )
+            },
         ),
         (
             "SpannedConfig::set_trim_vertical",
-            |turn| { call(turn, |cfg| cfg.set_trim_vertical(COLUMN, true)) },
+            |turn| {
+                call(
+                    turn,
+                    Sample::bare,
+                    |cfg| cfg.set_trim_vertical(COLUMN, true),
+                )
+            },
         ),
         (
             "SpannedConfig::set_line_alignment",
-            |turn| { call(turn, |cfg| cfg.set_line_alignment(COLUMN, true)) },
+            |turn| {
+                call(
+                    turn,
+                    Sample::bare,
+                    |cfg| cfg.set_line_alignment(COLUMN, true),
+                )
+            },
         ),
         (
             "SpannedConfig::set_justification",
-            |turn| { call(turn, |cfg| cfg.set_justification(COLUMN, '#')) },
+            |turn| { call(turn, Sample::bare, |cfg| cfg.set_justification(COLUMN, '#')) },
         ),
         (
             "SpannedConfig::set_justification_color",
             |turn| {
-                call_with(turn, |cfg, color| {
+                call_with(turn, Sample::bare, |cfg, color| {
                     cfg.config_mut()
                         .set_justification_color(COLUMN, Some(color))
                 })
@@ -433,7 +487,7 @@ pub(crate) fn cells() -> [Named; 10] {
         (
             "SpannedConfig::set_padding_color",
             |turn| {
-                call_with(turn, |cfg, color| {
+                call_with(turn, Sample::bare, |cfg, color| {
                     let sides = Sides::new(None, None, Some(color), None);
                     cfg.config_mut().set_padding_color(COLUMN, sides)
                 })
@@ -452,21 +506,24 @@ fn two_colors(alloc: Global) -> Result<Vec<(Entity, ANSIBuf)>, OutOfMemory> {
 
 /// What becomes of entities that are colored with their fillings and paddings.
 fn color_entities(turn: &mut Turn) -> Result<Outcome, OutOfMemory> {
-    let mut sample = Sample::new(turn.alloc())?;
-    let copy = sample.config(turn.alloc())?;
-    let list = two_colors(turn.alloc())?;
+    let alloc = turn.alloc();
+    let (mut sample, mut changed) = (Sample::new(alloc)?, Sample::new(alloc)?);
+    let (copy, list) = (sample.config(alloc)?, two_colors(alloc)?);
+    changed.cfg.color_entities(&list)?;
     turn.spend();
     let returned = sample.cfg.color_entities(&list);
-    Ok(Outcome::of(returned, !sample.is_as(&copy), sample.is_as(&copy)))
+    Ok(sample.outcome(returned, &copy, &changed.cfg))
 }
 
 /// What becomes of the removal of a color.
 fn remove_color(turn: &mut Turn) -> Result<Outcome, OutOfMemory> {
-    let mut sample = Sample::new(turn.alloc())?;
-    let copy = sample.config(turn.alloc())?;
+    let alloc = turn.alloc();
+    let (mut sample, mut changed) = (Sample::new(alloc)?, Sample::new(alloc)?);
+    let copy = sample.config(alloc)?;
+    changed.cfg.remove_color(Entity::Cell(0, 0))?;
     turn.spend();
     let returned = sample.cfg.remove_color(Entity::Cell(0, 0));
-    Ok(Outcome::of(returned, !sample.is_as(&copy), sample.is_as(&copy)))
+    Ok(sample.outcome(returned, &copy, &changed.cfg))
 }
 
 /// Colors of cells, and spans.
@@ -474,19 +531,32 @@ pub(crate) fn colors_and_spans() -> [Named; 5] {
     [
         (
             "ColoredConfig::set_color",
-            |turn| { call_with(turn, |cfg, color| cfg.set_color(Entity::Cell(1, 1), color)) },
+            |turn| {
+                call_with(
+                    turn,
+                    Sample::bare,
+                    |cfg, color| cfg.set_color(Entity::Cell(1, 1), color),
+                )
+            },
         ),
         ("ColoredConfig::remove_color", remove_color),
         ("ColoredConfig::color_entities", color_entities),
         (
             "SpannedConfig::set_column_span",
-            |turn| { call(turn, |cfg| cfg.set_column_span(Position::new(0, 0), 2)) },
+            |turn| {
+                call(
+                    turn,
+                    Sample::bare,
+                    |cfg| cfg.set_column_span(Position::new(0, 0), 2),
+                )
+            },
         ),
         (
             "SpannedConfig::set_row_span",
             |turn| {
                 call(
                     turn,
+                    Sample::bare,
                     |cfg| cfg.set_row_span(Position::new(0, 0), usize::MAX),
                 )
             },

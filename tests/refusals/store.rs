@@ -5,7 +5,7 @@ use crate::turn::{Named, Outcome, Turn};
 use std::alloc::Global;
 use tabled_grid::{
     ANSIBuf, Border, Entity, HorizontalLine, Keep, Layers, Offset, OutOfMemory, Place, Position,
-    Target, VerticalLine, Write, border_writes,
+    Probes, Target, VerticalLine, Write, border_writes,
 };
 use tabled_kept::{CountedMap, Slot, Slots, Table};
 
@@ -19,6 +19,15 @@ fn begun(alloc: Global) -> Result<Layers<char>, OutOfMemory> {
     Ok(store)
 }
 
+/// What becomes of the first offset of a store.
+fn write_the_first_offset(turn: &mut Turn) -> Result<Outcome, OutOfMemory> {
+    let mut store = Layers::new(turn.alloc());
+    turn.spend();
+    let returned = store.set_offset(first_edge(), Offset::End(3), 'x');
+    let new = Layers::new(turn.alloc());
+    Ok(Outcome::of(returned, store != new, store == new))
+}
+
 /// The edge above the first cell.
 fn first_edge() -> Place {
     let (row, col, at) = (0, 0, 0);
@@ -30,11 +39,13 @@ fn write(
     turn: &mut Turn,
     call: fn(&mut Layers<char>) -> Result<(), OutOfMemory>,
 ) -> Result<Outcome, OutOfMemory> {
-    let mut store = begun(turn.alloc())?;
+    let (mut store, mut changed) = (begun(turn.alloc())?, begun(turn.alloc())?);
     let copy = store.keep(turn.alloc())?;
+    call(&mut changed)?;
     turn.spend();
     let returned = call(&mut store);
-    Ok(Outcome::of(returned, store != copy, store == copy))
+    let is_done = store != copy && store == changed;
+    Ok(Outcome::of(returned, is_done, store == copy))
 }
 
 /// A border of each side and corner.
@@ -61,12 +72,15 @@ fn writes(alloc: Global) -> Result<Vec<Write<char>>, OutOfMemory> {
 
 /// What becomes of a list of writes.
 fn write_all(turn: &mut Turn) -> Result<Outcome, OutOfMemory> {
-    let mut store = begun(turn.alloc())?;
-    let copy = store.keep(turn.alloc())?;
-    let writes = writes(turn.alloc())?;
+    let alloc = turn.alloc();
+    let (mut store, mut changed) = (begun(alloc)?, begun(alloc)?);
+    let copy = store.keep(alloc)?;
+    changed.write_all(writes(alloc)?)?;
+    let writes = writes(alloc)?;
     turn.spend();
     let returned = store.write_all(writes);
-    Ok(Outcome::of(returned, store != copy, store == copy))
+    let is_done = store != copy && store == changed;
+    Ok(Outcome::of(returned, is_done, store == copy))
 }
 
 /// What becomes of two lists of writes in two stores.
@@ -129,11 +143,13 @@ fn kept(alloc: Global) -> Result<CountedMap<usize, char>, OutOfMemory> {
 
 /// What becomes of a number that is kept.
 fn keep_a_number(turn: &mut Turn, number: usize) -> Result<Outcome, OutOfMemory> {
-    let mut map = kept(turn.alloc())?;
+    let mut map = CountedMap::new(turn.alloc());
+    map.insert(1, 'a')?;
     let copy = map.keep(turn.alloc())?;
     turn.spend();
     let returned = map.insert(number, 'x');
-    Ok(Outcome::of(returned, !map.is_same(&copy), map.is_same(&copy)))
+    let is_done = map.read(number, &mut Probes::new()) == Some(&'x');
+    Ok(Outcome::of(returned, is_done && !map.is_same(&copy), map.is_same(&copy)))
 }
 
 /// What becomes of a copy of a kept map.

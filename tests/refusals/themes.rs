@@ -1,6 +1,6 @@
 //! Themes: made, copied, and their lines.
 
-use crate::sample::{Sample, color};
+use crate::sample::{Sample, color, is_same};
 use crate::turn::{Named, Outcome, Turn};
 use std::alloc::Global;
 use tabled_border::{Keep, OutOfMemory};
@@ -18,6 +18,13 @@ fn theme(alloc: Global) -> Result<Theme, OutOfMemory> {
     theme.set_colors_left(color(alloc)?);
     theme.insert_horizontal_line(1, HorizontalLine::filled('=').into_inner())?;
     theme.insert_vertical_line(1, VerticalLine::new(Some('!'), None, None, None))?;
+    Ok(theme)
+}
+
+/// A theme without lines, with a color of its own texts.
+fn colored(alloc: Global) -> Result<Theme, OutOfMemory> {
+    let mut theme = Theme::from_borders(alloc, Style::ascii().get_borders());
+    theme.set_colors_left(color(alloc)?);
     Ok(theme)
 }
 
@@ -44,7 +51,7 @@ fn from_config(turn: &mut Turn) -> Result<Outcome, OutOfMemory> {
             && theme.get_colors_top().is_some()
     });
     match Outcome::of_value(is_read) {
-        Outcome::AsBefore if !sample.is_as(&copy) => Ok(Outcome::Changed),
+        Outcome::AsBefore if !is_same(&sample.cfg, &copy) => Ok(Outcome::Changed),
         outcome => Ok(outcome),
     }
 }
@@ -61,11 +68,13 @@ fn put(
     turn: &mut Turn,
     call: fn(&mut Theme) -> Result<(), OutOfMemory>,
 ) -> Result<Outcome, OutOfMemory> {
-    let mut theme = theme(turn.alloc())?;
+    let (mut theme, mut changed) = (colored(turn.alloc())?, colored(turn.alloc())?);
     let copy: Theme = theme.keep(turn.alloc())?;
+    call(&mut changed)?;
     turn.spend();
     let returned = call(&mut theme);
-    Ok(Outcome::of(returned, theme != copy, theme == copy))
+    let is_done = theme != copy && theme == changed;
+    Ok(Outcome::of(returned, is_done, theme == copy))
 }
 
 /// Each call of a theme.
