@@ -30,9 +30,12 @@ fn shows(cfg: &SpannedConfig, place: Place, character: Option<char>) -> bool {
 
 /// Whether the four crossings show this.
 fn crossings_show(cfg: &SpannedConfig, character: Option<char>) -> bool {
-    CROSSINGS
-        .iter()
-        .all(|at| shows(cfg, crossing(*at), character))
+    for at in CROSSINGS.iter() {
+        if !shows(cfg, crossing(*at), character) {
+            return false;
+        }
+    }
+    true
 }
 
 /// Whether a line is drawn.
@@ -42,10 +45,8 @@ fn is_drawn(cfg: &SpannedConfig, line: LineOf) -> bool {
 
 /// Writes at a crossing alone: whether there was memory for it.
 fn write(cfg: &mut SpannedConfig, at: (usize, usize)) -> bool {
-    let corner = Border {
-        left_top_corner: Some('x'),
-        ..Border::empty()
-    };
+    let mut corner = Border::empty();
+    corner.left_top_corner = Some('x');
     cfg.set_border(at.into(), corner).is_ok()
 }
 
