@@ -1,9 +1,7 @@
-//! What the program does with its words, a reader and a writer: pages that are drawn by hand, each refusal, and
-//! what happens where reading or writing fails.
+//! What the program does with its words, a reader and a writer: pages that are drawn by hand, and each refusal of an input.
 
 use std::alloc::{AllocError, Global};
-use std::io;
-use std::io::{Cursor, ErrorKind, Read, Write};
+use std::io::Cursor;
 use tabled_pages::{ShowError, run};
 
 /// Words that are given between spaces.
@@ -160,37 +158,5 @@ fn inputs_are_refused(rt: HostRuntime) {
     ] {
         let refused = refuses(rt.alloc(), "ascii", input.as_bytes(), refusal);
         assert!(rt; refused, "{input}");
-    }
-}
-
-/// A reader that gives its bytes in one read each, and then a fault.
-#[derive(Drop)]
-struct FailsAfter {
-    /// How many reads succeed.
-    reads: usize,
-}
-
-impl Read for FailsAfter {
-    fn read(&mut self, buf: &mut [u8]) -> io::Result<usize> {
-        if self.reads == 0 || buf.is_empty() {
-            return Err(io::Error::from(ErrorKind::Interrupted));
-        }
-        self.reads -= 1;
-        buf[0] = b'a';
-        Ok(1)
-    }
-}
-
-/// A writer that takes nothing.
-#[derive(Drop)]
-struct TakesNothing;
-
-impl Write for TakesNothing {
-    fn write(&mut self, _buf: &[u8]) -> io::Result<usize> {
-        Err(io::Error::from(ErrorKind::BrokenPipe))
-    }
-
-    fn flush(&mut self) -> io::Result<()> {
-        Ok(())
     }
 }

@@ -3,7 +3,9 @@
 use crate::common::configs::{begins, config};
 use crate::common::printing::{Cells, printed};
 use std::alloc::Global;
-use tabled_config::{CellOption, ColoredConfig, SpannedConfig, TableOption, modify};
+use tabled_config::{
+    CellOption, ColoredConfig, PrintError, SpannedConfig, TableOption, modify, print_plain,
+};
 use tabled_grid::{Dimension, FixedDimension, Object, OutOfMemory, Place, Position, Probes, Shape};
 
 /// Four cells, of which nothing is drawn.
@@ -50,6 +52,18 @@ impl Table {
             dims: FixedDimension::new(widths, heights),
             cells,
         })
+    }
+
+    /// A table of one cell that is that wide and high.
+    pub(crate) fn of_size(
+        alloc: Global,
+        width: usize,
+        height: usize,
+        cells: Cells,
+    ) -> Result<Self, OutOfMemory> {
+        let mut table = Table::new(alloc, &[width], cells)?;
+        table.dims.heights = vec![in alloc; height; 1]?;
+        Ok(table)
     }
 
     /// A table of the given numbers of rows and columns, of which only the places and the settings are looked at. Each
@@ -108,9 +122,36 @@ impl Table {
         Ok(returned.ok().map(|()| text))
     }
 
+    /// What the printer returns.
+    pub(crate) fn returned(&self, alloc: Global) -> Result<Result<(), PrintError>, OutOfMemory> {
+        let (returned, _text) = printed(alloc, self.cfg(), self.cells, &self.dims, "")?;
+        Ok(returned)
+    }
+
     /// Whether that is this text.
     pub(crate) fn prints(&self, alloc: Global, text: &str) -> Result<bool, OutOfMemory> {
         let (returned, shown) = printed(alloc, self.cfg(), self.cells, &self.dims, "")?;
+        Ok(returned == Ok(()) && shown.as_str() == text)
+    }
+
+    /// Whether that is this text, where the cells are that many rows of empty cells.
+    pub(crate) fn prints_rows(
+        &self,
+        alloc: Global,
+        rows: usize,
+        text: &str,
+    ) -> Result<bool, OutOfMemory> {
+        let mut cells = Vec::new(alloc);
+        for _ in 0..rows {
+            let mut row = Vec::new(alloc);
+            for _ in 0..self.records.cols {
+                row.push(String::new(alloc))?;
+            }
+            cells.push(row)?;
+        }
+        let mut shown = String::new(alloc);
+        let shape = (self.records.rows, self.records.cols);
+        let returned = print_plain(&mut shown, self.cfg(), &self.dims, shape, &cells);
         Ok(returned == Ok(()) && shown.as_str() == text)
     }
 

@@ -1,68 +1,324 @@
-//! Writes of a store whose tables and maps have to grow, one of whose requests for memory is refused.
-//!
-//! Each line of the output is a call, and whether it was done, or refused and the store as before. A call before which
-//! something was refused is left out.
+//! The store and the maps in which it keeps its values.
 
+use crate::sample::owned;
+use crate::turn::{Named, Outcome, Turn};
 use std::alloc::Global;
-use std::process::ExitCode;
-use tabled_grid::{HorizontalLine, Keep, Layers, OutOfMemory, Place};
+use tabled_grid::{
+    ANSIBuf, Border, Entity, HorizontalLine, Keep, Layers, Offset, OutOfMemory, Place, Position,
+    Probes, Target, VerticalLine, Write, border_writes,
+};
+use tabled_kept::{CountedMap, Slot, Slots, Table};
 
-/// A call that writes.
-type Call = fn(&mut Layers<char>) -> Result<(), OutOfMemory>;
-
-/// A store with one cell, one line and a copy of it to compare with.
-fn begun(alloc: Global) -> Result<(Layers<char>, Layers<char>), OutOfMemory> {
+/// A store with a cell, an offset and a line of each direction.
+fn begun(alloc: Global) -> Result<Layers<char>, OutOfMemory> {
     let mut store = Layers::new(alloc);
     store.set_cell(Place::Cross { row: 1, col: 1 }, '+')?;
+    store.set_offset(first_edge(), Offset::Start(0), 's')?;
     store.insert_hline(2, HorizontalLine::new(Some('-'), None, None, None))?;
+    store.insert_vline(2, VerticalLine::new(Some('|'), None, None, None))?;
+    Ok(store)
+}
+
+/// What becomes of the first offset of a store.
+fn write_the_first_offset(turn: &mut Turn) -> Result<Outcome, OutOfMemory> {
+    let mut store = Layers::new(turn.alloc());
+    turn.spend();
+    let returned = store.set_offset(first_edge(), Offset::End(3), 'x');
+    let new = Layers::new(turn.alloc());
+    Ok(Outcome::of(returned, store != new, store == new))
+}
+
+/// The edge above the first cell.
+fn first_edge() -> Place {
+    let (row, col, at) = (0, 0, 0);
+    Place::Horizontal { row, col, at }
+}
+
+/// What becomes of a call that writes into a store.
+fn write(
+    turn: &mut Turn,
+    call: fn(&mut Layers<char>) -> Result<(), OutOfMemory>,
+) -> Result<Outcome, OutOfMemory> {
+    let (mut store, mut changed) = (begun(turn.alloc())?, begun(turn.alloc())?);
+    let copy = store.keep(turn.alloc())?;
+    call(&mut changed)?;
+    turn.spend();
+    let returned = call(&mut store);
+    let is_done = store != copy && store == changed;
+    Ok(Outcome::of(returned, is_done, store == copy))
+}
+
+/// A border of each side and corner.
+fn frame() -> Border<char> {
+    Border::full('t', 'b', 'l', 'r', '1', '2', '3', '4')
+}
+
+/// Writes at places that have slots and at places that have none.
+fn writes(alloc: Global) -> Result<Vec<Write<char>>, OutOfMemory> {
+    let mut list = Vec::new(alloc);
+    for target in [
+        Target::Cell(Place::Cross { row: 9, col: 9 }),
+        Target::Horizontal(Position::new(0, 3), Offset::End(1)),
+        Target::Cell(Place::Cross { row: 1, col: 1 }),
+        Target::Cell(Place::Cross { row: 300, col: 9 }),
+    ] {
+        list.push(Write {
+            target: Some(target),
+            value: Some('x'),
+        })?;
+    }
+    Ok(list)
+}
+
+/// What becomes of a list of writes.
+fn write_all(turn: &mut Turn) -> Result<Outcome, OutOfMemory> {
+    let alloc = turn.alloc();
+    let (mut store, mut changed) = (begun(alloc)?, begun(alloc)?);
     let copy = store.keep(alloc)?;
-    Ok((store, copy))
+    changed.write_all(writes(alloc)?)?;
+    let writes = writes(alloc)?;
+    turn.spend();
+    let returned = store.write_all(writes);
+    let is_done = store != copy && store == changed;
+    Ok(Outcome::of(returned, is_done, store == copy))
 }
 
-/// A crossing in a row that has to be added, and in a slot that has to be added to it.
-fn write_in_the_table(store: &mut Layers<char>) -> Result<(), OutOfMemory> {
-    store.set_cell(Place::Cross { row: 9, col: 9 }, 'x')
+/// What becomes of two lists of writes in two stores.
+fn write_both(turn: &mut Turn) -> Result<Outcome, OutOfMemory> {
+    let alloc = turn.alloc();
+    let (mut first, mut second) = (begun(alloc)?, begun(alloc)?);
+    let copy = first.keep(alloc)?;
+    let (to_first, to_second) = (writes(alloc)?, writes(alloc)?);
+    turn.spend();
+    let returned = first.write_both(to_first, &mut second, to_second);
+    let is_done = first != copy && second == first;
+    let is_as_before = first == copy && second == copy;
+    Ok(Outcome::of(returned, is_done, is_as_before))
 }
 
-/// A crossing that has no slot.
-fn write_beside_the_table(store: &mut Layers<char>) -> Result<(), OutOfMemory> {
-    store.set_cell(Place::Cross { row: 256, col: 9 }, 'x')
+/// What becomes of the list of a border's writes.
+fn list_a_border(turn: &mut Turn) -> Result<Outcome, OutOfMemory> {
+    turn.spend();
+    let writes = border_writes(turn.alloc(), Entity::Row(1), (2, 2), &frame());
+    Ok(Outcome::of_value(writes.map(|list| !list.is_empty())))
 }
 
-/// A line whose slot has to be added.
-fn put_a_line(store: &mut Layers<char>) -> Result<(), OutOfMemory> {
-    store.insert_hline(40, HorizontalLine::new(None, Some('x'), None, Some('x')))
+/// What becomes of a copy of a store's horizontal lines.
+fn copy_horizontal(turn: &mut Turn) -> Result<Outcome, OutOfMemory> {
+    let store = begun(turn.alloc())?;
+    turn.spend();
+    Ok(Outcome::of_value(store.hlines().map(|lines| lines.len() == 1)))
 }
 
-/// A line that has no slot.
-fn put_a_far_line(store: &mut Layers<char>) -> Result<(), OutOfMemory> {
-    store.insert_hline(256, HorizontalLine::new(Some('x'), None, None, None))
+/// What becomes of a copy of a store's vertical lines.
+fn copy_vertical(turn: &mut Turn) -> Result<Outcome, OutOfMemory> {
+    let store = begun(turn.alloc())?;
+    turn.spend();
+    Ok(Outcome::of_value(store.vlines().map(|lines| lines.len() == 1)))
 }
 
-/// What became of a call, if the store could be begun.
-fn outcome(alloc: Global, call: Call) -> Option<&'static str> {
-    let Ok((mut store, copy)) = begun(alloc) else {
-        return None;
-    };
-    match call(&mut store) {
-        Ok(()) if store != copy => Some("done"),
-        Ok(()) => Some("NOTHING WRITTEN"),
-        Err(_) if store == copy => Some("refused, as before"),
-        Err(_) => Some("REFUSED AND CHANGED"),
-    }
+/// A store of colors with texts of their own.
+fn colors(alloc: Global) -> Result<Layers<ANSIBuf>, OutOfMemory> {
+    let mut store = Layers::new(alloc);
+    store.set_default(owned(alloc)?);
+    store.set_cell(Place::Cross { row: 1, col: 1 }, owned(alloc)?)?;
+    store.set_offset(first_edge(), Offset::End(0), owned(alloc)?)?;
+    Ok(store)
 }
 
-fn main(rt: HostRuntime) -> ExitCode {
-    let calls: [(&str, Call); 4] = [
-        ("write in the table", write_in_the_table),
-        ("write beside the table", write_beside_the_table),
-        ("put a line", put_a_line),
-        ("put a far line", put_a_far_line),
-    ];
-    for (name, call) in calls {
-        if let Some(outcome) = outcome(rt.alloc(), call) {
-            let _ = println!(rt; "{name}: {outcome}");
-        }
-    }
-    ExitCode::SUCCESS
+/// What becomes of a copy of a store.
+fn copy_store(turn: &mut Turn) -> Result<Outcome, OutOfMemory> {
+    let store = colors(turn.alloc())?;
+    turn.spend();
+    Ok(Outcome::of_value(store.keep(turn.alloc()).map(|copy| copy == store)))
+}
+
+/// A kept map of a number that has a slot, and of one that has none.
+fn kept(alloc: Global) -> Result<CountedMap<usize, char>, OutOfMemory> {
+    let mut kept = CountedMap::new(alloc);
+    kept.insert(1, 'a')?;
+    kept.insert(256, 'b')?;
+    Ok(kept)
+}
+
+/// What becomes of a number that is kept.
+fn keep_a_number(turn: &mut Turn, number: usize) -> Result<Outcome, OutOfMemory> {
+    let mut map = CountedMap::new(turn.alloc());
+    map.insert(1, 'a')?;
+    let copy = map.keep(turn.alloc())?;
+    turn.spend();
+    let returned = map.insert(number, 'x');
+    let is_done = map.read(number, &mut Probes::new()) == Some(&'x');
+    Ok(Outcome::of(returned, is_done && !map.is_same(&copy), map.is_same(&copy)))
+}
+
+/// What becomes of a copy of a kept map.
+fn copy_map(turn: &mut Turn) -> Result<Outcome, OutOfMemory> {
+    let map = kept(turn.alloc())?;
+    turn.spend();
+    Ok(Outcome::of_value(map.keep(turn.alloc()).map(|copy| copy.is_same(&map))))
+}
+
+/// What becomes of a copy of a kept map as an ordered one.
+fn list_map(turn: &mut Turn) -> Result<Outcome, OutOfMemory> {
+    let map = kept(turn.alloc())?;
+    turn.spend();
+    Ok(Outcome::of_value(map.copy(turn.alloc()).map(|copy| copy.len() == 2)))
+}
+
+/// What becomes of a slot that is filled.
+fn fill_a_slot(turn: &mut Turn) -> Result<Outcome, OutOfMemory> {
+    let mut slots = Slots::new(turn.alloc());
+    slots.put(3, 'a')?;
+    let copy = slots.keep(turn.alloc())?;
+    turn.spend();
+    let returned = slots.put(40, 'b');
+    Ok(Outcome::of(returned, !slots.is_same(&copy), slots.is_same(&copy)))
+}
+
+/// What becomes of a copy of slots.
+fn copy_slots(turn: &mut Turn) -> Result<Outcome, OutOfMemory> {
+    let mut slots = Slots::new(turn.alloc());
+    slots.put(3, 'a')?;
+    turn.spend();
+    Ok(Outcome::of_value(slots.keep(turn.alloc()).map(|copy| copy.is_same(&slots))))
+}
+
+/// A table with one slot that is filled.
+fn table(alloc: Global) -> Result<Table<char>, OutOfMemory> {
+    let mut table = Table::new(alloc);
+    table.put(Slot { row: 1, col: 3 }, 'a')?;
+    Ok(table)
+}
+
+/// What becomes of a slot of a table that is filled.
+fn fill_a_table(turn: &mut Turn) -> Result<Outcome, OutOfMemory> {
+    let mut table = table(turn.alloc())?;
+    let copy = table.keep(turn.alloc())?;
+    turn.spend();
+    let returned = table.put(Slot { row: 255, col: 767 }, 'b');
+    Ok(Outcome::of(returned, !table.is_same(&copy), table.is_same(&copy)))
+}
+
+/// What becomes of a copy of a table.
+fn copy_table(turn: &mut Turn) -> Result<Outcome, OutOfMemory> {
+    let table = table(turn.alloc())?;
+    turn.spend();
+    Ok(Outcome::of_value(table.keep(turn.alloc()).map(|copy| copy.is_same(&table))))
+}
+
+/// The writes of cells and offsets.
+pub(crate) fn cells() -> [Named; 5] {
+    [
+        (
+            "Layers<T>::set_cell (a slot)",
+            |turn| {
+                write(
+                    turn,
+                    |store| store.set_cell(Place::Cross { row: 9, col: 9 }, 'x'),
+                )
+            },
+        ),
+        (
+            "Layers<T>::set_cell (without a slot)",
+            |turn| {
+                write(
+                    turn,
+                    |store| store.set_cell(Place::Cross { row: 256, col: 9 }, 'x'),
+                )
+            },
+        ),
+        (
+            "Layers<T>::set_offset",
+            |turn| {
+                write(
+                    turn,
+                    |store| store.set_offset(first_edge(), Offset::End(3), 'x'),
+                )
+            },
+        ),
+        (
+            "Layers<T>::set_border",
+            |turn| { write(turn, |store| store.set_border(Position::new(4, 4), frame())) },
+        ),
+        (
+            "Layers<T>::set_entity_border",
+            |turn| {
+                write(
+                    turn,
+                    |store| store.set_entity_border(Entity::Global, (2, 2), &frame()),
+                )
+            },
+        ),
+    ]
+}
+
+/// The writes of lines.
+pub(crate) fn lines() -> [Named; 4] {
+    [
+        (
+            "Layers<T>::insert_hline (a slot)",
+            |turn| {
+                write(turn, |store| {
+                    store.insert_hline(40, HorizontalLine::new(None, Some('x'), None, Some('x')))
+                })
+            },
+        ),
+        (
+            "Layers<T>::insert_hline (without a slot)",
+            |turn| {
+                write(turn, |store| {
+                    store.insert_hline(256, HorizontalLine::new(Some('x'), None, None, None))
+                })
+            },
+        ),
+        (
+            "Layers<T>::insert_vline (a slot)",
+            |turn| {
+                write(turn, |store| {
+                    store.insert_vline(40, VerticalLine::new(None, Some('x'), None, Some('x')))
+                })
+            },
+        ),
+        (
+            "Layers<T>::insert_vline (without a slot)",
+            |turn| {
+                write(turn, |store| {
+                    store.insert_vline(256, VerticalLine::new(Some('x'), None, None, None))
+                })
+            },
+        ),
+    ]
+}
+
+/// Lists of writes, and what is copied out of a store.
+pub(crate) fn lists() -> [Named; 6] {
+    [
+        ("Layers<T>::write_all", write_all),
+        ("Layers<A>::write_both", write_both),
+        ("border_writes", list_a_border),
+        ("Layers<T>::hlines", copy_horizontal),
+        ("Layers<T>::vlines", copy_vertical),
+        ("<Layers<T> as Keep>::keep", copy_store),
+    ]
+}
+
+/// Kept maps, slots and tables of slots.
+pub(crate) fn maps() -> [Named; 8] {
+    [
+        (
+            "CountedMap<K, V>::insert (a slot)",
+            |turn| keep_a_number(turn, 40),
+        ),
+        (
+            "CountedMap<K, V>::insert (without a slot)",
+            |turn| keep_a_number(turn, 999),
+        ),
+        ("<CountedMap<K, V> as Keep>::keep", copy_map),
+        ("CountedMap<usize, V>::copy", list_map),
+        ("Slots<V>::put", fill_a_slot),
+        ("<Slots<V> as Keep>::keep", copy_slots),
+        ("Table<V>::put", fill_a_table),
+        ("<Table<V> as Keep>::keep", copy_table),
+    ]
 }

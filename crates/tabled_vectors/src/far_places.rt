@@ -1,5 +1,6 @@
 //! What shows about row and column 256, where the slots of a store end.
 
+use crate::tables::{ONE, config, prints};
 use std::alloc::Global;
 use tabled_config::SpannedConfig;
 use tabled_grid::{Border, HorizontalLine, LineOf, Place, Position, Probes};
@@ -29,9 +30,12 @@ fn shows(cfg: &SpannedConfig, place: Place, character: Option<char>) -> bool {
 
 /// Whether the four crossings show this.
 fn crossings_show(cfg: &SpannedConfig, character: Option<char>) -> bool {
-    CROSSINGS
-        .iter()
-        .all(|at| shows(cfg, crossing(*at), character))
+    for at in CROSSINGS.iter() {
+        if !shows(cfg, crossing(*at), character) {
+            return false;
+        }
+    }
+    true
 }
 
 /// Whether a line is drawn.
@@ -41,10 +45,8 @@ fn is_drawn(cfg: &SpannedConfig, line: LineOf) -> bool {
 
 /// Writes at a crossing alone: whether there was memory for it.
 fn write(cfg: &mut SpannedConfig, at: (usize, usize)) -> bool {
-    let corner = Border {
-        left_top_corner: Some('x'),
-        ..Border::empty()
-    };
+    let mut corner = Border::empty();
+    corner.left_top_corner = Some('x');
     cfg.set_border(at.into(), corner).is_ok()
 }
 
@@ -102,9 +104,25 @@ fn erased_is_new(alloc: Global) -> bool {
         }
 }
 
+/// Whether the cell after the last row that there can be has a border above and beside it alone, which draws the lines of its
+/// column.
+fn last_row_has_no_line_below(alloc: Global) -> bool {
+    let (row, col, at) = (usize::MAX, 0, 0);
+    let mut cfg = config(alloc);
+    let config = cfg.config_mut();
+    config
+        .set_border(Position { row, col }, Border::filled('x'))
+        .is_ok()
+        && config.get_char(Place::Horizontal { row, col, at }) == Some('x')
+        && config.get_char(Place::Cross { row, col: 1 }) == Some('x')
+        && config.get_char(Place::Cross { row: 0, col }).is_none()
+        && prints(alloc, &cfg, ONE, "  a  ")
+}
+
 #[test]
 fn places_show_on_both_sides_of_the_last_slots(rt: HostRuntime) {
     assert!(rt; crossings_show_until_erased(rt.alloc()));
     assert!(rt; lines_show(rt.alloc()));
     assert!(rt; erased_is_new(rt.alloc()));
+    assert!(rt; last_row_has_no_line_below(rt.alloc()));
 }

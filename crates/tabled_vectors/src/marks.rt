@@ -1,10 +1,10 @@
 //! What the places along a line show.
 
-use crate::tables::{ONE, TWO_COLUMNS, Table, apply, config, shape};
+use crate::tables::{ONE, TWO_COLUMNS, Table, apply, config, shape, sizes};
 use std::alloc::Global;
 use tabled_color::{BorderColor, Color};
-use tabled_config::{ColoredConfig, Mark, line_marks, line_runs};
-use tabled_grid::{FixedDimension, LineOf, OutOfMemory, Probes, Rows};
+use tabled_config::{ColoredConfig, Mark, Run, line_marks, line_runs};
+use tabled_grid::{LineOf, OutOfMemory, Probes, Rows};
 use tabled_options::LineText;
 use tabled_style::Style;
 use tabled_theme::Theme;
@@ -12,12 +12,6 @@ use tabled_theme::Theme;
 const RED: &str = "\u{1b}[31m";
 
 static NO_CELLS: Table = (&[], &[]);
-
-/// The sizes of a table whose rows are one line high.
-fn sizes(alloc: Global, table: Table) -> Result<FixedDimension, OutOfMemory> {
-    let heights = vec![in alloc; 1usize; table.1.len()]?;
-    Ok(FixedDimension::new(table.0.to_vec(alloc)?, heights))
-}
 
 /// Whether a mark has a color that begins in red.
 fn is_red(mark: &Mark<'_>) -> bool {
@@ -27,23 +21,28 @@ fn is_red(mark: &Mark<'_>) -> bool {
     }
 }
 
-/// The characters of a line's marks, with a full stop for none, and for each of them `r` where it is red, or else a full stop.
-fn drawn(
+/// Whether marks show these characters, with a full stop for none, and are red where there is an `r` in the second text.
+fn are_drawn(marks: &[Mark<'_>], characters: &str, colors: &str) -> bool {
+    for (mark, (character, color)) in marks.iter().zip(characters.chars().zip(colors.chars())) {
+        if mark.shown.unwrap_or('.') != character || is_red(mark) != (color == 'r') {
+            return false;
+        }
+    }
+    marks.len() == characters.len() && marks.len() == colors.len()
+}
+
+/// Whether a line's marks are drawn so, if there was memory for them.
+fn marks_are(
     alloc: Global,
     cfg: &ColoredConfig,
     table: Table,
     line: LineOf,
-) -> Result<(String, String), OutOfMemory> {
+    expected: (&str, &str),
+) -> Result<bool, OutOfMemory> {
     let dims = sizes(alloc, table)?;
     let shape = shape(table).into();
     let marks = line_marks(cfg.config(), &dims, shape, line, &mut Probes::new())?;
-    let mut characters = String::new(alloc);
-    let mut colors = String::new(alloc);
-    for mark in &marks {
-        characters.push(mark.shown.unwrap_or('.'))?;
-        colors.push(if is_red(mark) { 'r' } else { '.' })?;
-    }
-    Ok((characters, colors))
+    Ok(are_drawn(&marks, expected.0, expected.1))
 }
 
 /// Whether a line's marks are drawn so.
@@ -54,12 +53,7 @@ fn has_marks(
     line: LineOf,
     expected: (&str, &str),
 ) -> bool {
-    match drawn(alloc, cfg, table, line) {
-        Ok((characters, colors)) => {
-            characters.as_str() == expected.0 && colors.as_str() == expected.1
-        }
-        Err(OutOfMemory) => false,
-    }
+    marks_are(alloc, cfg, table, line, expected) == Ok(true)
 }
 
 /// Whether the edge of the top line of a frame is red, its corners are not, and the left line is not.
@@ -70,40 +64,41 @@ fn top_is_red(alloc: Global) -> bool {
         && apply(alloc, &mut cfg, ONE, red)
         && has_marks(alloc, &cfg, ONE, LineOf::Horizontal(0), ("+---+", ".rrr."))
         && has_marks(alloc, &cfg, ONE, LineOf::Vertical(0), ("+|+", "..."))
-        && has_runs(alloc, &cfg, ONE, LineOf::Horizontal(0), "+ --- + ")
+        && runs_are(alloc, &cfg, ONE, LineOf::Horizontal(0), "+ --- +") == Ok(true)
 }
 
-/// The runs of a line: the character of each, once for each of its places, and a space after it.
-fn runs(
-    alloc: Global,
-    cfg: &ColoredConfig,
-    table: Table,
-    line: LineOf,
-) -> Result<String, OutOfMemory> {
-    let dims = sizes(alloc, table)?;
-    let shape = shape(table).into();
-    let mut text = String::new(alloc);
-    for run in &line_runs(cfg.config(), &dims, shape, line, &mut Probes::new())? {
-        for _ in 0..run.count {
-            text.push(run.mark.shown.unwrap_or('.'))?;
+/// Whether a run shows these characters, one for each of its places.
+fn is_run(run: &Run<'_>, characters: &str) -> bool {
+    for character in characters.chars() {
+        if run.mark.shown != Some(character) {
+            return false;
         }
-        text.push(' ')?;
     }
-    Ok(text)
+    run.count == characters.len()
 }
 
-/// Whether the runs of a line are these.
-fn has_runs(
+/// Whether runs show these characters, with a space between two of them.
+fn are_run(runs: &[Run<'_>], expected: &str) -> bool {
+    for (run, characters) in runs.iter().zip(expected.split(' ')) {
+        if !is_run(run, characters) {
+            return false;
+        }
+    }
+    runs.len() == expected.split(' ').count()
+}
+
+/// Whether the runs of a line are these, if there was memory for them.
+fn runs_are(
     alloc: Global,
     cfg: &ColoredConfig,
     table: Table,
     line: LineOf,
     expected: &str,
-) -> bool {
-    match runs(alloc, cfg, table, line) {
-        Ok(text) => text.as_str() == expected,
-        Err(OutOfMemory) => false,
-    }
+) -> Result<bool, OutOfMemory> {
+    let dims = sizes(alloc, table)?;
+    let shape = shape(table).into();
+    let runs = line_runs(cfg.config(), &dims, shape, line, &mut Probes::new())?;
+    Ok(are_run(&runs, expected))
 }
 
 /// A top line and a vertical line, which show nothing where they cross.

@@ -7,7 +7,7 @@ use crate::tables::{
 use std::alloc::Global;
 use tabled_color::Color;
 use tabled_config::{ColoredConfig, TableOption};
-use tabled_grid::{Combine, FixedDimension, Segment, Shape};
+use tabled_grid::{Columns, Combine, FixedDimension, Rows, Segment, Shape};
 use tabled_options::Highlight;
 use tabled_style::{Border, Style};
 
@@ -127,6 +127,21 @@ fn cells_that_touch_share_an_outline(rt: HostRuntime) {
             " a  b \n c  d "
         )
     );
+}
+
+/// Four cells of which the first row and the first column are outlined.
+static ROW_AND_COLUMN: &str = "*********\n* a   b *\n*   *****\n* c * d  \n*****    ";
+
+#[test]
+fn a_row_a_column_and_a_cell_outside_have_one_outline(rt: HostRuntime) {
+    let target = Rows::one(0).and(Columns::one(0)).and((9, 9)).and((0, 0));
+    let once = Highlight::outline(&target, '*');
+    assert!(rt; prints_with(rt.alloc(), once, FOUR, ROW_AND_COLUMN));
+    let (first, second) = (
+        Highlight::outline(&target, '*'),
+        Highlight::outline(&target, '*'),
+    );
+    assert!(rt; prints_with_both(rt.alloc(), first, second, FOUR, ROW_AND_COLUMN));
 }
 
 /// The same with a character of its own where cells touch at a corner alone.

@@ -46,7 +46,7 @@ pub(crate) fn shape(table: Table) -> Shape {
 }
 
 /// The sizes of a table.
-fn sizes(alloc: Global, table: Table) -> Result<FixedDimension, OutOfMemory> {
+pub(crate) fn sizes(alloc: Global, table: Table) -> Result<FixedDimension, OutOfMemory> {
     let heights = vec![in alloc; 1usize; table.1.len()]?;
     let widths = table.0.to_vec(alloc)?;
     Ok(FixedDimension::new(widths, heights))

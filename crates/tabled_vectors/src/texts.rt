@@ -16,7 +16,7 @@ use tabled_settings::AlignmentHorizontal;
 use tabled_style::Style;
 use tabled_theme::Theme;
 
-/// A text, how it is aligned, moved and limited, and the top line that it makes.
+/// A text, how it is aligned, moved and limited, and the table with the top line that it makes.
 type Title = (
     &'static str,
     Option<Alignment>,
@@ -39,23 +39,51 @@ const FAR_BACK: Offset = Offset::End(usize::MAX);
 
 const LONG: &str = "ABCDEFGHIJKLMNOPQRST";
 
-const UNTOUCHED: &str = "+-------------+";
+/// The table with this top line.
+macro_rules! titled {
+    ($top:literal) => {
+        concat!(
+            $top,
+            "\n| &str        |\n+-------------+\n| Hello World |\n+-------------+"
+        )
+    };
+}
+
+const UNTOUCHED: &str = titled!("+-------------+");
 
 static TITLES: [Title; 14] = [
-    ("TABLE", CENTER, HERE, None, "+----TABLE----+"),
+    ("TABLE", CENTER, HERE, None, titled!("+----TABLE----+")),
     ("TABLE", CENTER, FAR, None, UNTOUCHED),
-    ("TABLE", None, Offset::Start(3), None, "+--TABLE------+"),
-    ("+-.table", None, HERE, Some(3), "+-.-----------+"),
+    (
+        "TABLE",
+        None,
+        Offset::Start(3),
+        None,
+        titled!("+--TABLE------+"),
+    ),
+    ("+-.table", None, HERE, Some(3), titled!("+-.-----------+")),
     (LONG, RIGHT, HERE, None, UNTOUCHED),
-    (LONG, LEFT, HERE, None, "ABCDEFGHIJKLMNO"),
-    ("TABLE", RIGHT, Offset::End(3), None, "+------------TA"),
-    ("TABLE", None, Offset::End(3), None, "+-----------TAB"),
-    ("TABLE", LEFT, FAR_BACK, None, "TABLE---------+"),
+    (LONG, LEFT, HERE, None, titled!("ABCDEFGHIJKLMNO")),
+    (
+        "TABLE",
+        RIGHT,
+        Offset::End(3),
+        None,
+        titled!("+------------TA"),
+    ),
+    (
+        "TABLE",
+        None,
+        Offset::End(3),
+        None,
+        titled!("+-----------TAB"),
+    ),
+    ("TABLE", LEFT, FAR_BACK, None, titled!("TABLE---------+")),
     ("TABLE", None, FAR_BACK, None, UNTOUCHED),
     ("TABLE", RIGHT, FAR, None, UNTOUCHED),
     ("TABLE", RIGHT, FAR_BACK, None, UNTOUCHED),
     ("TABLE", None, HERE, Some(0), UNTOUCHED),
-    ("漢字", CENTER, HERE, None, "+----漢字-------+"),
+    ("漢字", CENTER, HERE, None, titled!("+----漢字-------+")),
 ];
 
 /// The text for the first row.
@@ -70,13 +98,6 @@ fn title_of(alloc: Global, title: Title) -> Result<LineText<FirstRow>, OutOfMemo
         Some(limit) => Ok(text.limit(limit)),
         None => Ok(text),
     }
-}
-
-/// The table with this top line.
-fn titled(alloc: Global, top: &str) -> Result<String, OutOfMemory> {
-    let mut text = String::from_str(alloc, top)?;
-    text.push_str("\n| &str        |\n+-------------+\n| Hello World |\n+-------------+")?;
-    Ok(text)
 }
 
 /// Whether a table in a style is printed so after an option, if there was memory for it.
@@ -99,13 +120,8 @@ where
 
 /// Whether a title makes its top line, and nothing else.
 fn makes_its_top_line(alloc: Global, title: Title) -> bool {
-    match titled(alloc, title.4) {
-        Ok(text) => {
-            let option = title_of(alloc, title);
-            prints_in(alloc, Style::ascii(), option, GREETING, text.as_str())
-        }
-        Err(OutOfMemory) => false,
-    }
+    let option = title_of(alloc, title);
+    prints_in(alloc, Style::ascii(), option, GREETING, title.4)
 }
 
 #[test]
@@ -135,21 +151,16 @@ TABLE---------+
 | Hello World |
 +-------------+";
 
-/// The same without a text.
-static PLAIN: &str = "+-------------+
-| &str        |
-+-------------+
-| Hello World |
-+-------------+";
-
 #[test]
 fn a_text_stands_above_the_row_that_is_named(rt: HostRuntime) {
     let alloc = rt.alloc();
     assert!(rt; prints_above(alloc, "TABLE", Rows::one(2), CLOSED));
-    assert!(rt; prints_above(alloc, "TABLE", Rows::one(3), PLAIN));
-    assert!(rt; prints_above(alloc, "TABLE", Rows::one(usize::MAX), PLAIN));
+    assert!(rt; prints_above(alloc, "TABLE", Rows::one(3), UNTOUCHED));
+    assert!(rt; prints_above(alloc, "TABLE", Rows::one(usize::MAX), UNTOUCHED));
     let above_the_last = LineText::new(alloc, "TABLE", Rows::last());
     assert!(rt; prints_in(alloc, Style::ascii(), above_the_last, GREETING, INNER));
+    let before_the_first = LineText::new(alloc, "TABLE", Rows::last().offset(usize::MAX));
+    assert!(rt; prints_in(alloc, Style::ascii(), before_the_first, GREETING, UNTOUCHED));
 }
 
 /// The table with a text down both sides.

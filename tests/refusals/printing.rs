@@ -1,0 +1,278 @@
+//! The printer, the marks of lines, and tables of texts.
+
+use crate::sample::{Sample, is_same};
+use crate::turn::{Named, Outcome, Turn};
+use std::alloc::Global;
+use tabled::{TableError, TextTable};
+use tabled_config::{
+    CellRows, ColoredConfig, PrintError, line_marks, line_runs, print_plain, print_rows,
+};
+use tabled_grid::{Cell, LineOf, OutOfMemory, Probes};
+use tabled_object::Rows;
+use tabled_options::LineText;
+use tabled_style::{Border, HorizontalLine, Style};
+
+/// The texts of rows.
+fn cells_of(alloc: Global, rows: &[&[&str]]) -> Result<Vec<Vec<String>>, OutOfMemory> {
+    let mut cells = Vec::new(alloc);
+    for texts in rows {
+        let mut row = Vec::new(alloc);
+        for text in *texts {
+            row.push(String::from_str(alloc, text)?)?;
+        }
+        cells.push(row)?;
+    }
+    Ok(cells)
+}
+
+/// What becomes of the printer over these cells, which returns this where memory is not refused.
+fn print(
+    turn: &mut Turn,
+    rows: &[&[&str]],
+    expected: Result<(), PrintError>,
+) -> Result<Outcome, OutOfMemory> {
+    let sample = Sample::new(turn.alloc())?;
+    let copy = sample.config(turn.alloc())?;
+    let cells = cells_of(turn.alloc(), rows)?;
+    let mut text = String::from_str(turn.alloc(), "before:")?;
+    turn.spend();
+    let returned = print_plain(&mut text, sample.cfg.config(), &sample.dims, (2, 2), &cells);
+    let is_left = text.as_str() == "before:" && is_same(&sample.cfg, &copy);
+    match returned {
+        Ok(()) if expected.is_ok() && text.as_str().starts_with("before:") => {
+            Ok(Outcome::of::<(), OutOfMemory>(Ok(()), text.len() > 40, false))
+        }
+        Err(fault) if Err(fault) == expected && is_left => Ok(Outcome::Named),
+        Err(PrintError::OutOfMemory) if expected.is_ok() && is_left => Ok(Outcome::AsBefore),
+        _ => Ok(Outcome::Changed),
+    }
+}
+
+/// What becomes of the printer over cells that are known to fit.
+fn print_fitting(turn: &mut Turn) -> Result<Outcome, OutOfMemory> {
+    let sample = Sample::new(turn.alloc())?;
+    let cells = cells_of(turn.alloc(), &[&[" a ", " b "], &[" c ", " d "]])?;
+    let mut text = String::from_str(turn.alloc(), "before:")?;
+    turn.spend();
+    let rows = &cells.as_slice();
+    let returned = print_rows(&mut text, sample.cfg.config(), &sample.dims, (2, 2), rows);
+    Ok(Outcome::of(returned, text.len() > 40, text.as_str() == "before:"))
+}
+
+/// What becomes of a row that is lent.
+fn lend_a_row(turn: &mut Turn) -> Result<Outcome, OutOfMemory> {
+    let cells = cells_of(turn.alloc(), &[&[" a ", " b "], &[" c ", " d "]])?;
+    let mut room = Vec::new(turn.alloc());
+    turn.spend();
+    let rows = &cells.as_slice();
+    let lent = rows.row(1, &mut room);
+    Ok(Outcome::of_value(lent.map(|row| row.len() == 2)))
+}
+
+/// What becomes of the marks of a line.
+fn mark_a_line(turn: &mut Turn) -> Result<Outcome, OutOfMemory> {
+    let sample = Sample::new(turn.alloc())?;
+    turn.spend();
+    let (cfg, line) = (sample.cfg.config(), LineOf::Horizontal(1));
+    let marks = line_marks(cfg, &sample.dims, (2, 2), line, &mut Probes::new());
+    Ok(Outcome::of_value(marks.map(|marks| marks.len() == 9)))
+}
+
+/// What becomes of the runs of a line.
+fn list_runs(turn: &mut Turn) -> Result<Outcome, OutOfMemory> {
+    let sample = Sample::new(turn.alloc())?;
+    turn.spend();
+    let (cfg, line) = (sample.cfg.config(), LineOf::Vertical(1));
+    let runs = line_runs(cfg, &sample.dims, (2, 2), line, &mut Probes::new());
+    Ok(Outcome::of_value(runs.map(|runs| !runs.is_empty())))
+}
+
+const FITTING: &[&[&str]] = &[&[" a ", " b "], &[" c ", " d "]];
+
+const TOO_WIDE: &[&[&str]] = &[&[" a ", " b "], &[" c ", " dd "]];
+
+const SHORT: &[&[&str]] = &[&[" a ", " b "], &[" c "]];
+
+/// The printer, and the marks of lines.
+pub(crate) fn plain() -> [Named; 7] {
+    [
+        ("print_plain", |turn| print(turn, FITTING, Ok(()))),
+        (
+            "print_plain (a cell too wide)",
+            |turn| { print(turn, TOO_WIDE, Err(PrintError::Width(1, 1))) },
+        ),
+        (
+            "print_plain (a row too short)",
+            |turn| { print(turn, SHORT, Err(PrintError::ColumnCount(1))) },
+        ),
+        ("print_rows", print_fitting),
+        ("<&[Vec<String>] as CellRows>::row", lend_a_row),
+        ("line_marks", mark_a_line),
+        ("line_runs", list_runs),
+    ]
+}
+
+/// A table of texts with borders of its own, and its configuration.
+fn table(alloc: Global) -> Result<(TextTable, ColoredConfig), OutOfMemory> {
+    match drawn(alloc) {
+        Ok(table) => {
+            let copy = tabled_grid::Keep::keep(table.config(), alloc)?;
+            Ok((table, copy))
+        }
+        Err(_) => Err(OutOfMemory),
+    }
+}
+
+/// A table of texts with a style and a border of one cell.
+fn drawn(alloc: Global) -> Result<TextTable, TableError> {
+    let mut table = TextTable::new(alloc, &[&["a", "b"], &["c", "d"]])?;
+    table.with(Style::ascii())?;
+    table.modify(Cell::new(1, 0), Border::new().top('='))?;
+    Ok(table)
+}
+
+/// What becomes of a table that is made.
+fn make(turn: &mut Turn) -> Result<Outcome, OutOfMemory> {
+    turn.spend();
+    let made = TextTable::new(turn.alloc(), &[&["a", "bb"], &["c", "d"]]);
+    Ok(of_table(made))
+}
+
+/// What becomes of a table of rows that are given away.
+fn make_of_rows(turn: &mut Turn) -> Result<Outcome, OutOfMemory> {
+    let rows = cells_of(turn.alloc(), &[&["a", "bb"], &["c", "d"]])?;
+    turn.spend();
+    Ok(of_table(TextTable::from_rows(turn.alloc(), rows)))
+}
+
+/// What became of a table whose second column is wider: it is refused for memory alone.
+fn of_table(made: Result<TextTable, TableError>) -> Outcome {
+    match made {
+        Ok(table) => Outcome::of_value::<OutOfMemory>(Ok(
+            table.sizes().widths.as_slice() == [3, 4].as_slice(),
+        )),
+        Err(TableError::OutOfMemory) => Outcome::AsBefore,
+        Err(_) => Outcome::Changed,
+    }
+}
+
+/// What becomes of a table of unequal rows, of which the first is named.
+fn make_of_unequal_rows(turn: &mut Turn) -> Result<Outcome, OutOfMemory> {
+    let rows = cells_of(turn.alloc(), &[&["a", "b"], &["c"]])?;
+    turn.spend();
+    match TextTable::from_rows(turn.alloc(), rows) {
+        Err(TableError::UnequalRows(1)) => Ok(Outcome::Named),
+        _ => Ok(Outcome::Changed),
+    }
+}
+
+/// What becomes of an option on the table, by a call that lends the table again, or by one that does not.
+fn apply(turn: &mut Turn, is_lent: bool) -> Result<Outcome, OutOfMemory> {
+    let (mut table, copy) = table(turn.alloc())?;
+    let style = Style::rounded().horizontals([(1, HorizontalLine::filled('#'))]);
+    turn.spend();
+    let returned = if is_lent {
+        table.with(style).map(|_| ())
+    } else {
+        table.apply(style)
+    };
+    let is_as_before = is_same(table.config(), &copy);
+    Ok(Outcome::of(returned, !is_as_before, is_as_before))
+}
+
+/// What becomes of an option on a cell, by a call that lends the table again, or by one that does not.
+fn apply_to(turn: &mut Turn, is_lent: bool) -> Result<Outcome, OutOfMemory> {
+    let (mut table, copy) = table(turn.alloc())?;
+    turn.spend();
+    let returned = if is_lent {
+        table
+            .modify(Cell::new(0, 1), Border::filled('#'))
+            .map(|_| ())
+    } else {
+        table.apply_to(&Cell::new(0, 1), &Border::filled('#'))
+    };
+    let is_as_before = is_same(table.config(), &copy);
+    Ok(Outcome::of(returned, !is_as_before, is_as_before))
+}
+
+/// The text of the table.
+const DRAWN: &str = "+---+---+\n| a | b |\n+===+---+\n| c | d |\n+---+---+";
+
+/// What becomes of a text that is returned.
+fn to_text(turn: &mut Turn) -> Result<Outcome, OutOfMemory> {
+    let (table, _copy) = table(turn.alloc())?;
+    turn.spend();
+    match table.to_text() {
+        Ok(text) => Ok(Outcome::of_value::<OutOfMemory>(Ok(text.as_str() == DRAWN))),
+        Err(PrintError::OutOfMemory) => Ok(Outcome::AsBefore),
+        Err(_) => Ok(Outcome::Changed),
+    }
+}
+
+/// What becomes of a text that is appended.
+fn append_to(turn: &mut Turn) -> Result<Outcome, OutOfMemory> {
+    let (table, _copy) = table(turn.alloc())?;
+    let mut text = String::from_str(turn.alloc(), "before:")?;
+    turn.spend();
+    let returned = table.append_to(&mut text);
+    let is_done = text.as_str().strip_prefix("before:") == Some(DRAWN);
+    Ok(Outcome::of(returned, is_done, text.as_str() == "before:"))
+}
+
+/// A writer that counts what it is given.
+#[derive(Drop)]
+struct Counts {
+    bytes: usize,
+}
+
+impl std::fmt::Write for Counts {
+    fn write_str(&mut self, text: &str) -> std::fmt::Result {
+        self.bytes = self.bytes.saturating_add(text.len());
+        Ok(())
+    }
+}
+
+/// What becomes of a text that is written.
+fn write_to(turn: &mut Turn) -> Result<Outcome, OutOfMemory> {
+    let (table, _copy) = table(turn.alloc())?;
+    let mut writer = Counts { bytes: 0 };
+    turn.spend();
+    let returned = table.write_to(&mut writer);
+    match returned {
+        Err(TableError::OutOfMemory) if writer.bytes == 0 => Ok(Outcome::AsBefore),
+        Ok(()) if writer.bytes == DRAWN.len() => Ok(Outcome::Done),
+        Ok(()) => Ok(Outcome::NotDone),
+        Err(_) => Ok(Outcome::Changed),
+    }
+}
+
+/// What becomes of a text on a line of the table.
+fn title(turn: &mut Turn) -> Result<Outcome, OutOfMemory> {
+    let alloc = turn.alloc();
+    let (mut table, copy) = table(alloc)?;
+    let (mut changed, _copy) = self::table(alloc)?;
+    changed.with(LineText::new(alloc, "AB", Rows::first())?)?;
+    let title = LineText::new(alloc, "AB", Rows::first())?;
+    turn.spend();
+    let returned = table.with(title).map(|_| ());
+    let is_done = is_same(table.config(), changed.config());
+    let is_as_before = is_same(table.config(), &copy);
+    Ok(Outcome::of(returned, is_done, is_as_before))
+}
+
+/// Tables of texts.
+pub(crate) fn tables() -> [Named; 11] {
+    [
+        ("TextTable::new", make),
+        ("TextTable::from_rows", make_of_rows),
+        ("TextTable::from_rows (unequal rows)", make_of_unequal_rows),
+        ("TextTable::with", |turn| apply(turn, true)),
+        ("TextTable::with (a text on a line)", title),
+        ("TextTable::apply", |turn| apply(turn, false)),
+        ("TextTable::modify", |turn| apply_to(turn, true)),
+        ("TextTable::apply_to", |turn| apply_to(turn, false)),
+        ("TextTable::to_text", to_text),
+        ("TextTable::append_to", append_to),
+        ("TextTable::write_to", write_to),
+    ]
+}
