@@ -1,0 +1,11 @@
+//! The cells of a table as they are printed: how a text stands in its column and its row.
+//!
+//! `docs/DEFINITIONS.md` explains the words of the contracts.
+#![tactic(auto)]
+
+mod place;
+mod placement;
+mod trim;
+
+pub use place::placed_text;
+pub use placement::Placement;
