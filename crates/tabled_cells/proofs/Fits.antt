@@ -23,7 +23,7 @@ use Rattle.tabled_config.specs.Pieces.{first_piece, after_first_piece}
 use Rattle.tabled_config.proofs.PieceLemmas.{first_of_pieces, rest_of_pieces}
 use Rattle.tabled_cells.specs.declared.placement.Placement.{Placement}
 use Rattle.tabled_cells.specs.Trimmed.{without_first, without_ends, is_space, is_blank, line_shown, lines_kept, lines_shown}
-use Rattle.tabled_cells.specs.Placed.{free_before, free_above, times, filled, fill_of, greatest, placed_line, aligned_width, empty_line, around, placed_lines, placed}
+use Rattle.tabled_cells.specs.Placed.{line_parts, free_before, free_above, times, filled, fill_of, greatest, placed_line, aligned_width, empty_line, around, placed_lines, placed}
 use Rattle.tabled_cells.proofs.Trimming.{passes_first}
 use Rattle.tabled_cells.proofs.Writing.{IsAscii-spaces, times_spaces}
 
@@ -186,7 +186,7 @@ wide_by character width before after line true e spaces =
 wide_by character width before after line false e spaces = ap (λ b. width_of_text (filled (if b then character else 32) before after line)) e ∙ spaces
 
 wide_line : (how : Placement) (width aligned : ℕ) (line : List ℕ) → IsUtf8 line → width_of_text line ≤ aligned → aligned + 2 ≤ width → width_of_text (placed_line how width aligned line) ≡ width
-unfolding placed_line
+unfolding placed_line line_parts
 wide_line how width aligned line u narrow room =
     let before : ℕ = free_before how.alignment_horizontal (width - 2 - aligned) in
     let after : ℕ = width - 2 - before - width_of_text line in
@@ -229,7 +229,7 @@ filled_lacks character before after line other lack =
     (All-cons IsOther 32 [] refl (All-nil IsOther))
 
 placed_lacks : (how : Placement) (width aligned : ℕ) (line : List ℕ) → Lacks line → Lacks (placed_line how width aligned line)
-unfolding placed_line
+unfolding placed_line line_parts
 placed_lacks how width aligned line lack =
     let before : ℕ = free_before how.alignment_horizontal (width - 2 - aligned) in
     let after : ℕ = width - 2 - before - width_of_text line in

@@ -4,6 +4,7 @@ use Rattle.std.specs.List.{join_with_byte}
 use Rattle.tabled_settings.specs.declared.alignment.AlignmentHorizontal.{AlignmentHorizontal}
 use Rattle.tabled_settings.specs.declared.alignment.AlignmentVertical.{AlignmentVertical}
 use Rattle.tabled_config.specs.Texts.{width_of_text}
+use Rattle.tabled_cells.specs.declared.filling.LineParts.{LineParts}
 use Rattle.tabled_cells.specs.declared.placement.Placement.{Placement}
 use Rattle.tabled_cells.specs.Trimmed.{lines_shown}
 
@@ -36,13 +37,17 @@ fill_of character width before after line =
 abbrev pub greatest : List ℕ → ℕ
 greatest = fold max 0
 
--- a line in a column, where something as wide as `aligned` is aligned: the line stands where that begins
-unfoldable pub placed_line : Placement → ℕ → ℕ → List ℕ → List ℕ
-placed_line how width aligned line =
+-- how a line in a column is filled, where something as wide as `aligned` is aligned: the line stands where that begins
+unfoldable pub line_parts : Placement → ℕ → ℕ → List ℕ → LineParts
+line_parts how width aligned line =
     let room = width - 2 in
     let before = free_before how.alignment_horizontal (room - aligned) in
     let after = room - before - width_of_text line in
-    filled (fill_of how.justification width before after line) before after line
+    record { before = before; after = after; fill = fill_of how.justification width before after line }
+
+-- such a line
+unfoldable pub placed_line : Placement → ℕ → ℕ → List ℕ → List ℕ
+placed_line how width aligned line = let parts = line_parts how width aligned line in filled parts.fill parts.before parts.after line
 
 -- how wide what is aligned is: a line by itself, or all of them as one, which is as wide as the widest
 abbrev pub aligned_width : Placement → List (List ℕ) → List ℕ → ℕ

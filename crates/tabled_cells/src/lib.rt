@@ -3,9 +3,12 @@
 //! `docs/DEFINITIONS.md` explains the words of the contracts.
 #![tactic(auto)]
 
+mod filling;
 mod place;
 mod placement;
 mod trim;
 
+pub use filling::{LineParts, aligned, line_parts, push_times, widest};
 pub use place::placed_text;
-pub use placement::Placement;
+pub use placement::{Placement, free_above};
+pub use trim::lines_shown;

@@ -1,69 +1,15 @@
 //! The text of a cell as it is printed.
 
-ghost use Rattle.std.specs.Prelude.{◌≡◌, ◌≢◌, ◌++◌, ℕ, false, if◌then◌else◌, List, map, replicate, string_bytes, IfOk, OnOk};
+ghost use Rattle.std.specs.Prelude.{◌≡◌, ◌++◌, ℕ, List, map, replicate, string_bytes, IfOk, OnOk};
 ghost use Rattle.std.specs.List.{flat_map, join_with_byte};
-ghost use Rattle.tabled_settings.specs.declared.alignment.AlignmentHorizontal.{AlignmentHorizontal as Side};
 ghost use Rattle.tabled_config.specs.Pieces.{lent};
-ghost use Rattle.tabled_config.specs.Texts.{width_of_text};
-ghost use Rattle.tabled_cells.specs.Placed.{times, filled, fill_of, greatest, placed_line, aligned_width, empty_line, around, ended, placed};
+ghost use Rattle.tabled_cells.specs.Placed.{placed_line, aligned_width, empty_line, around, ended, placed};
 
 use crate::Placement;
-use crate::placement::{free_above, free_before};
+use crate::filling::{aligned, line_parts, push_filled, push_times, widest};
+use crate::placement::free_above;
 use crate::trim::lines_shown;
 use std::alloc::{AllocError, Global};
-use tabled_settings::AlignmentHorizontal;
-use unicode_width::UnicodeWidthStr;
-
-/// Writes a character so many times.
-fn push_times(cell: &mut String, count: usize, character: char) -> Result<(), AllocError>
-    ensures { OnOk result (string_bytes cell.new ≡ string_bytes cell.old ++ times count character) }
-{
-    for _ in 0..count {
-        cell.push(character)?;
-    }
-    Ok(())
-}
-
-/// Writes a line between two spaces, with so many of a character before it and after it.
-fn push_filled(
-    cell: &mut String,
-    character: char,
-    before: usize,
-    after: usize,
-    line: &str,
-) -> Result<(), AllocError>
-    ensures { OnOk result (string_bytes cell.new ≡ string_bytes cell.old ++ filled character before after line.now) }
-{
-    cell.push(' ')?;
-    push_times(cell, before, character)?;
-    cell.push_str(line)?;
-    push_times(cell, after, character)?;
-    cell.push(' ')?;
-    Ok(())
-}
-
-/// The character that fills a line beside it: the one that is set, if the line is then as wide as its column.
-fn fill_of(
-    alloc: Global,
-    character: char,
-    width: usize,
-    before: usize,
-    after: usize,
-    line: &str,
-) -> Result<char, AllocError>
-    ensures { IfOk result (λ fill. fill ≡ fill_of character width before after line.now) }
-{
-    if character == ' ' || character == '\n' {
-        return Ok(' ');
-    }
-    let mut tried = String::new(alloc);
-    push_filled(&mut tried, character, before, after, line)?;
-    if tried.as_str().width() == width {
-        Ok(character)
-    } else {
-        Ok(' ')
-    }
-}
 
 /// Writes a line in a column, where something as wide as `aligned` is aligned.
 fn push_line(
@@ -76,32 +22,8 @@ fn push_line(
 ) -> Result<(), AllocError>
     ensures { OnOk result (string_bytes cell.new ≡ string_bytes cell.old ++ placed_line how.now width aligned line.now) }
 {
-    let room = width.saturating_sub(2);
-    let before = free_before(how.alignment_horizontal, room.saturating_sub(aligned));
-    let after = room.saturating_sub(before).saturating_sub(line.width());
-    let fill = fill_of(alloc, how.justification, width, before, after, line)?;
-    push_filled(cell, fill, before, after, line)
-}
-
-/// How wide the lines are that are aligned as one, where that is asked for.
-fn widest(how: &Placement, lines: &[&str]) -> usize
-    ensures { how.now.line_alignment ≡ false → how.now.alignment_horizontal ≢ Side.Left → result ≡ greatest (map width_of_text (lent lines.now)) }
-{
-    if how.line_alignment || how.alignment_horizontal == AlignmentHorizontal::Left {
-        return 0;
-    }
-    lines.iter().map(|line| line.width()).max().unwrap_or(0)
-}
-
-/// How wide what is aligned is: a line by itself, or all lines as one.
-fn aligned(how: &Placement, widest: usize, line: &str) -> usize
-    ensures { result ≡ (if how.now.line_alignment then width_of_text line.now else widest) }
-{
-    if how.line_alignment {
-        line.width()
-    } else {
-        widest
-    }
+    let parts = line_parts(alloc, how, width, aligned, line)?;
+    push_filled(cell, parts.fill, parts.before, parts.after, line)
 }
 
 /// Writes the lines of the text of a cell, each with a line feed.

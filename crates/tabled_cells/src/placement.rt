@@ -54,7 +54,7 @@ pub(crate) fn free_before(alignment: AlignmentHorizontal, free: usize) -> usize
 }
 
 /// How many of the free lines stand above the text.
-pub(crate) fn free_above(alignment: AlignmentVertical, free: usize) -> usize
+pub fn free_above(alignment: AlignmentVertical, free: usize) -> usize
     ensures { result ≡ parts.free_above alignment free }
 {
     match alignment {

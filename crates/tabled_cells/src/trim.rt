@@ -111,7 +111,7 @@ fn cut_into<'a>(lines: &mut Vec<&'a str>, how: &Placement, text: &'a str) -> Res
 }
 
 /// The lines of a text that are shown, which stand in `room`.
-pub(crate) fn lines_shown<'a, 'b>(
+pub fn lines_shown<'a, 'b>(
     room: &'b mut Vec<&'a str>,
     how: &Placement,
     text: &'a str,

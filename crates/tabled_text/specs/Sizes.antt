@@ -2,7 +2,7 @@
 use Rattle.std.specs.Prelude.{ℕ, ◌+◌, ◌==◌, if◌then◌else◌, Option, Some, None, List, [], ◌∷◌, map, length, slice_index_or}
 use Rattle.tabled_object.specs.Entities.{below}
 use Rattle.tabled_config.specs.Texts.{Table, pieces, width_of_text}
-use Rattle.tabled_cells.specs.Placed.{greatest}
+pub use Rattle.tabled_cells.specs.Placed.{greatest}
 
 -- how many columns a table has: as many as its first row has cells
 abbrev pub column_count : Table → ℕ

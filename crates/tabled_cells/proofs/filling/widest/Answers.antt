@@ -6,7 +6,7 @@ use Rattle.std.proofs.lemmas.Iterator.Consumers.{max_from_yields_List}
 use Rattle.tabled_config.specs.Texts.{width_of_text}
 use Rattle.tabled_cells.specs.Placed.{greatest}
 use Rattle.tabled_cells.proofs.Measuring.{greatest_found, mapped_twice}
-use Rattle.tabled_cells.proofs.place.widest.Goals as goal
+use Rattle.tabled_cells.proofs.filling.widest.Goals as goal
 
 pub returns : goal.returns
 returns c = λ together aside.
