@@ -20,6 +20,21 @@ fn first_table_is_drawn(rt: HostRuntime) -> Result<(), Fail> {
 }
 
 #[test]
+fn numbers_at_the_right_are_drawn(rt: HostRuntime) -> Result<(), Fail> {
+    let text = recipes::numbers_at_the_right(rt.alloc())?;
+    let picture = "
+╭───────┬─────╮
+│ name  │ age │
+├───────┼─────┤
+│ Alice │  30 │
+│ Bob   │   7 │
+╰───────┴─────╯
+";
+    assert!(rt; is_picture(text.as_str(), picture));
+    Ok(())
+}
+
+#[test]
 fn line_below_the_header_is_drawn(rt: HostRuntime) -> Result<(), Fail> {
     let text = recipes::line_below_the_header(rt.alloc())?;
     let picture = "
@@ -308,6 +323,49 @@ fn own_option_is_drawn(rt: HostRuntime) -> Result<(), Fail> {
 ***************
 * Bob   * 7   *
 ***************
+";
+    assert!(rt; is_picture(text.as_str(), picture));
+    Ok(())
+}
+
+#[test]
+fn lines_one_by_one_are_drawn(rt: HostRuntime) -> Result<(), Fail> {
+    let text = options::lines_one_by_one(rt.alloc())?;
+    let picture = "
++------------+---------+
+|    Ada     | 1815    |
+|  Lovelace  | to 1852 |
++------------+---------+
+";
+    assert!(rt; is_picture(text.as_str(), picture));
+    Ok(())
+}
+
+#[test]
+fn filled_cells_are_drawn(rt: HostRuntime) -> Result<(), Fail> {
+    let text = options::filled_cells(rt.alloc())?;
+    let picture = "
++-------+-----+
+| name. | age |
++-------+-----+
+| Alice | .30 |
++-------+-----+
+| Bob.. | ..7 |
++-------+-----+
+";
+    assert!(rt; is_picture(text.as_str(), picture));
+    Ok(())
+}
+
+#[test]
+fn text_at_the_bottom_is_drawn(rt: HostRuntime) -> Result<(), Fail> {
+    let text = options::text_at_the_bottom(rt.alloc())?;
+    let picture = "
++---+-----+
+| 1 |     |
+| 2 |     |
+| 3 | low |
++---+-----+
 ";
     assert!(rt; is_picture(text.as_str(), picture));
     Ok(())

@@ -1,6 +1,6 @@
 //! Borders, styles and themes around text tables, proved.
 //!
-//! A table of texts is a `TextTable`: it measures and pads its cells, takes options, and prints itself.
+//! A table of texts is a `TextTable`: it measures its cells, takes options, and prints itself as they set it.
 //!
 //! ```text
 //! let mut table = TextTable::new(alloc, &[&["name", "age"], &["Alice", "30"]])?;

@@ -108,8 +108,8 @@ where
     table.modify(object, option)
 }
 
-/// The text of a table is what its options draw around its padded cells; where no cell spans others it is refused for memory
-/// alone.
+/// The text of a table is what its options make of its cells, which stand as they are set, and draw around them; where no cell
+/// spans others it is refused for memory alone.
 pub fn text_of_a_table(table: &TextTable) -> Result<String, PrintError>
     ensures text { (events : List ConfigEvent) → borders.Shows events table.now.config.spanned → IfOk result (λ text. string_bytes text ≡ text_of events table.now.texts) }
     ensures refusal { MatchOption (slice_get (span_faults table.now.config.spanned) 0) (IsOkUnless result Fault.OutOfMemory) (λ fault. result ≡ Err fault) }

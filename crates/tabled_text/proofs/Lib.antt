@@ -1,3 +1,3 @@
 pub mod Measuring
-pub mod PaddingLemmas
+pub mod CellLemmas
 pub mod Fits

@@ -7,17 +7,8 @@ use Rattle.std.proofs.lemmas.Bool.{ltb-true, ltb-false, lt-ltb, le-ltb}
 use Rattle.std.proofs.lemmas.Str.{chars-nil}
 use Rattle.unicode_width.specs.Width.{str_width}
 use Rattle.tabled_config.specs.Texts.{texts}
-use Rattle.tabled_text.specs.Sizes.{cell, column_count, column_width, column_widths, first_unequal, greatest, width_asked}
-
--- the greatest of a walk is the greatest of the list
-pub greatest_found : (ns : List ℕ) → unwrap_or (reduce max ns) 0 ≡ greatest ns
-greatest_found [] = refl
-greatest_found (n ∷ ns) = let same : n ≡ max 0 n = omega arith in ap (λ m. fold max m ns) same
-
--- a map of a map
-pub mapped_twice : {A B C : Type 0} (f : B → C) (g : A → B) (xs : List A) → map (λ x. f (g x)) xs ≡ map f (map g xs)
-mapped_twice f g [] = refl
-mapped_twice f g (x ∷ xs) = ap (λ rest. f (g x) ∷ rest) (mapped_twice f g xs)
+use Rattle.tabled_text.specs.Sizes.{cell, column_count, column_width, column_widths, first_unequal, width_asked}
+use Rattle.tabled_cells.specs.Placed.{greatest}
 
 -- one more number
 pub fold-max-more : (start : ℕ) (ns : List ℕ) (n : ℕ) → fold max start (ns ++ n ∷ []) ≡ max (fold max start ns) n

@@ -1,4 +1,4 @@
 pub mod Sizes
-pub mod Padded
+pub mod Cells
 pub mod Refusal
 pub mod TextTable

@@ -1,7 +1,8 @@
 -- How large a table of texts is: its rows and columns, and the width and the height that its cells ask for.
-use Rattle.std.specs.Prelude.{ℕ, ◌+◌, ◌==◌, max, fold, if◌then◌else◌, Option, Some, None, List, [], ◌∷◌, map, length, slice_index_or}
+use Rattle.std.specs.Prelude.{ℕ, ◌+◌, ◌==◌, if◌then◌else◌, Option, Some, None, List, [], ◌∷◌, map, length, slice_index_or}
 use Rattle.tabled_object.specs.Entities.{below}
 use Rattle.tabled_config.specs.Texts.{Table, pieces, width_of_text}
+pub use Rattle.tabled_cells.specs.Placed.{greatest}
 
 -- how many columns a table has: as many as its first row has cells
 abbrev pub column_count : Table → ℕ
@@ -20,10 +21,6 @@ unequal_row table = first_unequal (column_count table) 0 table
 -- the cell of a row in a column, the empty text past its end
 abbrev pub cell : List (List ℕ) → ℕ → List ℕ
 cell row col = slice_index_or row col []
-
--- the greatest of some numbers, 0 of none
-abbrev pub greatest : List ℕ → ℕ
-greatest = fold max 0
 
 -- how many terminal columns a cell asks for: those of its widest line, and one for a space on each side
 unfoldable pub width_asked : List ℕ → ℕ

@@ -11,7 +11,7 @@ use Rattle.tabled_config.specs.Texts.{Table}
 use Rattle.tabled_config.specs.Pieces.{lent}
 use denote.Ref.{Bor}
 use Rattle.tabled_text.specs.Sizes.{column_count, column_widths, row_heights}
-use Rattle.tabled_text.specs.Padded.{padded_rows}
+use Rattle.tabled_text.specs.Cells.{placed_rows, cells_set}
 
 -- the text of each cell, the sizes, and the configuration
 pub record Drawing : Type 0 where
@@ -27,10 +27,10 @@ drawing_code = Prim.hlevel (codes, finmap.code)
 abbrev pub shape_of : Table → Shape
 shape_of table = record { rows = length table; cols = column_count table }
 
--- the text of a table after a list of events: its cells padded, and what the events draw around them
+-- the text of a table after a list of events: its cells as the events set them, and what the events draw around them
 unfoldable pub text_of : List ConfigEvent → Table → List ℕ
 text_of es table = printed es (length table, column_count table) (slice_index (column_widths table)) (slice_index (row_heights table))
-    (padded_rows (column_widths table) (row_heights table) table)
+    (placed_rows (cells_set es) (column_widths table) (row_heights table) table)
 
 -- the texts of rows that are lent
 abbrev pub lent_rows : List (Bor (List (Bor (List ℕ)))) → Table

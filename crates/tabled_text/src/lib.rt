@@ -1,11 +1,11 @@
-//! A table of texts: it measures and pads its cells, takes options, and prints.
+//! A table of texts: it measures its cells, takes options, and prints itself as its settings say.
 //!
 //! `docs/DEFINITIONS.md` explains the words of the contracts.
 #![tactic(auto)]
 
+mod cells;
 mod display;
 mod measure;
-mod padding;
 mod table_error;
 mod text_table;
 

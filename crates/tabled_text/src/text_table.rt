@@ -7,8 +7,8 @@ ghost use Rattle.tabled_text.specs.Sizes.{column_widths, row_heights};
 ghost use Rattle.tabled_text.specs.TextTable.{lent_rows};
 
 use crate::TableError;
+use crate::cells::PlacedRows;
 use crate::measure::{column_count, column_widths, row_heights, unequal_row};
-use crate::padding::PaddedRows;
 use std::alloc::{AllocError, Global};
 use std::fmt;
 use std::marker::Model;
@@ -287,10 +287,11 @@ impl TextTable {
         if cfg.has_spans() {
             return Err(PrintError::Spans);
         }
-        let cells = PaddedRows {
+        let cells = PlacedRows {
             alloc: cfg.allocator(),
             rows: &self.cells,
             sizes: &self.sizes,
+            cfg,
         };
         let shape = (self.shape.rows, self.shape.cols);
         print_rows(out, cfg, &self.sizes, shape, &cells)?;

@@ -3,11 +3,12 @@
 
 use crate::recipes::people;
 use std::alloc::Global;
+use tabled::settings::formatting::{AlignmentStrategy, TrimStrategy};
 use tabled::settings::object::{Columns, Combine, Entity, Rows};
 use tabled::settings::style::{
     Border, HorizontalLine, LineChar, LineText, Offset, ReadyStyle, VerticalLine,
 };
-use tabled::settings::{Highlight, Style, Theme};
+use tabled::settings::{Alignment, Highlight, Justification, Style, Theme};
 use tabled::{TableError, TextTable};
 
 /// A ready style that is chosen while the program runs.
@@ -113,6 +114,33 @@ pub fn default_character(alloc: Global) -> Result<String, TableError> {
     let mut table = people(alloc)?;
     table.with(Style::psql())?;
     table.config_mut().config_mut().set_border_default('.');
+    Ok(table.to_text()?)
+}
+
+/// Lines that are centered one by one, without the spaces at their ends.
+pub fn lines_one_by_one(alloc: Global) -> Result<String, TableError> {
+    let mut table = TextTable::new(alloc, &[&["Ada\n  Lovelace", "1815\nto 1852"]])?;
+    table
+        .with(Style::ascii())?
+        .with(Alignment::center())?
+        .with(TrimStrategy::Horizontal)?;
+    table.modify(Columns::one(0), AlignmentStrategy::PerLine)?;
+    Ok(table.to_text()?)
+}
+
+/// Cells that are filled beside their texts.
+pub fn filled_cells(alloc: Global) -> Result<String, TableError> {
+    let mut table = people(alloc)?;
+    table.with(Style::ascii())?.with(Justification::new('.'))?;
+    table.modify(Columns::one(1), Alignment::right())?;
+    Ok(table.to_text()?)
+}
+
+/// A text at the bottom of a higher row, without the blank lines around it.
+pub fn text_at_the_bottom(alloc: Global) -> Result<String, TableError> {
+    let mut table = TextTable::new(alloc, &[&["1\n2\n3", "\nlow\n"]])?;
+    table.with(Style::ascii())?.with(TrimStrategy::Vertical)?;
+    table.modify(Columns::last(), Alignment::bottom())?;
     Ok(table.to_text()?)
 }
 

@@ -20,6 +20,14 @@ pub fn first_table(alloc: Global) -> Result<String, TableError> {
     Ok(table.to_text()?)
 }
 
+/// Numbers at the right.
+pub fn numbers_at_the_right(alloc: Global) -> Result<String, TableError> {
+    let mut table = people(alloc)?;
+    table.with(Style::rounded())?;
+    table.modify(Columns::one(1), Alignment::right())?;
+    Ok(table.to_text()?)
+}
+
 /// A line below the header.
 pub fn line_below_the_header(alloc: Global) -> Result<String, TableError> {
     let mut table = people(alloc)?;

@@ -5,8 +5,9 @@ use Rattle.std.proofs.lemmas.Iterator.Adapters.{option_map_id}
 use Rattle.std.proofs.lemmas.Iterator.Consumers.{max_from_yields_List}
 use Rattle.std.proofs.lemmas.Iterator.Splits.{YieldsList-from_str_split}
 use Rattle.tabled_config.specs.Texts.{pieces, width_of_text}
-use Rattle.tabled_text.specs.Sizes.{greatest, width_asked}
-use Rattle.tabled_text.proofs.Measuring.{greatest_found}
+use Rattle.tabled_text.specs.Sizes.{width_asked}
+use Rattle.tabled_cells.specs.Placed.{greatest}
+use Rattle.tabled_cells.proofs.Measuring.{greatest_found}
 use Rattle.tabled_text.proofs.measure.width_asked.Goals as goal
 
 pub returns : goal.returns

@@ -3,7 +3,7 @@ use Rattle.std.proofs.Common.{[], map, string_bytes, sym, ◌∙◌}
 use Rattle.std.proofs.lemmas.List.{length-map, get_or-map}
 use Rattle.tabled_config.specs.Pieces.{lent}
 use Rattle.tabled_text.specs.TextTable.{lent_rows}
-use Rattle.tabled_text.proofs.PaddingLemmas.{copied_more}
+use Rattle.tabled_text.proofs.CellLemmas.{copied_more}
 use Rattle.tabled_text.proofs.text_table.copied.Goals as goal
 
 pub loop-row-preserved : goal.loop-row-preserved

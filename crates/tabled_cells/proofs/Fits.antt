@@ -1,0 +1,439 @@
+-- A cell as it is printed has as many lines as its row is high, and each of them is as wide as its column.
+use Rattle.std.proofs.Common.{◌≡◌, ◌≢◌, ◌==◌, ◌&&◌, ℕ, ◌+◌, ◌-◌, ◌/◌, ◌<◌, ◌≤◌, zero, suc, max, fold, Bool, true, false, if◌then◌else◌, cond, not, ltb, eqb, List, [], ◌∷◌, ◌++◌, map, length, get_or, take, drop, replicate, reverse, refl, sym, ap, subst, ◌∙◌, arith, lit<, eq-eqb, encode_utf8, encode_utf8_all, length-append}
+use Rattle.std.specs.Prelude.{chars}
+use Rattle.std.specs.Str.{IsUtf8, IsAscii}
+use Rattle.std.specs.Int.{is_in_range}
+use Rattle.std.specs.List.{join_with_byte, list_all, position_or_len, All}
+use Rattle.std.proofs.lemmas.Bool.{ltb-true, ltb-false, and_from, and_parts, eqb-true}
+use Rattle.std.proofs.lemmas.Bool.Decides.{nat_tests}
+use Rattle.std.proofs.lemmas.List.{get_or_past, get_or-take, get_or_default, get_or-reverse, take_all, drop_all, take_at, length-replicate, length-reverse, length-map, reverse-append, reverse-reverse, append_assoc, append-nil, get_or_at}
+use Rattle.std.proofs.lemmas.List.Elements.{All-nil, All-head, All-tail, All-cons, All-append, All-replicate, All-map, All-take, All-get_or}
+use Rattle.std.proofs.lemmas.List.Splits.{slice_split_none, slice_split_at}
+use Rattle.std.proofs.lemmas.List.Sums.{fails_before_first, prefix_len_stops}
+use Rattle.std.proofs.lemmas.Str.{chars-nil, chars-append, chars-IsAscii, IsUtf8-nil, IsUtf8-append, IsUtf8-take, IsUtf8-drop, IsUtf8-from_ascii, IsCharBoundary-before_ascii, IsCharBoundary-after_ascii, inside_one}
+use Rattle.unicode_width.specs.Width.{str_width, step, past_emoji, read_before, plain, Reading, is_emoji_variation_base}
+use Rattle.unicode_width.proofs.Rules.{str_width-append_simple, str_width-printable, is_simple}
+use Rattle.unicode_width.proofs.Computing.{unicode_width}
+use Rattle.tabled_settings.specs.declared.alignment.AlignmentHorizontal.{AlignmentHorizontal}
+use Rattle.tabled_settings.specs.declared.alignment.AlignmentHorizontal.TheVariants.{Left, Center, Right}
+use Rattle.tabled_settings.specs.declared.alignment.AlignmentVertical.{AlignmentVertical}
+use Rattle.tabled_settings.specs.declared.alignment.AlignmentVertical.TheVariants as upright
+use Rattle.tabled_config.specs.Texts.{pieces, width_of_text}
+use Rattle.tabled_config.specs.Pieces.{first_piece, after_first_piece}
+use Rattle.tabled_config.proofs.PieceLemmas.{first_of_pieces, rest_of_pieces}
+use Rattle.tabled_cells.specs.declared.placement.Placement.{Placement}
+use Rattle.tabled_cells.specs.Trimmed.{without_first, without_ends, is_space, is_blank, line_shown, lines_kept, lines_shown}
+use Rattle.tabled_cells.specs.Placed.{line_parts, free_before, free_above, times, filled, fill_of, greatest, placed_line, aligned_width, empty_line, around, placed_lines, placed}
+use Rattle.tabled_cells.proofs.Trimming.{passes_first}
+use Rattle.tabled_cells.proofs.Writing.{IsAscii-spaces, times_spaces}
+
+-- ---- what stands before and after a line feed is a text too
+
+line_feed_at : (text : List ℕ) → position_or_len (λ byte. byte == 10) text < length text → get_or text (position_or_len (λ byte. byte == 10) text) 0 ≡ 10
+line_feed_at text inside = let stops = prefix_len_stops (λ byte. not (byte == 10)) text 0 inside in grind (arith, nat_tests)
+
+rest_by : (text : List ℕ) (inside : Bool) → ltb (position_or_len (λ byte. byte == 10) text) (length text) ≡ inside → IsUtf8 text → IsUtf8 (after_first_piece text)
+rest_by text true e u =
+    let at = ltb-true _ _ e in
+    IsUtf8-drop text _ u (IsCharBoundary-after_ascii text _ u at (let here = line_feed_at text at in omega arith))
+rest_by text false e u =
+    let past = ltb-false _ _ e in
+    subst IsUtf8 (sym (drop_all (position_or_len (λ byte. byte == 10) text + 1) text (omega arith))) IsUtf8-nil
+
+pub IsUtf8-rest : (text : List ℕ) → IsUtf8 text → IsUtf8 (after_first_piece text)
+IsUtf8-rest text u = rest_by text _ refl u
+
+first_by : (text : List ℕ) (inside : Bool) → ltb (position_or_len (λ byte. byte == 10) text) (length text) ≡ inside → IsUtf8 text → IsUtf8 (first_piece text)
+first_by text true e u =
+    let at = ltb-true _ _ e in
+    IsUtf8-take text _ u (IsCharBoundary-before_ascii text _ at (let here = line_feed_at text at in omega arith))
+first_by text false e u =
+    let past = ltb-false _ _ e in
+    subst IsUtf8 (sym (take_all (position_or_len (λ byte. byte == 10) text) text past)) u
+
+pub IsUtf8-piece : (k : ℕ) (text : List ℕ) → IsUtf8 text → IsUtf8 (get_or (pieces text) k [])
+IsUtf8-piece zero text u = subst IsUtf8 (sym (first_of_pieces text)) (first_by text _ refl u)
+IsUtf8-piece (suc k) text u =
+    subst IsUtf8 (rest_of_pieces text k ∙ ap (λ n. get_or (pieces text) n []) (omega arith)) (IsUtf8-piece k (after_first_piece text) (IsUtf8-rest text u))
+
+-- ---- how wide spaces are
+
+spaces_simple : (n : ℕ) → list_all is_simple (replicate n 32) ≡ true
+spaces_simple zero = refl
+spaces_simple (suc n) = spaces_simple n
+
+spaces_printable : (n : ℕ) → list_all (is_in_range 0x20 0x7E) (replicate n 32) ≡ true
+spaces_printable zero = refl
+spaces_printable (suc n) = spaces_printable n
+
+not_a_base : is_emoji_variation_base 32 ≡ false
+unfolding unicode_width
+not_a_base = refl
+
+after_space : (emoji : Bool) (n : ℕ) (other : Reading) → (cond (not emoji) (n + 1, plain) (if is_emoji_variation_base 32 then other else (n + 1, plain))).0 ≡ n + 1
+after_space false n other = refl
+after_space true n other = ap (λ b. (if b then other else (n + 1, plain)).0) not_a_base
+
+-- a space takes one column, whatever follows it
+space_first : (cs : List ℕ) → str_width false (32 ∷ cs) ≡ str_width false cs + 1
+unfolding str_width step past_emoji
+space_first cs = after_space (read_before false cs (0, plain)).1.emoji (read_before false cs (0, plain)).0 _
+
+-- ---- lines without line feeds, joined, are cut into exactly these
+
+abbrev pub IsOther : ℕ → Type 0
+IsOther byte = eqb byte 10 ≡ false
+
+-- a text without line feeds
+abbrev pub Lacks : List ℕ → Type 0
+Lacks line = All IsOther line
+
+cut_joined : (line : List ℕ) (lines : List (List ℕ)) → All Lacks (line ∷ lines) → pieces (join_with_byte 10 (line ∷ lines)) ≡ line ∷ lines
+cut_joined line [] lack = slice_split_none (λ b. eqb b 10) line (All-head Lacks line [] lack)
+cut_joined line (next ∷ lines) lack =
+    slice_split_at (λ b. eqb b 10) line 10 (join_with_byte 10 (next ∷ lines)) (All-head Lacks line (next ∷ lines) lack) refl
+    ∙ ap (λ rest. line ∷ rest) (cut_joined next lines (All-tail Lacks line (next ∷ lines) lack))
+
+cut_lines : (lines : List (List ℕ)) → 0 < length lines → All Lacks lines → pieces (join_with_byte 10 lines) ≡ lines
+cut_lines [] some lack = absurd (omega arith)
+cut_lines (line ∷ lines) some lack = cut_joined line lines lack
+
+take_short : (n : ℕ) (text : List ℕ) → length (take n text) ≤ n
+take_short zero text = omega arith
+take_short (suc n) [] = omega arith
+take_short (suc n) (b ∷ bs) = omega (arith, take_short n bs)
+
+-- a piece of a text has no line feed
+first_lacks : (text : List ℕ) → Lacks (first_piece text)
+first_lacks text k d within =
+    let place : ℕ = position_or_len (λ byte. byte == 10) text in
+    let short : length (first_piece text) ≤ place = take_short place text in
+    let inside : k < place = omega arith in
+    ap (λ b. eqb b 10) (get_or-take place text k d inside) ∙ fails_before_first (λ byte. byte == 10) text k d inside
+
+piece_lacks : (k : ℕ) (text : List ℕ) → Lacks (get_or (pieces text) k [])
+piece_lacks zero text = subst Lacks (sym (first_of_pieces text)) (first_lacks text)
+piece_lacks (suc k) text = subst Lacks (rest_of_pieces text k ∙ ap (λ n. get_or (pieces text) n []) (omega arith)) (piece_lacks k (after_first_piece text))
+
+fold-max-start : (a : ℕ) (ns : List ℕ) → a ≤ fold max a ns
+fold-max-start a [] = omega arith
+fold-max-start a (n ∷ ns) = omega (arith, fold-max-start (max a n) ns)
+
+-- no number of a list is above its greatest
+pub greatest_bound : {X : Type 0} (f : X → ℕ) (a : ℕ) (xs : List X) (k : ℕ) (d : X) → k < length xs → f (get_or xs k d) ≤ fold max a (map f xs)
+greatest_bound f a [] k d within = absurd (omega arith)
+greatest_bound f a (x ∷ xs) zero d within = omega (arith, fold-max-start (max a (f x)) (map f xs))
+greatest_bound f a (x ∷ xs) (suc k) d within = greatest_bound f (max a (f x)) xs k d (omega arith)
+
+width_of_nothing : width_of_text [] ≡ 0
+unfolding str_width
+width_of_nothing = ap (str_width false) chars-nil
+
+-- ---- spaces before a text and after it
+
+IsUtf8-spaces : (n : ℕ) → IsUtf8 (replicate n 32)
+IsUtf8-spaces n = IsUtf8-from_ascii (replicate n 32) (IsAscii-spaces n)
+
+one_space : (text : List ℕ) → width_of_text (32 ∷ text) ≡ width_of_text text + 1
+one_space text =
+    ap (str_width false) (chars-append (32 ∷ []) text (IsUtf8-spaces 1) ∙ ap (λ cs. cs ++ chars text) (chars-IsAscii (32 ∷ []) (IsAscii-spaces 1)))
+    ∙ space_first (chars text)
+
+spaces_before : (n : ℕ) (text : List ℕ) → width_of_text (replicate n 32 ++ text) ≡ n + width_of_text text
+spaces_before zero text = omega arith
+spaces_before (suc n) text = let rest = spaces_before n text in let here = one_space (replicate n 32 ++ text) in omega (arith, here, rest)
+
+spaces_after : (text : List ℕ) (n : ℕ) → IsUtf8 text → width_of_text (text ++ replicate n 32) ≡ width_of_text text + n
+spaces_after text n u =
+    ap (str_width false) (chars-append text (replicate n 32) u ∙ ap (λ cs. chars text ++ cs) (chars-IsAscii (replicate n 32) (IsAscii-spaces n)))
+    ∙ str_width-append_simple false (chars text) (replicate n 32) (spaces_simple n)
+    ∙ ap (λ m. width_of_text text + m) (str_width-printable false (replicate n 32) (spaces_printable n) ∙ length-replicate n 32)
+
+pub empty_wide : (width : ℕ) → width_of_text (empty_line width) ≡ width
+empty_wide width = ap (str_width false) (chars-IsAscii (replicate width 32) (IsAscii-spaces width)) ∙ str_width-printable false (replicate width 32) (spaces_printable width) ∙ length-replicate width 32
+
+-- a line filled with spaces
+spaces_filled : (before after : ℕ) (line : List ℕ) → IsUtf8 line → width_of_text (filled 32 before after line) ≡ before + width_of_text line + after + 2
+spaces_filled before after line u =
+    let front : List ℕ = replicate before 32 ++ line in
+    let whole : List ℕ = front ++ replicate after 32 in
+    let front_text = IsUtf8-append (replicate before 32) line (IsUtf8-spaces before) u in
+    let ends = spaces_after whole 1 (IsUtf8-append front (replicate after 32) front_text (IsUtf8-spaces after)) in
+    let first = one_space (whole ++ 32 ∷ []) in
+    let sides = spaces_after front after front_text in
+    let own = spaces_before before line in
+    ap (λ bs. width_of_text (32 ∷ bs ++ line ++ times after 32 ++ 32 ∷ [])) (times_spaces before)
+    ∙ ap (λ bs. width_of_text (32 ∷ replicate before 32 ++ line ++ bs ++ 32 ∷ [])) (times_spaces after)
+    ∙ omega (arith, ends, first, sides, own)
+
+-- ---- a line in its column
+
+before_fits : (side : AlignmentHorizontal) (free : ℕ) → free_before side free ≤ free
+before_fits Left free = omega arith
+before_fits Center free = omega arith
+before_fits Right free = omega arith
+
+above_fits : (side : AlignmentVertical) (free : ℕ) → free_above side free ≤ free
+above_fits upright.Top free = omega arith
+above_fits upright.Center free = omega arith
+above_fits upright.Bottom free = omega arith
+
+wide_by : (character width before after : ℕ) (line : List ℕ) (fits : Bool) → (not (character == 10) && (width_of_text (filled character before after line) == width)) ≡ fits
+    → width_of_text (filled 32 before after line) ≡ width → width_of_text (filled (fill_of character width before after line) before after line) ≡ width
+wide_by character width before after line true e spaces =
+    ap (λ b. width_of_text (filled (if b then character else 32) before after line)) e
+    ∙ eqb-true (width_of_text (filled character before after line)) width (and_parts (not (character == 10)) (width_of_text (filled character before after line) == width) e).1
+wide_by character width before after line false e spaces = ap (λ b. width_of_text (filled (if b then character else 32) before after line)) e ∙ spaces
+
+wide_line : (how : Placement) (width aligned : ℕ) (line : List ℕ) → IsUtf8 line → width_of_text line ≤ aligned → aligned + 2 ≤ width → width_of_text (placed_line how width aligned line) ≡ width
+unfolding placed_line line_parts
+wide_line how width aligned line u narrow room =
+    let before : ℕ = free_before how.alignment_horizontal (width - 2 - aligned) in
+    let after : ℕ = width - 2 - before - width_of_text line in
+    let stands = before_fits how.alignment_horizontal (width - 2 - aligned) in
+    wide_by how.justification width before after line _ refl (spaces_filled before after line u ∙ omega (arith, stands))
+
+-- ---- no line has a line feed
+
+char_lacks : (character : ℕ) → (character == 10) ≡ false → Lacks (encode_utf8 character)
+char_lacks character other k d within = byte_by _ refl
+  where
+    byte_by : (feed : Bool) → eqb (get_or (encode_utf8 character) k d) 10 ≡ feed → eqb (get_or (encode_utf8 character) k d) 10 ≡ false
+    byte_by false e = e
+    byte_by true e =
+        let same : get_or (encode_utf8 character) k d ≡ get_or (encode_utf8 character) k 0 = get_or_default (encode_utf8 character) k d 0 within in
+        let ten : get_or (encode_utf8 character) k d ≡ 10 = eqb-true _ 10 e in
+        let itself : character ≡ get_or (encode_utf8 character) k 0 = inside_one character [] (encode_utf8 character) k (sym (append-nil (encode_utf8 character))) within (omega arith) in
+        absurd (let no = sym (eq-eqb character 10 (itself ∙ sym same ∙ ten)) ∙ other in cc)
+
+times_lack : (count character : ℕ) → (character == 10) ≡ false → Lacks (times count character)
+times_lack zero character other = All-nil IsOther
+times_lack (suc count) character other = All-append IsOther (encode_utf8 character) (times count character) (char_lacks character other) (times_lack count character other)
+
+fill_other : (character width before after : ℕ) (line : List ℕ) (fits : Bool) → (not (character == 10) && (width_of_text (filled character before after line) == width)) ≡ fits
+    → (fill_of character width before after line == 10) ≡ false
+fill_other character width before after line true e =
+    ap (λ b. (if b then character else 32) == 10) e ∙ no_feed (character == 10) (and_parts (not (character == 10)) (width_of_text (filled character before after line) == width) e).0
+  where
+    no_feed : (b : Bool) → not b ≡ true → b ≡ false
+    no_feed true is = sym is
+    no_feed false is = refl
+fill_other character width before after line false e = ap (λ b. (if b then character else 32) == 10) e
+
+filled_lacks : (character before after : ℕ) (line : List ℕ) → (character == 10) ≡ false → Lacks line → Lacks (filled character before after line)
+filled_lacks character before after line other lack =
+    All-append IsOther (32 ∷ times before character ++ line ++ times after character) (32 ∷ [])
+    (All-append IsOther (32 ∷ times before character ++ line) (times after character)
+    (All-append IsOther (32 ∷ times before character) line (All-cons IsOther 32 (times before character) refl (times_lack before character other)) lack)
+    (times_lack after character other))
+    (All-cons IsOther 32 [] refl (All-nil IsOther))
+
+placed_lacks : (how : Placement) (width aligned : ℕ) (line : List ℕ) → Lacks line → Lacks (placed_line how width aligned line)
+unfolding placed_line line_parts
+placed_lacks how width aligned line lack =
+    let before : ℕ = free_before how.alignment_horizontal (width - 2 - aligned) in
+    let after : ℕ = width - 2 - before - width_of_text line in
+    filled_lacks (fill_of how.justification width before after line) before after line (fill_other how.justification width before after line _ refl) lack
+
+-- ---- what is trimmed of lines
+
+-- a line as it may stand in a column
+record Good (most : ℕ) (line : List ℕ) : Type 0 where
+  utf8 : IsUtf8 line
+  narrow : width_of_text line ≤ most
+  lacks : Lacks line
+
+space_off : (most : ℕ) (b : ℕ) (bs : List ℕ) → (b == 32) ≡ true → Good most (b ∷ bs) → Good most bs
+space_off most b bs is good =
+    let same : b ≡ 32 = eqb-true b 32 is in
+    let spaced : Good most (32 ∷ bs) = subst (λ n. Good most (n ∷ bs)) same good in
+    record {
+      utf8 = IsUtf8-drop (32 ∷ bs) 1 spaced.utf8 (IsCharBoundary-after_ascii (32 ∷ bs) 0 spaced.utf8 (omega arith) (lit< tt));
+      narrow = let one = one_space bs in omega (arith, one, spaced.narrow);
+      lacks = All-tail IsOther 32 bs spaced.lacks;
+    }
+
+spaces_off : (most : ℕ) (line : List ℕ) → Good most line → Good most (without_first is_space line)
+spaces_off most [] good = good
+spaces_off most (b ∷ bs) good = by_first _ refl (spaces_off most bs)
+  where
+    by_first : (space : Bool) → (b == 32) ≡ space → (Good most bs → Good most (without_first is_space bs)) → Good most (if b == 32 then without_first is_space bs else b ∷ bs)
+    by_first true e rest = subst (λ (t : Bool). Good most (if t then without_first is_space bs else b ∷ bs)) (sym e) (rest (space_off most b bs e good))
+    by_first false e rest = subst (λ (t : Bool). Good most (if t then without_first is_space bs else b ∷ bs)) (sym e) good
+
+last_off : (most : ℕ) (front : List ℕ) → Good most (front ++ 32 ∷ []) → Good most front
+last_off most front good =
+    let at : get_or (front ++ 32 ∷ []) (length front) 0 ≡ 32 = get_or_at front 32 [] 0 (length front) refl in
+    let long : length (front ++ 32 ∷ []) ≡ length front + 1 = length-append front (32 ∷ []) in
+    let cut : take (length front) (front ++ 32 ∷ []) ≡ front = take_at front (32 ∷ []) (length front) refl in
+    let text : IsUtf8 front = subst IsUtf8 cut (IsUtf8-take (front ++ 32 ∷ []) (length front) good.utf8 (IsCharBoundary-before_ascii (front ++ 32 ∷ []) (length front) (omega arith) (omega (arith, at)))) in
+    record {
+      utf8 = text;
+      narrow = let one = spaces_after front 1 text in omega (arith, one, good.narrow);
+      lacks = subst Lacks cut (All-take IsOther (length front) (front ++ 32 ∷ []) good.lacks);
+    }
+
+reverse_cons : (b : ℕ) (bs : List ℕ) → reverse (b ∷ bs) ≡ reverse bs ++ b ∷ []
+reverse_cons b bs = reverse-append (b ∷ []) bs
+
+last_spaces_off : (most : ℕ) (back : List ℕ) → Good most (reverse back) → Good most (reverse (without_first is_space back))
+last_spaces_off most [] good = good
+last_spaces_off most (b ∷ bs) good = by_last _ refl (last_spaces_off most bs)
+  where
+    by_last : (space : Bool) → (b == 32) ≡ space → (Good most (reverse bs) → Good most (reverse (without_first is_space bs))) → Good most (reverse (if b == 32 then without_first is_space bs else b ∷ bs))
+    by_last true e rest =
+        let spaced : Good most (reverse bs ++ 32 ∷ []) = subst (Good most) (reverse_cons b bs ∙ ap (λ n. reverse bs ++ n ∷ []) (eqb-true b 32 e)) good in
+        subst (λ (t : Bool). Good most (reverse (if t then without_first is_space bs else b ∷ bs))) (sym e) (rest (last_off most (reverse bs) spaced))
+    by_last false e rest = subst (λ (t : Bool). Good most (reverse (if t then without_first is_space bs else b ∷ bs))) (sym e) good
+
+trimmed_good : (most : ℕ) (line : List ℕ) → Good most line → Good most (without_ends is_space line)
+trimmed_good most line good =
+    last_spaces_off most (reverse (without_first is_space line)) (subst (Good most) (sym (reverse-reverse (without_first is_space line))) (spaces_off most line good))
+
+line_good : (most : ℕ) (trim : Bool) (line : List ℕ) → Good most line → Good most (if trim then without_ends is_space line else line)
+line_good most true line good = trimmed_good most line good
+line_good most false line good = good
+
+All-without_first : {A : Type 0} (P : A → Type 0) (test : A → Bool) (xs : List A) → All P xs → All P (without_first test xs)
+All-without_first P test [] all = all
+All-without_first P test (x ∷ xs) all = by_first (test x) (All-without_first P test xs (All-tail P x xs all))
+  where
+    by_first : (t : Bool) → All P (without_first test xs) → All P (if t then without_first test xs else x ∷ xs)
+    by_first true rest = rest
+    by_first false rest = all
+
+All-reversed : {A : Type 0} (P : A → Type 0) (xs : List A) → All P xs → All P (reverse xs)
+All-reversed P xs all k d within =
+    let long : length (reverse xs) ≡ length xs = length-reverse xs in
+    subst P (sym (get_or-reverse xs k d (omega (arith, long)))) (all (length xs - 1 - k) d (omega (arith, long)))
+
+All-without_ends : {A : Type 0} (P : A → Type 0) (test : A → Bool) (xs : List A) → All P xs → All P (without_ends test xs)
+All-without_ends P test xs all =
+    All-reversed P (without_first test (reverse (without_first test xs))) (All-without_first P test (reverse (without_first test xs)) (All-reversed P (without_first test xs) (All-without_first P test xs all)))
+
+kept_good : (most : ℕ) (trim : Bool) (lines : List (List ℕ)) → All (Good most) lines → All (Good most) (if trim then without_ends is_blank lines else lines)
+kept_good most true lines all = All-without_ends (Good most) is_blank lines all
+kept_good most false lines all = all
+
+-- the lines of a text, and those of them that are shown
+pieces_good : (text : List ℕ) → IsUtf8 text → All (Good (greatest (map width_of_text (pieces text)))) (pieces text)
+pieces_good text u k d within =
+    let same : get_or (pieces text) k d ≡ get_or (pieces text) k [] = get_or_default (pieces text) k d [] within in
+    record {
+      utf8 = subst IsUtf8 (sym same) (IsUtf8-piece k text u);
+      narrow = greatest_bound width_of_text 0 (pieces text) k d within;
+      lacks = subst Lacks (sym same) (piece_lacks k text);
+    }
+
+shown_good : (how : Placement) (text : List ℕ) → IsUtf8 text → All (Good (greatest (map width_of_text (pieces text)))) (lines_shown how text)
+unfolding lines_shown
+shown_good how text u =
+    let most : ℕ = greatest (map width_of_text (pieces text)) in
+    kept_good most how.trim_vertical (map (line_shown how) (pieces text))
+    (All-map (Good most) (line_shown how) (pieces text) (λ k d within. line_good most how.trim_horizontal (get_or (pieces text) k d) (pieces_good text u k d within)))
+
+fewer_first : {A : Type 0} (test : A → Bool) (xs : List A) → length (without_first test xs) ≤ length xs
+fewer_first test [] = omega arith
+fewer_first test (x ∷ xs) = by_first (test x) (fewer_first test xs)
+  where
+    by_first : (t : Bool) → length (without_first test xs) ≤ length xs → length (if t then without_first test xs else x ∷ xs) ≤ length (x ∷ xs)
+    by_first true rest = omega (arith, rest)
+    by_first false rest = omega arith
+
+fewer_kept : (trim : Bool) (lines : List (List ℕ)) → length (if trim then without_ends is_blank lines else lines) ≤ length lines
+fewer_kept true lines =
+    let first = fewer_first is_blank lines in
+    let last = fewer_first is_blank (reverse (without_first is_blank lines)) in
+    omega (arith, first, last, length-reverse (without_first is_blank (reverse (without_first is_blank lines))), length-reverse (without_first is_blank lines))
+fewer_kept false lines = omega arith
+
+shown_fewer : (how : Placement) (text : List ℕ) → length (lines_shown how text) ≤ length (pieces text)
+unfolding lines_shown
+shown_fewer how text =
+    let kept = fewer_kept how.trim_vertical (map (line_shown how) (pieces text)) in
+    omega (arith, kept, length-map (pieces text) (line_shown how))
+
+-- the widest of lines that may stand in a column may
+widest_narrow : (most start : ℕ) (lines : List (List ℕ)) → start ≤ most → All (Good most) lines → fold max start (map width_of_text lines) ≤ most
+widest_narrow most start [] small all = small
+widest_narrow most start (line ∷ lines) small all =
+    let here : width_of_text line ≤ most = (All-head (Good most) line lines all).narrow in
+    widest_narrow most (max start (width_of_text line)) lines (omega arith) (All-tail (Good most) line lines all)
+
+-- ---- a cell
+
+-- a line of a cell as it ought to be
+record Fitting (width : ℕ) (line : List ℕ) : Type 0 where
+  wide : width_of_text line ≡ width
+  lacks : Lacks line
+
+aligned_room : (each : Bool) (own all : ℕ) → own ≤ all → own ≤ (if each then own else all)
+aligned_room true own all fits = omega arith
+aligned_room false own all fits = fits
+
+aligned_most : (each : Bool) (own all most : ℕ) → own ≤ most → all ≤ most → (if each then own else all) ≤ most
+aligned_most true own all most first second = first
+aligned_most false own all most first second = second
+
+module _ (how : Placement) (width height : ℕ) (text : List ℕ) (u : IsUtf8 text) (room : greatest (map width_of_text (pieces text)) + 2 ≤ width) (high : length (pieces text) ≤ height) where
+  lines : List (List ℕ)
+  lines = lines_shown how text
+
+  line_fits : (k : ℕ) (d : List ℕ) → k < length (lines_shown how text)
+      → Fitting width (placed_line how width (aligned_width how (lines_shown how text) (get_or (lines_shown how text) k d)) (get_or (lines_shown how text) k d))
+  line_fits k d within =
+      let most : ℕ = greatest (map width_of_text (pieces text)) in
+      let shown : List (List ℕ) = lines_shown how text in
+      let line : List ℕ = get_or shown k d in
+      let good : Good most line = shown_good how text u k d within in
+      let all : greatest (map width_of_text shown) ≤ most = widest_narrow most 0 shown (omega arith) (shown_good how text u) in
+      let own : width_of_text line ≤ greatest (map width_of_text shown) = greatest_bound width_of_text 0 shown k d within in
+      record {
+        wide = wide_line how width (aligned_width how shown line) line good.utf8 (aligned_room how.line_alignment (width_of_text line) (greatest (map width_of_text shown)) own)
+            (let least = aligned_most how.line_alignment (width_of_text line) (greatest (map width_of_text shown)) most good.narrow all in omega (arith, least));
+        lacks = placed_lacks how width (aligned_width how shown line) line good.lacks;
+      }
+
+  empty_fits : Fitting width (empty_line width)
+  empty_fits = record { wide = empty_wide width; lacks = All-replicate IsOther width 32 refl }
+
+  lines_fit : All (Fitting width) (placed_lines how width height text)
+  unfolding placed_lines
+  lines_fit =
+      let shown : List (List ℕ) = lines_shown how text in
+      let free : ℕ = height - length shown in
+      let above : ℕ = free_above how.alignment_vertical free in
+      let placed_one : List ℕ → List ℕ = λ line. placed_line how width (aligned_width how shown line) line in
+      All-append (Fitting width) (replicate above (empty_line width) ++ map placed_one shown) (replicate (free - above) (empty_line width))
+      (All-append (Fitting width) (replicate above (empty_line width)) (map placed_one shown) (All-replicate (Fitting width) above (empty_line width) empty_fits)
+      (All-map (Fitting width) placed_one shown (λ k d within. line_fits k d within)))
+      (All-replicate (Fitting width) (free - above) (empty_line width) empty_fits)
+
+  -- as many lines as the row is high
+  pub placed_high : length (placed_lines how width height text) ≡ height
+  unfolding placed_lines
+  placed_high =
+      let shown : List (List ℕ) = lines_shown how text in
+      let free : ℕ = height - length shown in
+      let above : ℕ = free_above how.alignment_vertical free in
+      let placed_one : List ℕ → List ℕ = λ line. placed_line how width (aligned_width how shown line) line in
+      let fewer = shown_fewer how text in
+      let most = above_fits how.alignment_vertical free in
+      let front = length-append (replicate above (empty_line width)) (map placed_one shown) in
+      let whole = length-append (replicate above (empty_line width) ++ map placed_one shown) (replicate (free - above) (empty_line width)) in
+      omega (arith, front, whole, length-replicate above (empty_line width), length-replicate (free - above) (empty_line width), length-map shown placed_one, fewer, most)
+
+  -- each of them as wide as the column
+  pub placed_wide : list_all (λ piece. width_of_text piece == width) (placed_lines how width height text) ≡ true
+  placed_wide = each_wide (placed_lines how width height text) lines_fit
+    where
+      each_wide : (ls : List (List ℕ)) → All (Fitting width) ls → list_all (λ piece. width_of_text piece == width) ls ≡ true
+      each_wide [] all = refl
+      each_wide (l ∷ ls) all = and_from _ _ (eq-eqb _ _ (All-head (Fitting width) l ls all).wide) (each_wide ls (All-tail (Fitting width) l ls all))
+
+  -- and these are the pieces of the cell
+  pub cut_placed : 0 < height → pieces (placed how width height text) ≡ placed_lines how width height text
+  unfolding placed
+  cut_placed some =
+      cut_lines (placed_lines how width height text) (let long = placed_high in omega (arith, long))
+      (λ k d within. (lines_fit k d within).lacks)

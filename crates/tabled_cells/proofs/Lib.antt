@@ -1,0 +1,4 @@
+pub mod Trimming
+pub mod Measuring
+pub mod Writing
+pub mod Fits

@@ -1,0 +1,35 @@
+-- What is measured of lines.
+use Rattle.std.proofs.Common.{◌≡◌, ◌≢◌, ℕ, ◌-◌, max, fold, Bool, true, false, if◌then◌else◌, Option, List, [], ◌∷◌, map, unwrap_or, refl, ap, arith}
+use Rattle.std.specs.List.{reduce}
+use Rattle.tabled_settings.specs.declared.alignment.AlignmentHorizontal.{AlignmentHorizontal}
+use Rattle.tabled_settings.specs.declared.alignment.AlignmentHorizontal.TheVariants.{Left, Center, Right}
+use Rattle.tabled_config.specs.Texts.{width_of_text}
+use Rattle.tabled_cells.specs.declared.placement.Placement.{Placement}
+use Rattle.tabled_cells.specs.Placed.{greatest, free_before, filled, fill_of, line_parts, placed_line, aligned_width}
+
+-- the greatest of a walk is the greatest of the list
+pub greatest_found : (ns : List ℕ) → unwrap_or (reduce max ns) 0 ≡ greatest ns
+greatest_found [] = refl
+greatest_found (n ∷ ns) = let same : n ≡ max 0 n = omega arith in ap (λ m. fold max m ns) same
+
+-- a map of a map
+pub mapped_twice : {A B C : Type 0} (f : B → C) (g : A → B) (xs : List A) → map (λ x. f (g x)) xs ≡ map f (map g xs)
+mapped_twice f g [] = refl
+mapped_twice f g (x ∷ xs) = ap (λ rest. f (g x) ∷ rest) (mapped_twice f g xs)
+
+-- the widest line plays a part only where the lines are aligned as one, and not at the left
+before_same : (side : AlignmentHorizontal) (each : Bool) (room own widest all : ℕ) → (each ≡ false → side ≢ Left → widest ≡ all)
+    → free_before side (room - (if each then own else widest)) ≡ free_before side (room - (if each then own else all))
+before_same Left each room own widest all is = refl
+before_same Center true room own widest all is = refl
+before_same Center false room own widest all is = ap (λ n. free_before Center (room - n)) (is refl (λ left. cc))
+before_same Right true room own widest all is = refl
+before_same Right false room own widest all is = ap (λ n. room - n) (is refl (λ left. cc))
+
+pub aligned_same : (how : Placement) (width widest : ℕ) (lines : List (List ℕ)) (line : List ℕ)
+    → (how.line_alignment ≡ false → how.alignment_horizontal ≢ Left → widest ≡ greatest (map width_of_text lines))
+    → placed_line how width (if how.line_alignment then width_of_text line else widest) line ≡ placed_line how width (aligned_width how lines line) line
+unfolding placed_line line_parts
+aligned_same how width widest lines line is =
+    let placed : ℕ → List ℕ = λ before. filled (fill_of how.justification width before (width - 2 - before - width_of_text line) line) before (width - 2 - before - width_of_text line) line in
+    ap placed (before_same how.alignment_horizontal how.line_alignment (width - 2) (width_of_text line) widest (greatest (map width_of_text lines)) is)

@@ -1,0 +1,31 @@
+-- The lines of a text that are shown in its cell: all of it, or less where it is trimmed.
+use Rattle.std.specs.Prelude.{ℕ, Bool, ◌==◌, if◌then◌else◌, List, [], ◌∷◌, map, reverse}
+use Rattle.std.specs.List.{list_all}
+use Rattle.tabled_config.specs.Texts.{pieces}
+use Rattle.tabled_cells.specs.declared.placement.Placement.{Placement}
+
+-- a list without the elements at its start that pass a test, and without those at both its ends
+abbrev pub without_first : {A : Type 0} → (A → Bool) → List A → List A
+without_first test [] = []
+without_first test (x ∷ xs) = if test x then without_first test xs else x ∷ xs
+
+abbrev pub without_ends : {A : Type 0} → (A → Bool) → List A → List A
+without_ends test xs = reverse (without_first test (reverse (without_first test xs)))
+
+-- whether a byte is a space, and whether a line has nothing else
+abbrev pub is_space : ℕ → Bool
+is_space byte = byte == 32
+
+abbrev pub is_blank : List ℕ → Bool
+is_blank line = list_all is_space line
+
+-- a line as it is shown: without the spaces at its ends, where these are trimmed
+abbrev pub line_shown : Placement → List ℕ → List ℕ
+line_shown how line = if how.trim_horizontal then without_ends is_space line else line
+
+-- the lines of a text, each as it is shown; without the blank ones above and below all others, where these are trimmed
+abbrev pub lines_kept : Placement → List (List ℕ) → List (List ℕ)
+lines_kept how lines = if how.trim_vertical then without_ends is_blank lines else lines
+
+unfoldable pub lines_shown : Placement → List ℕ → List (List ℕ)
+lines_shown how text = lines_kept how (map (line_shown how) (pieces text))

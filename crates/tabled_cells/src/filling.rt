@@ -1,0 +1,118 @@
+//! A line of a cell: what stands beside its text.
+
+ghost use Rattle.std.specs.Prelude.{◌≡◌, ◌≢◌, ◌++◌, false, if◌then◌else◌, map, string_bytes, IfOk, OnOk};
+ghost use Rattle.tabled_settings.specs.declared.alignment.AlignmentHorizontal.{AlignmentHorizontal as Side};
+ghost use Rattle.tabled_config.specs.Pieces.{lent};
+ghost use Rattle.tabled_config.specs.Texts.{width_of_text};
+ghost use Rattle.tabled_cells.specs.Placed.{times, filled, greatest};
+ghost use Rattle.tabled_cells.specs.Placed as parts;
+
+use crate::Placement;
+use crate::placement::free_before;
+use std::alloc::{AllocError, Global};
+use tabled_settings::AlignmentHorizontal;
+use unicode_width::UnicodeWidthStr;
+
+/// What stands beside the text of a line, between the spaces at its ends.
+#[derive(Clone, Copy, Debug)]
+pub struct LineParts {
+    /// How many characters stand before the text.
+    pub before: usize,
+    /// How many stand after it.
+    pub after: usize,
+    /// Which character these are.
+    pub fill: char,
+}
+
+/// Writes a character so many times.
+pub fn push_times(cell: &mut String, count: usize, character: char) -> Result<(), AllocError>
+    ensures { OnOk result (string_bytes cell.new ≡ string_bytes cell.old ++ times count character) }
+{
+    for _ in 0..count {
+        cell.push(character)?;
+    }
+    Ok(())
+}
+
+/// Writes a line between two spaces, with so many of a character before it and after it.
+pub(crate) fn push_filled(
+    cell: &mut String,
+    character: char,
+    before: usize,
+    after: usize,
+    line: &str,
+) -> Result<(), AllocError>
+    ensures { OnOk result (string_bytes cell.new ≡ string_bytes cell.old ++ filled character before after line.now) }
+{
+    cell.push(' ')?;
+    push_times(cell, before, character)?;
+    cell.push_str(line)?;
+    push_times(cell, after, character)?;
+    cell.push(' ')?;
+    Ok(())
+}
+
+/// The character that fills a line beside it: the one that is set, if the line is then as wide as its column.
+fn fill_of(
+    alloc: Global,
+    character: char,
+    width: usize,
+    before: usize,
+    after: usize,
+    line: &str,
+) -> Result<char, AllocError>
+    ensures { IfOk result (λ fill. fill ≡ parts.fill_of character width before after line.now) }
+{
+    if character == ' ' || character == '\n' {
+        return Ok(' ');
+    }
+    let mut tried = String::new(alloc);
+    push_filled(&mut tried, character, before, after, line)?;
+    if tried.as_str().width() == width {
+        Ok(character)
+    } else {
+        Ok(' ')
+    }
+}
+
+/// How a line in a column is filled, where something as wide as `aligned` is aligned.
+pub fn line_parts(
+    alloc: Global,
+    how: &Placement,
+    width: usize,
+    aligned: usize,
+    line: &str,
+) -> Result<LineParts, AllocError>
+    ensures { IfOk result (λ found. found ≡ parts.line_parts how.now width aligned line.now) }
+{
+    let room = width.saturating_sub(2);
+    let before = free_before(how.alignment_horizontal, room.saturating_sub(aligned));
+    let after = room.saturating_sub(before).saturating_sub(line.width());
+    let fill = fill_of(alloc, how.justification, width, before, after, line)?;
+    Ok(LineParts {
+        before,
+        after,
+        fill,
+    })
+}
+
+/// How wide the lines are that are aligned as one, where that is asked for.
+pub fn widest(how: &Placement, lines: &[&str]) -> usize
+    ensures { how.now.line_alignment ≡ false → how.now.alignment_horizontal ≢ Side.Left → result ≡ greatest (map width_of_text (lent lines.now)) }
+{
+    if how.line_alignment || how.alignment_horizontal == AlignmentHorizontal::Left {
+        return 0;
+    }
+    lines.iter().map(|line| line.width()).max().unwrap_or(0)
+}
+
+/// How wide what is aligned is: a line by itself, or all lines as one.
+pub fn aligned(how: &Placement, widest: usize, line: &str) -> usize
+    ensures { result ≡ (if how.now.line_alignment then width_of_text line.now else widest) }
+{
+    if how.line_alignment {
+        line.width()
+    } else {
+        widest
+    }
+}

@@ -1,0 +1,14 @@
+//! The cells of a table as they are printed: how a text stands in its column and its row.
+//!
+//! `docs/DEFINITIONS.md` explains the words of the contracts.
+#![tactic(auto)]
+
+mod filling;
+mod place;
+mod placement;
+mod trim;
+
+pub use filling::{LineParts, aligned, line_parts, push_times, widest};
+pub use place::placed_text;
+pub use placement::{Placement, free_above};
+pub use trim::lines_shown;

@@ -1,0 +1,65 @@
+//! How the text of a cell stands in it.
+
+ghost use Rattle.std.specs.Prelude.{◌≡◌};
+ghost use Rattle.tabled_cells.specs.Placed as parts;
+
+use tabled_config::SpannedConfig;
+use tabled_grid::Position;
+use tabled_settings::{AlignmentHorizontal, AlignmentVertical};
+
+/// How the text of a cell stands in it, and what fills the rest.
+#[derive(Clone, Copy, Debug)]
+pub struct Placement {
+    /// Where the text stands between the left and the right side.
+    pub alignment_horizontal: AlignmentHorizontal,
+    /// Where it stands between the upper and the lower side.
+    pub alignment_vertical: AlignmentVertical,
+    /// Whether spaces at the ends of its lines are dropped.
+    pub trim_horizontal: bool,
+    /// Whether blank lines above and below the others are dropped.
+    pub trim_vertical: bool,
+    /// Whether each of its lines is aligned by itself, and not all of them as one.
+    pub line_alignment: bool,
+    /// The character that fills a line beside the text.
+    pub justification: char,
+}
+
+impl Placement {
+    ghost use Rattle.tabled_cells.specs.Placements.{placement_at};
+
+    /// How the text of a cell stands in it, by what is set for the cell.
+    pub fn of(cfg: &SpannedConfig, position: Position) -> Self
+        ensures { result ≡ placement_at cfg.now.settings.cells position.row position.col }
+    {
+        Placement {
+            alignment_horizontal: cfg.get_alignment_horizontal(position),
+            alignment_vertical: cfg.get_alignment_vertical(position),
+            trim_horizontal: cfg.get_trim_horizontal(position),
+            trim_vertical: cfg.get_trim_vertical(position),
+            line_alignment: cfg.get_line_alignment(position),
+            justification: cfg.get_justification(position),
+        }
+    }
+}
+
+/// How much of what is free in a line stands before the text.
+pub(crate) fn free_before(alignment: AlignmentHorizontal, free: usize) -> usize
+    ensures { result ≡ parts.free_before alignment free }
+{
+    match alignment {
+        AlignmentHorizontal::Left => 0,
+        AlignmentHorizontal::Center => free / 2,
+        AlignmentHorizontal::Right => free,
+    }
+}
+
+/// How many of the free lines stand above the text.
+pub fn free_above(alignment: AlignmentVertical, free: usize) -> usize
+    ensures { result ≡ parts.free_above alignment free }
+{
+    match alignment {
+        AlignmentVertical::Top => 0,
+        AlignmentVertical::Center => free / 2,
+        AlignmentVertical::Bottom => free,
+    }
+}

@@ -1,6 +1,0 @@
--- The spaces so far.
-use Rattle.std.proofs.Common.{◌≡◌, ◌++◌, replicate, string_bytes}
-use Rattle.tabled_text.proofs.padding.push_spaces.Given as goal
-
-abbrev pub invariant-loop : goal.invariant-loop
-invariant-loop l = string_bytes l.text ≡ string_bytes l.initial.text ++ replicate l.counter 32

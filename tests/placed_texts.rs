@@ -1,0 +1,154 @@
+//! Texts as they stand in their cells, where no example of the original shows it.
+
+use crate::common::printing::is_picture;
+use std::alloc::Global;
+use std::test::Fail;
+use tabled::settings::formatting::{AlignmentStrategy, Justification, TrimStrategy};
+use tabled::settings::object::{Columns, Rows};
+use tabled::settings::{Alignment, Style};
+use tabled::{TableError, TextTable};
+use tabled_cells::{Placement, placed_text};
+use tabled_config::SpannedConfig;
+use tabled_grid::{Entity, Position};
+use tabled_settings::AlignmentHorizontal;
+
+/// A cell of one line beside one of four, and a longer one below it.
+fn uneven(alloc: Global) -> Result<TextTable, TableError> {
+    let rows: &[&[&str]] = &[&["ab", "1\n22\n333\n4"], &["abcde", "5"]];
+    let mut table = TextTable::new(alloc, rows)?;
+    table.with(Style::ascii())?;
+    Ok(table)
+}
+
+#[test]
+fn the_middle_leaves_more_behind(rt: HostRuntime) -> Result<(), Fail> {
+    let mut table = uneven(rt.alloc())?;
+    table
+        .with(Alignment::center())?
+        .with(Alignment::center_vertical())?;
+    let picture = "
++-------+-----+
+|       | 1   |
+|  ab   | 22  |
+|       | 333 |
+|       | 4   |
++-------+-----+
+| abcde |  5  |
++-------+-----+
+";
+    assert!(rt; is_picture(table.to_text()?.as_str(), picture));
+    Ok(())
+}
+
+#[test]
+fn the_lower_right_is_filled_from_the_other_side(rt: HostRuntime) -> Result<(), Fail> {
+    let mut table = uneven(rt.alloc())?;
+    table
+        .with(Alignment::right())?
+        .with(Alignment::bottom())?
+        .with(Justification::new('.'))?;
+    table.modify(Columns::one(1), AlignmentStrategy::PerLine)?;
+    let picture = "
++-------+-----+
+|       | ..1 |
+|       | .22 |
+|       | 333 |
+| ...ab | ..4 |
++-------+-----+
+| abcde | ..5 |
++-------+-----+
+";
+    assert!(rt; is_picture(table.to_text()?.as_str(), picture));
+    Ok(())
+}
+
+#[test]
+fn the_last_setting_of_a_cell_counts(rt: HostRuntime) -> Result<(), Fail> {
+    let mut table = uneven(rt.alloc())?;
+    table.modify(Columns::one(0), Alignment::right())?;
+    table.modify(Rows::one(0), Alignment::left())?;
+    table.modify((1, 1), Alignment::right())?;
+    let picture = "
++-------+-----+
+| ab    | 1   |
+|       | 22  |
+|       | 333 |
+|       | 4   |
++-------+-----+
+| abcde |   5 |
++-------+-----+
+";
+    assert!(rt; is_picture(table.to_text()?.as_str(), picture));
+    Ok(())
+}
+
+#[test]
+fn inner_spaces_and_blank_lines_stay(rt: HostRuntime) -> Result<(), Fail> {
+    let mut table = TextTable::new(rt.alloc(), &[&["  a  b  \n\n c \n  "], &["ruler\n\n\n"]])?;
+    table.with(Style::ascii())?;
+    table
+        .with(TrimStrategy::Both)?
+        .with(Alignment::bottom())?
+        .with(Alignment::right())?;
+    let picture = "
++----------+
+|          |
+|     a  b |
+|          |
+|     c    |
++----------+
+|          |
+|          |
+|          |
+|    ruler |
++----------+
+";
+    assert!(rt; is_picture(table.to_text()?.as_str(), picture));
+    Ok(())
+}
+
+#[test]
+fn a_text_of_blank_lines_alone_is_trimmed_away(rt: HostRuntime) -> Result<(), Fail> {
+    let mut table = TextTable::new(rt.alloc(), &[&["  \n", "a"]])?;
+    table.with(Style::ascii())?;
+    table.with(Justification::new('#'))?;
+    table.modify((0, 0), TrimStrategy::Vertical)?;
+    let text = "+----+---+\n|    | a |\n|    |   |\n+----+---+";
+    assert_eq!(rt; table.to_text()?.as_str(), text);
+    Ok(())
+}
+
+#[test]
+fn a_character_that_does_not_fit_fills_nothing(rt: HostRuntime) -> Result<(), Fail> {
+    let mut table = TextTable::new(rt.alloc(), &[&["a", "b"], &["long", "line"]])?;
+    table.with(Style::ascii())?;
+    let text = "+------+------+\n| a    | b    |\n+------+------+\n| long | line |\n+------+------+";
+    table.with(Justification::new('漢'))?;
+    assert_eq!(rt; table.to_text()?.as_str(), text);
+    table.with(Justification::new('\n'))?;
+    assert_eq!(rt; table.to_text()?.as_str(), text);
+    table.with(Justification::new('\u{301}'))?;
+    assert_eq!(rt; table.to_text()?.as_str(), text);
+    Ok(())
+}
+
+#[test]
+fn texts_are_aligned_by_what_a_terminal_shows(rt: HostRuntime) -> Result<(), Fail> {
+    let mut table = TextTable::new(rt.alloc(), &[&["東京"], &["é"], &["abcdef"]])?;
+    table.with(Alignment::right())?;
+    let text = "   東京 \n      é \n abcdef ";
+    assert_eq!(rt; table.to_text()?.as_str(), text);
+    Ok(())
+}
+
+#[test]
+fn one_text_is_placed_by_itself(rt: HostRuntime) -> Result<(), Fail> {
+    let alloc = rt.alloc();
+    let mut cfg = SpannedConfig::new(alloc);
+    cfg.set_alignment_horizontal(Entity::Global, AlignmentHorizontal::Right)?;
+    let how = Placement::of(&cfg, Position::new(0, 0));
+    let mut room = Vec::new(alloc);
+    let cell = placed_text(alloc, &mut room, &how, 6, 3, "a\nbc")?;
+    assert_eq!(rt; cell.as_str(), "   a  \n   bc \n      ");
+    Ok(())
+}
