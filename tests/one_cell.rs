@@ -6,7 +6,7 @@ use std::test::Fail;
 use tabled_color::Color;
 use tabled_config::{CellOption, ColoredConfig, PrintError, TableOption};
 use tabled_grid::{
-    Border, Cell, Columns, Entity, FixedDimension, Object, Offset, OutOfMemory, Place, Position,
+    Border, Cell, Columns, Entity, FixedDimension, Object, Offset, OutOfMemory, Place, Position, Row,
     Rows, Shape,
 };
 use tabled_options::{BorderCorrection, Colorization, Highlight, LineChar, LineText, Shadow};
@@ -146,7 +146,7 @@ const BEGINNINGS: [(Offset, &str); 10] = [
 ];
 
 /// Whether a text makes this top line.
-fn makes(alloc: Global, text: LineText<tabled_grid::Row>, top: &str) -> Result<bool, OutOfMemory> {
+fn makes(alloc: Global, text: LineText<Row>, top: &str) -> Result<bool, OutOfMemory> {
     let mut expected = String::from_str(alloc, top)?;
     expected.push_str("\n| a |\n+---+")?;
     with(alloc, text, expected.as_str())

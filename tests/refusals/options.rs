@@ -7,7 +7,8 @@ use std::alloc::Global;
 use tabled_color::{BorderColor, Color};
 use tabled_config::{ColoredConfig, CompactConfig, CompactMultilineConfig, TableOption};
 use tabled_grid::{
-    ANSIStr, Borders, Combine, FixedDimension, OutOfMemory, Rows, Segment, Shape, Union,
+    ANSIStr, Borders, Combine, Difference, FixedDimension, OutOfMemory, Row, Rows, Segment,
+    SegmentAll, Shape, Union,
 };
 use tabled_options::{
     Alignment, AlignmentStrategy, BorderCorrection, Colorization, ExactColorization, Highlight,
@@ -109,7 +110,7 @@ pub(crate) fn settings() -> [Named; 10] {
 /// Colors for a row and a cell.
 fn exact(
     alloc: Global,
-) -> Result<ExactColorization<Union<tabled_grid::Row, (usize, usize)>>, OutOfMemory> {
+) -> Result<ExactColorization<Union<Row, (usize, usize)>>, OutOfMemory> {
     let target = Rows::one(1).and((0, 0));
     Ok(Colorization::exact(three(alloc)?, target))
 }
@@ -125,7 +126,7 @@ fn all_around(alloc: Global) -> Result<BorderColor, OutOfMemory> {
 }
 
 /// A text in a color of its own texts.
-fn title(alloc: Global) -> Result<LineText<tabled_grid::Row>, OutOfMemory> {
+fn title(alloc: Global) -> Result<LineText<Row>, OutOfMemory> {
     let text = LineText::new(alloc, "TABLE", Rows::one(1))?;
     Ok(text.align(Alignment::center()).color(color(alloc)?))
 }
@@ -134,7 +135,7 @@ fn title(alloc: Global) -> Result<LineText<tabled_grid::Row>, OutOfMemory> {
 fn outline(
     alloc: Global,
 ) -> Result<
-    Highlight<tabled_grid::Difference<tabled_grid::SegmentAll, (usize, usize)>>,
+    Highlight<Difference<SegmentAll, (usize, usize)>>,
     OutOfMemory,
 > {
     let target = Segment::all().not((0usize, 1usize));

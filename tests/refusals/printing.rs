@@ -7,7 +7,7 @@ use tabled::{TableError, TextTable};
 use tabled_config::{
     CellRows, ColoredConfig, PrintError, line_marks, line_runs, print_plain, print_rows,
 };
-use tabled_grid::{Cell, LineOf, OutOfMemory, Probes};
+use tabled_grid::{Cell, Keep, LineOf, OutOfMemory, Probes};
 use tabled_object::Rows;
 use tabled_options::LineText;
 use tabled_style::{Border, HorizontalLine, Style};
@@ -116,7 +116,7 @@ pub(crate) fn plain() -> [Named; 7] {
 fn table(alloc: Global) -> Result<(TextTable, ColoredConfig), OutOfMemory> {
     match drawn(alloc) {
         Ok(table) => {
-            let copy = tabled_grid::Keep::keep(table.config(), alloc)?;
+            let copy = table.config().keep(alloc)?;
             Ok((table, copy))
         }
         Err(_) => Err(OutOfMemory),
