@@ -1,5 +1,5 @@
 -- What is measured of lines.
-use Rattle.std.proofs.Common.{◌≡◌, ◌≢◌, ℕ, ◌-◌, max, fold, Bool, true, false, if◌then◌else◌, Option, List, [], ◌∷◌, map, unwrap_or, refl, ap, arith}
+use Rattle.std.proofs.Common.{◌≡◌, ◌≢◌, ℕ, ◌-◌, max, fold, Bool, true, false, if◌then◌else◌, List, [], ◌∷◌, map, unwrap_or, refl, ap, arith}
 use Rattle.std.specs.List.{reduce}
 use Rattle.tabled_settings.specs.declared.alignment.AlignmentHorizontal.{AlignmentHorizontal}
 use Rattle.tabled_settings.specs.declared.alignment.AlignmentHorizontal.TheVariants.{Left, Center, Right}

@@ -4,8 +4,8 @@ use Rattle.tabled_settings.specs.CellSettings.{first_settings}
 use Rattle.tabled_config.specs.Texts.{pieces, width_of_text}
 use Rattle.tabled_cells.specs.declared.placement.Placement.{Placement}
 use Rattle.tabled_cells.specs.Placements.{placement_at}
-use Rattle.tabled_cells.specs.Trimmed.{line_shown, lines_shown}
-use Rattle.tabled_cells.specs.Placed.{filled, fill_of, line_parts, placed_line, placed_lines, aligned_width, empty_line, times}
+use Rattle.tabled_cells.specs.Trimmed.{lines_shown}
+use Rattle.tabled_cells.specs.Placed.{filled, line_parts, placed_line, placed_lines, aligned_width, empty_line}
 use Rattle.tabled_cells.proofs.Writing.{times_spaces}
 
 same_each : {A : Type 0} (xs : List A) → map (λ x. x) xs ≡ xs

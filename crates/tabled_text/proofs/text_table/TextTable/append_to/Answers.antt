@@ -1,5 +1,5 @@
 -- The cells fit, and what is printed is the text of the table.
-use Rattle.std.proofs.Common.{◌≡◌, [], ◌++◌, ap, sym, subst, ◌∙◌, string_bytes}
+use Rattle.std.proofs.Common.{◌++◌, ap, sym, subst, ◌∙◌, string_bytes}
 use Rattle.tabled_text.specs.Sizes.{column_count}
 use Rattle.tabled_text.specs.Cells.{placed_rows}
 use Rattle.tabled_text.specs.TextTable.{text_of}
