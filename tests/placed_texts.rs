@@ -7,10 +7,12 @@ use tabled::settings::formatting::{AlignmentStrategy, Justification, TrimStrateg
 use tabled::settings::object::{Columns, Rows};
 use tabled::settings::{Alignment, Style};
 use tabled::{TableError, TextTable};
-use tabled_cells::{Placement, placed_text};
+use tabled_cells::{
+    Placement, aligned, free_above, line_parts, lines_shown, placed_text, push_times, widest,
+};
 use tabled_config::SpannedConfig;
 use tabled_grid::{Entity, Position};
-use tabled_settings::AlignmentHorizontal;
+use tabled_settings::{AlignmentHorizontal, AlignmentVertical};
 
 /// A cell of one line beside one of four, and a longer one below it.
 fn uneven(alloc: Global) -> Result<TextTable, TableError> {
@@ -150,5 +152,27 @@ fn one_text_is_placed_by_itself(rt: HostRuntime) -> Result<(), Fail> {
     let mut room = Vec::new(alloc);
     let cell = placed_text(alloc, &mut room, &how, 6, 3, "a\nbc")?;
     assert_eq!(rt; cell.as_str(), "   a  \n   bc \n      ");
+    Ok(())
+}
+
+#[test]
+fn a_cell_is_taken_apart(rt: HostRuntime) -> Result<(), Fail> {
+    let alloc = rt.alloc();
+    let mut cfg = SpannedConfig::new(alloc);
+    cfg.set_alignment_horizontal(Entity::Global, AlignmentHorizontal::Center)?;
+    cfg.set_trim_horizontal(Entity::Global, true)?;
+    cfg.set_justification(Entity::Global, '.')?;
+    let how = Placement::of(&cfg, Position::new(0, 0));
+    let mut room = Vec::new(alloc);
+    let lines = lines_shown(&mut room, &how, " ab \nc")?;
+    assert_eq!(rt; lines, ["ab", "c"].as_slice());
+    let widest = widest(&how, lines);
+    assert_eq!(rt; aligned(&how, widest, "c"), 2);
+    let parts = line_parts(alloc, &how, 7, widest, "c")?;
+    assert_eq!(rt; (parts.before, parts.after, parts.fill), (1, 3, '.'));
+    let mut text = String::new(alloc);
+    push_times(&mut text, parts.after, parts.fill)?;
+    assert_eq!(rt; text.as_str(), "...");
+    assert_eq!(rt; free_above(AlignmentVertical::Bottom, 3), 3);
     Ok(())
 }

@@ -1,13 +1,13 @@
 -- A cell as it is printed has as many lines as its row is high, and each of them is as wide as its column.
-use Rattle.std.proofs.Common.{◌≡◌, ◌≢◌, ◌==◌, ◌&&◌, ℕ, ◌+◌, ◌-◌, ◌/◌, ◌<◌, ◌≤◌, zero, suc, max, fold, Bool, true, false, if◌then◌else◌, cond, not, ltb, eqb, List, [], ◌∷◌, ◌++◌, map, length, get_or, take, drop, replicate, reverse, refl, sym, ap, subst, ◌∙◌, arith, lit<, eq-eqb, encode_utf8, encode_utf8_all, length-append}
+use Rattle.std.proofs.Common.{◌≡◌, ◌==◌, ◌&&◌, ℕ, ◌+◌, ◌-◌, ◌<◌, ◌≤◌, zero, suc, max, fold, Bool, true, false, if◌then◌else◌, cond, not, ltb, eqb, List, [], ◌∷◌, ◌++◌, map, length, get_or, take, replicate, reverse, refl, sym, ap, subst, ◌∙◌, arith, lit<, eq-eqb, encode_utf8, length-append}
 use Rattle.std.specs.Prelude.{chars}
-use Rattle.std.specs.Str.{IsUtf8, IsAscii}
+use Rattle.std.specs.Str.{IsUtf8}
 use Rattle.std.specs.Int.{is_in_range}
 use Rattle.std.specs.List.{join_with_byte, list_all, position_or_len, All}
 use Rattle.std.proofs.lemmas.Bool.{ltb-true, ltb-false, and_from, and_parts, eqb-true}
 use Rattle.std.proofs.lemmas.Bool.Decides.{nat_tests}
-use Rattle.std.proofs.lemmas.List.{get_or_past, get_or-take, get_or_default, get_or-reverse, take_all, drop_all, take_at, length-replicate, length-reverse, length-map, reverse-append, reverse-reverse, append_assoc, append-nil, get_or_at}
-use Rattle.std.proofs.lemmas.List.Elements.{All-nil, All-head, All-tail, All-cons, All-append, All-replicate, All-map, All-take, All-get_or}
+use Rattle.std.proofs.lemmas.List.{get_or-take, get_or_default, get_or-reverse, take_all, drop_all, take_at, length-replicate, length-reverse, length-map, reverse-append, reverse-reverse, append-nil, get_or_at}
+use Rattle.std.proofs.lemmas.List.Elements.{All-nil, All-head, All-tail, All-cons, All-append, All-replicate, All-map, All-take}
 use Rattle.std.proofs.lemmas.List.Splits.{slice_split_none, slice_split_at}
 use Rattle.std.proofs.lemmas.List.Sums.{fails_before_first, prefix_len_stops}
 use Rattle.std.proofs.lemmas.Str.{chars-nil, chars-append, chars-IsAscii, IsUtf8-nil, IsUtf8-append, IsUtf8-take, IsUtf8-drop, IsUtf8-from_ascii, IsCharBoundary-before_ascii, IsCharBoundary-after_ascii, inside_one}
@@ -22,9 +22,8 @@ use Rattle.tabled_config.specs.Texts.{pieces, width_of_text}
 use Rattle.tabled_config.specs.Pieces.{first_piece, after_first_piece}
 use Rattle.tabled_config.proofs.PieceLemmas.{first_of_pieces, rest_of_pieces}
 use Rattle.tabled_cells.specs.declared.placement.Placement.{Placement}
-use Rattle.tabled_cells.specs.Trimmed.{without_first, without_ends, is_space, is_blank, line_shown, lines_kept, lines_shown}
-use Rattle.tabled_cells.specs.Placed.{line_parts, free_before, free_above, times, filled, fill_of, greatest, placed_line, aligned_width, empty_line, around, placed_lines, placed}
-use Rattle.tabled_cells.proofs.Trimming.{passes_first}
+use Rattle.tabled_cells.specs.Trimmed.{without_first, without_ends, is_space, is_blank, line_shown, lines_shown}
+use Rattle.tabled_cells.specs.Placed.{line_parts, free_before, free_above, times, filled, fill_of, greatest, placed_line, aligned_width, empty_line, placed_lines, placed}
 use Rattle.tabled_cells.proofs.Writing.{IsAscii-spaces, times_spaces}
 
 -- ---- what stands before and after a line feed is a text too

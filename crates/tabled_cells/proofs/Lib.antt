@@ -2,3 +2,4 @@ pub mod Trimming
 pub mod Measuring
 pub mod Writing
 pub mod Fits
+pub mod Unset

@@ -1,9 +1,10 @@
 -- What is measured of lines.
-use Rattle.std.proofs.Common.{◌≡◌, ◌≢◌, ℕ, ◌-◌, max, fold, Bool, true, false, if◌then◌else◌, Option, List, [], ◌∷◌, map, unwrap_or, refl, ap, arith}
+use Rattle.std.proofs.Common.{◌≡◌, ◌≢◌, ℕ, ◌-◌, max, fold, Bool, true, false, if◌then◌else◌, List, [], ◌∷◌, map, unwrap_or, refl, ap, arith}
 use Rattle.std.specs.List.{reduce}
 use Rattle.tabled_settings.specs.declared.alignment.AlignmentHorizontal.{AlignmentHorizontal}
 use Rattle.tabled_settings.specs.declared.alignment.AlignmentHorizontal.TheVariants.{Left, Center, Right}
 use Rattle.tabled_config.specs.Texts.{width_of_text}
+use Rattle.tabled_cells.specs.declared.filling.LineParts.{LineParts}
 use Rattle.tabled_cells.specs.declared.placement.Placement.{Placement}
 use Rattle.tabled_cells.specs.Placed.{greatest, free_before, filled, fill_of, line_parts, placed_line, aligned_width}
 
@@ -26,10 +27,20 @@ before_same Center false room own widest all is = ap (λ n. free_before Center (
 before_same Right true room own widest all is = refl
 before_same Right false room own widest all is = ap (λ n. room - n) (is refl (λ left. cc))
 
+pub parts_same : (how : Placement) (width widest : ℕ) (lines : List (List ℕ)) (line : List ℕ)
+    → (how.line_alignment ≡ false → how.alignment_horizontal ≢ Left → widest ≡ greatest (map width_of_text lines))
+    → line_parts how width (if how.line_alignment then width_of_text line else widest) line ≡ line_parts how width (aligned_width how lines line) line
+unfolding line_parts
+parts_same how width widest lines line is =
+    let parts : ℕ → LineParts = λ before. record {
+      before = before;
+      after = width - 2 - before - width_of_text line;
+      fill = fill_of how.justification width before (width - 2 - before - width_of_text line) line;
+    } in
+    ap parts (before_same how.alignment_horizontal how.line_alignment (width - 2) (width_of_text line) widest (greatest (map width_of_text lines)) is)
+
 pub aligned_same : (how : Placement) (width widest : ℕ) (lines : List (List ℕ)) (line : List ℕ)
     → (how.line_alignment ≡ false → how.alignment_horizontal ≢ Left → widest ≡ greatest (map width_of_text lines))
     → placed_line how width (if how.line_alignment then width_of_text line else widest) line ≡ placed_line how width (aligned_width how lines line) line
-unfolding placed_line line_parts
-aligned_same how width widest lines line is =
-    let placed : ℕ → List ℕ = λ before. filled (fill_of how.justification width before (width - 2 - before - width_of_text line) line) before (width - 2 - before - width_of_text line) line in
-    ap placed (before_same how.alignment_horizontal how.line_alignment (width - 2) (width_of_text line) widest (greatest (map width_of_text lines)) is)
+unfolding placed_line
+aligned_same how width widest lines line is = ap (λ parts. filled parts.fill parts.before parts.after line) (parts_same how width widest lines line is)

@@ -1,5 +1,5 @@
 -- What a walk over a line, or over lines, drops at their ends.
-use Rattle.std.proofs.Common.{◌≡◌, ◌≢◌, ℕ, ◌+◌, ◌-◌, ◌<◌, ◌≤◌, Bool, true, false, if◌then◌else◌, ◌==◌, eqb, Option, Some, None, IfSome, MatchOption, List, [], ◌∷◌, ◌++◌, reverse, take, length, get_or, refl, sym, ap, ◌∙◌, arith, lit<, length-append}
+use Rattle.std.proofs.Common.{◌≡◌, ◌≢◌, ℕ, ◌+◌, ◌-◌, ◌<◌, ◌≤◌, Bool, true, false, if◌then◌else◌, ◌==◌, Option, Some, None, IfSome, MatchOption, List, [], ◌∷◌, ◌++◌, reverse, take, length, get_or, refl, sym, ap, ◌∙◌, arith, lit<, length-append}
 use Rattle.std.proofs.lemmas.Bool.{eqb-true}
 use Rattle.std.proofs.lemmas.Bool.Decides.{nat_tests}
 use Rattle.std.proofs.lemmas.List.{reverse-append, reverse-reverse, take_more, get_or_default, get_or-map, length-map, take-map}

@@ -1,5 +1,5 @@
 -- A cell as it is printed: where its text stands in it, and what fills the rest.
-use Rattle.std.specs.Prelude.{ℕ, ◌+◌, ◌-◌, ◌/◌, ◌==◌, ◌&&◌, not, max, fold, Bool, if◌then◌else◌, List, [], ◌∷◌, ◌++◌, map, length, replicate, encode_utf8_all}
+use Rattle.std.specs.Prelude.{ℕ, ◌-◌, ◌/◌, ◌==◌, ◌&&◌, not, max, fold, if◌then◌else◌, List, [], ◌∷◌, ◌++◌, map, length, replicate, encode_utf8_all}
 use Rattle.std.specs.List.{join_with_byte}
 use Rattle.tabled_settings.specs.declared.alignment.AlignmentHorizontal.{AlignmentHorizontal}
 use Rattle.tabled_settings.specs.declared.alignment.AlignmentVertical.{AlignmentVertical}

@@ -5,6 +5,7 @@
 //! explains them. Where a contract below were to promise less, a function here would no longer be proved.
 #![tactic(auto)]
 
+pub mod cells;
 pub mod colors;
 pub mod lists;
 pub mod objects;

@@ -1,8 +1,5 @@
 -- One character more.
-use Rattle.std.proofs.Common.{◌++◌, string_bytes, sym, ap, ◌∙◌}
-use Rattle.std.proofs.lemmas.List.{append_assoc}
-use Rattle.tabled_cells.specs.Placed.{times}
-use Rattle.tabled_cells.proofs.Writing.{times_more, one_more}
+use Rattle.tabled_cells.proofs.Writing.{one_more}
 use Rattle.tabled_cells.proofs.filling.push_times.Goals as goal
 
 pub loop-preserved : goal.loop-preserved
