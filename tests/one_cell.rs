@@ -6,8 +6,8 @@ use std::test::Fail;
 use tabled_color::Color;
 use tabled_config::{CellOption, ColoredConfig, PrintError, TableOption};
 use tabled_grid::{
-    Border, Cell, Columns, Entity, FixedDimension, Object, Offset, OutOfMemory, Place, Position, Row,
-    Rows, Shape,
+    Border, Cell, Columns, Entity, FixedDimension, Object, Offset, OutOfMemory, Place, Position,
+    Row, Rows, Shape,
 };
 use tabled_options::{BorderCorrection, Colorization, Highlight, LineChar, LineText, Shadow};
 use tabled_style::{HorizontalLine, Style, VerticalLine};

@@ -108,9 +108,7 @@ pub(crate) fn settings() -> [Named; 10] {
 }
 
 /// Colors for a row and a cell.
-fn exact(
-    alloc: Global,
-) -> Result<ExactColorization<Union<Row, (usize, usize)>>, OutOfMemory> {
+fn exact(alloc: Global) -> Result<ExactColorization<Union<Row, (usize, usize)>>, OutOfMemory> {
     let target = Rows::one(1).and((0, 0));
     Ok(Colorization::exact(three(alloc)?, target))
 }
@@ -134,10 +132,7 @@ fn title(alloc: Global) -> Result<LineText<Row>, OutOfMemory> {
 /// An outline with a border and a color.
 fn outline(
     alloc: Global,
-) -> Result<
-    Highlight<Difference<SegmentAll, (usize, usize)>>,
-    OutOfMemory,
-> {
+) -> Result<Highlight<Difference<SegmentAll, (usize, usize)>>, OutOfMemory> {
     let target = Segment::all().not((0usize, 1usize));
     let colors = BorderColor::filled(alloc, color(alloc)?)?;
     Ok(Highlight::outline(target, '#').color(colors))

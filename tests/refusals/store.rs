@@ -228,15 +228,7 @@ pub(crate) fn cells() -> [Named; 5] {
                 )
             },
         ),
-        (
-            "Layers<T>::set_offset",
-            |turn| {
-                write(
-                    turn,
-                    |store| store.set_offset(first_edge(), Offset::End(3), 'x'),
-                )
-            },
-        ),
+        ("Layers<T>::set_offset", write_the_first_offset),
         (
             "Layers<T>::set_border",
             |turn| { write(turn, |store| store.set_border(Position::new(4, 4), frame())) },
