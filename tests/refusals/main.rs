@@ -4,6 +4,7 @@ mod cells;
 mod objects;
 mod options;
 mod pages;
+mod placing;
 mod printing;
 mod sample;
 mod settings;
@@ -46,6 +47,7 @@ fn main(rt: HostRuntime) -> ExitCode {
             &cells::borders(),
             &cells::listings(),
             &themes::calls(),
+            &placing::calls(),
             &printing::plain(),
             &printing::tables(),
             &pages::calls(),

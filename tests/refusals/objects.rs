@@ -83,7 +83,7 @@ pub(crate) fn ends() -> [Named; 6] {
 }
 
 /// Objects of several entities.
-pub(crate) fn combined() -> [Named; 5] {
+pub(crate) fn combined() -> [Named; 6] {
     [
         (
             "<Union<A, B> as Object<R>>::cells",
@@ -108,6 +108,13 @@ pub(crate) fn combined() -> [Named; 5] {
         (
             "<[Entity; N] as Object<R>>::cells",
             |turn| { list(turn, &[Entity::Row(5), Entity::Cell(7, 1)], 2) },
+        ),
+        (
+            "<Vec<Entity> as Object<R>>::cells",
+            |turn| {
+                let chosen = [Entity::Row(5), Entity::Cell(7, 1)].to_vec(turn.alloc())?;
+                list(turn, &chosen, 2)
+            },
         ),
         (
             "<&O as Object<R>>::cells",
