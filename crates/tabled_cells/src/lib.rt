@@ -9,6 +9,6 @@ mod placement;
 mod trim;
 
 pub use filling::{LineParts, aligned, line_parts, push_times, widest};
-pub use place::placed_text;
+pub use place::{join_lines, placed_text};
 pub use placement::{Placement, free_above};
 pub use trim::lines_shown;

@@ -74,8 +74,9 @@ fn push_around(
     push_empty_lines(cell, width, free - above)
 }
 
-/// Takes the last line feed off.
-fn join_lines(cell: &mut String)
+/// Takes the last line feed off a text of lines that each end in one, so that these are joined. Other texts lose their last
+/// character.
+pub fn join_lines(cell: &mut String)
     ensures { (lines : List (List ℕ)) → string_bytes cell.old ≡ flat_map ended lines → string_bytes cell.new ≡ join_with_byte 10 lines }
 {
     let _feed = cell.pop();

@@ -201,8 +201,9 @@ impl<'a, D: Dimension> MarkedLine<'a, '_, D> {
     }
 }
 
-/// Which of the lines that a line meets are drawn.
-pub(crate) fn drawn_across(
+/// Which of the lines that a line meets are drawn, from the first to the one that closes the table: what a walk along the
+/// line, or along each line of its direction, has to know. At most six readings are made for each.
+pub fn drawn_across(
     cfg: &SpannedConfig,
     shape: (usize, usize),
     line: LineOf,
@@ -279,5 +280,34 @@ pub fn line_runs<'a, D: Dimension>(
 {
     let mut runs = Vec::new(cfg.allocator());
     put_line(cfg, dims, shape, line, &mut runs, probes)?;
+    Ok(runs)
+}
+
+/// The marks of a line that is there, as runs, where `crossed` says which of the lines that it meets are drawn, as
+/// `drawn_across` does for any line of its direction: so a caller that walks along many lines asks that once. At most twelve
+/// readings are made for each place; only memory can be refused.
+pub fn runs_across<'a, D: Dimension>(
+    cfg: &'a SpannedConfig,
+    dims: &D,
+    shape: (usize, usize),
+    line: LineOf,
+    crossed: &[bool],
+    probes: &mut Probes,
+) -> Result<Vec<Run<'a>>, OutOfMemory>
+    requires there { has_line shape line ≡ true }
+    requires crossed { crossed.now ≡ map (λ n. crossed_after (all_writes cfg.now) shape line n) (below (pieces_of shape line + 1)) }
+    ensures marks { IfOk result (λ found. marks_of found.items ≡ marks (all_writes cfg.now) shape (D.width_of dims.now) (D.height_of dims.now) line) }
+    ensures probes { IsRaised (12 * length (marks (all_writes cfg.now) shape (D.width_of dims.now) (D.height_of dims.now) line)) probes.old probes.new }
+{
+    let marked = MarkedLine {
+        cfg,
+        dims,
+        shape,
+        line,
+        crossed,
+        with_colors: true,
+    };
+    let mut runs = Vec::new(cfg.allocator());
+    marked.put_all(&mut runs, probes)?;
     Ok(runs)
 }

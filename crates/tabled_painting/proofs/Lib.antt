@@ -1,0 +1,5 @@
+pub mod PainterLemmas
+pub mod CellLemmas
+pub mod FrameLemmas
+pub mod PageLemmas
+pub mod MarginLemmas

@@ -1,0 +1,139 @@
+-- How large a table is, and what its margin is where it has none.
+use Rattle.std.proofs.Common.{◌≡◌, ℕ, ◌+◌, Bool, true, false, not, ◌&&◌, ◌||◌, ◌==◌, nat_le, if◌then◌else◌, List, [], ◌∷◌, ◌++◌, map, length, replicate, refl, sym, ap, subst, ◌∙◌, arith, Result, Ok, Err, IfOk}
+use Rattle.std.specs.List.{flat_map, join_with_byte}
+use Rattle.std.proofs.lemmas.Bool.{le-leb}
+use Rattle.std.proofs.lemmas.Bool.Decides.{nat_tests}
+use Rattle.std.proofs.lemmas.List.{append-nil, length-append}
+use Rattle.std.proofs.lemmas.List.FromFn.{length-map-range_with_len}
+use Rattle.tabled_object.specs.Entities.{below}
+use Rattle.tabled_grid.specs.declared.place.LineOf.{LineOf}
+use Rattle.tabled_config.specs.Along.{is_empty}
+use Rattle.tabled_config.specs.LinePieces.{has_line, crossing_of, edge_of, crossing_places, edge_places, piece_places, places_before, all_places}
+use Rattle.tabled_config.specs.Picture.{Look, marks_along}
+use Rattle.tabled_config.proofs.LineLemmas.{marks_count}
+use Rattle.tabled_layout.specs.declared.margin.Margin.{Margin}
+use Rattle.tabled_cells.specs.Placed.{ended}
+use Rattle.tabled_painting.specs.declared.painter.Painter.{Painter}
+use Rattle.tabled_painting.specs.declared.page.Page.{Page}
+use Rattle.tabled_painting.specs.declared.margin_sides.MarginSides.{MarginSides}
+use Rattle.tabled_painting.specs.Painted.{Painted, colored_if}
+use Rattle.tabled_painting.specs.InColor.{in_color}
+use Rattle.tabled_painting.specs.Pages.{PaintsLines, PaintsWhole, Strips, written, text_of_lines}
+use Rattle.tabled_painting.proofs.PageLemmas.{whole_both}
+use Rattle.tabled_painting.specs.Margin.{Side, side_of, side_at, is_left_out, between_sides, strip, in_margin, left_side, right_side, top_side, bottom_side}
+use Rattle.tabled_painting.specs.PaintedTable.{Cells, painted_marks, painted_between, painted_if_drawn, painted_row, painted_lines, painted_table}
+
+-- what holds of a value that is returned, by what else holds of it
+pub on_value : {T E : Type 0} (r : Result T E) (P Q : T → Type 0) → IfOk r P → ((x : T) → P x → Q x) → IfOk r Q
+on_value (Ok x) P Q p so = so x p
+on_value (Err e) P Q p so = tt
+
+-- ---- a side without room
+
+either : {X : Type 0} (b : Bool) (x : X) → (if b then x else x) ≡ x
+either true x = refl
+either false x = refl
+
+nothing_at : (side : Side) (extent n : ℕ) → side_at side extent n 0 ≡ []
+unfolding side_at
+nothing_at side extent n = either (is_left_out side.offset extent n) []
+
+pub none_at : (side : Side) (extent n : ℕ) → side.size ≡ 0 → side_at side extent n side.size ≡ []
+none_at side extent n none = ap (side_at side extent n) none ∙ nothing_at side extent n
+
+-- between sides without room lines are as they are
+pub between_none : (left right : Side) (high n : ℕ) (lines : List Painted) → left.size ≡ 0 → right.size ≡ 0 → between_sides left right high n lines ≡ lines
+between_none left right high n [] no_left no_right = refl
+between_none left right high n (line ∷ lines) no_left no_right =
+    (λ i. (none_at left high n no_left i ++ line ++ none_at right high n no_right i) ∷ between_none left right high (n + 1) lines no_left no_right i)
+    ∙ ap (λ l. l ∷ lines) (append-nil line)
+
+-- ---- how many lines a table has
+
+same_lengths : {A B : Type 0} (f : ℕ → List A) (g : ℕ → List B) (ns : List ℕ) → ((n : ℕ) → length (f n) ≡ length (g n)) → length (flat_map f ns) ≡ length (flat_map g ns)
+same_lengths f g [] same = refl
+same_lengths f g (n ∷ ns) same = length-append (f n) (flat_map f ns) ∙ (λ i. same n i + same_lengths f g ns same i) ∙ sym (length-append (g n) (flat_map g ns))
+
+one_or_none : {A B : Type 0} (b : Bool) (x : A) (y : B) → length (if b then x ∷ [] else []) ≡ length (if b then y ∷ [] else [])
+one_or_none true x y = refl
+one_or_none false x y = refl
+
+pub vertical_there : (shape : ℕ × ℕ) → is_empty shape ≡ false → has_line shape (LineOf.Vertical 0) ≡ true
+vertical_there shape any = ap (λ empty. not empty && nat_le 0 shape.1) any ∙ le-leb 0 shape.1 (omega arith)
+
+module _ (view : Look) (cells : Cells) where
+  row_lengths : (r : ℕ) → length (painted_if_drawn view r ++ painted_row view cells r) ≡ length (piece_places view (LineOf.Vertical 0) r)
+  row_lengths r =
+      length-append (painted_if_drawn view r) (painted_row view cells r)
+      ∙ (λ i. one_or_none (view.horizontal r) (painted_marks (marks_along view (LineOf.Horizontal r))) (crossing_of (LineOf.Vertical 0) r) i
+      + length-map-range_with_len (λ k. painted_between view r k (λ c. cells r c k)) 0 (view.heights r) i)
+      ∙ ap (λ k. length (crossing_places view (LineOf.Vertical 0) r) + k) (sym (length-map-range_with_len (edge_of (LineOf.Vertical 0) r) 0 (view.heights r)))
+      ∙ sym (length-append (crossing_places view (LineOf.Vertical 0) r) (edge_places view (LineOf.Vertical 0) r))
+
+  pub lines_count : is_empty view.shape ≡ false → length (painted_lines view cells) ≡ length (marks_along view (LineOf.Vertical 0))
+  unfolding painted_lines all_places places_before
+  lines_count any =
+      let rows : ℕ → List Painted = λ r. painted_if_drawn view r ++ painted_row view cells r in
+      length-append (flat_map rows (below view.shape.0)) (painted_if_drawn view view.shape.0)
+      ∙ (λ i. same_lengths rows (piece_places view (LineOf.Vertical 0)) (below view.shape.0) row_lengths i
+      + one_or_none (view.horizontal view.shape.0) (painted_marks (marks_along view (LineOf.Horizontal view.shape.0))) (crossing_of (LineOf.Vertical 0) view.shape.0) i)
+      ∙ sym (length-append (flat_map (piece_places view (LineOf.Vertical 0)) (below view.shape.0)) (crossing_places view (LineOf.Vertical 0) view.shape.0))
+      ∙ sym (marks_count view (LineOf.Vertical 0) (vertical_there view.shape any))
+
+-- ---- a table in its margin
+
+pub lines_whole : (lines : List Painted) (old new : Page) → PaintsLines lines old new → PaintsWhole (between_sides (side_of old.left) (side_of old.right) old.high old.number lines) old.painter new.painter
+lines_whole lines old new p = record { text = p.text; ended = p.ended; same_colors = p.same_colors }
+
+module _ (view : Look) (margin : MarginSides) (kept : Margin) (cells : Cells) (high long : ℕ)
+    (left : side_of margin.left ≡ left_side kept) (right : side_of margin.right ≡ right_side kept) (top : side_of margin.top ≡ top_side kept) (bottom : side_of margin.bottom ≡ bottom_side kept) where
+  lines : List Painted
+  lines = painted_lines view cells
+
+  parts : Side → Side → Side → Side → List Painted
+  parts l r t b =
+      replicate t.size (strip t (l.size + length (marks_along view (LineOf.Horizontal 0)) + r.size)) ++ between_sides l r (length lines) 0 lines
+      ++ replicate b.size (strip b (l.size + length (marks_along view (LineOf.Horizontal 0)) + r.size))
+
+  pub in_its_margin : is_empty view.shape ≡ false → Strips view margin long
+      → between_sides (side_of margin.left) (side_of margin.right) high 0 (painted_lines view cells) ≡ between_sides (side_of margin.left) (side_of margin.right) (length (painted_lines view cells)) 0 (painted_lines view cells)
+      → replicate margin.top.size (strip (side_of margin.top) long) ++ between_sides (side_of margin.left) (side_of margin.right) high 0 (painted_lines view cells)
+      ++ replicate margin.bottom.size (strip (side_of margin.bottom) long) ≡ painted_table view kept cells
+  unfolding painted_table lines parts
+  in_its_margin any strips highs =
+      (λ i. strips.top i ++ highs i ++ strips.bottom i)
+      ∙ (λ i. parts (left i) (right i) (top i) (bottom i))
+      ∙ sym (ap (λ b. if b then [] else in_margin kept (length (marks_along view (LineOf.Horizontal 0))) (painted_lines view cells)) any)
+
+pub painted_in_margin : (old first second new : Painter) (xs ys zs whole : List Painted) → xs ++ ys ++ zs ≡ whole → PaintsWhole xs old first → PaintsWhole ys first second → PaintsWhole zs second new → PaintsWhole whole old new
+painted_in_margin old first second new xs ys zs whole is p q r =
+    subst (λ lines. PaintsWhole lines old new) is (whole_both (xs ++ ys) zs old second new (whole_both xs ys old first second p q) r)
+
+-- ---- the text of painted lines
+
+pub written_ended : (with_colors : Bool) (lines : List Painted) → flat_map (written with_colors) lines ≡ flat_map ended (map (λ line. in_color (colored_if with_colors line)) lines)
+written_ended with_colors [] = refl
+written_ended with_colors (line ∷ lines) = ap (λ rest. written with_colors line ++ rest) (written_ended with_colors lines)
+
+pub lines_written : (wanted with_colors : Bool) (lines : List Painted) (first text : List ℕ) → first ≡ [] → with_colors ≡ wanted → text ≡ first ++ flat_map (written with_colors) lines
+    → text ≡ flat_map ended (map (λ line. in_color (colored_if wanted line)) lines)
+lines_written wanted with_colors lines first text none same wrote =
+    wrote ∙ ap (λ bs. bs ++ flat_map (written with_colors) lines) none ∙ ap (λ w. flat_map (written w) lines) same ∙ written_ended wanted lines
+
+pub no_places : (view : Look) (margin : Margin) (cells : Cells) (with_colors : Bool) → is_empty view.shape ≡ true → text_of_lines with_colors (painted_table view margin cells) ≡ []
+unfolding painted_table text_of_lines
+no_places view margin cells with_colors empty =
+    ap (λ b. join_with_byte 10 (map (λ line. in_color (colored_if with_colors line)) (if b then [] else in_margin margin (length (marks_along view (LineOf.Horizontal 0))) (painted_lines view cells)))) empty
+
+pub no_rows : (rows cols : ℕ) → rows ≡ 0 → is_empty (rows, cols) ≡ true
+no_rows rows cols none = ap (λ n. (n == 0) || (cols == 0)) none
+
+pub no_columns : (rows cols : ℕ) → cols ≡ 0 → is_empty (rows, cols) ≡ true
+no_columns rows cols none = ap (λ n. (rows == 0) || (n == 0)) none ∙ or_true (rows == 0)
+  where
+    or_true : (b : Bool) → b || true ≡ true
+    or_true true = refl
+    or_true false = refl
+
+pub any_places : (rows cols : ℕ) → (rows ≡ 0 → ⊥) → (cols ≡ 0 → ⊥) → is_empty (rows, cols) ≡ false
+any_places rows cols some more = grind (arith, nat_tests)

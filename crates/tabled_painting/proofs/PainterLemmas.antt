@@ -1,0 +1,168 @@
+-- Painted lines as texts in color, part by part.
+use Rattle.std.proofs.Common.{◌≡◌, eq-eqb, ℕ, Bool, true, false, ◌==◌, ◌&&◌, if◌then◌else◌, Option, Some, None, List, [], ◌∷◌, ◌++◌, refl, sym, ap, ◌∙◌, string_bytes, option_copied, zero, suc, ◌+◌, ◌≤◌, length, subst, arith, replicate, encode_utf8, lit<}
+use Rattle.std.specs.Cmp.Lexicographic.{pointwise}
+use Rattle.std.proofs.lemmas.List.{append-nil, append_assoc, map-append, length-replicate}
+use Rattle.std.proofs.lemmas.Str.{encode_ascii, length-le-encodes}
+use Rattle.tabled_cells.specs.Placed.{times}
+use Rattle.tabled_border.specs.Texts.{Texts}
+use Rattle.std.specs.List.{flat_map}
+use Rattle.tabled_object.specs.Entities.{below}
+use Rattle.tabled_configuration.proofs.Below.{flat_map_below}
+use Rattle.tabled_painting.specs.Pages.{written}
+use Rattle.tabled_painting.specs.declared.painter.Painter.{Painter}
+use Rattle.tabled_painting.specs.Painted.{Painted, paint, plain, colored_if}
+use Rattle.tabled_painting.specs.InColor.{same_color, prefix_of, suffix_of, between, colored, last_color, color_if, Paints}
+
+-- ---- colors
+
+same_number : (n : ℕ) → (n == n) ≡ true
+same_number n = eq-eqb n n refl
+
+same_bytes : (bs : List ℕ) → pointwise ◌==◌ bs bs ≡ true
+same_bytes [] = refl
+same_bytes (b ∷ bs) = ap (λ t. t && pointwise ◌==◌ bs bs) (same_number b) ∙ same_bytes bs
+
+pub same_self : (color : Option Texts) → same_color color color ≡ true
+same_self None = refl
+same_self (Some a) = ap (λ t. t && pointwise ◌==◌ a.suffix a.suffix) (same_bytes a.prefix) ∙ same_bytes a.suffix
+
+pub between_self : (color : Option Texts) → between color color ≡ []
+unfolding between
+between_self color = ap (λ b. if b then [] else suffix_of color ++ prefix_of color) (same_self color)
+
+-- ---- parts of a line
+
+pub colored_both : (color : Option Texts) (xs ys : Painted) → colored color (xs ++ ys) ≡ colored color xs ++ colored (last_color color xs) ys
+colored_both color [] ys = refl
+colored_both color (x ∷ xs) ys =
+    ap (λ rest. between color x.1 ++ x.0 ∷ rest) (colored_both x.1 xs ys)
+    ∙ sym (append_assoc (between color x.1) (x.0 ∷ colored x.1 xs) (colored (last_color x.1 xs) ys))
+
+pub last_both : (color : Option Texts) (xs ys : Painted) → last_color color (xs ++ ys) ≡ last_color (last_color color xs) ys
+last_both color [] ys = refl
+last_both color (x ∷ xs) ys = last_both x.1 xs ys
+
+pub if_both : (wanted : Bool) (xs ys : Painted) → colored_if wanted (xs ++ ys) ≡ colored_if wanted xs ++ colored_if wanted ys
+if_both true xs ys = refl
+if_both false xs ys = ap (paint None) (map-append (λ painted. painted.0) xs ys) ∙ map-append (λ byte. (byte, None)) (plain xs) (plain ys)
+
+-- ---- a text in one color
+
+pub plain_paint : (color : Option Texts) (text : List ℕ) → plain (paint color text) ≡ text
+plain_paint color [] = refl
+plain_paint color (b ∷ bs) = ap (λ rest. b ∷ rest) (plain_paint color bs)
+
+pub if_paint : (wanted : Bool) (color : Option Texts) (text : List ℕ) → colored_if wanted (paint color text) ≡ paint (color_if wanted color) text
+if_paint true color text = refl
+if_paint false color text = ap (paint None) (plain_paint color text)
+
+goes_on : (color : Option Texts) (text : List ℕ) → colored color (paint color text) ≡ text
+goes_on color [] = refl
+goes_on color (b ∷ bs) = ap (λ front. front ++ b ∷ colored color (paint color bs)) (between_self color) ∙ ap (λ rest. b ∷ rest) (goes_on color bs)
+
+stays : (color : Option Texts) (text : List ℕ) → last_color color (paint color text) ≡ color
+stays color [] = refl
+stays color (b ∷ bs) = stays color bs
+
+-- ---- what a painter has done
+
+if_nothing : (wanted : Bool) → colored_if wanted [] ≡ []
+if_nothing true = refl
+if_nothing false = refl
+
+pub paints_none : (painter : Painter) → Paints [] painter painter
+paints_none painter =
+    let color = option_copied painter.color in
+    record {
+      text = sym (append-nil (string_bytes painter.text)) ∙ ap (λ line. string_bytes painter.text ++ colored color line) (sym (if_nothing painter.with_colors));
+      color = ap (last_color color) (sym (if_nothing painter.with_colors));
+      same_colors = refl;
+    }
+
+-- parts that are painted in turn are painted
+pub paints_both : (xs ys : Painted) (old middle new : Painter) → Paints xs old middle → Paints ys middle new → Paints (xs ++ ys) old new
+paints_both xs ys old middle new p q =
+    let color = option_copied old.color in
+    let wanted = old.with_colors in
+    let first = colored_if wanted xs in
+    let more = colored_if wanted ys in
+    let both : colored_if wanted (xs ++ ys) ≡ first ++ more = if_both wanted xs ys in
+    record {
+      text =
+          q.text
+          ∙ ap (λ w. string_bytes middle.text ++ colored (option_copied middle.color) (colored_if w ys)) p.same_colors
+          ∙ ap (λ c. string_bytes middle.text ++ colored c more) p.color
+          ∙ ap (λ bs. bs ++ colored (last_color color first) more) p.text
+          ∙ append_assoc (string_bytes old.text) (colored color first) (colored (last_color color first) more)
+          ∙ ap (λ bs. string_bytes old.text ++ bs) (sym (colored_both color first more))
+          ∙ ap (λ line. string_bytes old.text ++ colored color line) (sym both);
+      color =
+          q.color
+          ∙ ap (λ w. last_color (option_copied middle.color) (colored_if w ys)) p.same_colors
+          ∙ ap (λ c. last_color c more) p.color
+          ∙ sym (last_both color first more)
+          ∙ ap (last_color color) (sym both);
+      same_colors = q.same_colors ∙ p.same_colors;
+    }
+
+-- a text that is not empty is painted after its color was begun
+text_begun : (color next : Option Texts) (byte : ℕ) (bytes : List ℕ) → colored color (paint next (byte ∷ bytes)) ≡ between color next ++ byte ∷ bytes
+text_begun color next byte bytes = ap (λ rest. between color next ++ byte ∷ rest) (goes_on next bytes)
+
+pub paints_begun : (color : Option Texts) (bytes : List ℕ) (old begun new : Painter) → (bytes ≡ [] → ⊥)
+    → string_bytes begun.text ≡ string_bytes old.text ++ between (option_copied old.color) (color_if old.with_colors color)
+    → option_copied begun.color ≡ color_if old.with_colors color → begun.with_colors ≡ old.with_colors
+    → string_bytes new.text ≡ string_bytes begun.text ++ bytes → new.color ≡ begun.color → new.with_colors ≡ begun.with_colors
+    → Paints (paint color bytes) old new
+paints_begun color [] old begun new some began is same wrote kept still = absurd (some refl)
+paints_begun color (byte ∷ bytes) old begun new some began is same wrote kept still =
+    let next = color_if old.with_colors color in
+    let line : colored_if old.with_colors (paint color (byte ∷ bytes)) ≡ paint next (byte ∷ bytes) = if_paint old.with_colors color (byte ∷ bytes) in
+    record {
+      text =
+          wrote ∙ ap (λ bs. bs ++ byte ∷ bytes) began
+          ∙ append_assoc (string_bytes old.text) (between (option_copied old.color) next) (byte ∷ bytes)
+          ∙ ap (λ bs. string_bytes old.text ++ bs) (sym (text_begun (option_copied old.color) next byte bytes))
+          ∙ ap (λ l. string_bytes old.text ++ colored (option_copied old.color) l) (sym line);
+      color = ap option_copied kept ∙ is ∙ sym (stays next bytes) ∙ ap (last_color (option_copied old.color)) (sym line);
+      same_colors = still ∙ same;
+    }
+
+-- a text that is said not to be empty
+pub some_bytes : (bytes : List ℕ) (empty : Bool) → empty ≡ false → empty ≡ (length bytes == 0) → bytes ≡ [] → ⊥
+some_bytes bytes empty not_empty is none = let yes : empty ≡ true = is ∙ ap (λ bs. length bs == 0) none in absurd cc
+
+-- no character, no bytes, and so many of one are some
+pub some_times : (count character : ℕ) → (count ≡ 0 → ⊥) → times count character ≡ [] → ⊥
+some_times zero character some none = some refl
+some_times (suc count) character some none =
+    let long : suc count ≤ 0 = subst (λ bs. suc count ≤ length bs) none (subst (λ n. n ≤ length (times (suc count) character)) (length-replicate (suc count) character) (length-le-encodes (replicate (suc count) character))) in
+    omega arith
+
+-- a line feed is one byte
+pub line_fed : (start begun new : List ℕ) (color : Option Texts) → begun ≡ start ++ between color None → new ≡ begun ++ encode_utf8 10 → new ≡ start ++ suffix_of color ++ 10 ∷ []
+unfolding between
+line_fed start begun new None began wrote = wrote ∙ ap (λ bs. begun ++ bs) (encode_ascii 10 (lit< tt)) ∙ ap (λ bs. bs ++ 10 ∷ []) began
+line_fed start begun new (Some color) began wrote =
+    wrote ∙ ap (λ bs. begun ++ bs) (encode_ascii 10 (lit< tt)) ∙ ap (λ bs. bs ++ 10 ∷ []) (began ∙ ap (λ bs. start ++ bs) (append-nil color.suffix))
+
+-- a painted line is written whole when its color and the line have ended
+pub line_written : (line side : Painted) (start middle new : Painter) → option_copied start.color ≡ None → Paints line start middle → Paints side middle new
+    → (text : List ℕ) → text ≡ string_bytes new.text ++ suffix_of (option_copied new.color) ++ 10 ∷ [] → text ≡ string_bytes start.text ++ written start.with_colors (line ++ side)
+line_written line side start middle new none p q text wrote =
+    let whole : Paints (line ++ side) start new = paints_both line side start middle new p q in
+    let shown : Painted = colored_if start.with_colors (line ++ side) in
+    let color = option_copied start.color in
+    wrote
+    ∙ ap (λ c. string_bytes new.text ++ suffix_of c ++ 10 ∷ []) whole.color
+    ∙ ap (λ bs. bs ++ suffix_of (last_color color shown) ++ 10 ∷ []) whole.text
+    ∙ ap (λ bs. bs ++ 10 ∷ []) (append_assoc (string_bytes start.text) (colored color shown) (suffix_of (last_color color shown)))
+    ∙ append_assoc (string_bytes start.text) (colored color shown ++ suffix_of (last_color color shown)) (10 ∷ [])
+    ∙ ap (λ c. string_bytes start.text ++ ((colored c shown ++ suffix_of (last_color c shown)) ++ 10 ∷ [])) none
+
+-- one more part
+pub parts_more : (part : ℕ → Painted) (n : ℕ) (old middle new : Painter) → Paints (flat_map part (below n)) old middle → Paints (part n) middle new → Paints (flat_map part (below (n + 1))) old new
+parts_more part n old middle new p q =
+    subst (λ line. Paints line old new) (sym (flat_map_below part n)) (paints_both (flat_map part (below n)) (part n) old middle new p q)
+
+pub ruleset painting = (paints_none, paints_both)

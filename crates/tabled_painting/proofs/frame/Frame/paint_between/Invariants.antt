@@ -1,0 +1,12 @@
+-- The sides and cells so far.
+use Rattle.std.proofs.Common.{◌++◌, [], map, slice_index_or}
+use Rattle.std.specs.List.{flat_map}
+use Rattle.tabled_object.specs.Entities.{below}
+use Rattle.tabled_painting.specs.InColor.{Paints}
+use Rattle.tabled_painting.specs.PaintedTable.{painted_side}
+use Rattle.tabled_painting.specs.Viewed.{viewed, line_of}
+use Rattle.tabled_painting.proofs.frame.Frame.paint_between.Given as goal
+
+abbrev pub invariant-loop-col : goal.invariant-loop-col
+invariant-loop-col l =
+    Paints (flat_map (λ c. painted_side (viewed l.self) l.row l.at c ++ slice_index_or (map (line_of l.at) l.cells) c []) (below l.col)) l.initial.painter l.painter

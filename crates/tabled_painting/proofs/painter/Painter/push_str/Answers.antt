@@ -1,0 +1,7 @@
+-- A text after its color.
+use Rattle.std.proofs.Common.{refl}
+use Rattle.tabled_painting.proofs.PainterLemmas.{paints_begun, some_bytes}
+use Rattle.tabled_painting.proofs.painter.Painter.push_str.Goals as goal
+
+pub returns : goal.returns
+returns c = paints_begun _ _ c.args.self.now c.begin.new.self _ (some_bytes _ _ c.if-is_empty.false c.is_empty.ensures) c.in_ok-begin.ensures.text c.in_ok-begin.ensures.color c.begin.ensures.same_colors c.in_ok-push_str.ensures.bytes refl refl

@@ -1,0 +1,9 @@
+-- Characters after their color.
+use Rattle.std.proofs.Common.{refl}
+use Rattle.tabled_painting.proofs.PainterLemmas.{paints_begun, some_times}
+use Rattle.tabled_painting.proofs.painter.Painter.push_times.Goals as goal
+
+pub returns : goal.returns
+returns c =
+    paints_begun _ _ c.args.self.now c.begin.new.self _ (some_times c.args.count c.args.character c.if-count-eq0.false)
+    c.in_ok-begin.ensures.text c.in_ok-begin.ensures.color c.begin.ensures.same_colors c.in_ok-push_times.ensures refl refl

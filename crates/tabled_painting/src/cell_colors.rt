@@ -1,0 +1,35 @@
+//! The colors of a cell.
+
+ghost use Rattle.std.specs.Prelude.{◌≡◌};
+
+use tabled_border::ANSIBuf;
+use tabled_config::ColoredConfig;
+use tabled_grid::Position;
+use tabled_settings::Sides;
+
+/// The colors of a cell, as far as it has them.
+#[derive(Clone, Copy, Debug)]
+pub struct CellColors<'a> {
+    /// Of its text.
+    pub text: Option<&'a ANSIBuf>,
+    /// Of the characters that fill its lines beside the text.
+    pub fill: Option<&'a ANSIBuf>,
+    /// Of the spaces around these, on each side.
+    pub padding: &'a Sides<Option<ANSIBuf>>,
+}
+
+impl<'a> CellColors<'a> {
+    ghost use Rattle.tabled_painting.specs.CellLines.{coloring_at, coloring_of};
+
+    /// The colors that are set for a cell.
+    #[tactic(auto, unfolding(crate::specs::CellLines::coloring_at))]
+    pub fn of(cfg: &'a ColoredConfig, position: Position) -> Self
+        ensures { coloring_of result ≡ coloring_at cfg.now.spanned.settings.cells cfg.now.cell_colors position.row position.col }
+    {
+        CellColors {
+            text: cfg.get_color(position),
+            fill: cfg.config().get_justification_color(position),
+            padding: cfg.config().get_padding_color(position),
+        }
+    }
+}

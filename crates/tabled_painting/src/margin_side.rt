@@ -1,0 +1,96 @@
+//! One side of the margin.
+
+ghost use Rattle.std.specs.Prelude.{◌≡◌, None, OnOk, option_copied, replicate};
+ghost use Rattle.tabled_painting.specs.Margin.{side_of, side_at, strip};
+ghost use Rattle.tabled_painting.specs.Margin as margin;
+ghost use Rattle.tabled_painting.specs.InColor.{Paints};
+ghost use Rattle.tabled_painting.specs.Pages.{PaintsWhole};
+
+use crate::Painter;
+use std::alloc::AllocError;
+use tabled_border::ANSIBuf;
+use tabled_grid::Offset;
+use tabled_layout::Indent;
+
+/// One side of a margin.
+#[derive(Clone, Copy, Debug)]
+pub struct MarginSide<'a> {
+    /// How many columns or lines it is wide.
+    pub size: usize,
+    /// The character that fills it.
+    pub fill: char,
+    /// Where it begins or ends: spaces stand in the places that this leaves out.
+    pub offset: Offset,
+    /// Its color, if it has one.
+    pub color: Option<&'a ANSIBuf>,
+}
+
+/// Whether an offset leaves number `n` of so many out.
+fn is_left_out(offset: Offset, extent: usize, n: usize) -> bool
+    ensures { result ≡ margin.is_left_out offset extent n }
+{
+    match offset {
+        Offset::Start(count) => n < count,
+        Offset::End(count) => extent.saturating_sub(count) <= n,
+    }
+}
+
+impl<'a> MarginSide<'a> {
+    /// A side of that room, offset and color.
+    pub fn new(indent: Indent, offset: Offset, color: &'a Option<ANSIBuf>) -> Self
+        ensures { side_of result ≡ record { size = indent.size; fill = indent.fill; offset = offset; color = color.now } }
+    {
+        let Indent { size, fill } = indent;
+        MarginSide {
+            size,
+            fill,
+            offset,
+            color: color.as_ref(),
+        }
+    }
+
+    /// Paints so many characters of the side at number `n` of its extent.
+    #[tactic(auto, unfolding(crate::specs::Margin::side_at))]
+    pub fn paint_at(
+        &self,
+        painter: &mut Painter<'a>,
+        extent: usize,
+        n: usize,
+        count: usize,
+    ) -> Result<(), AllocError>
+        ensures { OnOk result (Paints (side_at (side_of self.now) extent n count) painter.old painter.new) }
+    {
+        if is_left_out(self.offset, extent, n) {
+            painter.push_times(None, count, ' ')
+        } else {
+            painter.push_times(self.color, count, self.fill)
+        }
+    }
+
+    /// Paints a line above or below the table, of so many columns.
+    fn paint_strip(&self, painter: &mut Painter<'a>, long: usize) -> Result<(), AllocError>
+        ensures { OnOk result (Paints (strip (side_of self.now) long) painter.old painter.new) }
+    {
+        for n in 0..long {
+            self.paint_at(painter, long, n, 1)?;
+        }
+        Ok(())
+    }
+
+    /// Paints the lines above or below the table, each of so many columns.
+    pub fn paint_strips(
+        &self,
+        painter: &mut Painter<'a>,
+        long: usize,
+    ) -> Result<(), AllocError>
+        requires { option_copied painter.old.color ≡ None }
+        ensures { OnOk result (PaintsWhole (replicate self.now.size (strip (side_of self.now) long)) painter.old painter.new) }
+    {
+        painter.reserve(long.saturating_add(1).saturating_mul(self.size))?;
+        for _ in 0..self.size {
+            self.paint_strip(painter, long)?;
+            painter.end_line()?;
+        }
+        Ok(())
+    }
+}

@@ -1,0 +1,51 @@
+//! The lines of a table between the sides of its margin.
+
+ghost use Rattle.std.specs.Prelude.{◌≡◌, ◌+◌, ◌++◌, None, List, OnOk, option_copied, string_bytes};
+ghost use Rattle.tabled_painting.specs.Painted.{Painted};
+ghost use Rattle.tabled_painting.specs.InColor.{Paints};
+ghost use Rattle.tabled_painting.specs.Margin.{side_of, side_at};
+ghost use Rattle.tabled_painting.specs.Pages.{SamePage, written};
+
+use crate::{MarginSide, Painter};
+use tabled_border::OutOfMemory;
+
+/// The lines of a table, which are painted one after another, each between the left and the right side of the margin.
+#[derive(Drop)]
+pub(crate) struct Page<'a> {
+    pub(crate) painter: Painter<'a>,
+    pub(crate) left: MarginSide<'a>,
+    pub(crate) right: MarginSide<'a>,
+    /// How many lines the table has.
+    pub(crate) high: usize,
+    /// How many of them were painted.
+    pub(crate) number: usize,
+}
+
+impl<'a> Page<'a> {
+    /// Paints the left side of the next line.
+    pub(crate) fn begin_line(&mut self) -> Result<(), OutOfMemory>
+        ensures painted { OnOk result (Paints (side_at (side_of self.old.left) self.old.high self.old.number self.old.left.size) self.old.painter self.new.painter) }
+        ensures number { self.new.number ≡ self.old.number }
+        ensures same { SamePage self.old self.new }
+    {
+        let left = self.left;
+        left.paint_at(&mut self.painter, self.high, self.number, left.size)?;
+        Ok(())
+    }
+
+    /// Paints the right side of a line, whatever of it was painted, and ends it.
+    pub(crate) fn end_line(&mut self) -> Result<(), OutOfMemory>
+        ensures text { OnOk result ((line : Painted) (start : Painter) → option_copied start.color ≡ None → Paints line start self.old.painter
+            → string_bytes self.new.painter.text ≡ string_bytes start.text ++ written start.with_colors (line ++ side_at (side_of self.old.right) self.old.high self.old.number self.old.right.size)) }
+        ensures ended { OnOk result (option_copied self.new.painter.color ≡ None) }
+        ensures same_colors { OnOk result (self.new.painter.with_colors ≡ self.old.painter.with_colors) }
+        ensures number { OnOk result (self.new.number ≡ self.old.number + 1) }
+        ensures same { SamePage self.old self.new }
+    {
+        let right = self.right;
+        right.paint_at(&mut self.painter, self.high, self.number, right.size)?;
+        self.painter.end_line()?;
+        self.number = self.number.checked_add(1).ok_or(OutOfMemory)?;
+        Ok(())
+    }
+}

@@ -1,0 +1,142 @@
+//! Writes painted lines.
+
+ghost use Rattle.std.specs.Prelude.{◌≡◌, ◌++◌, ◌∷◌, [], if◌then◌else◌, None, OnOk, option_copied, string_bytes};
+ghost use Rattle.tabled_cells.specs.Placed.{times};
+ghost use Rattle.tabled_painting.specs.Painted.{paint};
+ghost use Rattle.tabled_painting.specs.InColor.{Paints, between, prefix_of, suffix_of, color_if};
+
+use std::alloc::{AllocError, Global};
+use tabled_border::ANSIBuf;
+use tabled_cells::push_times;
+
+/// A text that painted lines are written into, one after another, and the color of what was written last.
+#[derive(Drop)]
+pub struct Painter<'a> {
+    text: String,
+    color: Option<&'a ANSIBuf>,
+    with_colors: bool,
+}
+
+#[tactic(auto, using(crate::proofs::PainterLemmas::painting))]
+impl<'a> Painter<'a> {
+    /// A painter that has written nothing. Without colors it writes the characters alone.
+    pub fn new(alloc: Global, with_colors: bool) -> Self
+        ensures text { string_bytes result.text ≡ [] }
+        ensures color { option_copied result.color ≡ None }
+        ensures with_colors { result.with_colors ≡ with_colors }
+    {
+        Painter {
+            text: String::new(alloc),
+            color: None,
+            with_colors,
+        }
+    }
+
+    /// What was written.
+    pub fn into_text(self) -> String
+        ensures { result ≡ self.entry.text }
+    {
+        let Painter {
+            text,
+            color: _,
+            with_colors: _,
+        } = self;
+        text
+    }
+
+    /// Asks for room for so many bytes more, so that a text that no memory holds is refused before any of it is written.
+    pub fn reserve(&mut self, bytes: usize) -> Result<(), AllocError>
+        ensures text { string_bytes self.new.text ≡ string_bytes self.old.text }
+        ensures color { self.new.color ≡ self.old.color }
+        ensures same_colors { self.new.with_colors ≡ self.old.with_colors }
+    {
+        self.text.reserve(bytes)
+    }
+
+    /// Writes the text that ends the color of what was written last.
+    fn end_color(&mut self) -> Result<(), AllocError>
+        ensures text { OnOk result (string_bytes self.new.text ≡ string_bytes self.old.text ++ suffix_of (option_copied self.old.color)) }
+        ensures same_colors { self.new.with_colors ≡ self.old.with_colors }
+    {
+        match self.color {
+            Some(last) => self.text.push_str(last.get_suffix()),
+            None => Ok(()),
+        }
+    }
+
+    /// Writes the text that begins a color.
+    fn begin_color(&mut self, color: Option<&'a ANSIBuf>) -> Result<(), AllocError>
+        ensures text { OnOk result (string_bytes self.new.text ≡ string_bytes self.old.text ++ prefix_of (option_copied color.entry)) }
+        ensures same_colors { self.new.with_colors ≡ self.old.with_colors }
+    {
+        match color {
+            Some(next) => self.text.push_str(next.get_prefix()),
+            None => Ok(()),
+        }
+    }
+
+    /// Ends the color of what was written last, and begins that of what is written next, where they differ.
+    #[tactic(auto, unfolding(crate::specs::InColor::between))]
+    fn change_color(&mut self, color: Option<&'a ANSIBuf>) -> Result<(), AllocError>
+        ensures text { OnOk result (string_bytes self.new.text ≡ string_bytes self.old.text ++ between (option_copied self.old.color) (option_copied color.entry)) }
+        ensures color { OnOk result (option_copied self.new.color ≡ option_copied color.entry) }
+        ensures same_colors { self.new.with_colors ≡ self.old.with_colors }
+    {
+        if self.color != color {
+            self.end_color()?;
+            self.begin_color(color)?;
+        }
+        self.color = color;
+        Ok(())
+    }
+
+    /// Begins what is written next, which is colored if colors are wanted.
+    fn begin(&mut self, color: Option<&'a ANSIBuf>) -> Result<(), AllocError>
+        ensures text { OnOk result (string_bytes self.new.text ≡ string_bytes self.old.text ++ between (option_copied self.old.color) (color_if self.old.with_colors (option_copied color.entry))) }
+        ensures color { OnOk result (option_copied self.new.color ≡ color_if self.old.with_colors (option_copied color.entry)) }
+        ensures same_colors { self.new.with_colors ≡ self.old.with_colors }
+    {
+        let wanted = if self.with_colors { color } else { None };
+        self.change_color(wanted)
+    }
+
+    /// Writes a text in a color.
+    pub fn push_str(&mut self, color: Option<&'a ANSIBuf>, text: &str) -> Result<(), AllocError>
+        ensures { OnOk result (Paints (paint (option_copied color.entry) text.now) self.old self.new) }
+    {
+        if text.is_empty() {
+            return Ok(());
+        }
+        self.begin(color)?;
+        self.text.push_str(text)?;
+        Ok(())
+    }
+
+    /// Writes a character so many times in a color.
+    pub fn push_times(
+        &mut self,
+        color: Option<&'a ANSIBuf>,
+        count: usize,
+        character: char,
+    ) -> Result<(), AllocError>
+        ensures { OnOk result (Paints (paint (option_copied color.entry) (times count character)) self.old self.new) }
+    {
+        if count == 0 {
+            return Ok(());
+        }
+        self.begin(color)?;
+        push_times(&mut self.text, count, character)?;
+        Ok(())
+    }
+
+    /// Ends a line, and its last color.
+    pub fn end_line(&mut self) -> Result<(), AllocError>
+        ensures text { OnOk result (string_bytes self.new.text ≡ string_bytes self.old.text ++ suffix_of (option_copied self.old.color) ++ 10 ∷ []) }
+        ensures color { OnOk result (option_copied self.new.color ≡ None) }
+        ensures same_colors { self.new.with_colors ≡ self.old.with_colors }
+    {
+        self.change_color(None)?;
+        self.text.push('\n')?;
+        Ok(())
+    }
+}

@@ -1,0 +1,133 @@
+//! The text of a table with its colors and its margin.
+
+ghost use Rattle.std.specs.Prelude.{◌≡◌, ◌+◌, true, None, length, IfOk, string_bytes, slice_index, option_copied};
+ghost use Rattle.std.specs.List.{All};
+ghost use Rattle.tabled_configuration.specs.Configuration.{all_writes};
+ghost use Rattle.tabled_config.specs.LinePieces.{has_line};
+ghost use Rattle.tabled_config.specs.Picture.{look, marks};
+ghost use Rattle.tabled_config.specs.Texts.{texts};
+ghost use Rattle.tabled_painting.specs.Margin.{side_of, between_sides};
+ghost use Rattle.tabled_painting.specs.Pages.{PaintsWhole, Strips, text_of_lines};
+ghost use Rattle.tabled_painting.specs.PaintedTable.{Cells, painted_cells, painted_lines, painted_table};
+ghost use Rattle.tabled_painting.specs.Viewed.{viewed, cells_of};
+
+use crate::frame::Frame;
+use crate::page::Page;
+use crate::{MarginSides, Painter};
+use tabled_cells::join_lines;
+use tabled_config::{ColoredConfig, SpannedConfig, drawn_across, runs_across};
+use tabled_grid::{FixedDimension, LineOf, OutOfMemory, Probes};
+
+/// The sum of two numbers. Refused where no number says it: no memory holds so many characters.
+fn sum_of(first: usize, second: usize) -> Result<usize, OutOfMemory>
+    ensures { IfOk result (λ sum. sum ≡ first + second) }
+{
+    first.checked_add(second).ok_or(OutOfMemory)
+}
+
+/// How many places a line has that is there: for a horizontal one, how many columns the table is long, and for a vertical one, how
+/// many lines it is high. Refused where memory is, and where no number says it.
+pub fn line_length(
+    cfg: &SpannedConfig,
+    sizes: &FixedDimension,
+    shape: (usize, usize),
+    line: LineOf,
+) -> Result<usize, OutOfMemory>
+    requires { has_line shape line ≡ true }
+    ensures { IfOk result (λ found. found ≡ length (marks (all_writes cfg.now) shape (slice_index sizes.now.widths.items) (slice_index sizes.now.heights.items) line)) }
+{
+    let probes = &mut Probes::new();
+    let crossed = drawn_across(cfg, shape, line, probes)?;
+    let runs = runs_across(cfg, sizes, shape, line, &crossed, probes)?;
+    let mut found = 0usize;
+    for run in &runs {
+        found = sum_of(found, run.count)?;
+    }
+    Ok(found)
+}
+
+/// How many lines a table has, where that matters: where nothing stands at its sides, any number does.
+fn lines_high(frame: &Frame, margin: &MarginSides) -> Result<usize, OutOfMemory>
+    ensures { IfOk result (λ high. (cells : Cells) → let lines = painted_lines (viewed frame.now) cells in
+        between_sides (side_of margin.now.left) (side_of margin.now.right) high 0 lines ≡ between_sides (side_of margin.now.left) (side_of margin.now.right) (length lines) 0 lines) }
+{
+    if margin.left.size == 0 && margin.right.size == 0 {
+        return Ok(0);
+    }
+    line_length(frame.cfg.config(), frame.sizes, frame.shape, LineOf::Vertical(0))
+}
+
+/// How many columns a table is long with the sides of its margin, where that matters: where nothing stands above it and below it,
+/// any number does.
+fn columns_long(frame: &Frame, margin: &MarginSides) -> Result<usize, OutOfMemory>
+    ensures { IfOk result (λ long. Strips (viewed frame.now) margin.now long) }
+{
+    if margin.top.size == 0 && margin.bottom.size == 0 {
+        return Ok(0);
+    }
+    let columns = line_length(frame.cfg.config(), frame.sizes, frame.shape, LineOf::Horizontal(0))?;
+    let left = sum_of(margin.left.size, columns)?;
+    sum_of(left, margin.right.size)
+}
+
+/// Paints a table that has places, with its margin.
+fn paint_in_margin<'a>(
+    mut painter: Painter<'a>,
+    frame: &Frame<'a, '_>,
+    rows: &'a [Vec<String>],
+) -> Result<Painter<'a>, OutOfMemory>
+    requires rows { length rows.now ≡ frame.now.shape.0 }
+    requires cols { All (λ row. length row ≡ frame.now.shape.1) (texts rows.now) }
+    requires ended { option_copied painter.color ≡ None }
+    ensures { IfOk result (λ painted. PaintsWhole (painted_table (viewed frame.now) frame.now.cfg.now.spanned.settings.margin (cells_of frame.now (texts rows.now))) painter.entry painted) }
+{
+    let margin = MarginSides::of(frame.cfg.config());
+    let high = lines_high(frame, &margin)?;
+    let long = columns_long(frame, &margin)?;
+    margin.top.paint_strips(&mut painter, long)?;
+    let mut page = Page {
+        painter,
+        left: margin.left,
+        right: margin.right,
+        high,
+        number: 0,
+    };
+    frame.paint_table(&mut page, rows)?;
+    let Page { mut painter, .. } = page;
+    margin.bottom.paint_strips(&mut painter, long)?;
+    Ok(painter)
+}
+
+/// The text of a table of texts as its configuration says: its cells as they are set for each, its borders, and its margin around
+/// them; with the colors of all these, or without any. `sizes` are the widths of its columns and the heights of its rows, and
+/// `shape` the numbers of its rows and of its columns. Its lines are joined by single line feeds. Spans are not looked at. Only
+/// memory can be refused.
+pub fn painted_text(
+    cfg: &ColoredConfig,
+    sizes: &FixedDimension,
+    shape: (usize, usize),
+    rows: &[Vec<String>],
+    with_colors: bool,
+) -> Result<String, OutOfMemory>
+    requires rows { length rows.now ≡ shape.0 }
+    requires cols { All (λ row. length row ≡ shape.1) (texts rows.now) }
+    ensures { IfOk result (λ text. string_bytes text ≡ text_of_lines with_colors (painted_table
+        (look (all_writes cfg.now.spanned) shape (slice_index sizes.now.widths.items) (slice_index sizes.now.heights.items)) cfg.now.spanned.settings.margin
+        (painted_cells cfg.now.spanned.settings.cells cfg.now.cell_colors sizes.now.widths.items sizes.now.heights.items (texts rows.now)))) }
+{
+    let alloc = cfg.config().allocator();
+    if shape.0 == 0 || shape.1 == 0 {
+        return Ok(String::new(alloc));
+    }
+    let sides = drawn_across(cfg.config(), shape, LineOf::Horizontal(0), &mut Probes::new())?;
+    let frame = Frame {
+        cfg,
+        sizes,
+        shape,
+        sides: &sides,
+    };
+    let painter = paint_in_margin(Painter::new(alloc, with_colors), &frame, rows)?;
+    let mut text = painter.into_text();
+    join_lines(&mut text);
+    Ok(text)
+}
