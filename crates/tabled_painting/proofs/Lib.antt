@@ -3,3 +3,4 @@ pub mod CellLemmas
 pub mod FrameLemmas
 pub mod PageLemmas
 pub mod MarginLemmas
+pub mod Plain

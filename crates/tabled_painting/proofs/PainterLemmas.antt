@@ -56,11 +56,11 @@ pub if_paint : (wanted : Bool) (color : Option Texts) (text : List ℕ) → colo
 if_paint true color text = refl
 if_paint false color text = ap (paint None) (plain_paint color text)
 
-goes_on : (color : Option Texts) (text : List ℕ) → colored color (paint color text) ≡ text
+pub goes_on : (color : Option Texts) (text : List ℕ) → colored color (paint color text) ≡ text
 goes_on color [] = refl
 goes_on color (b ∷ bs) = ap (λ front. front ++ b ∷ colored color (paint color bs)) (between_self color) ∙ ap (λ rest. b ∷ rest) (goes_on color bs)
 
-stays : (color : Option Texts) (text : List ℕ) → last_color color (paint color text) ≡ color
+pub stays : (color : Option Texts) (text : List ℕ) → last_color color (paint color text) ≡ color
 stays color [] = refl
 stays color (b ∷ bs) = stays color bs
 

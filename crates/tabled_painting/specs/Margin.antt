@@ -1,5 +1,5 @@
 -- The margin around painted lines.
-use Rattle.std.specs.Prelude.{ℕ, Bool, nat_lt, nat_le, ◌+◌, ◌-◌, if◌then◌else◌, Option, None, List, [], ◌∷◌, ◌++◌, length, replicate, option_copied}
+use Rattle.std.specs.Prelude.{ℕ, Bool, nat_lt, nat_le, ◌+◌, ◌-◌, ◌==◌, ◌&&◌, if◌then◌else◌, Option, None, List, [], ◌∷◌, ◌++◌, length, replicate, option_copied}
 use Rattle.std.specs.List.{flat_map}
 use Rattle.tabled_border.specs.Texts.{Texts}
 use Rattle.tabled_object.specs.Entities.{below}
@@ -55,6 +55,10 @@ in_margin margin columns lines =
     replicate (top_side margin).size (strip (top_side margin) long)
     ++ between_sides left right (length lines) 0 lines
     ++ replicate (bottom_side margin).size (strip (bottom_side margin) long)
+
+-- whether no side of a margin has room
+abbrev pub is_without_room : Margin → Bool
+is_without_room margin = (margin.size.left.size == 0) && (margin.size.right.size == 0) && (margin.size.top.size == 0) && (margin.size.bottom.size == 0)
 
 -- a side as the code has it
 abbrev pub side_of : MarginSide → Side

@@ -1,6 +1,6 @@
 -- The picture of a table with its colors.
 use Rattle.std.specs.Prelude.{ℕ, if◌then◌else◌, Option, List, [], ◌∷◌, ◌++◌, map, length, slice_index, slice_index_or}
-use Rattle.std.specs.List.{flat_map}
+use Rattle.std.specs.List.{flat_map, join_with_byte}
 use Rattle.tabled_border.specs.Texts.{Texts}
 use Rattle.tabled_object.specs.Entities.{below}
 use Rattle.tabled_grid.specs.declared.place.Place.{Place}
@@ -10,10 +10,13 @@ use Rattle.tabled_settings.specs.Live.{Live}
 use Rattle.tabled_layout.specs.declared.margin.Margin.{Margin}
 use Rattle.tabled_config.specs.Along.{is_empty}
 use Rattle.tabled_config.specs.Texts.{Table}
-use Rattle.tabled_config.specs.Picture.{Look, Shown, text_shown, mark_at, marks_along}
+use Rattle.tabled_configuration.specs.Colored.{Colored}
+use Rattle.tabled_configuration.specs.Configuration.{all_writes}
+use Rattle.tabled_config.specs.Picture.{Look, Shown, look, text_shown, mark_at, marks_along}
 use Rattle.tabled_cells.specs.Placements.{placement_at}
 use Rattle.tabled_cells.specs.Trimmed.{lines_shown}
-use Rattle.tabled_painting.specs.Painted.{Painted, paint}
+use Rattle.tabled_painting.specs.Painted.{Painted, paint, plain}
+use Rattle.tabled_painting.specs.InColor.{in_color}
 use Rattle.tabled_painting.specs.CellLines.{coloring_at, cell_line}
 use Rattle.tabled_painting.specs.Margin.{in_margin}
 
@@ -60,7 +63,23 @@ module _ (view : Look) where
   unfoldable pub painted_lines : Cells → List Painted
   painted_lines cells = flat_map (λ r. painted_if_drawn r ++ painted_row cells r) (below view.shape.0) ++ painted_if_drawn view.shape.0
 
-  -- a table with its margin: as long as a horizontal line has places, drawn or not. A table without places has no lines
+  -- the lines of a table with its margin: the table is as long as a horizontal line has places, drawn or not. A table without
+  -- places has no lines
+  abbrev pub with_margin : Margin → List Painted → List Painted
+  with_margin margin lines = if is_empty view.shape then [] else in_margin margin (length (marks_along view (LineOf.Horizontal 0))) lines
+
   unfoldable pub painted_table : Margin → Cells → List Painted
-  painted_table margin cells =
-      if is_empty view.shape then [] else in_margin margin (length (marks_along view (LineOf.Horizontal 0))) (painted_lines cells)
+  painted_table margin cells = with_margin margin (painted_lines cells)
+
+-- painted lines as a text: without colors, and with them
+unfoldable pub plain_text : List Painted → List ℕ
+plain_text lines = join_with_byte 10 (map plain lines)
+
+unfoldable pub colored_text : List Painted → List ℕ
+colored_text lines = join_with_byte 10 (map in_color lines)
+
+-- the table of texts of a configuration, of that shape, with columns and rows of these sizes
+abbrev pub painted_by : Colored → ℕ × ℕ → List ℕ → List ℕ → Table → List Painted
+painted_by cfg shape widths heights table =
+    painted_table (look (all_writes cfg.spanned) shape (slice_index widths) (slice_index heights)) cfg.spanned.settings.margin
+    (painted_cells cfg.spanned.settings.cells cfg.cell_colors widths heights table)

@@ -9,13 +9,13 @@ use tabled_settings::Sides;
 
 /// The colors of a cell, as far as it has them.
 #[derive(Clone, Copy, Debug)]
-pub struct CellColors<'a> {
+pub(crate) struct CellColors<'a> {
     /// Of its text.
-    pub text: Option<&'a ANSIBuf>,
+    pub(crate) text: Option<&'a ANSIBuf>,
     /// Of the characters that fill its lines beside the text.
-    pub fill: Option<&'a ANSIBuf>,
+    pub(crate) fill: Option<&'a ANSIBuf>,
     /// Of the spaces around these, on each side.
-    pub padding: &'a Sides<Option<ANSIBuf>>,
+    pub(crate) padding: &'a Sides<Option<ANSIBuf>>,
 }
 
 impl<'a> CellColors<'a> {
@@ -23,7 +23,7 @@ impl<'a> CellColors<'a> {
 
     /// The colors that are set for a cell.
     #[tactic(auto, unfolding(crate::specs::CellLines::coloring_at))]
-    pub fn of(cfg: &'a ColoredConfig, position: Position) -> Self
+    pub(crate) fn of(cfg: &'a ColoredConfig, position: Position) -> Self
         ensures { coloring_of result ≡ coloring_at cfg.now.spanned.settings.cells cfg.now.cell_colors position.row position.col }
     {
         CellColors {

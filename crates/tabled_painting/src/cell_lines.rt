@@ -79,11 +79,7 @@ impl<'a> CellLines<'a> {
     }
 
     /// Paints line `n` of the cell.
-    pub(crate) fn paint_line(
-        &self,
-        painter: &mut Painter<'a>,
-        n: usize,
-    ) -> Result<(), AllocError>
+    pub(crate) fn paint_line(&self, painter: &mut Painter<'a>, n: usize) -> Result<(), AllocError>
         ensures { OnOk result (Paints (cell_line self.now.how (coloring_of self.now.colors) self.now.width self.now.height (lent self.now.lines.items) n) painter.old painter.new) }
     {
         let padding = self.colors.padding;

@@ -84,11 +84,7 @@ impl<'a> Frame<'a, '_> {
     }
 
     /// The lines of the cells of a row.
-    fn row_cells(
-        &self,
-        row: usize,
-        texts: &'a [String],
-    ) -> Result<Vec<CellLines<'a>>, OutOfMemory>
+    fn row_cells(&self, row: usize, texts: &'a [String]) -> Result<Vec<CellLines<'a>>, OutOfMemory>
         ensures { IfOk result (λ cells. (at : ℕ) → map (line_of at) cells.items
             ≡ map (λ col. painted_cell self.now.cfg.now.spanned.settings.cells self.now.cfg.now.cell_colors (slice_index self.now.sizes.now.widths.items col) (slice_index self.now.sizes.now.heights.items row) (slice_index_or (map string_bytes texts.now) col []) row col at) (below (length texts.now))) }
     {

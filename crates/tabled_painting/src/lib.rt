@@ -1,4 +1,5 @@
-//! Painted lines: characters that each have a color or none, and their text with colors and without.
+//! The text of a table in color, and with its margin: each line of it is painted, character by character, and written with the
+//! texts of the colors or without them.
 //!
 //! `docs/DEFINITIONS.md` explains the words of the contracts.
 #![tactic(auto)]
@@ -12,8 +13,8 @@ mod page;
 mod painter;
 mod painting;
 
-pub use cell_colors::CellColors;
-pub use margin_side::MarginSide;
-pub use margin_sides::MarginSides;
-pub use painter::Painter;
-pub use painting::{line_length, painted_text};
+pub(crate) use cell_colors::CellColors;
+pub(crate) use margin_side::MarginSide;
+pub(crate) use margin_sides::MarginSides;
+pub(crate) use painter::Painter;
+pub use painting::{colored_text, has_margin, plain_text};

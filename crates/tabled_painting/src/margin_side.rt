@@ -14,15 +14,15 @@ use tabled_layout::Indent;
 
 /// One side of a margin.
 #[derive(Clone, Copy, Debug)]
-pub struct MarginSide<'a> {
+pub(crate) struct MarginSide<'a> {
     /// How many columns or lines it is wide.
-    pub size: usize,
+    pub(crate) size: usize,
     /// The character that fills it.
-    pub fill: char,
+    pub(crate) fill: char,
     /// Where it begins or ends: spaces stand in the places that this leaves out.
-    pub offset: Offset,
+    pub(crate) offset: Offset,
     /// Its color, if it has one.
-    pub color: Option<&'a ANSIBuf>,
+    pub(crate) color: Option<&'a ANSIBuf>,
 }
 
 /// Whether an offset leaves number `n` of so many out.
@@ -37,7 +37,7 @@ fn is_left_out(offset: Offset, extent: usize, n: usize) -> bool
 
 impl<'a> MarginSide<'a> {
     /// A side of that room, offset and color.
-    pub fn new(indent: Indent, offset: Offset, color: &'a Option<ANSIBuf>) -> Self
+    pub(crate) fn new(indent: Indent, offset: Offset, color: &'a Option<ANSIBuf>) -> Self
         ensures { side_of result ≡ record { size = indent.size; fill = indent.fill; offset = offset; color = color.now } }
     {
         let Indent { size, fill } = indent;
@@ -51,7 +51,7 @@ impl<'a> MarginSide<'a> {
 
     /// Paints so many characters of the side at number `n` of its extent.
     #[tactic(auto, unfolding(crate::specs::Margin::side_at))]
-    pub fn paint_at(
+    pub(crate) fn paint_at(
         &self,
         painter: &mut Painter<'a>,
         extent: usize,
@@ -78,7 +78,7 @@ impl<'a> MarginSide<'a> {
     }
 
     /// Paints the lines above or below the table, each of so many columns.
-    pub fn paint_strips(
+    pub(crate) fn paint_strips(
         &self,
         painter: &mut Painter<'a>,
         long: usize,

@@ -8,20 +8,20 @@ use tabled_config::SpannedConfig;
 
 /// The four sides of a margin.
 #[derive(Clone, Copy, Debug)]
-pub struct MarginSides<'a> {
+pub(crate) struct MarginSides<'a> {
     /// At the left of each line.
-    pub left: MarginSide<'a>,
+    pub(crate) left: MarginSide<'a>,
     /// At the right of each line.
-    pub right: MarginSide<'a>,
+    pub(crate) right: MarginSide<'a>,
     /// Above the table.
-    pub top: MarginSide<'a>,
+    pub(crate) top: MarginSide<'a>,
     /// Below the table.
-    pub bottom: MarginSide<'a>,
+    pub(crate) bottom: MarginSide<'a>,
 }
 
 impl<'a> MarginSides<'a> {
     /// The margin of a configuration.
-    pub fn of(cfg: &'a SpannedConfig) -> Self
+    pub(crate) fn of(cfg: &'a SpannedConfig) -> Self
         ensures left { side_of result.left ≡ left_side cfg.now.settings.margin }
         ensures right { side_of result.right ≡ right_side cfg.now.settings.margin }
         ensures top { side_of result.top ≡ top_side cfg.now.settings.margin }

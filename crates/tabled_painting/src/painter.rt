@@ -11,7 +11,7 @@ use tabled_cells::push_times;
 
 /// A text that painted lines are written into, one after another, and the color of what was written last.
 #[derive(Drop)]
-pub struct Painter<'a> {
+pub(crate) struct Painter<'a> {
     text: String,
     color: Option<&'a ANSIBuf>,
     with_colors: bool,
@@ -20,7 +20,7 @@ pub struct Painter<'a> {
 #[tactic(auto, using(crate::proofs::PainterLemmas::painting))]
 impl<'a> Painter<'a> {
     /// A painter that has written nothing. Without colors it writes the characters alone.
-    pub fn new(alloc: Global, with_colors: bool) -> Self
+    pub(crate) fn new(alloc: Global, with_colors: bool) -> Self
         ensures text { string_bytes result.text ≡ [] }
         ensures color { option_copied result.color ≡ None }
         ensures with_colors { result.with_colors ≡ with_colors }
@@ -33,7 +33,7 @@ impl<'a> Painter<'a> {
     }
 
     /// What was written.
-    pub fn into_text(self) -> String
+    pub(crate) fn into_text(self) -> String
         ensures { result ≡ self.entry.text }
     {
         let Painter {
@@ -45,7 +45,7 @@ impl<'a> Painter<'a> {
     }
 
     /// Asks for room for so many bytes more, so that a text that no memory holds is refused before any of it is written.
-    pub fn reserve(&mut self, bytes: usize) -> Result<(), AllocError>
+    pub(crate) fn reserve(&mut self, bytes: usize) -> Result<(), AllocError>
         ensures text { string_bytes self.new.text ≡ string_bytes self.old.text }
         ensures color { self.new.color ≡ self.old.color }
         ensures same_colors { self.new.with_colors ≡ self.old.with_colors }
@@ -101,7 +101,11 @@ impl<'a> Painter<'a> {
     }
 
     /// Writes a text in a color.
-    pub fn push_str(&mut self, color: Option<&'a ANSIBuf>, text: &str) -> Result<(), AllocError>
+    pub(crate) fn push_str(
+        &mut self,
+        color: Option<&'a ANSIBuf>,
+        text: &str,
+    ) -> Result<(), AllocError>
         ensures { OnOk result (Paints (paint (option_copied color.entry) text.now) self.old self.new) }
     {
         if text.is_empty() {
@@ -113,7 +117,7 @@ impl<'a> Painter<'a> {
     }
 
     /// Writes a character so many times in a color.
-    pub fn push_times(
+    pub(crate) fn push_times(
         &mut self,
         color: Option<&'a ANSIBuf>,
         count: usize,
@@ -130,7 +134,7 @@ impl<'a> Painter<'a> {
     }
 
     /// Ends a line, and its last color.
-    pub fn end_line(&mut self) -> Result<(), AllocError>
+    pub(crate) fn end_line(&mut self) -> Result<(), AllocError>
         ensures text { OnOk result (string_bytes self.new.text ≡ string_bytes self.old.text ++ suffix_of (option_copied self.old.color) ++ 10 ∷ []) }
         ensures color { OnOk result (option_copied self.new.color ≡ None) }
         ensures same_colors { self.new.with_colors ≡ self.old.with_colors }

@@ -1,14 +1,14 @@
 //! The text of a table with its colors and its margin.
 
-ghost use Rattle.std.specs.Prelude.{◌≡◌, ◌+◌, true, None, length, IfOk, string_bytes, slice_index, option_copied};
+ghost use Rattle.std.specs.Prelude.{◌≡◌, ◌+◌, true, not, None, length, IfOk, string_bytes, slice_index, option_copied};
 ghost use Rattle.std.specs.List.{All};
 ghost use Rattle.tabled_configuration.specs.Configuration.{all_writes};
 ghost use Rattle.tabled_config.specs.LinePieces.{has_line};
-ghost use Rattle.tabled_config.specs.Picture.{look, marks};
+ghost use Rattle.tabled_config.specs.Picture.{marks};
 ghost use Rattle.tabled_config.specs.Texts.{texts};
-ghost use Rattle.tabled_painting.specs.Margin.{side_of, between_sides};
+ghost use Rattle.tabled_painting.specs.Margin.{side_of, between_sides, is_without_room};
 ghost use Rattle.tabled_painting.specs.Pages.{PaintsWhole, Strips, text_of_lines};
-ghost use Rattle.tabled_painting.specs.PaintedTable.{Cells, painted_cells, painted_lines, painted_table};
+ghost use Rattle.tabled_painting.specs.PaintedTable.{Cells, painted_by, painted_lines, painted_table, plain_text, colored_text};
 ghost use Rattle.tabled_painting.specs.Viewed.{viewed, cells_of};
 
 use crate::frame::Frame;
@@ -27,7 +27,7 @@ fn sum_of(first: usize, second: usize) -> Result<usize, OutOfMemory>
 
 /// How many places a line has that is there: for a horizontal one, how many columns the table is long, and for a vertical one, how
 /// many lines it is high. Refused where memory is, and where no number says it.
-pub fn line_length(
+fn line_length(
     cfg: &SpannedConfig,
     sizes: &FixedDimension,
     shape: (usize, usize),
@@ -54,7 +54,12 @@ fn lines_high(frame: &Frame, margin: &MarginSides) -> Result<usize, OutOfMemory>
     if margin.left.size == 0 && margin.right.size == 0 {
         return Ok(0);
     }
-    line_length(frame.cfg.config(), frame.sizes, frame.shape, LineOf::Vertical(0))
+    line_length(
+        frame.cfg.config(),
+        frame.sizes,
+        frame.shape,
+        LineOf::Vertical(0),
+    )
 }
 
 /// How many columns a table is long with the sides of its margin, where that matters: where nothing stands above it and below it,
@@ -65,7 +70,12 @@ fn columns_long(frame: &Frame, margin: &MarginSides) -> Result<usize, OutOfMemor
     if margin.top.size == 0 && margin.bottom.size == 0 {
         return Ok(0);
     }
-    let columns = line_length(frame.cfg.config(), frame.sizes, frame.shape, LineOf::Horizontal(0))?;
+    let columns = line_length(
+        frame.cfg.config(),
+        frame.sizes,
+        frame.shape,
+        LineOf::Horizontal(0),
+    )?;
     let left = sum_of(margin.left.size, columns)?;
     sum_of(left, margin.right.size)
 }
@@ -98,11 +108,8 @@ fn paint_in_margin<'a>(
     Ok(painter)
 }
 
-/// The text of a table of texts as its configuration says: its cells as they are set for each, its borders, and its margin around
-/// them; with the colors of all these, or without any. `sizes` are the widths of its columns and the heights of its rows, and
-/// `shape` the numbers of its rows and of its columns. Its lines are joined by single line feeds. Spans are not looked at. Only
-/// memory can be refused.
-pub fn painted_text(
+/// The text of a table of texts as its configuration says, with its colors or without them.
+fn written(
     cfg: &ColoredConfig,
     sizes: &FixedDimension,
     shape: (usize, usize),
@@ -111,15 +118,18 @@ pub fn painted_text(
 ) -> Result<String, OutOfMemory>
     requires rows { length rows.now ≡ shape.0 }
     requires cols { All (λ row. length row ≡ shape.1) (texts rows.now) }
-    ensures { IfOk result (λ text. string_bytes text ≡ text_of_lines with_colors (painted_table
-        (look (all_writes cfg.now.spanned) shape (slice_index sizes.now.widths.items) (slice_index sizes.now.heights.items)) cfg.now.spanned.settings.margin
-        (painted_cells cfg.now.spanned.settings.cells cfg.now.cell_colors sizes.now.widths.items sizes.now.heights.items (texts rows.now)))) }
+    ensures { IfOk result (λ text. string_bytes text ≡ text_of_lines with_colors (painted_by cfg.now shape sizes.now.widths.items sizes.now.heights.items (texts rows.now))) }
 {
     let alloc = cfg.config().allocator();
     if shape.0 == 0 || shape.1 == 0 {
         return Ok(String::new(alloc));
     }
-    let sides = drawn_across(cfg.config(), shape, LineOf::Horizontal(0), &mut Probes::new())?;
+    let sides = drawn_across(
+        cfg.config(),
+        shape,
+        LineOf::Horizontal(0),
+        &mut Probes::new(),
+    )?;
     let frame = Frame {
         cfg,
         sizes,
@@ -130,4 +140,46 @@ pub fn painted_text(
     let mut text = painter.into_text();
     join_lines(&mut text);
     Ok(text)
+}
+
+/// The text of a table of texts as its configuration says, without colors: its cells as they are set for each, its borders, and its
+/// margin around them. `sizes` are the widths of its columns and the heights of its rows, `shape` the numbers of its rows and of
+/// its columns. Its lines are joined by single line feeds. Spans are not looked at. Only memory can be refused.
+pub fn plain_text(
+    cfg: &ColoredConfig,
+    sizes: &FixedDimension,
+    shape: (usize, usize),
+    rows: &[Vec<String>],
+) -> Result<String, OutOfMemory>
+    requires rows { length rows.now ≡ shape.0 }
+    requires cols { All (λ row. length row ≡ shape.1) (texts rows.now) }
+    ensures { IfOk result (λ text. string_bytes text ≡ plain_text (painted_by cfg.now shape sizes.now.widths.items sizes.now.heights.items (texts rows.now))) }
+{
+    written(cfg, sizes, shape, rows, false)
+}
+
+/// The same text in color: where the color changes along a line, the text that ends the last color is written and then the text that
+/// begins the next, and at the end of a line the text that ends its last color; where there is no color nothing is written.
+pub fn colored_text(
+    cfg: &ColoredConfig,
+    sizes: &FixedDimension,
+    shape: (usize, usize),
+    rows: &[Vec<String>],
+) -> Result<String, OutOfMemory>
+    requires rows { length rows.now ≡ shape.0 }
+    requires cols { All (λ row. length row ≡ shape.1) (texts rows.now) }
+    ensures { IfOk result (λ text. string_bytes text ≡ colored_text (painted_by cfg.now shape sizes.now.widths.items sizes.now.heights.items (texts rows.now))) }
+{
+    written(cfg, sizes, shape, rows, true)
+}
+
+/// Whether a margin of a configuration has room on some side.
+pub fn has_margin(cfg: &SpannedConfig) -> bool
+    ensures { result ≡ not (is_without_room cfg.now.settings.margin) }
+{
+    let margin = cfg.get_margin();
+    margin.left.size != 0
+        || margin.right.size != 0
+        || margin.top.size != 0
+        || margin.bottom.size != 0
 }

@@ -1,19 +1,12 @@
 -- The cells of a row, and the rows of a table, so far.
 use Rattle.std.proofs.Common.{◌≡◌, ℕ, ◌+◌, ◌<◌, List, [], ◌∷◌, ◌++◌, map, length, get_or, take, sym, ap, ◌∙◌, arith, Result, Ok, Err, OnOk, slice_index, String, string_bytes, Vec}
 use Rattle.std.proofs.lemmas.List.{length-map, map-append, take_more}
-use Rattle.std.proofs.lemmas.List.FromFn.{map-range_with_len_more, length-map-range_with_len, get_or-map-range_with_len}
-use Rattle.tabled_object.specs.Entities.{below}
+use Rattle.std.proofs.lemmas.List.FromFn.{length-map-range_with_len, get_or-map-range_with_len}
 use Rattle.tabled_settings.specs.declared.cell_settings.CellSettings.{CellSettings}
 use Rattle.tabled_config.specs.Texts.{texts}
 use Rattle.tabled_cells.specs.Placements.{placement_at}
 use Rattle.tabled_text.specs.Cells.{placed_row, placed_rows}
-
--- one thing more, by what it shows
-pub one_more : {A B : Type 0} (f : A → B) (g : ℕ → B) (old new : List A) (x : A) (at : ℕ) → new ≡ old ++ x ∷ [] → map f old ≡ map g (below at) → f x ≡ g at
-    → map f new ≡ map g (below (at + 1))
-one_more f g old new x at pushed made is =
-    ap (map f) pushed ∙ map-append f old (x ∷ []) ∙ ap (λ front. front ++ f x ∷ []) made ∙ ap (λ y. map g (below at) ++ y ∷ []) is
-    ∙ sym (map-range_with_len_more g 0 at at (omega arith))
+pub use Rattle.tabled_painting.proofs.FrameLemmas.{one_more}
 
 -- what holds of a call that succeeds, by what it did
 pub on_done : {T E : Type 0} (r : Result T E) (P Q : Type 0) → OnOk r P → (P → Q) → OnOk r Q

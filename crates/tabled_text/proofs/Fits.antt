@@ -9,12 +9,8 @@ use Rattle.std.proofs.lemmas.List.FromFn.{length-map-range_with_len, get_or-map-
 use Rattle.std.proofs.lemmas.List.Splits.{length-slice_split}
 use Rattle.std.proofs.lemmas.Str.{IsUtf8-nil, IsUtf8-string_bytes}
 use Rattle.tabled_object.specs.Entities.{below}
-use Rattle.tabled_object.specs.declared.records.Shape.{Shape}
 use Rattle.tabled_settings.specs.declared.cell_settings.CellSettings.{CellSettings}
-use Rattle.tabled_configuration.specs.Configuration as borders
-use Rattle.tabled_configuration.specs.Configuration.{Configuration, ConfigEvent}
 use Rattle.tabled_config.specs.Texts.{Table, texts, pieces, width_of_text}
-use Rattle.tabled_config.specs.Picture.{printed}
 use Rattle.tabled_config.specs.Refusal.{unless, cell_faults, row_faults, table_faults}
 use Rattle.tabled_config.specs.declared.print_error.PrintError.TheVariants.{RowCount, ColumnCount, Height, Width}
 use Rattle.tabled_cells.specs.declared.placement.Placement.{Placement}
@@ -22,8 +18,7 @@ use Rattle.tabled_cells.specs.Placements.{placement_at}
 use Rattle.tabled_cells.specs.Placed.{placed, placed_lines, greatest}
 use Rattle.tabled_cells.proofs.Fits.{greatest_bound, cut_placed, placed_high, placed_wide}
 use Rattle.tabled_text.specs.Sizes.{cell, first_unequal, column_count, column_width, column_widths, row_height, row_heights, width_asked, height_asked}
-use Rattle.tabled_text.specs.Cells.{placed_row, placed_rows, cells_set}
-use Rattle.tabled_text.specs.TextTable.{shape_of, text_of}
+use Rattle.tabled_text.specs.Cells.{placed_row, placed_rows}
 
 -- ---- a cell
 
@@ -75,13 +70,13 @@ row_fits how widths heights columns r row count utf8 high room =
     (room (0 + k) (omega arith)) (high (0 + k) (omega arith)) r (0 + k) (slice_index widths) heights refl refl)
 
 -- the widths and heights that a table asks for leave room for each cell
-column_room : (table : Table) (r c : ℕ) → r < length table → c < column_count table → width_asked (cell (get_or table r []) c) ≤ slice_index (column_widths table) c
+pub column_room : (table : Table) (r c : ℕ) → r < length table → c < column_count table → width_asked (cell (get_or table r []) c) ≤ slice_index (column_widths table) c
 unfolding column_widths
 column_room table r c row_within within =
     let here : slice_index (column_widths table) c ≡ column_width table c = get_or-map-range_with_len (column_width table) 0 (column_count table) c c 0 within (omega arith) in
     omega (arith, greatest_bound (λ row. width_asked (cell row c)) 0 table r [] row_within, here)
 
-row_room : (table : Table) (r c : ℕ) → r < length table → c < length (get_or table r []) → height_asked (cell (get_or table r []) c) ≤ slice_index (row_heights table) r
+pub row_room : (table : Table) (r c : ℕ) → r < length table → c < length (get_or table r []) → height_asked (cell (get_or table r []) c) ≤ slice_index (row_heights table) r
 unfolding row_height
 row_room table r c within inside =
     let here : slice_index (row_heights table) r ≡ row_height (get_or table r []) = get_or-map row_height table r [] 0 within in
@@ -128,27 +123,3 @@ pub all_equal : (columns start : ℕ) (rows : Table) → first_unequal columns s
 all_equal columns start [] none r within = absurd (omega arith)
 all_equal columns start (cells ∷ rows) none zero within = (equal_by columns start cells rows _ refl none).0
 all_equal columns start (cells ∷ rows) none (suc r) within = all_equal columns (start + 1) rows (equal_by columns start cells rows _ refl none).1 r (omega arith)
-
--- ---- the text of a table
-
-module _ (cfg : Configuration) (table cells : Table) (shape : Shape) (widths heights : List ℕ)
-    (shaped : shape ≡ shape_of table) (wide : widths ≡ column_widths table) (high : heights ≡ row_heights table)
-    (made : cells ≡ placed_rows cfg.settings.cells widths heights table) where
-  pub is_text_of : (es : List ConfigEvent) → borders.Shows es cfg → printed es (shape.rows, shape.cols) (slice_index widths) (slice_index heights) cells ≡ text_of es table
-  unfolding text_of
-  is_text_of es shows =
-      ap (printed es (shape.rows, shape.cols) (slice_index widths) (slice_index heights)) made
-      ∙ ap (λ settings. printed es (shape.rows, shape.cols) (slice_index widths) (slice_index heights) (placed_rows settings.cells widths heights table)) shows.settings_shown
-      ∙ ap (λ s. printed es (s.rows, s.cols) (slice_index widths) (slice_index heights) (placed_rows (cells_set es) widths heights table)) shaped
-      ∙ ap (λ ws. printed es (length table, column_count table) (slice_index ws) (slice_index heights) (placed_rows (cells_set es) ws heights table)) wide
-      ∙ ap (λ hs. printed es (length table, column_count table) (slice_index (column_widths table)) (slice_index hs) (placed_rows (cells_set es) (column_widths table) hs table)) high
-
-  pub fits : table_faults (slice_index (column_widths table)) (slice_index (row_heights table)) (length table, column_count table)
-      (placed_rows cfg.settings.cells (column_widths table) (row_heights table) table) ≡ []
-      → table_faults (slice_index widths) (slice_index heights) (shape.rows, shape.cols) cells ≡ []
-  fits fit =
-      ap (table_faults (slice_index widths) (slice_index heights) (shape.rows, shape.cols)) made
-      ∙ ap (λ s. table_faults (slice_index widths) (slice_index heights) (s.rows, s.cols) (placed_rows cfg.settings.cells widths heights table)) shaped
-      ∙ ap (λ ws. table_faults (slice_index ws) (slice_index heights) (length table, column_count table) (placed_rows cfg.settings.cells ws heights table)) wide
-      ∙ ap (λ hs. table_faults (slice_index (column_widths table)) (slice_index hs) (length table, column_count table) (placed_rows cfg.settings.cells (column_widths table) hs table)) high
-      ∙ fit

@@ -1,3 +1,4 @@
 pub mod Measuring
 pub mod CellLemmas
 pub mod Fits
+pub mod Painting

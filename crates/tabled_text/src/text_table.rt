@@ -16,6 +16,7 @@ use tabled_config::{
     CellOption, ColoredConfig, PrintError, SpannedConfig, TableOption, modify, print_rows,
 };
 use tabled_grid::{FixedDimension, Object, OutOfMemory, Shape};
+use tabled_painting::{colored_text, has_margin, plain_text};
 
 /// A table of texts with its sizes and its configuration: options draw its borders, and it prints itself.
 ///
@@ -74,7 +75,7 @@ impl Model for TextTable {
 }
 
 impl TextTable {
-    ghost use Rattle.std.specs.Prelude.{◌≡◌, ℕ, List, [], ◌++◌, ◌⊎◌, None, Err, map, length, take, string_bytes, slice_get, IfOk, IfErr, OnOk, OnErr, MatchOption, IsOkUnless};
+    ghost use Rattle.std.specs.Prelude.{◌≡◌, ℕ, List, [], ◌++◌, ◌⊎◌, true, None, Err, map, length, take, string_bytes, slice_get, IfOk, IfErr, OnOk, OnErr, MatchOption, IsOkUnless};
     ghost use Rattle.std.specs.Borrow.{Lends, sem};
     ghost use Rattle.tabled_config.specs.Colored.{Shows, Changes};
     ghost use Rattle.tabled_config.specs.Configuration.{ConfigEvent};
@@ -86,7 +87,9 @@ impl TextTable {
     ghost use Rattle.tabled_config.specs.declared.print_error.PrintError.{PrintError as Fault};
     ghost use Rattle.tabled_text.specs.Refusal.{of_printer};
     ghost use Rattle.tabled_text.specs.Sizes.{column_count, column_widths, row_heights, unequal_row};
-    ghost use Rattle.tabled_text.specs.TextTable.{lent_rows, shape_of, text_of};
+    ghost use Rattle.tabled_painting.specs.Margin.{is_without_room};
+    ghost use Rattle.tabled_painting.specs.PaintedTable.{plain_text, colored_text};
+    ghost use Rattle.tabled_text.specs.TextTable.{lent_rows, shape_of, text_of, painted};
     ghost use Rattle.tabled_text.specs.declared.table_error.TableError.{TableError as Refusal};
     ghost use Rattle.tabled_text.specs.contracts.text_table.TextTable.{the_row};
     ghost use Rattle.tabled_configuration.specs.contracts.colored_config.ColoredConfig.{the_row as config_row};
@@ -254,8 +257,8 @@ impl TextTable {
         &self.sizes
     }
 
-    /// The text of the table: its cells padded, and around them what was applied. Where a cell spans several columns or rows
-    /// it is refused for that; else where memory is refused, and for nothing else.
+    /// The text of the table without colors: its cells as they are set for each, its borders, and its margin around them. Where a
+    /// cell spans several columns or rows it is refused for that; else where memory is refused, and for nothing else.
     pub fn to_text(&self) -> Result<String, PrintError>
         ensures text { (es : List ConfigEvent) → borders.Shows es self.now.config.spanned → IfOk result (λ text. string_bytes text ≡ text_of es self.now.texts) }
         ensures refusal { MatchOption (slice_get (span_faults self.now.config.spanned) 0) (IsOkUnless result Fault.OutOfMemory) (λ e. result ≡ Err e) }
@@ -287,6 +290,30 @@ impl TextTable {
         if cfg.has_spans() {
             return Err(PrintError::Spans);
         }
+        if has_margin(cfg) {
+            return Ok(self.append_with_margin(out)?);
+        }
+        Ok(self.append_without_margin(out)?)
+    }
+
+    /// Writes the text of the table with its margin.
+    fn append_with_margin(&self, out: &mut String) -> Result<(), OutOfMemory>
+        ensures text { (es : List ConfigEvent) → borders.Shows es self.now.config.spanned → OnOk result (string_bytes out.new ≡ string_bytes out.old ++ text_of es self.now.texts) }
+        ensures unchanged { OnErr result (string_bytes out.new ≡ string_bytes out.old) }
+    {
+        let shape = (self.shape.rows, self.shape.cols);
+        let text = plain_text(self.config(), &self.sizes, shape, &self.cells)?;
+        out.push_str(text.as_str())?;
+        Ok(())
+    }
+
+    /// Writes the text of a table that has no margin: each row is laid out when it is its turn.
+    fn append_without_margin(&self, out: &mut String) -> Result<(), OutOfMemory>
+        requires { is_without_room self.now.config.spanned.settings.margin ≡ true }
+        ensures text { (es : List ConfigEvent) → borders.Shows es self.now.config.spanned → OnOk result (string_bytes out.new ≡ string_bytes out.old ++ text_of es self.now.texts) }
+        ensures unchanged { OnErr result (string_bytes out.new ≡ string_bytes out.old) }
+    {
+        let cfg = self.config().config();
         let cells = PlacedRows {
             alloc: cfg.allocator(),
             rows: &self.cells,
@@ -294,8 +321,53 @@ impl TextTable {
             cfg,
         };
         let shape = (self.shape.rows, self.shape.cols);
-        print_rows(out, cfg, &self.sizes, shape, &cells)?;
+        print_rows(out, cfg, &self.sizes, shape, &cells)
+    }
+
+    /// The text of the table in color, as terminals show it: the same characters as in `to_text`, each between the two texts of
+    /// its color. Where the color changes along a line the text that ends the last one is written and then the text that begins
+    /// the next, and at the end of a line the text that ends its last color; where there is no color nothing is written. Refused
+    /// as `to_text` is.
+    pub fn to_ansi(&self) -> Result<String, PrintError>
+        ensures text { (es : List ConfigEvent) → Shows es self.now.config → IfOk result (λ text. string_bytes text ≡ colored_text (painted es self.now.texts)) }
+        ensures characters { IfOk result (λ _. (es : List ConfigEvent) → text_of es self.now.texts ≡ plain_text (painted es self.now.texts)) }
+        ensures refusal { MatchOption (slice_get (span_faults self.now.config.spanned) 0) (IsOkUnless result Fault.OutOfMemory) (λ e. result ≡ Err e) }
+    {
+        if self.config().config().has_spans() {
+            return Err(PrintError::Spans);
+        }
+        let shape = (self.shape.rows, self.shape.cols);
+        Ok(colored_text(self.config(), &self.sizes, shape, &self.cells)?)
+    }
+
+    /// Writes the text of the table in color after what `out` has. Where it is refused, as by `to_ansi`, `out` is as before.
+    pub fn append_ansi_to(&self, out: &mut String) -> Result<(), PrintError>
+        ensures text { (es : List ConfigEvent) → Shows es self.now.config → OnOk result (string_bytes out.new ≡ string_bytes out.old ++ colored_text (painted es self.now.texts)) }
+        ensures unchanged { OnErr result (string_bytes out.new ≡ string_bytes out.old) }
+        ensures refusal { MatchOption (slice_get (span_faults self.now.config.spanned) 0) (IsOkUnless result Fault.OutOfMemory) (λ e. result ≡ Err e) }
+    {
+        let text = self.to_ansi()?;
+        out.push_str(text.as_str())?;
         Ok(())
+    }
+
+    /// Writes the text of the table in color to a writer, in one call of it. Where it is refused by `to_ansi` nothing is written;
+    /// where the writer fails some of the text may be.
+    pub fn write_ansi_to<W: fmt::Write>(&self, out: &mut W) -> Result<(), TableError>
+        ensures text { (es : List ConfigEvent) → Shows es self.now.config → OnOk result (W.write_str_gives out.old (colored_text (painted es self.now.texts)) out.new) }
+        ensures refusal { MatchOption (slice_get (span_faults self.now.config.spanned) 0) (IfErr result (λ e. (e ≡ Refusal.OutOfMemory) ⊎ (e ≡ Refusal.Write))) (λ e. result ≡ Err (of_printer e)) }
+        ensures unwritten { IfErr result (λ e. (e ≡ Refusal.Write) ⊎ (out.new ≡ out.old)) }
+    {
+        let text = self.to_ansi()?;
+        out.write_str(text.as_str())?;
+        Ok(())
+    }
+
+    /// The texts of the cells, row by row, as they were given.
+    pub fn texts(&self) -> &[Vec<String>]
+        ensures { texts result.now ≡ self.now.texts }
+    {
+        self.cells.as_slice()
     }
 }
 

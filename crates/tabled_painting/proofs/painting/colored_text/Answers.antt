@@ -1,0 +1,15 @@
+-- With its colors a line is as it is in color.
+use Rattle.std.proofs.Common.{ap, ◌∙◌}
+use Rattle.std.specs.List.{join_with_byte}
+use Rattle.tabled_config.specs.Texts.{texts}
+use Rattle.tabled_painting.specs.Pages.{text_of_lines}
+use Rattle.tabled_painting.specs.PaintedTable.{painted_by, colored_text}
+use Rattle.tabled_painting.proofs.MarginLemmas.{on_value}
+use Rattle.tabled_painting.proofs.Plain.{text_with_colors}
+use Rattle.tabled_painting.proofs.painting.colored_text.Goals as goal
+
+pub returns : goal.returns
+unfolding text_of_lines colored_text
+returns c =
+    on_value c.written.result _ _ c.written.ensures (λ text is. is ∙ ap (join_with_byte 10)
+    (text_with_colors (painted_by c.args.cfg.now c.args.shape c.args.sizes.now.widths.items c.args.sizes.now.heights.items (texts c.args.rows.now))))
