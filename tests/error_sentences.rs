@@ -75,9 +75,10 @@ fn refusals_of_tables_are_sentences(rt: HostRuntime) -> Result<(), Fail> {
     let alloc = rt.alloc();
     let refusals = [
         (TableError::OutOfMemory, "memory was asked for and refused"),
-        (TableError::UnequalRows(3), "row 3 does not have as many cells as row 0"),
+        (TableError::UnequalRows { row: 3, cells: 2, columns: 4 }, "row 3 has 2 cells where row 0 has 4"),
         (TableError::Print(PrintError::Spans), "tables with spans are not printed, and one is set"),
         (TableError::Write, "the writer failed"),
+        (TableError::UnknownStyle, "no style of the library has this name"),
     ];
     for (refused, said) in refusals {
         assert!(rt; sentence(alloc, &refused)?.as_str() == said);
@@ -90,7 +91,7 @@ fn a_program_of_anyhow_takes_each_refusal(rt: HostRuntime) -> Result<(), Fail> {
     let alloc = rt.alloc();
     assert!(rt; report(alloc, ROWS, "ascii").is_ok_and(|text| text.as_str() == FRAMED));
     let unequal = report(alloc, UNEQUAL, "ascii").err().ok_or("taken")?;
-    assert!(rt; sentence(alloc, &unequal)?.as_str() == "row 1 does not have as many cells as row 0");
+    assert!(rt; sentence(alloc, &unequal)?.as_str() == "row 1 has 1 cells where row 0 has 2");
     let unknown = report(alloc, ROWS, "fancy").err().ok_or("taken")?;
     assert!(rt; sentence(alloc, &unknown)?.as_str() == "no style of the library has this name");
     Ok(())

@@ -112,6 +112,6 @@ fn lines_become_a_markdown_table(rt: HostRuntime) -> Result<(), Fail> {
 
 #[test]
 fn lines_of_unequal_count_are_refused(rt: HostRuntime) -> Result<(), Fail> {
-    assert!(rt; markdown(rt.alloc(), "a, b\nc").err() == Some(TableError::UnequalRows(1)));
+    assert!(rt; markdown(rt.alloc(), "a, b\nc").err() == Some(TableError::UnequalRows { row: 1, cells: 1, columns: 2 }));
     Ok(())
 }

@@ -80,10 +80,10 @@ fn refusal(alloc: Global, rows: &[&[&str]]) -> Option<TableError> {
 #[test]
 fn the_first_unequal_row_is_named(rt: HostRuntime) {
     let alloc = rt.alloc();
-    let unequal = |row| Some(TableError::UnequalRows(row));
-    assert!(rt; refusal(alloc, &[&["a", "b"], &["c"]]) == unequal(1));
-    assert!(rt; refusal(alloc, &[&["a"], &["b"], &["c", "d"], &[]]) == unequal(2));
-    assert!(rt; refusal(alloc, &[&[], &["a"]]) == unequal(1));
+    let unequal = |row, cells, columns| Some(TableError::UnequalRows { row, cells, columns });
+    assert!(rt; refusal(alloc, &[&["a", "b"], &["c"]]) == unequal(1, 1, 2));
+    assert!(rt; refusal(alloc, &[&["a"], &["b"], &["c", "d"], &[]]) == unequal(2, 2, 1));
+    assert!(rt; refusal(alloc, &[&[], &["a"]]) == unequal(1, 1, 0));
     assert!(rt; refusal(alloc, &[&["a"], &["b"]]).is_none());
     assert!(rt; refusal(alloc, &[]).is_none());
 }
@@ -107,7 +107,7 @@ fn rows_are_taken_as_they_are(rt: HostRuntime) -> Result<(), Fail> {
     let table = TextTable::from_rows(alloc, rows(alloc, &["c", "dd"])?)?;
     assert_eq!(rt; table.to_text()?.as_str(), " a  b  \n c  dd ");
     let refused = TextTable::from_rows(alloc, rows(alloc, &["c"])?).err();
-    assert!(rt; refused == Some(TableError::UnequalRows(1)));
+    assert!(rt; refused == Some(TableError::UnequalRows { row: 1, cells: 1, columns: 2 }));
     Ok(())
 }
 

@@ -161,7 +161,7 @@ fn make_of_unequal_rows(turn: &mut Turn) -> Result<Outcome, OutOfMemory> {
     let rows = cells_of(turn.alloc(), &[&["a", "b"], &["c"]])?;
     turn.spend();
     match TextTable::from_rows(turn.alloc(), rows) {
-        Err(TableError::UnequalRows(1)) => Ok(Outcome::Named),
+        Err(TableError::UnequalRows { row: 1, .. }) => Ok(Outcome::Named),
         _ => Ok(Outcome::Changed),
     }
 }

@@ -8,7 +8,7 @@ ghost use Rattle.tabled_configuration.specs.Options.{MakesInTurn};
 ghost use Rattle.tabled_config.specs.Refusal.{span_faults};
 ghost use Rattle.tabled_config.specs.Texts.{texts};
 ghost use Rattle.tabled_config.specs.declared.print_error.PrintError.{PrintError as Fault};
-ghost use Rattle.tabled_text.specs.Refusal.{of_printer};
+ghost use Rattle.tabled_text.specs.Refusal.{of_printer, unequal};
 ghost use Rattle.tabled_text.specs.Sizes.{column_count, column_widths, row_heights, unequal_row};
 ghost use Rattle.tabled_text.specs.TextTable.{lent_rows, shape_of, text_of};
 ghost use Rattle.tabled_text.specs.declared.table_error.TableError.{TableError as Refusal};
@@ -20,11 +20,11 @@ use tabled_grid::{FixedDimension, Object, OutOfMemory, Shape};
 use tabled_text::{TableError, TextTable};
 
 /// A table has the texts that it is given and nothing else yet; rows of unequal counts are refused with the number of the first
-/// that has more or fewer cells than row 0.
+/// that has more or fewer cells than row 0, and with both counts.
 pub fn table_of_texts(alloc: Global, rows: &[&[&str]]) -> Result<TextTable, TableError>
     ensures texts { IfOk result (λ table. table.texts ≡ lent_rows rows.now) }
     ensures config { IfOk result (λ table. Shows [] table.config) }
-    ensures refusal { MatchOption (unequal_row (lent_rows rows.now)) (IsOkUnless result Refusal.OutOfMemory) (λ row. (result ≡ Err Refusal.OutOfMemory) ⊎ (result ≡ Err (Refusal.UnequalRows row))) }
+    ensures refusal { MatchOption (unequal_row (lent_rows rows.now)) (IsOkUnless result Refusal.OutOfMemory) (λ row. (result ≡ Err Refusal.OutOfMemory) ⊎ (result ≡ Err (unequal (lent_rows rows.now) row))) }
 {
     TextTable::new(alloc, rows)
 }
@@ -33,7 +33,7 @@ pub fn table_of_texts(alloc: Global, rows: &[&[&str]]) -> Result<TextTable, Tabl
 pub fn table_of_rows(alloc: Global, rows: Vec<Vec<String>>) -> Result<TextTable, TableError>
     ensures texts { IfOk result (λ table. table.texts ≡ texts rows.items) }
     ensures config { IfOk result (λ table. Shows [] table.config) }
-    ensures refusal { MatchOption (unequal_row (texts rows.items)) (IsOkUnless result Refusal.OutOfMemory) (λ row. result ≡ Err (Refusal.UnequalRows row)) }
+    ensures refusal { MatchOption (unequal_row (texts rows.items)) (IsOkUnless result Refusal.OutOfMemory) (λ row. result ≡ Err (unequal (texts rows.items) row)) }
 {
     TextTable::from_rows(alloc, rows)
 }

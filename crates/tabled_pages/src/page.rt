@@ -29,7 +29,7 @@ fn plain_table(alloc: Global, rows: Vec<Vec<String>>) -> Result<TextTable, ShowE
     match TextTable::from_rows(alloc, rows) {
         Ok(table) => Ok(table),
         Err(TableError::OutOfMemory) => Err(ShowError::OutOfMemory),
-        Err(TableError::UnequalRows(_)) => Err(ShowError::UnequalRows),
+        Err(TableError::UnequalRows { .. }) => Err(ShowError::UnequalRows),
         Err(_) => unreachable!("nothing is printed yet"),
     }
 }

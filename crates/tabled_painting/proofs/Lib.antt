@@ -4,3 +4,4 @@ pub mod FrameLemmas
 pub mod PageLemmas
 pub mod MarginLemmas
 pub mod Plain
+pub mod StretchLemmas

@@ -5,3 +5,4 @@ pub mod Margin
 pub mod PaintedTable
 pub mod Pages
 pub mod Viewed
+pub mod Stretches

@@ -1,10 +1,13 @@
 -- The refusals of a table of texts.
+use Rattle.std.specs.Prelude.{ℕ, [], length, slice_index_or}
+use Rattle.tabled_config.specs.Texts.{Table}
+use Rattle.tabled_text.specs.Sizes.{column_count}
 use Rattle.tabled_config.specs.declared.print_error.PrintError.{PrintError}
 use Rattle.tabled_config.specs.declared.print_error.PrintError.TheVariants as print
 use Rattle.std.specs.declared.io.ErrorKind.{ErrorKind}
 use Rattle.std.specs.declared.io.ErrorKind.TheVariants as io
 use Rattle.tabled_text.specs.declared.table_error.TableError.{TableError}
-use Rattle.tabled_text.specs.declared.table_error.TableError.TheVariants.{OutOfMemory, UnequalRows, Print, Write}
+use Rattle.tabled_text.specs.declared.table_error.TableError.TheVariants.{OutOfMemory, UnequalRows, Print, Write, UnknownStyle}
 
 -- what a refusal of the printer is for a table of texts: one for memory stays one for memory
 abbrev pub of_printer : PrintError → TableError
@@ -15,9 +18,14 @@ of_printer (print.ColumnCount row) = Print (print.ColumnCount row)
 of_printer (print.Height row col) = Print (print.Height row col)
 of_printer (print.Width row col) = Print (print.Width row col)
 
+-- the refusal of a table whose row of that number has more or fewer cells than its first
+abbrev pub unequal : Table → ℕ → TableError
+unequal table row = UnequalRows row (length (slice_index_or table row [])) (column_count table)
+
 -- of which kind a refusal is among the errors of input and output
 abbrev pub kind_of : TableError → ErrorKind
 kind_of OutOfMemory = io.OutOfMemory
-kind_of (UnequalRows row) = io.InvalidInput
+kind_of (UnequalRows row cells columns) = io.InvalidInput
 kind_of (Print refused) = io.InvalidInput
 kind_of Write = io.Uncategorized
+kind_of UnknownStyle = io.InvalidInput

@@ -3,7 +3,7 @@
 ghost use Rattle.std.specs.Prelude.{◌≡◌};
 ghost use Rattle.std.specs.IoError.{error_kind};
 ghost use Rattle.tabled_text.specs.Refusal.{kind_of, of_printer};
-ghost use Rattle.tabled_text.specs.declared.table_error.TableError.TheVariants.{OutOfMemory as Refused, Write as NotWritten};
+ghost use Rattle.tabled_text.specs.declared.table_error.TableError.TheVariants.{OutOfMemory as Refused, Write as NotWritten, UnknownStyle as NotKnown};
 
 use std::alloc::{AllocError, AllocFailed};
 use std::error::Error;
@@ -11,45 +11,58 @@ use std::io::ErrorKind;
 use std::{fmt, io};
 use tabled_config::PrintError;
 use tabled_grid::OutOfMemory;
+use tabled_style::UnknownStyle;
 
-/// A refusal of a call of a `TextTable`. The refusals of memory and of the printer become one of these by `?`, and one of these
+/// A refusal of a call of a `TextTable`. The refusals of memory, of the printer and of a style's name become one of these by `?`, and one of these
 /// becomes an `io::Error`, or an error of `anyhow`, in the same way.
 #[derive(Clone, Copy, Debug, PartialEq, Eq)]
 pub enum TableError {
     /// Memory was asked for and refused.
     OutOfMemory,
-    /// This row, counted from 0, is the first that has more or fewer cells than row 0.
-    UnequalRows(usize),
+    /// A row has more or fewer cells than row 0.
+    UnequalRows {
+        /// The first such row, counted from 0.
+        row: usize,
+        /// How many cells it has.
+        cells: usize,
+        /// How many row 0 has.
+        columns: usize,
+    },
     /// The printer refused the table, and not for memory: for a table of texts, as a span is set.
     Print(PrintError),
     /// The writer failed that the text was written to.
     Write,
+    /// No ready style has the name that was asked for.
+    UnknownStyle,
 }
 
-/// One sentence, such as `row 3 does not have as many cells as row 0`.
+/// One sentence, such as `row 3 has 2 cells where row 0 has 4`.
 impl fmt::Display for TableError {
     fn fmt<W: fmt::Write>(&self, f: &mut fmt::Formatter<W>) -> fmt::Result {
         match self {
             TableError::OutOfMemory => write!(f, "{OutOfMemory}"),
-            TableError::UnequalRows(row) => {
-                write!(f, "row {row} does not have as many cells as row 0")
-            }
+            TableError::UnequalRows {
+                row,
+                cells,
+                columns,
+            } => write!(f, "row {row} has {cells} cells where row 0 has {columns}"),
             TableError::Print(refused) => write!(f, "{refused}"),
             TableError::Write => f.write_str("the writer failed"),
+            TableError::UnknownStyle => write!(f, "{UnknownStyle}"),
         }
     }
 }
 
 impl Error for TableError {}
 
-/// So that a program that reads and writes takes a refusal by `?`. The number of an unequal row is not kept.
+/// So that a program that reads and writes takes a refusal by `?`. The numbers of an unequal row are not kept.
 impl From<TableError> for io::Error {
     ghost from_gives = { λ refused error. error_kind error ≡ kind_of refused };
 
     fn from(refused: TableError) -> io::Error {
         match refused {
             TableError::OutOfMemory => io::Error::from(AllocError),
-            TableError::UnequalRows(_) => io::Error::new(
+            TableError::UnequalRows { .. } => io::Error::new(
                 ErrorKind::InvalidInput,
                 "a row does not have as many cells as row 0",
             ),
@@ -58,6 +71,10 @@ impl From<TableError> for io::Error {
                 "a table with a span is not printed",
             ),
             TableError::Write => io::Error::from(fmt::Error),
+            TableError::UnknownStyle => io::Error::new(
+                ErrorKind::InvalidInput,
+                "no style of the library has this name",
+            ),
         }
     }
 }
@@ -78,6 +95,14 @@ impl From<PrintError> for TableError {
             PrintError::OutOfMemory => TableError::OutOfMemory,
             other => TableError::Print(other),
         }
+    }
+}
+
+impl From<UnknownStyle> for TableError {
+    ghost from_gives = { λ _ e. e ≡ NotKnown };
+
+    fn from(_unknown: UnknownStyle) -> TableError {
+        TableError::UnknownStyle
     }
 }
 

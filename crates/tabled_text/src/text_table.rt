@@ -1,8 +1,9 @@
 //! A table of texts.
 
-ghost use Rattle.std.specs.Prelude.{◌≡◌, map, string_bytes, IfOk};
+ghost use Rattle.std.specs.Prelude.{◌≡◌, [], length, map, string_bytes, slice_index_or, IfOk};
 ghost use Rattle.tabled_config.specs.Pieces.{lent};
 ghost use Rattle.tabled_config.specs.Texts.{texts};
+ghost use Rattle.tabled_text.specs.Refusal.{unequal as refusal_of};
 ghost use Rattle.tabled_text.specs.Sizes.{column_widths, row_heights};
 ghost use Rattle.tabled_text.specs.TextTable.{lent_rows};
 
@@ -85,7 +86,7 @@ impl TextTable {
     ghost use Rattle.tabled_config.specs.Refusal.{span_faults};
     ghost use Rattle.tabled_config.specs.Texts.{texts};
     ghost use Rattle.tabled_config.specs.declared.print_error.PrintError.{PrintError as Fault};
-    ghost use Rattle.tabled_text.specs.Refusal.{of_printer};
+    ghost use Rattle.tabled_text.specs.Refusal.{of_printer, unequal};
     ghost use Rattle.tabled_text.specs.Sizes.{column_count, column_widths, row_heights, unequal_row};
     ghost use Rattle.tabled_painting.specs.Margin.{is_without_room};
     ghost use Rattle.tabled_painting.specs.PaintedTable.{plain_text, colored_text};
@@ -105,7 +106,7 @@ impl TextTable {
     pub fn new(alloc: Global, rows: &[&[&str]]) -> Result<Self, TableError>
         ensures texts { IfOk result (λ table. table.texts ≡ lent_rows rows.now) }
         ensures config { IfOk result (λ table. Shows [] table.config) }
-        ensures refusal { MatchOption (unequal_row (lent_rows rows.now)) (IsOkUnless result Refusal.OutOfMemory) (λ row. (result ≡ Err Refusal.OutOfMemory) ⊎ (result ≡ Err (Refusal.UnequalRows row))) }
+        ensures refusal { MatchOption (unequal_row (lent_rows rows.now)) (IsOkUnless result Refusal.OutOfMemory) (λ row. (result ≡ Err Refusal.OutOfMemory) ⊎ (result ≡ Err (unequal (lent_rows rows.now) row))) }
     {
         let rows = copied(alloc, rows)?;
         let table = TextTable::from_rows(alloc, rows)?;
@@ -113,14 +114,14 @@ impl TextTable {
     }
 
     /// A table of these rows of texts. Refused where a row has more or fewer cells than row 0, with the number of the first
-    /// such row, or where memory is refused.
+    /// such row and both counts, or where memory is refused.
     pub fn from_rows(alloc: Global, rows: Vec<Vec<String>>) -> Result<Self, TableError>
         ensures texts { IfOk result (λ table. table.texts ≡ texts rows.items) }
         ensures config { IfOk result (λ table. Shows [] table.config) }
-        ensures refusal { MatchOption (unequal_row (texts rows.items)) (IsOkUnless result Refusal.OutOfMemory) (λ row. result ≡ Err (Refusal.UnequalRows row)) }
+        ensures refusal { MatchOption (unequal_row (texts rows.items)) (IsOkUnless result Refusal.OutOfMemory) (λ row. result ≡ Err (unequal (texts rows.items) row)) }
     {
         if let Some(row) = unequal_row(&rows) {
-            return Err(TableError::UnequalRows(row));
+            return Err(unequal(&rows, row));
         }
         let table = TextTable::of_equal_rows(alloc, rows)?;
         Ok(table)
@@ -368,6 +369,27 @@ impl TextTable {
         ensures { texts result.now ≡ self.now.texts }
     {
         self.cells.as_slice()
+    }
+}
+
+/// How many cells a row has; none, if there is no such row.
+fn cells_of(rows: &[Vec<String>], row: usize) -> usize
+    ensures { result ≡ length (slice_index_or (texts rows.now) row []) }
+{
+    match rows.get(row) {
+        Some(cells) => cells.len(),
+        None => 0,
+    }
+}
+
+/// The refusal of rows of which one has more or fewer cells than the first.
+fn unequal(rows: &[Vec<String>], row: usize) -> TableError
+    ensures { result ≡ refusal_of (texts rows.now) row }
+{
+    TableError::UnequalRows {
+        row,
+        cells: cells_of(rows, row),
+        columns: column_count(rows),
     }
 }
 
