@@ -12,6 +12,7 @@ pub mod objects;
 pub mod options;
 pub mod orders;
 pub mod outlines;
+pub mod painted;
 pub mod places;
 pub mod printing;
 pub mod program;

@@ -1,18 +1,22 @@
 //! The plain printer.
 
-ghost use Rattle.std.specs.Prelude.{◌≡◌, ◌+◌, ◌*◌, ◌≤◌, ℕ, false, if◌then◌else◌, List, [], ◌∷◌, ◌++◌, length, map, option_map, slice_get, IfOk, OnOk, OnErr, IsOkUnless, MatchOption, string_bytes};
+ghost use Rattle.std.specs.Prelude.{◌≡◌, ◌+◌, ◌*◌, ◌≤◌, ℕ, true, false, if◌then◌else◌, List, [], ◌∷◌, ◌++◌, length, map, option_map, slice_get, IfOk, OnOk, OnErr, IsOkUnless, MatchOption, string_bytes};
 ghost use Rattle.tabled_grid.specs.declared.place.LineOf.{LineOf as Line};
 ghost use Rattle.tabled_grid.specs.Probing.{IsRaised};
-ghost use Rattle.tabled_configuration.specs.Configuration.{ConfigEvent, Shows};
+ghost use Rattle.tabled_configuration.specs.Configuration.{ConfigEvent, Shows, all_writes};
+ghost use Rattle.tabled_object.specs.Entities.{below};
 ghost use Rattle.tabled_config.specs.Along.{along, is_empty};
-ghost use Rattle.tabled_config.specs.LinePieces.{lines_met};
+ghost use Rattle.tabled_config.specs.LinePieces.{has_line, pieces_of, crossed_after, lines_met};
 ghost use Rattle.tabled_config.specs.Marks.{mark_of, marks_of};
 ghost use Rattle.tabled_config.specs.Picture.{Look, text_shown, mark_at, marks_along, marks, line_if_drawn, text_lines, printed};
 ghost use Rattle.tabled_config.specs.Refusal.{first_refusal};
 ghost use Rattle.tabled_config.specs.TextOrder.{text_order, line_text, place_in};
 ghost use Rattle.tabled_config.specs.Texts.{Table, texts};
 
-use tabled_config::{Mark, PrintError, Run, SpannedConfig, line_marks, line_runs, print_plain};
+use tabled_config::{
+    Mark, PrintError, Run, SpannedConfig, drawn_across, line_marks, line_runs, print_plain,
+    runs_across,
+};
 use tabled_grid::{Dimension, LineOf, OutOfMemory, Probes};
 
 /// The printer appends exactly the picture that the events draw around the cells. It returns the first fault there is, and
@@ -65,6 +69,36 @@ pub fn runs_of_a_line<'a, D: Dimension>(
         → IsRaised (12 * length (marks events shape (D.width_of dims.now) (D.height_of dims.now) line) + 6 * lines_met shape line) probes.old probes.new }
 {
     line_runs(cfg, dims, shape, line, probes)
+}
+
+/// The lines of the other direction that are drawn, in at most six readings for each.
+pub fn lines_drawn_across(
+    cfg: &SpannedConfig,
+    shape: (usize, usize),
+    line: LineOf,
+    probes: &mut Probes,
+) -> Result<Vec<bool>, OutOfMemory>
+    ensures listed { IfOk result (λ crossed. crossed.items ≡ map (λ n. crossed_after (all_writes cfg.now) shape line n) (below (pieces_of shape line + 1))) }
+    ensures readings { IsRaised (6 * (pieces_of shape line + 1)) probes.old probes.new }
+{
+    drawn_across(cfg, shape, line, probes)
+}
+
+/// The runs of a line, where these are known: its marks after the configuration's own writes.
+pub fn runs_across_drawn_lines<'a, D: Dimension>(
+    cfg: &'a SpannedConfig,
+    dims: &D,
+    shape: (usize, usize),
+    line: LineOf,
+    crossed: &[bool],
+    probes: &mut Probes,
+) -> Result<Vec<Run<'a>>, OutOfMemory>
+    requires there { has_line shape line ≡ true }
+    requires crossed { crossed.now ≡ map (λ n. crossed_after (all_writes cfg.now) shape line n) (below (pieces_of shape line + 1)) }
+    ensures marks { IfOk result (λ found. marks_of found.items ≡ marks (all_writes cfg.now) shape (D.width_of dims.now) (D.height_of dims.now) line) }
+    ensures readings { IsRaised (12 * length (marks (all_writes cfg.now) shape (D.width_of dims.now) (D.height_of dims.now) line)) probes.old probes.new }
+{
+    runs_across(cfg, dims, shape, line, crossed, probes)
 }
 
 /// A drawn horizontal line of the picture, which is the characters of its marks, is what the places along it show, with a space

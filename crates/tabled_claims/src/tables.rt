@@ -1,16 +1,20 @@
 //! Tables of texts.
 
-ghost use Rattle.std.specs.Prelude.{◌≡◌, ◌++◌, ◌⊎◌, ℕ, List, [], map, length, take, string_bytes, slice_get, IfOk, IfErr, OnOk, OnErr, MatchOption, IsOkUnless};
+ghost use Rattle.std.specs.Prelude.{◌≡◌, ◌++◌, ◌⊎◌, ℕ, List, [], true, slice_index, map, length, take, string_bytes, slice_get, IfOk, IfErr, OnOk, OnErr, MatchOption, IsOkUnless};
 ghost use Rattle.tabled_configuration.specs.Colored.{Shows, Changes};
 ghost use Rattle.tabled_configuration.specs.Configuration.{ConfigEvent};
 ghost use Rattle.tabled_configuration.specs.Configuration as borders;
 ghost use Rattle.tabled_configuration.specs.Options.{MakesInTurn};
 ghost use Rattle.tabled_config.specs.Refusal.{span_faults};
-ghost use Rattle.tabled_config.specs.Texts.{texts};
+ghost use Rattle.tabled_config.specs.Picture.{printed};
+ghost use Rattle.tabled_config.specs.Texts.{Table, texts};
+ghost use Rattle.tabled_painting.specs.Margin.{is_without_room};
+ghost use Rattle.tabled_painting.specs.PaintedTable.{plain_text, colored_text};
+ghost use Rattle.tabled_text.specs.Cells.{placed_rows, cells_set, margin_set};
 ghost use Rattle.tabled_config.specs.declared.print_error.PrintError.{PrintError as Fault};
 ghost use Rattle.tabled_text.specs.Refusal.{of_printer, unequal};
 ghost use Rattle.tabled_text.specs.Sizes.{column_count, column_widths, row_heights, unequal_row};
-ghost use Rattle.tabled_text.specs.TextTable.{lent_rows, shape_of, text_of};
+ghost use Rattle.tabled_text.specs.TextTable.{lent_rows, shape_of, text_of, painted};
 ghost use Rattle.tabled_text.specs.declared.table_error.TableError.{TableError as Refusal};
 
 use std::alloc::Global;
@@ -108,8 +112,8 @@ where
     table.modify(object, option)
 }
 
-/// The text of a table is what its options make of its cells, which stand as they are set, and draw around them; where no cell
-/// spans others it is refused for memory alone.
+/// The text of a table is what its options make of its cells, which stand as they are set, draw around them, and leave as a margin
+/// around all; where no cell spans others it is refused for memory alone.
 pub fn text_of_a_table(table: &TextTable) -> Result<String, PrintError>
     ensures text { (events : List ConfigEvent) → borders.Shows events table.now.config.spanned → IfOk result (λ text. string_bytes text ≡ text_of events table.now.texts) }
     ensures refusal { MatchOption (slice_get (span_faults table.now.config.spanned) 0) (IsOkUnless result Fault.OutOfMemory) (λ fault. result ≡ Err fault) }
@@ -133,4 +137,49 @@ pub fn text_written<W: fmt::Write>(table: &TextTable, out: &mut W) -> Result<(),
     ensures unwritten { IfErr result (λ e. (e ≡ Refusal.Write) ⊎ (out.new ≡ out.old)) }
 {
     table.write_to(out)
+}
+
+/// Where the margin has no room, the text of a table is what the plain printer prints around its cells.
+pub fn text_without_margin()
+    ensures { (events : List ConfigEvent) (table : Table) → is_without_room (margin_set events) ≡ true
+        → text_of events table ≡ printed events (length table, column_count table) (slice_index (column_widths table)) (slice_index (row_heights table))
+        (placed_rows (cells_set events) (column_widths table) (row_heights table) table) }
+{}
+
+/// The text of a table in color is that of its painted lines, whose characters are the table's text: what its options make of its
+/// cells, draw around them and leave as a margin, each character with the color that they give it. It is refused as the plain text is.
+pub fn text_in_color(table: &TextTable) -> Result<String, PrintError>
+    ensures text { (events : List ConfigEvent) → Shows events table.now.config → IfOk result (λ text. string_bytes text ≡ colored_text (painted events table.now.texts)) }
+    ensures characters { IfOk result (λ _. (events : List ConfigEvent) → text_of events table.now.texts ≡ plain_text (painted events table.now.texts)) }
+    ensures refusal { MatchOption (slice_get (span_faults table.now.config.spanned) 0) (IsOkUnless result Fault.OutOfMemory) (λ fault. result ≡ Err fault) }
+{
+    table.to_ansi()
+}
+
+/// The same text after another one, which a refusal leaves as it was.
+pub fn text_in_color_appended(table: &TextTable, out: &mut String) -> Result<(), PrintError>
+    ensures text { (events : List ConfigEvent) → Shows events table.now.config → OnOk result (string_bytes out.new ≡ string_bytes out.old ++ colored_text (painted events table.now.texts)) }
+    ensures unchanged { OnErr result (string_bytes out.new ≡ string_bytes out.old) }
+    ensures refusal { MatchOption (slice_get (span_faults table.now.config.spanned) 0) (IsOkUnless result Fault.OutOfMemory) (λ fault. result ≡ Err fault) }
+{
+    table.append_ansi_to(out)
+}
+
+/// The same text to a writer: only the writer's own fault can leave something written.
+pub fn text_in_color_written<W: fmt::Write>(
+    table: &TextTable,
+    out: &mut W,
+) -> Result<(), TableError>
+    ensures text { (events : List ConfigEvent) → Shows events table.now.config → OnOk result (W.write_str_gives out.old (colored_text (painted events table.now.texts)) out.new) }
+    ensures refusal { MatchOption (slice_get (span_faults table.now.config.spanned) 0) (IfErr result (λ e. (e ≡ Refusal.OutOfMemory) ⊎ (e ≡ Refusal.Write))) (λ fault. result ≡ Err (of_printer fault)) }
+    ensures unwritten { IfErr result (λ e. (e ≡ Refusal.Write) ⊎ (out.new ≡ out.old)) }
+{
+    table.write_ansi_to(out)
+}
+
+/// The texts of a table are lent as they were given.
+pub fn texts_of_a_table(table: &TextTable) -> &[Vec<String>]
+    ensures { texts result.now ≡ table.now.texts }
+{
+    table.texts()
 }
