@@ -4,8 +4,8 @@ use crate::common::printing::is_picture;
 use std::alloc::Global;
 use std::test::Fail;
 use tabled::settings::object::{Columns, Entity, Rows};
-use tabled::settings::style::{Border, HorizontalLine, LineText};
-use tabled::settings::{Alignment, Highlight, Style};
+use tabled::settings::style::{Border, BorderColor, HorizontalLine, LineText};
+use tabled::settings::{Alignment, Color, Highlight, Style};
 use tabled::{TableError, TextTable};
 
 /// A title in the top line, a double line below the header, and numbers at the right.
@@ -41,8 +41,8 @@ fn disk_usage_is_reported(rt: HostRuntime) -> Result<(), Fail> {
     Ok(())
 }
 
-/// Lines above and below each row that has a failed test, and an outline around what failed.
-fn test_results(alloc: Global, rows: &[&[&str]]) -> Result<String, TableError> {
+/// Red borders with lines above and below for each row that has a failed test, and an outline around what failed.
+fn test_results(alloc: Global, rows: &[&[&str]]) -> Result<TextTable, TableError> {
     let mut table = TextTable::new(alloc, rows)?;
     table.with(Style::ascii())?;
     let mut failed = Vec::new(alloc);
@@ -50,16 +50,31 @@ fn test_results(alloc: Global, rows: &[&[&str]]) -> Result<String, TableError> {
         for (col, cell) in cells.iter().enumerate() {
             if *cell == "failed" {
                 table.modify(Rows::one(row), Border::new().top('=').bottom('='))?;
+                table.modify(Rows::one(row), BorderColor::filled(alloc, Color::FG_RED)?)?;
                 failed.push(Entity::Cell(row, col))?;
             }
         }
     }
     table.with(Highlight::outline(failed, '#'))?;
-    Ok(table.to_text()?)
+    Ok(table)
+}
+
+/// A picture in which `<` begins red and `>` ends it, with the texts of that color in their place; or without them.
+fn with_red(alloc: Global, picture: &str, begin: &str, end: &str) -> Result<String, TableError> {
+    let mut text = String::new(alloc);
+    for character in picture.chars() {
+        match character {
+            '<' => text.push_str(begin)?,
+            '>' => text.push_str(end)?,
+            other => text.push(other)?,
+        }
+    }
+    Ok(text)
 }
 
 #[test]
 fn failed_tests_stand_out(rt: HostRuntime) -> Result<(), Fail> {
+    let alloc = rt.alloc();
     let rows: &[&[&str]] = &[
         &["Test", "Linux", "macOS"],
         &["parse", "ok", "ok"],
@@ -71,13 +86,17 @@ fn failed_tests_stand_out(rt: HostRuntime) -> Result<(), Fail> {
 | Test  | Linux  | macOS  |
 +-------+--------+--------+
 | parse | ok     | ok     |
-+=======+========##########
-| print | ok     # failed #
-+=======###################
-| theme # failed # ok     |
-+=======##########========+
+<+=======+========##########>
+<|> print <|> ok     <#> failed <#>
+<+=======###################>
+<|> theme <#> failed <#> ok     <|>
+<+=======##########========+>
 ";
-    assert!(rt; is_picture(test_results(rt.alloc(), rows)?.as_str(), picture));
+    let table = test_results(alloc, rows)?;
+    let plain = with_red(alloc, picture, "", "")?;
+    assert!(rt; is_picture(table.to_text()?.as_str(), plain.as_str()));
+    let red = with_red(alloc, picture, "\u{1b}[31m", "\u{1b}[39m")?;
+    assert!(rt; is_picture(table.to_ansi()?.as_str(), red.as_str()));
     Ok(())
 }
 
