@@ -9,4 +9,4 @@ returns-in-Ok-clause-equal c = taken_equal (texts c.args.rows.items) c.from_rows
 
 pub returns-in-Err-UnequalRows-clause-refused : goal.returns-in-Err-UnequalRows-clause-refused
 returns-in-Err-UnequalRows-clause-refused c =
-    inr (refl, refused_unequal (texts c.args.rows.items) c.from_rows.result _ refl c.from_rows.ensures.refusal _ (c.in-Err-UnequalRows.is ∙ ap (λ e. Err e) c.in-Err-UnequalRows.field-0-is))
+    inr (refl, refused_unequal (texts c.args.rows.items) c.from_rows.result _ refl c.from_rows.ensures.refusal _ _ _ (c.in-Err-UnequalRows.is ∙ ap (λ e. Err e) c.in-Err-UnequalRows.field-0-is))
