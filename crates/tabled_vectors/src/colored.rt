@@ -73,10 +73,12 @@ fn top_has(cfg: &ColoredConfig, colors: [&str; 3]) -> bool {
 /// Whether the top of a table is red, and no crossing.
 fn top_is_red(alloc: Global) -> bool {
     let mut cfg = config(alloc);
-    apply(alloc, &mut cfg, ONE, BorderColor::new().top(Color::FG_RED))
+    let is_red = apply(&mut cfg, ONE, BorderColor::new().top(Color::FG_RED))
         && top_has(&cfg, [RED, RED, RED])
         && is_plain(&cfg, ONE, crossing(0, 0))
-        && is_plain(&cfg, ONE, crossing(0, 1))
+        && is_plain(&cfg, ONE, crossing(0, 1));
+    drop(cfg);
+    is_red
 }
 
 /// Makes one place above the cell red, and then all cells blue all around.
@@ -85,7 +87,9 @@ fn red_in_blue(alloc: Global, cfg: &mut ColoredConfig) -> Result<bool, OutOfMemo
     cfg.config_mut()
         .set_horizontal_char_color(CELL, Offset::Start(1), red)?;
     let blue = BorderColor::filled(alloc, Color::FG_BLUE)?;
-    Ok(apply_to(alloc, cfg, ONE, &Entity::Global, &blue))
+    let is_applied = apply_to(alloc, cfg, ONE, &Entity::Global, &blue);
+    drop(blue);
+    Ok(is_applied)
 }
 
 /// Whether no place has a color.
@@ -101,10 +105,12 @@ fn all_are_plain(cfg: &ColoredConfig) -> bool {
 /// Whether the red place stays in the blue, and no place has a color after a style.
 fn red_stays_until_a_style(alloc: Global) -> bool {
     let mut cfg = config(alloc);
-    red_in_blue(alloc, &mut cfg) == Ok(true)
+    let is_red_until_then = red_in_blue(alloc, &mut cfg) == Ok(true)
         && top_has(&cfg, [BLUE, RED, BLUE])
-        && apply(alloc, &mut cfg, ONE, Style::ascii())
-        && all_are_plain(&cfg)
+        && apply(&mut cfg, ONE, Style::ascii())
+        && all_are_plain(&cfg);
+    drop(cfg);
+    is_red_until_then
 }
 
 #[test]
@@ -136,16 +142,23 @@ fn emptiness(cfg: &ColoredConfig) -> (bool, bool) {
 }
 
 /// Whether a removal leaves the map of colors, which is empty once the color of all cells is removed.
+fn removals_leave(alloc: Global, cfg: &mut ColoredConfig) -> bool {
+    cfg.get_color(Position { row: 0, col: 1 }).is_none()
+        && make_red(alloc, cfg)
+        && is_empty_at(cfg, 0, 1)
+        && cfg.remove_color(Entity::Cell(0, 0)).is_ok()
+        && is_empty_at(cfg, 0, 0)
+        && emptiness(cfg) == (false, false)
+        && cfg.remove_color(Entity::Global).is_ok()
+        && emptiness(cfg) == (false, true)
+}
+
+/// Whether that holds of a new configuration.
 fn removals_leave_the_map(alloc: Global) -> bool {
     let mut cfg = config(alloc);
-    cfg.get_color(Position { row: 0, col: 1 }).is_none()
-        && make_red(alloc, &mut cfg)
-        && is_empty_at(&cfg, 0, 1)
-        && cfg.remove_color(Entity::Cell(0, 0)).is_ok()
-        && is_empty_at(&cfg, 0, 0)
-        && emptiness(&cfg) == (false, false)
-        && cfg.remove_color(Entity::Global).is_ok()
-        && emptiness(&cfg) == (false, true)
+    let is_left = removals_leave(alloc, &mut cfg);
+    drop(cfg);
+    is_left
 }
 
 /// Sets the alignment of an entity: whether there was memory for it.
@@ -158,10 +171,12 @@ fn align(cfg: &mut ColoredConfig, entity: Entity, alignment: AlignmentHorizontal
 /// Whether the alignment that was set last for all cells is that of a cell.
 fn last_alignment_counts(alloc: Global) -> bool {
     let mut cfg = config(alloc);
-    align(&mut cfg, Entity::Row(0), AlignmentHorizontal::Right)
+    let is_left = align(&mut cfg, Entity::Row(0), AlignmentHorizontal::Right)
         && align(&mut cfg, Entity::Column(0), AlignmentHorizontal::Center)
         && align(&mut cfg, Entity::Global, AlignmentHorizontal::Left)
-        && cfg.config().get_alignment_horizontal(CELL) == AlignmentHorizontal::Left
+        && cfg.config().get_alignment_horizontal(CELL) == AlignmentHorizontal::Left;
+    drop(cfg);
+    is_left
 }
 
 #[test]

@@ -4,12 +4,33 @@ use std::alloc::Global;
 use tabled_color::Color;
 use tabled_grid::OutOfMemory;
 
+/// Whether a color has these two texts.
+fn is_of(color: &Color, prefix: &str, suffix: &str) -> bool {
+    color.get_prefix() == prefix && color.get_suffix() == suffix
+}
+
 /// Whether there was memory for a color, and it has these two texts.
 fn has_texts(color: Result<Color, OutOfMemory>, prefix: &str, suffix: &str) -> bool {
     match color {
-        Ok(color) => color.get_prefix() == prefix && color.get_suffix() == suffix,
+        Ok(color) => {
+            let has_texts = is_of(&color, prefix, suffix);
+            drop(color);
+            has_texts
+        }
         Err(OutOfMemory) => false,
     }
+}
+
+/// A color joined with another, if there was memory for both.
+fn join(
+    alloc: Global,
+    first: &Color,
+    second: Result<Color, OutOfMemory>,
+) -> Result<Color, OutOfMemory> {
+    let second = second?;
+    let joined = first.join(alloc, &second);
+    drop(second);
+    joined
 }
 
 /// Two colors joined, if there was memory for both.
@@ -18,8 +39,17 @@ fn joined(
     first: Result<Color, OutOfMemory>,
     second: Result<Color, OutOfMemory>,
 ) -> Result<Color, OutOfMemory> {
-    let second = second?;
-    first?.join(alloc, &second)
+    match first {
+        Ok(first) => {
+            let joined = join(alloc, &first, second);
+            drop(first);
+            joined
+        }
+        Err(OutOfMemory) => {
+            drop(second);
+            Err(OutOfMemory)
+        }
+    }
 }
 
 /// A color of dots joined with another.
@@ -51,19 +81,26 @@ fn colors_are_joined(rt: HostRuntime) {
 
 /// Whether there was memory for two colors, and they are equal.
 fn are_equal(first: Result<Color, OutOfMemory>, second: Result<Color, OutOfMemory>) -> bool {
-    first == second && first.is_ok()
+    let are_equal = first == second && first.is_ok();
+    drop(first);
+    drop(second);
+    are_equal
 }
 
 /// Whether a constant is unequal to an owned color of its texts, and the lesser of the two.
 fn constant_is_lesser(alloc: Global) -> Result<bool, OutOfMemory> {
     let owned = Color::new(alloc, "\u{1b}[31m", "\u{1b}[39m")?;
-    Ok(Color::FG_RED != owned && Color::FG_RED < owned)
+    let is_lesser = Color::FG_RED != owned && Color::FG_RED < owned;
+    drop(owned);
+    Ok(is_lesser)
 }
 
 /// Whether a text is in red as it should be.
 fn is_colorized(alloc: Global) -> Result<bool, OutOfMemory> {
     let colored = Color::FG_RED.colorize(alloc, "a\r\nb\n")?;
-    Ok(colored.as_str() == "\u{1b}[31ma\u{1b}[39m\n\u{1b}[31mb\u{1b}[39m")
+    let is_colorized = colored.as_str() == "\u{1b}[31ma\u{1b}[39m\n\u{1b}[31mb\u{1b}[39m";
+    drop(colored);
+    Ok(is_colorized)
 }
 
 #[test]
@@ -81,7 +118,11 @@ fn colors_are_compared_and_put_around_texts(rt: HostRuntime) {
 /// Whether a color of these texts is empty, if there was memory for it.
 fn made_is_empty(alloc: Global, prefix: &str, suffix: &str) -> Option<bool> {
     match Color::new(alloc, prefix, suffix) {
-        Ok(color) => Some(color.is_empty()),
+        Ok(color) => {
+            let is_empty = color.is_empty();
+            drop(color);
+            Some(is_empty)
+        }
         Err(OutOfMemory) => None,
     }
 }
@@ -114,9 +155,12 @@ static ATTRIBUTE_TEXTS: [(&str, &str); 9] = [
     ("\u{1b}[0m", "\u{1b}[0m"),
 ];
 
-/// Whether a color has these texts, and is not empty.
-fn is_of(color: &Color, texts: &(&str, &str)) -> bool {
-    color.get_prefix() == texts.0 && color.get_suffix() == texts.1 && !color.is_empty()
+/// Whether the attribute of a place has these texts, and is not empty.
+fn is_attribute(place: usize, texts: &(&str, &str)) -> bool {
+    let color = attribute(place);
+    let is_attribute = is_of(&color, texts.0, texts.1) && !color.is_empty();
+    drop(color);
+    is_attribute
 }
 
 #[test]
@@ -127,7 +171,6 @@ fn colors_without_texts_are_empty(rt: HostRuntime) {
     assert!(rt; !Color::FG_BLACK.is_empty());
     assert!(rt; !Color::BG_RED.is_empty());
     for (place, texts) in ATTRIBUTE_TEXTS.iter().enumerate() {
-        let is_attribute = is_of(&attribute(place), texts);
-        assert!(rt; is_attribute, "{texts:?}");
+        assert!(rt; is_attribute(place, texts), "{texts:?}");
     }
 }

@@ -50,24 +50,34 @@ fn write(cfg: &mut SpannedConfig, at: (usize, usize)) -> bool {
     cfg.set_border(at.into(), corner).is_ok()
 }
 
+/// Whether crossings on both sides of the end show what is written there.
+fn written_crossings_show(cfg: &mut SpannedConfig) -> bool {
+    let [first, second, third, fourth] = CROSSINGS;
+    write(cfg, first)
+        && write(cfg, second)
+        && write(cfg, third)
+        && write(cfg, fourth)
+        && crossings_show(cfg, Some('x'))
+        && shows(cfg, crossing((254, 255)), None)
+}
+
+/// Whether nothing shows at the four crossings, and none of their lines is drawn.
+fn nothing_shows(cfg: &SpannedConfig) -> bool {
+    crossings_show(cfg, None)
+        && !is_drawn(cfg, LineOf::Horizontal(255))
+        && !is_drawn(cfg, LineOf::Horizontal(256))
+        && !is_drawn(cfg, LineOf::Vertical(255))
+        && !is_drawn(cfg, LineOf::Vertical(256))
+}
+
 /// Whether crossings on both sides of the end show what is written there, until it is erased.
 fn crossings_show_until_erased(alloc: Global) -> bool {
     let mut cfg = SpannedConfig::new(alloc);
-    let [first, second, third, fourth] = CROSSINGS;
-    write(&mut cfg, first)
-        && write(&mut cfg, second)
-        && write(&mut cfg, third)
-        && write(&mut cfg, fourth)
-        && crossings_show(&cfg, Some('x'))
-        && shows(&cfg, crossing((254, 255)), None)
-        && {
-            cfg.remove_borders();
-            crossings_show(&cfg, None)
-                && !is_drawn(&cfg, LineOf::Horizontal(255))
-                && !is_drawn(&cfg, LineOf::Horizontal(256))
-                && !is_drawn(&cfg, LineOf::Vertical(255))
-                && !is_drawn(&cfg, LineOf::Vertical(256))
-        }
+    let are_shown = written_crossings_show(&mut cfg);
+    cfg.remove_borders();
+    let are_erased = nothing_shows(&cfg);
+    drop(cfg);
+    are_shown && are_erased
 }
 
 /// Puts a horizontal line of one character: whether there was memory for it.
@@ -76,47 +86,63 @@ fn put_line(cfg: &mut SpannedConfig, line: usize, character: char) -> bool {
     cfg.insert_horizontal_line(line, fields).is_ok()
 }
 
+/// Whether lines on both sides of the end show, and there is memory for one that replaces the first.
+fn put_lines_show(cfg: &mut SpannedConfig) -> bool {
+    put_line(cfg, 255, '=')
+        && put_line(cfg, 256, '-')
+        && shows(cfg, first_of(255), Some('='))
+        && shows(cfg, first_of(256), Some('-'))
+        && put_line(cfg, 255, '#')
+}
+
+/// Whether the line that replaced the first shows, and the other does not.
+fn one_line_shows(cfg: &SpannedConfig) -> bool {
+    shows(cfg, first_of(255), Some('#'))
+        && shows(cfg, first_of(256), None)
+        && is_drawn(cfg, LineOf::Horizontal(255))
+        && !is_drawn(cfg, LineOf::Horizontal(256))
+}
+
 /// Whether lines on both sides of the end show, one replaced and one removed.
 fn lines_show(alloc: Global) -> bool {
     let mut cfg = SpannedConfig::new(alloc);
-    put_line(&mut cfg, 255, '=')
-        && put_line(&mut cfg, 256, '-')
-        && shows(&cfg, first_of(255), Some('='))
-        && shows(&cfg, first_of(256), Some('-'))
-        && put_line(&mut cfg, 255, '#')
-        && {
-            cfg.remove_horizontal_line(256);
-            shows(&cfg, first_of(255), Some('#'))
-                && shows(&cfg, first_of(256), None)
-                && is_drawn(&cfg, LineOf::Horizontal(255))
-                && !is_drawn(&cfg, LineOf::Horizontal(256))
-        }
+    let are_shown = put_lines_show(&mut cfg);
+    cfg.remove_horizontal_line(256);
+    let is_removed = one_line_shows(&cfg);
+    drop(cfg);
+    are_shown && is_removed
 }
 
 /// Whether a configuration in which something was written and erased again equals a new one.
 fn erased_is_new(alloc: Global) -> bool {
-    let mut cfg = SpannedConfig::new(alloc);
+    let (mut cfg, new) = (SpannedConfig::new(alloc), SpannedConfig::new(alloc));
     let (row, col) = (200, 200);
-    write(&mut cfg, (row, col))
-        && {
-            cfg.remove_border(Position { row, col });
-            cfg == SpannedConfig::new(alloc)
-        }
+    let is_written = write(&mut cfg, (row, col));
+    cfg.remove_border(Position { row, col });
+    let is_new = cfg == new;
+    drop(cfg);
+    drop(new);
+    is_written && is_new
 }
 
-/// Whether the cell after the last row that there can be has a border above and beside it alone, which draws the lines of its
-/// column.
-fn last_row_has_no_line_below(alloc: Global) -> bool {
+/// Whether a border of the cell after the last row that there can be is above and beside it alone.
+fn border_has_no_line_below(config: &mut SpannedConfig) -> bool {
     let (row, col, at) = (usize::MAX, 0, 0);
-    let mut cfg = config(alloc);
-    let config = cfg.config_mut();
     config
         .set_border(Position { row, col }, Border::filled('x'))
         .is_ok()
         && config.get_char(Place::Horizontal { row, col, at }) == Some('x')
         && config.get_char(Place::Cross { row, col: 1 }) == Some('x')
         && config.get_char(Place::Cross { row: 0, col }).is_none()
-        && prints(alloc, &cfg, ONE, "  a  ")
+}
+
+/// Whether the cell after the last row that there can be has a border above and beside it alone, which draws the lines of its
+/// column.
+fn last_row_has_no_line_below(alloc: Global) -> bool {
+    let mut cfg = config(alloc);
+    let has_none = border_has_no_line_below(cfg.config_mut()) && prints(alloc, &cfg, ONE, "  a  ");
+    drop(cfg);
+    has_none
 }
 
 #[test]

@@ -8,21 +8,34 @@ use tabled_style::Style;
 
 const CELL: Position = Position { row: 0, col: 0 };
 
-/// Whether one cell in a full frame is printed so with these offset characters, and as before once they are removed.
-fn offsets_show(alloc: Global, offsets: &[(Offset, char)], text: &str) -> bool {
-    let mut cfg = config(alloc);
-    let mut made = apply(alloc, &mut cfg, ONE, Style::ascii());
+/// Sets offset characters of one cell: whether there was memory for them.
+fn set_offsets(cfg: &mut ColoredConfig, offsets: &[(Offset, char)]) -> bool {
     for (offset, character) in offsets {
         let set = cfg
             .config_mut()
             .set_horizontal_char(CELL, *offset, *character);
-        made &= set.is_ok();
-    }
-    made && prints(alloc, &cfg, ONE, text)
-        && {
-            cfg.config_mut().remove_horizontal_chars();
-            prints(alloc, &cfg, ONE, "+---+\n| a |\n+---+")
+        if set.is_err() {
+            return false;
         }
+    }
+    true
+}
+
+/// Whether one cell is printed in a full frame alone once its offset characters are removed.
+fn offsets_are_removed(alloc: Global, cfg: &mut ColoredConfig) -> bool {
+    cfg.config_mut().remove_horizontal_chars();
+    prints(alloc, cfg, ONE, "+---+\n| a |\n+---+")
+}
+
+/// Whether one cell in a full frame is printed so with these offset characters, and as before once they are removed.
+fn offsets_show(alloc: Global, offsets: &[(Offset, char)], text: &str) -> bool {
+    let mut cfg = config(alloc);
+    let is_shown = apply(&mut cfg, ONE, Style::ascii())
+        && set_offsets(&mut cfg, offsets)
+        && prints(alloc, &cfg, ONE, text)
+        && offsets_are_removed(alloc, &mut cfg);
+    drop(cfg);
+    is_shown
 }
 
 #[test]
@@ -70,15 +83,19 @@ fn a_corner_alone_draws_its_row_and_its_column(rt: HostRuntime) {
 fn default_shows(alloc: Global) -> bool {
     let mut cfg = config(alloc);
     cfg.config_mut().set_border_default('*');
-    prints(alloc, &cfg, ONE, "*****\n* a *\n*****")
+    let is_shown = prints(alloc, &cfg, ONE, "*****\n* a *\n*****");
+    drop(cfg);
+    is_shown
 }
 
 /// Whether a vertical line alone draws itself.
 fn vertical_line_shows(alloc: Global) -> bool {
     let mut cfg = config(alloc);
     let line = VerticalLine::new(Some('|'), Some('+'), None, None);
-    let made = cfg.config_mut().insert_vertical_line(1, line);
-    made.is_ok() && prints(alloc, &cfg, FOUR, " a | b \n c | d ")
+    let is_shown = cfg.config_mut().insert_vertical_line(1, line).is_ok()
+        && prints(alloc, &cfg, FOUR, " a | b \n c | d ");
+    drop(cfg);
+    is_shown
 }
 
 /// Whether a new configuration has no character at an edge, which is found by at most six readings.
@@ -88,18 +105,27 @@ fn nothing_shows(alloc: Global) -> bool {
     let (row, col, at) = (0, 0, 0);
     let edge = Place::Horizontal { row, col, at };
     let character = cfg.config().char_at(edge, (1, 1), 3, &mut probes);
+    drop(cfg);
     character.is_none() && probes.count() <= 6
+}
+
+/// Puts a line over another: whether there was memory for both.
+fn put_two_lines(cfg: &mut ColoredConfig) -> bool {
+    let first = HorizontalLine::new(Some('='), None, Some('L'), None);
+    let second = HorizontalLine::new(Some('='), None, None, None);
+    let config = cfg.config_mut();
+    config.insert_horizontal_line(1, first).is_ok()
+        && config.insert_horizontal_line(1, second).is_ok()
 }
 
 /// Whether a line that is put over another keeps nothing of it.
 fn later_line_shows(alloc: Global, table: Table) -> bool {
     let mut cfg = config(alloc);
-    let first = HorizontalLine::new(Some('='), None, Some('L'), None);
-    let second = HorizontalLine::new(Some('='), None, None, None);
-    apply(alloc, &mut cfg, table, Style::ascii())
-        && cfg.config_mut().insert_horizontal_line(1, first).is_ok()
-        && cfg.config_mut().insert_horizontal_line(1, second).is_ok()
-        && prints(alloc, &cfg, table, "+---+\n| a |\n+===+\n| b |\n+---+")
+    let is_shown = apply(&mut cfg, table, Style::ascii())
+        && put_two_lines(&mut cfg)
+        && prints(alloc, &cfg, table, "+---+\n| a |\n+===+\n| b |\n+---+");
+    drop(cfg);
+    is_shown
 }
 
 #[test]

@@ -1,6 +1,6 @@
 //! What the places along a line show.
 
-use crate::tables::{ONE, TWO_COLUMNS, Table, apply, config, shape, sizes};
+use crate::tables::{ONE, TWO_COLUMNS, Table, apply, config, shape, sizes, write};
 use std::alloc::Global;
 use tabled_color::{BorderColor, Color};
 use tabled_config::{ColoredConfig, Mark, Run, line_marks, line_runs};
@@ -42,7 +42,10 @@ fn marks_are(
     let dims = sizes(alloc, table)?;
     let shape = shape(table).into();
     let marks = line_marks(cfg.config(), &dims, shape, line, &mut Probes::new())?;
-    Ok(are_drawn(&marks, expected.0, expected.1))
+    let are_drawn = are_drawn(&marks, expected.0, expected.1);
+    drop(marks);
+    drop(dims);
+    Ok(are_drawn)
 }
 
 /// Whether a line's marks are drawn so.
@@ -59,12 +62,15 @@ fn has_marks(
 /// Whether the edge of the top line of a frame is red, its corners are not, and the left line is not.
 fn top_is_red(alloc: Global) -> bool {
     let mut cfg = config(alloc);
-    let red = BorderColor::new().top(Color::FG_RED);
-    apply(alloc, &mut cfg, ONE, Style::ascii())
-        && apply(alloc, &mut cfg, ONE, red)
+    let is_framed = apply(&mut cfg, ONE, Style::ascii());
+    let is_red = apply(&mut cfg, ONE, BorderColor::new().top(Color::FG_RED));
+    let is_drawn = is_framed
+        && is_red
         && has_marks(alloc, &cfg, ONE, LineOf::Horizontal(0), ("+---+", ".rrr."))
         && has_marks(alloc, &cfg, ONE, LineOf::Vertical(0), ("+|+", "..."))
-        && runs_are(alloc, &cfg, ONE, LineOf::Horizontal(0), "+ --- +") == Ok(true)
+        && runs_are(alloc, &cfg, ONE, LineOf::Horizontal(0), "+ --- +") == Ok(true);
+    drop(cfg);
+    is_drawn
 }
 
 /// Whether a run shows these characters, one for each of its places.
@@ -98,7 +104,10 @@ fn runs_are(
     let dims = sizes(alloc, table)?;
     let shape = shape(table).into();
     let runs = line_runs(cfg.config(), &dims, shape, line, &mut Probes::new())?;
-    Ok(are_run(&runs, expected))
+    let are_run = are_run(&runs, expected);
+    drop(runs);
+    drop(dims);
+    Ok(are_run)
 }
 
 /// A top line and a vertical line, which show nothing where they cross.
@@ -113,38 +122,29 @@ fn open(alloc: Global) -> Theme {
 /// drawn, has places without a character; the line after it has none.
 fn text_stands_in_its_line(alloc: Global) -> bool {
     let mut cfg = config(alloc);
-    match LineText::new(alloc, "ABCDEFG", Rows::first()) {
-        Ok(text) => {
-            apply(alloc, &mut cfg, TWO_COLUMNS, open(alloc))
-                && apply(alloc, &mut cfg, TWO_COLUMNS, text)
-                && has_marks(
-                    alloc,
-                    &cfg,
-                    TWO_COLUMNS,
-                    LineOf::Horizontal(0),
-                    ("ABC.EFG", "......."),
-                )
-                && has_marks(
-                    alloc,
-                    &cfg,
-                    TWO_COLUMNS,
-                    LineOf::Horizontal(1),
-                    (".......", "......."),
-                )
-                && has_marks(alloc, &cfg, TWO_COLUMNS, LineOf::Horizontal(2), ("", ""))
-        }
-        Err(OutOfMemory) => false,
-    }
+    let [first, second, third] = [("ABC.EFG", "......."), (".......", "......."), ("", "")];
+    let text = LineText::new(alloc, "ABCDEFG", Rows::first());
+    let is_lined = apply(&mut cfg, TWO_COLUMNS, open(alloc));
+    let is_written = write(alloc, &mut cfg, TWO_COLUMNS, text);
+    let stands = is_lined
+        && is_written
+        && has_marks(alloc, &cfg, TWO_COLUMNS, LineOf::Horizontal(0), first)
+        && has_marks(alloc, &cfg, TWO_COLUMNS, LineOf::Horizontal(1), second)
+        && has_marks(alloc, &cfg, TWO_COLUMNS, LineOf::Horizontal(2), third);
+    drop(cfg);
+    stands
 }
 
 /// Whether no line of a table without cells has a mark.
 fn no_line_has_marks(alloc: Global) -> bool {
     let mut cfg = config(alloc);
-    apply(alloc, &mut cfg, NO_CELLS, Style::ascii())
+    let has_none = apply(&mut cfg, NO_CELLS, Style::ascii())
         && has_marks(alloc, &cfg, NO_CELLS, LineOf::Horizontal(0), ("", ""))
         && has_marks(alloc, &cfg, NO_CELLS, LineOf::Horizontal(1), ("", ""))
         && has_marks(alloc, &cfg, NO_CELLS, LineOf::Vertical(0), ("", ""))
-        && has_marks(alloc, &cfg, NO_CELLS, LineOf::Vertical(1), ("", ""))
+        && has_marks(alloc, &cfg, NO_CELLS, LineOf::Vertical(1), ("", ""));
+    drop(cfg);
+    has_none
 }
 
 #[test]

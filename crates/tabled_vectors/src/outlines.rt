@@ -7,7 +7,7 @@ use crate::tables::{
 use std::alloc::Global;
 use tabled_color::Color;
 use tabled_config::{ColoredConfig, TableOption};
-use tabled_grid::{Columns, Combine, FixedDimension, Rows, Segment, Shape};
+use tabled_grid::{Columns, Combine, Rows, Segment, Shape};
 use tabled_options::Highlight;
 use tabled_style::{Border, Style};
 
@@ -102,11 +102,22 @@ fn numbered<O>(target: O) -> Highlight<O> {
 /// Whether four cells with such an outline have this character in their middle.
 fn has_middle<P>(alloc: Global, outline: P, character: char) -> bool
 where
-    P: TableOption<Shape, ColoredConfig, FixedDimension> + Drop,
+    P: TableOption<Shape, ColoredConfig, ()>,
 {
     let mut cfg = config(alloc);
-    apply(alloc, &mut cfg, FOUR, outline) && char_at(&cfg, FOUR, crossing(1, 1)) == Some(character)
+    let has_middle = apply(&mut cfg, FOUR, outline)
+        && char_at(&cfg, FOUR, crossing(1, 1)) == Some(character);
+    drop(cfg);
+    has_middle
 }
+
+/// Two cells that touch, in an order, and the character where they do.
+static TOUCHING: [((usize, usize), (usize, usize), char); 4] = [
+    ((0, 0), (1, 1), '5'),
+    ((1, 1), (0, 0), '5'),
+    ((0, 1), (1, 0), '6'),
+    ((1, 0), (0, 1), '6'),
+];
 
 #[test]
 fn cells_that_touch_share_an_outline(rt: HostRuntime) {
@@ -114,10 +125,13 @@ fn cells_that_touch_share_an_outline(rt: HostRuntime) {
     let text = "    51116\n  a 3 b 4\n51118   4\n3 c   d 4\n722222228";
     let three = (0, 1).and((1, 0)).and((1, 1));
     assert!(rt; prints_with(alloc, numbered(three), FOUR, text));
-    assert!(rt; has_middle(alloc, numbered((0, 0).and((1, 1))), '5'));
-    assert!(rt; has_middle(alloc, numbered((1, 1).and((0, 0))), '5'));
-    assert!(rt; has_middle(alloc, numbered((0, 1).and((1, 0))), '6'));
-    assert!(rt; has_middle(alloc, numbered((1, 0).and((0, 1))), '6'));
+    for (first, second, character) in TOUCHING.iter() {
+        let outline = numbered(first.and(*second));
+        assert!(rt;
+            has_middle(alloc, outline, *character),
+            "{first:?} and {second:?}"
+        );
+    }
     assert!(rt; prints_with(alloc, numbered((5, 5)), FOUR, " a  b \n c  d "));
     assert!(rt;
         prints_with(
@@ -136,12 +150,15 @@ static ROW_AND_COLUMN: &str = "*********\n* a   b *\n*   *****\n* c * d  \n*****
 fn a_row_a_column_and_a_cell_outside_have_one_outline(rt: HostRuntime) {
     let target = Rows::one(0).and(Columns::one(0)).and((9, 9)).and((0, 0));
     let once = Highlight::outline(&target, '*');
-    assert!(rt; prints_with(rt.alloc(), once, FOUR, ROW_AND_COLUMN));
+    let shows_once = prints_with(rt.alloc(), once, FOUR, ROW_AND_COLUMN);
     let (first, second) = (
         Highlight::outline(&target, '*'),
         Highlight::outline(&target, '*'),
     );
-    assert!(rt; prints_with_both(rt.alloc(), first, second, FOUR, ROW_AND_COLUMN));
+    let shows_twice = prints_with_both(rt.alloc(), first, second, FOUR, ROW_AND_COLUMN);
+    drop(target);
+    assert!(rt; shows_once);
+    assert!(rt; shows_twice);
 }
 
 /// The same with a character of its own where cells touch at a corner alone.
@@ -154,8 +171,12 @@ fn cells_that_touch_have_a_character_of_their_own(rt: HostRuntime) {
     let alloc = rt.alloc();
     let text = "51116    \n3 a 4 b  \n7222X1116\n  c 3 d 4\n    72228";
     let (first, last) = ((0, 0), (1, 1));
-    assert!(rt; prints_with(alloc, crossed(first.and(last)), FOUR, text));
-    assert!(rt; prints_with(alloc, crossed(last.and(first)), FOUR, text));
+    for (one, other) in [(first, last), (last, first)] {
+        assert!(rt;
+            prints_with(alloc, crossed(one.and(other)), FOUR, text),
+            "{one:?}"
+        );
+    }
     assert!(rt; prints_with(alloc, crossed(last.and(first).and(last)), FOUR, text));
     assert!(rt; has_middle(alloc, crossed((0, 1).and((1, 0))), 'X'));
     assert!(rt; has_middle(alloc, crossed((0, 1).and((1, 0)).and(last)), '8'));
@@ -178,14 +199,16 @@ fn is_red(alloc: Global) -> bool {
     let mut cfg = config(alloc);
     let text = "+---+---+\n| a | b |\n+---+---+\n| c | d |\n+---+---+";
     let outline = Highlight::colored(alloc, (0, 0), Color::FG_RED);
-    let is_framed = apply(alloc, &mut cfg, FOUR, Style::ascii());
-    let is_outlined = apply_made(alloc, &mut cfg, FOUR, outline);
-    is_framed
+    let is_framed = apply(&mut cfg, FOUR, Style::ascii());
+    let is_outlined = apply_made(&mut cfg, FOUR, outline);
+    let is_red = is_framed
         && is_outlined
         && has_color(&cfg, FOUR, top(0, 0), RED)
         && has_color(&cfg, FOUR, crossing(1, 1), RED)
         && is_plain(&cfg, FOUR, top(1, 0))
-        && prints(alloc, &cfg, FOUR, text)
+        && prints(alloc, &cfg, FOUR, text);
+    drop(cfg);
+    is_red
 }
 
 #[test]

@@ -27,7 +27,11 @@ where
     W: Write,
 {
     match words_of(alloc, words) {
-        Ok(words) => Some(run(alloc, &words, reader, writer)),
+        Ok(words) => {
+            let returned = run(alloc, &words, reader, writer);
+            drop(words);
+            Some(returned)
+        }
         Err(AllocError) => None,
     }
 }
@@ -41,8 +45,10 @@ fn gives(
     text: &str,
 ) -> bool {
     let mut written = Vec::new(alloc);
-    returned(alloc, words, &mut Cursor::new(input), &mut written) == Some(outcome)
-        && written.as_slice() == text.as_bytes()
+    let is_given = returned(alloc, words, &mut Cursor::new(input), &mut written) == Some(outcome)
+        && written.as_slice() == text.as_bytes();
+    drop(written);
+    is_given
 }
 
 /// The input of two rows and two columns that most pages show.
@@ -144,9 +150,11 @@ impl Read for FailsAfter {
 /// Whether the program says that reading failed, and writes nothing, where the given number of reads succeed.
 fn fails_after(alloc: Global, reads: usize) -> bool {
     let mut written = Vec::new(alloc);
-    returned(alloc, "ascii", &mut FailsAfter { reads }, &mut written)
+    let has_failed = returned(alloc, "ascii", &mut FailsAfter { reads }, &mut written)
         == Some(Err(ShowError::ReadFailed))
-        && written.is_empty()
+        && written.is_empty();
+    drop(written);
+    has_failed
 }
 
 /// A writer that takes nothing.

@@ -30,7 +30,9 @@ pub(crate) fn makes_of_before(
     match sizes(alloc, table) {
         Ok(dims) => {
             let (shape, expected) = ((table.1.len(), table.0.len()), (outcome, text));
-            makes(alloc, cfg, &dims, shape, table.2, "before:", expected) == Ok(true)
+            let is_made = makes(alloc, cfg, &dims, shape, table.2, "before:", expected) == Ok(true);
+            drop(dims);
+            is_made
         }
         Err(OutOfMemory) => false,
     }
@@ -39,8 +41,10 @@ pub(crate) fn makes_of_before(
 /// Whether printing in a full frame does.
 fn gives(alloc: Global, table: Sized, outcome: Result<(), PrintError>, text: &str) -> bool {
     let mut cfg = config(alloc);
-    apply(alloc, &mut cfg, ONE, Style::ascii())
-        && makes_of_before(alloc, &cfg, table, outcome, text)
+    let is_given = apply(&mut cfg, ONE, Style::ascii())
+        && makes_of_before(alloc, &cfg, table, outcome, text);
+    drop(cfg);
+    is_given
 }
 
 /// Tables, and what is made of `before:` in a full frame.

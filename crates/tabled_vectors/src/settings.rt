@@ -4,7 +4,7 @@ use crate::tables::{FOUR, ONE, Table, apply, apply_made, begins, config};
 use std::alloc::Global;
 use tabled_color::Color;
 use tabled_config::{ColoredConfig, CompactConfig, TableOption};
-use tabled_grid::{Borders, Combine, FixedDimension, Offset, OutOfMemory, Position, Rows, Shape};
+use tabled_grid::{Borders, Combine, Offset, OutOfMemory, Position, Rows, Shape};
 use tabled_layout::Indent;
 use tabled_options::{Alignment, Colorization, Justification, MarginColor, Shadow, TrimStrategy};
 use tabled_settings::Sides;
@@ -19,12 +19,18 @@ const Z: &str = "\u{1b}[34m";
 /// A cell.
 const CELL: Position = Position { row: 0, col: 0 };
 
-/// The first colors of x, y and z.
-fn colors(alloc: Global, count: usize) -> Result<Vec<Color>, OutOfMemory> {
-    let mut colors = Vec::new(alloc);
+/// Adds the colors of x, y and z.
+fn push_colors(colors: &mut Vec<Color>) -> Result<(), OutOfMemory> {
     colors.push(Color::FG_RED)?;
     colors.push(Color::FG_GREEN)?;
     colors.push(Color::FG_BLUE)?;
+    Ok(())
+}
+
+/// The first colors of x, y and z.
+fn colors(alloc: Global, count: usize) -> Result<Vec<Color>, OutOfMemory> {
+    let mut colors = Vec::new(alloc);
+    push_colors(&mut colors)?;
     colors.truncate(count);
     Ok(colors)
 }
@@ -51,10 +57,12 @@ fn colors_cells<O>(
     cells: &[(usize, usize, &str)],
 ) -> bool
 where
-    O: TableOption<Shape, ColoredConfig, FixedDimension> + Drop,
+    O: TableOption<Shape, ColoredConfig, ()>,
 {
     let mut cfg = config(alloc);
-    apply_made(alloc, &mut cfg, table, option) && have_colors(&cfg, cells)
+    let is_colored = apply_made(&mut cfg, table, option) && have_colors(&cfg, cells);
+    drop(cfg);
+    is_colored
 }
 
 /// Three cells in a row.
@@ -91,10 +99,13 @@ fn exact_entities_are_colored(alloc: Global) -> bool {
 /// Whether no colors make no map of colors.
 fn no_colors_make_no_map(alloc: Global) -> bool {
     let mut cfg = config(alloc);
+    let by_row = Colorization::by_row(Vec::new(alloc));
+    let is_first_applied = apply(&mut cfg, FOUR, by_row);
     let exact = Colorization::exact(Vec::new(alloc), Rows::one(0));
-    apply(alloc, &mut cfg, FOUR, Colorization::by_row(Vec::new(alloc)))
-        && apply(alloc, &mut cfg, FOUR, exact)
-        && cfg.get_colors().is_empty()
+    let is_second_applied = apply(&mut cfg, FOUR, exact);
+    let makes_none = is_first_applied && is_second_applied && cfg.get_colors().is_empty();
+    drop(cfg);
+    makes_none
 }
 
 #[test]
@@ -107,19 +118,23 @@ fn entities_have_colors_in_turn(rt: HostRuntime) {
 fn default_filling_is_a_space(alloc: Global) -> bool {
     let mut cfg = config(alloc);
     let colored = Justification::colored('#', Color::FG_RED);
-    apply(alloc, &mut cfg, ONE, colored)
-        && apply(alloc, &mut cfg, ONE, Justification::default())
+    let is_space = apply(&mut cfg, ONE, colored)
+        && apply(&mut cfg, ONE, Justification::default())
         && cfg.config().get_justification(CELL) == ' '
-        && cfg.config().get_justification_color(CELL).is_none()
+        && cfg.config().get_justification_color(CELL).is_none();
+    drop(cfg);
+    is_space
 }
 
 /// Whether one trim leaves the other.
 fn one_trim_leaves_the_other(alloc: Global) -> bool {
     let mut cfg = config(alloc);
-    apply(alloc, &mut cfg, ONE, TrimStrategy::Vertical)
-        && apply(alloc, &mut cfg, ONE, TrimStrategy::Horizontal)
+    let is_left = apply(&mut cfg, ONE, TrimStrategy::Vertical)
+        && apply(&mut cfg, ONE, TrimStrategy::Horizontal)
         && cfg.config().get_trim_horizontal(CELL)
-        && cfg.config().get_trim_vertical(CELL)
+        && cfg.config().get_trim_vertical(CELL);
+    drop(cfg);
+    is_left
 }
 
 #[test]
@@ -132,8 +147,13 @@ fn fillings_and_trims_are_set(rt: HostRuntime) {
 fn is_shadowed(cfg: &ColoredConfig) -> bool {
     let (shadow, nothing) = (Indent { size: 2, fill: '▒' }, Indent { size: 0, fill: ' ' });
     let (left, bottom, none) = (Offset::Start(3), Offset::End(3), Offset::Start(0));
-    *cfg.config().get_margin() == Sides::new(shadow, nothing, nothing, shadow)
-        && *cfg.config().get_margin_offset() == Sides::new(left, none, none, bottom)
+    let margin = Sides::new(shadow, nothing, nothing, shadow);
+    let offset = Sides::new(left, none, none, bottom);
+    let is_shadowed = *cfg.config().get_margin() == margin
+        && *cfg.config().get_margin_offset() == offset;
+    drop(margin);
+    drop(offset);
+    is_shadowed
 }
 
 /// Whether a margin is red at the top and at the left.
@@ -146,10 +166,12 @@ fn is_red(cfg: &ColoredConfig) -> bool {
 fn shadow_makes_its_margin(alloc: Global) -> bool {
     let mut cfg = config(alloc);
     let red = MarginColor::filled(alloc, Color::FG_RED);
-    let is_colored = apply_made(alloc, &mut cfg, ONE, red);
+    let is_colored = apply_made(&mut cfg, ONE, red);
     let shadow = Shadow::new(2).set_offset(3).set_left();
-    let is_applied = apply(alloc, &mut cfg, ONE, shadow);
-    is_colored && is_applied && is_shadowed(&cfg) && is_red(&cfg)
+    let is_applied = apply(&mut cfg, ONE, shadow);
+    let is_made = is_colored && is_applied && is_shadowed(&cfg) && is_red(&cfg);
+    drop(cfg);
+    is_made
 }
 
 #[test]

@@ -6,7 +6,7 @@ use crate::tables::{
 };
 use std::alloc::Global;
 use tabled_config::{ColoredConfig, PrintError, TableOption};
-use tabled_grid::{FixedDimension, Position, Shape};
+use tabled_grid::{Position, Shape};
 use tabled_options::BorderCorrection;
 use tabled_style::Style;
 
@@ -14,21 +14,14 @@ use tabled_style::Style;
 const FIRST: Position = Position { row: 0, col: 0 };
 
 /// Lets the first cell of a table in a style span columns and rows, and corrects the borders: whether there was memory.
-fn correct<O>(
-    alloc: Global,
-    cfg: &mut ColoredConfig,
-    table: Table,
-    style: O,
-    columns: usize,
-    rows: usize,
-) -> bool
+fn correct<O>(cfg: &mut ColoredConfig, table: Table, style: O, columns: usize, rows: usize) -> bool
 where
-    O: TableOption<Shape, ColoredConfig, FixedDimension> + Drop,
+    O: TableOption<Shape, ColoredConfig, ()>,
 {
-    apply(alloc, cfg, table, style)
+    apply(cfg, table, style)
         && cfg.config_mut().set_column_span(FIRST, columns).is_ok()
         && cfg.config_mut().set_row_span(FIRST, rows).is_ok()
-        && apply(alloc, cfg, table, BorderCorrection::span())
+        && apply(cfg, table, BorderCorrection::span())
 }
 
 /// Whether the crossings of a table are these characters, row by row.
@@ -53,10 +46,13 @@ fn leaves<O>(
     crossings: &[&str],
 ) -> bool
 where
-    O: TableOption<Shape, ColoredConfig, FixedDimension> + Drop,
+    O: TableOption<Shape, ColoredConfig, ()>,
 {
     let mut cfg = config(alloc);
-    correct(alloc, &mut cfg, table, style, columns, rows) && has_crossings(&cfg, table, crossings)
+    let is_left = correct(&mut cfg, table, style, columns, rows)
+        && has_crossings(&cfg, table, crossings);
+    drop(cfg);
+    is_left
 }
 
 #[test]
@@ -88,20 +84,24 @@ fn refuses_wide(alloc: Global, cfg: &ColoredConfig, refusal: PrintError) -> bool
 /// Whether a width is refused, and a span before it.
 fn spans_are_refused_first(alloc: Global) -> bool {
     let mut cfg = config(alloc);
-    refuses_wide(alloc, &cfg, PrintError::Width(0, 0))
+    let are_refused = refuses_wide(alloc, &cfg, PrintError::Width(0, 0))
         && cfg.config_mut().set_column_span(FIRST, 2).is_ok()
         && refuses_wide(alloc, &cfg, PrintError::Spans)
         && cfg.config_mut().set_column_span(FIRST, usize::MAX).is_ok()
-        && refuses_wide(alloc, &cfg, PrintError::Spans)
+        && refuses_wide(alloc, &cfg, PrintError::Spans);
+    drop(cfg);
+    are_refused
 }
 
 /// Whether a span that is taken back is none, and the table is printed.
 fn span_is_taken_back(alloc: Global) -> bool {
     let mut cfg = config(alloc);
-    cfg.config_mut().set_column_span(FIRST, 3).is_ok()
+    let is_none = cfg.config_mut().set_column_span(FIRST, 3).is_ok()
         && cfg.config_mut().set_column_span(FIRST, 1).is_ok()
         && cfg.config().get_column_spans().is_empty()
-        && prints(alloc, &cfg, ONE, " a ")
+        && prints(alloc, &cfg, ONE, " a ");
+    drop(cfg);
+    is_none
 }
 
 #[test]

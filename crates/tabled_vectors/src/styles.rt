@@ -4,17 +4,28 @@ use crate::tables::{
     ONE, TWO_ROWS, Table, apply, apply_to, config, prints, prints_with, prints_with_both,
 };
 use std::alloc::Global;
+use tabled_config::ColoredConfig;
 use tabled_style::{Border, EmptyBorder, HorizontalLine, Style};
+
+/// Whether a frame leaves what was written for a cell.
+fn frame_leaves(alloc: Global, cfg: &mut ColoredConfig) -> bool {
+    apply(cfg, ONE, Style::ascii())
+        && apply_to(alloc, cfg, ONE, &(0, 0), &Border::new().top('x'))
+        && apply(cfg, ONE, Border::filled('#'))
+        && prints(alloc, cfg, ONE, "#xxx#\n# a #\n#####")
+}
+
+/// Whether a style leaves nothing of that.
+fn style_erases(alloc: Global, cfg: &mut ColoredConfig) -> bool {
+    apply(cfg, ONE, Style::empty()) && prints(alloc, cfg, ONE, " a ")
+}
 
 /// Whether a frame leaves what was written for a cell, and a style does not.
 fn frame_leaves_a_cell(alloc: Global) -> bool {
     let mut cfg = config(alloc);
-    apply(alloc, &mut cfg, ONE, Style::ascii())
-        && apply_to(alloc, &mut cfg, ONE, &(0, 0), &Border::new().top('x'))
-        && apply(alloc, &mut cfg, ONE, Border::filled('#'))
-        && prints(alloc, &cfg, ONE, "#xxx#\n# a #\n#####")
-        && apply(alloc, &mut cfg, ONE, Style::empty())
-        && prints(alloc, &cfg, ONE, " a ")
+    let is_left = frame_leaves(alloc, &mut cfg) && style_erases(alloc, &mut cfg);
+    drop(cfg);
+    is_left
 }
 
 #[test]
@@ -29,16 +40,13 @@ static LANGUAGES: Table = (&[7], &[&[" &str  "], &[" Hello "], &[" 2022  "]]);
 /// Whether a cell has the frame of another style.
 fn cell_is_framed(alloc: Global) -> bool {
     let mut cfg = config(alloc);
+    let frame = Border::inherit(Style::modern());
     let text = "┌───────┐\n│ &str  │\n└───────┘\n  Hello  \n  2022   ";
-    apply(alloc, &mut cfg, LANGUAGES, Style::psql())
-        && apply_to(
-            alloc,
-            &mut cfg,
-            LANGUAGES,
-            &(0, 0),
-            &Border::inherit(Style::modern()),
-        )
-        && prints(alloc, &cfg, LANGUAGES, text)
+    let is_framed = apply(&mut cfg, LANGUAGES, Style::psql())
+        && apply_to(alloc, &mut cfg, LANGUAGES, &(0, 0), &frame)
+        && prints(alloc, &cfg, LANGUAGES, text);
+    drop(cfg);
+    is_framed
 }
 
 /// A table of three rows and two columns.

@@ -52,29 +52,64 @@ pub(crate) fn sizes(alloc: Global, table: Table) -> Result<FixedDimension, OutOf
     Ok(FixedDimension::new(widths, heights))
 }
 
-/// Applies an option to a table: whether there was memory for it.
-pub(crate) fn apply<O>(alloc: Global, cfg: &mut ColoredConfig, table: Table, option: O) -> bool
+/// Applies an option that asks for no sizes to a table: whether there was memory for it.
+pub(crate) fn apply<O>(cfg: &mut ColoredConfig, table: Table, option: O) -> bool
 where
-    O: TableOption<Shape, ColoredConfig, FixedDimension> + Drop,
+    O: TableOption<Shape, ColoredConfig, ()>,
 {
-    match sizes(alloc, table) {
-        Ok(mut dims) => option.change(&mut shape(table), cfg, &mut dims).is_ok(),
-        Err(OutOfMemory) => false,
-    }
+    option.change(&mut shape(table), cfg, &mut ()).is_ok()
 }
 
-/// Applies an option, if there was memory for it: whether there was, also for what it changes.
+/// Applies such an option, if there was memory for it: whether there was, also for what it changes.
 pub(crate) fn apply_made<O>(
-    alloc: Global,
     cfg: &mut ColoredConfig,
     table: Table,
     option: Result<O, OutOfMemory>,
 ) -> bool
 where
-    O: TableOption<Shape, ColoredConfig, FixedDimension> + Drop,
+    O: TableOption<Shape, ColoredConfig, ()>,
 {
     match option {
-        Ok(option) => apply(alloc, cfg, table, option),
+        Ok(option) => apply(cfg, table, option),
+        Err(OutOfMemory) => false,
+    }
+}
+
+/// Puts a text on a line of a table, if there was memory for it: whether there was, also for what it changes.
+pub(crate) fn write<O>(
+    alloc: Global,
+    cfg: &mut ColoredConfig,
+    table: Table,
+    text: Result<O, OutOfMemory>,
+) -> bool
+where
+    O: TableOption<Shape, ColoredConfig, FixedDimension> + Drop,
+{
+    match sizes(alloc, table) {
+        Ok(mut dims) => {
+            let is_written = change(cfg, table, &mut dims, text);
+            drop(dims);
+            is_written
+        }
+        Err(OutOfMemory) => {
+            drop(text);
+            false
+        }
+    }
+}
+
+/// Applies an option to a table of these sizes, if there was memory for it: whether there was, also for what it changes.
+fn change<O>(
+    cfg: &mut ColoredConfig,
+    table: Table,
+    dims: &mut FixedDimension,
+    option: Result<O, OutOfMemory>,
+) -> bool
+where
+    O: TableOption<Shape, ColoredConfig, FixedDimension>,
+{
+    match option {
+        Ok(option) => option.change(&mut shape(table), cfg, dims).is_ok(),
         Err(OutOfMemory) => false,
     }
 }
@@ -125,7 +160,10 @@ pub(crate) fn makes(
     let cells = cells_of(alloc, rows)?;
     let mut shown = String::from_str(alloc, start)?;
     let returned = print_plain(&mut shown, cfg.config(), dims, shape, &cells);
-    Ok(returned == expected.0 && shown.as_str() == expected.1)
+    let is_expected = returned == expected.0 && shown.as_str() == expected.1;
+    drop(shown);
+    drop(cells);
+    Ok(is_expected)
 }
 
 /// Whether a table is printed as this text.
@@ -133,7 +171,9 @@ pub(crate) fn prints(alloc: Global, cfg: &ColoredConfig, table: Table, text: &st
     match sizes(alloc, table) {
         Ok(dims) => {
             let (shape, expected) = (shape(table).into(), (Ok(()), text));
-            makes(alloc, cfg, &dims, shape, table.1, "", expected) == Ok(true)
+            let is_made = makes(alloc, cfg, &dims, shape, table.1, "", expected) == Ok(true);
+            drop(dims);
+            is_made
         }
         Err(OutOfMemory) => false,
     }
@@ -142,10 +182,12 @@ pub(crate) fn prints(alloc: Global, cfg: &ColoredConfig, table: Table, text: &st
 /// Whether a table is printed so after an option.
 pub(crate) fn prints_with<O>(alloc: Global, option: O, table: Table, text: &str) -> bool
 where
-    O: TableOption<Shape, ColoredConfig, FixedDimension> + Drop,
+    O: TableOption<Shape, ColoredConfig, ()>,
 {
     let mut cfg = config(alloc);
-    apply(alloc, &mut cfg, table, option) && prints(alloc, &cfg, table, text)
+    let is_printed = apply(&mut cfg, table, option) && prints(alloc, &cfg, table, text);
+    drop(cfg);
+    is_printed
 }
 
 /// Whether a table is printed so after two options.
@@ -157,13 +199,15 @@ pub(crate) fn prints_with_both<O, P>(
     text: &str,
 ) -> bool
 where
-    O: TableOption<Shape, ColoredConfig, FixedDimension> + Drop,
-    P: TableOption<Shape, ColoredConfig, FixedDimension> + Drop,
+    O: TableOption<Shape, ColoredConfig, ()>,
+    P: TableOption<Shape, ColoredConfig, ()>,
 {
     let mut cfg = config(alloc);
-    let is_first_applied = apply(alloc, &mut cfg, table, first);
-    let is_second_applied = apply(alloc, &mut cfg, table, second);
-    is_first_applied && is_second_applied && prints(alloc, &cfg, table, text)
+    let is_first_applied = apply(&mut cfg, table, first);
+    let is_second_applied = apply(&mut cfg, table, second);
+    let is_printed = is_first_applied && is_second_applied && prints(alloc, &cfg, table, text);
+    drop(cfg);
+    is_printed
 }
 
 /// How many places the edge of a place has.

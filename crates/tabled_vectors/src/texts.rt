@@ -1,8 +1,8 @@
 //! Texts and characters on lines.
 
 use crate::tables::{
-    FOUR, GREETING, ONE, TWO_COLUMNS, Table, apply, apply_made, apply_to, char_at, config,
-    crossing, has_color, is_plain, prints, prints_with_both, top,
+    FOUR, GREETING, ONE, TWO_COLUMNS, Table, apply, apply_to, char_at, config, crossing, has_color,
+    is_plain, prints, top, write,
 };
 use std::alloc::Global;
 use tabled_color::Color;
@@ -100,22 +100,24 @@ fn title_of(alloc: Global, title: Title) -> Result<LineText<FirstRow>, OutOfMemo
     }
 }
 
-/// Whether a table in a style is printed so after an option, if there was memory for it.
+/// Whether a table in a style is printed so with a text on a line, if there was memory for it.
 fn prints_in<O, P>(
     alloc: Global,
     style: O,
-    option: Result<P, OutOfMemory>,
+    text: Result<P, OutOfMemory>,
     table: Table,
-    text: &str,
+    expected: &str,
 ) -> bool
 where
-    O: TableOption<Shape, ColoredConfig, FixedDimension> + Drop,
+    O: TableOption<Shape, ColoredConfig, ()>,
     P: TableOption<Shape, ColoredConfig, FixedDimension> + Drop,
 {
-    match option {
-        Ok(option) => prints_with_both(alloc, style, option, table, text),
-        Err(OutOfMemory) => false,
-    }
+    let mut cfg = config(alloc);
+    let is_styled = apply(&mut cfg, table, style);
+    let is_written = write(alloc, &mut cfg, table, text);
+    let is_printed = is_styled && is_written && prints(alloc, &cfg, table, expected);
+    drop(cfg);
+    is_printed
 }
 
 /// Whether a title makes its top line, and nothing else.
@@ -177,21 +179,17 @@ static AT_THE_BOTTOM: &str = "+-------------+
 A Hello World |
 B-------------+";
 
+/// Puts a text on the line before a column: whether there was memory for it.
+fn put_before(alloc: Global, cfg: &mut ColoredConfig, column: usize) -> bool {
+    let text = LineText::new(alloc, "TABLE", Columns::one(column));
+    write(alloc, cfg, GREETING, text)
+}
+
 /// Whether texts run down both sides.
 fn has_both_sides(alloc: Global, cfg: &mut ColoredConfig) -> bool {
-    apply(alloc, cfg, GREETING, Style::ascii())
-        && apply_made(
-            alloc,
-            cfg,
-            GREETING,
-            LineText::new(alloc, "TABLE", Columns::one(0)),
-        )
-        && apply_made(
-            alloc,
-            cfg,
-            GREETING,
-            LineText::new(alloc, "TABLE", Columns::one(1)),
-        )
+    apply(cfg, GREETING, Style::ascii())
+        && put_before(alloc, cfg, 0)
+        && put_before(alloc, cfg, 1)
         && prints(alloc, cfg, GREETING, BOTH_SIDES)
 }
 
@@ -221,19 +219,18 @@ fn texts_run_down_the_sides(rt: HostRuntime) {
 /// A table of three rows.
 static LANGUAGES: Table = (&[7], &[&[" &str  "], &[" Hello "], &[" 2022  "]]);
 
+/// Whether a text on the middle line of a table of four cells makes this of it.
+fn makes_of_four(alloc: Global, cfg: &mut ColoredConfig, text: &str, expected: &str) -> bool {
+    let text = LineText::new(alloc, text, Rows::one(1));
+    write(alloc, cfg, FOUR, text) && prints(alloc, cfg, FOUR, expected)
+}
+
 /// Whether two texts on the middle line of a table with a vertical line alone make these texts.
 fn draws_its_line(alloc: Global, cfg: &mut ColoredConfig) -> bool {
     let line = VerticalLine::new(Some('|'), Some('+'), None, None);
     cfg.config_mut().insert_vertical_line(1, line).is_ok()
-        && apply_made(
-            alloc,
-            cfg,
-            FOUR,
-            LineText::new(alloc, "ABCDEFG", Rows::one(1)),
-        )
-        && prints(alloc, cfg, FOUR, " a | b \nABCDEFG\n c | d ")
-        && apply_made(alloc, cfg, FOUR, LineText::new(alloc, "xyz", Rows::one(1)))
-        && prints(alloc, cfg, FOUR, " a | b \nxyzDEFG\n c | d ")
+        && makes_of_four(alloc, cfg, "ABCDEFG", " a | b \nABCDEFG\n c | d ")
+        && makes_of_four(alloc, cfg, "xyz", " a | b \nxyzDEFG\n c | d ")
 }
 
 #[test]
@@ -285,11 +282,11 @@ fn crossing_is_blue(alloc: Global, cfg: &ColoredConfig) -> bool {
 
 /// Whether texts in blue are blue.
 fn texts_are_blue(alloc: Global, cfg: &mut ColoredConfig) -> bool {
-    apply(alloc, cfg, GREETING, Style::ascii())
-        && apply_made(alloc, cfg, GREETING, blue(alloc, "TABLE"))
+    apply(cfg, GREETING, Style::ascii())
+        && write(alloc, cfg, GREETING, blue(alloc, "TABLE"))
         && title_is_blue(cfg)
-        && apply(alloc, cfg, TWO_COLUMNS, open(alloc))
-        && apply_made(alloc, cfg, TWO_COLUMNS, blue(alloc, "ABCDEFG"))
+        && apply(cfg, TWO_COLUMNS, open(alloc))
+        && write(alloc, cfg, TWO_COLUMNS, blue(alloc, "ABCDEFG"))
         && crossing_is_blue(alloc, cfg)
 }
 
@@ -316,9 +313,9 @@ fn each_character_takes_a_place(rt: HostRuntime) {
     let alloc = rt.alloc();
     let mut cfg = config(alloc);
     let title = title_of(alloc, ("AB\nCDE", RIGHT, HERE, None, ""));
-    let has_text = apply(alloc, &mut cfg, GREETING, Style::ascii())
-        && apply_made(alloc, &mut cfg, GREETING, title)
-        && has_a_line_feed(&cfg);
+    let is_framed = apply(&mut cfg, GREETING, Style::ascii());
+    let is_written = write(alloc, &mut cfg, GREETING, title);
+    let has_text = is_framed && is_written && has_a_line_feed(&cfg);
     drop(cfg);
     assert!(rt; has_text);
     let text = LineText::new(alloc, "AB", Rows::first());
@@ -331,25 +328,27 @@ fn has_marks(alloc: Global) -> bool {
     let first = LineChar::horizontal(':', Offset::Start(0));
     let last = LineChar::horizontal(':', Offset::End(0));
     let side = LineChar::vertical('#', Offset::Start(0));
-    apply(alloc, &mut cfg, GREETING, Style::markdown())
+    let text = "| &str        |\n|:-----------:|\n# Hello World #";
+    let sides = (1, 0).and((1, 1));
+    let are_drawn = apply(&mut cfg, GREETING, Style::markdown())
         && apply_to(alloc, &mut cfg, GREETING, &Rows::one(1), &first)
         && apply_to(alloc, &mut cfg, GREETING, &Rows::one(1), &last)
-        && apply_to(alloc, &mut cfg, GREETING, &(1, 0).and((1, 1)), &side)
-        && prints(
-            alloc,
-            &cfg,
-            GREETING,
-            "| &str        |\n|:-----------:|\n# Hello World #",
-        )
+        && apply_to(alloc, &mut cfg, GREETING, &sides, &side)
+        && prints(alloc, &cfg, GREETING, text);
+    drop(sides);
+    drop(cfg);
+    are_drawn
 }
 
 /// Whether two marks above a cell, in this order, make this text.
 fn has_two_marks(alloc: Global, first: LineChar, second: LineChar, text: &str) -> bool {
     let mut cfg = config(alloc);
-    apply(alloc, &mut cfg, ONE, Style::ascii())
+    let are_drawn = apply(&mut cfg, ONE, Style::ascii())
         && apply_to(alloc, &mut cfg, ONE, &(0, 0), &first)
         && apply_to(alloc, &mut cfg, ONE, &(0, 0), &second)
-        && prints(alloc, &cfg, ONE, text)
+        && prints(alloc, &cfg, ONE, text);
+    drop(cfg);
+    are_drawn
 }
 
 #[test]

@@ -111,7 +111,11 @@ fn set_line_covers(alloc: Global, theme: &mut Theme) -> bool {
 /// Whether that holds of a theme of a style with two lines.
 fn lines_are_covered(alloc: Global) -> bool {
     match two_lines(alloc, 1, 2) {
-        Ok(mut theme) => set_line_covers(alloc, &mut theme),
+        Ok(mut theme) => {
+            let is_covered = set_line_covers(alloc, &mut theme);
+            drop(theme);
+            is_covered
+        }
         Err(OutOfMemory) => false,
     }
 }
