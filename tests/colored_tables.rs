@@ -231,14 +231,15 @@ fn wide_characters_and_marks_stay_whole(rt: HostRuntime) -> Result<(), Fail> {
     Ok(())
 }
 
+/// The escape sequences of a text are text: they count five columns and four.
 #[test]
-fn a_text_may_have_colors_of_its_own(rt: HostRuntime) -> Result<(), Fail> {
+fn a_text_with_colors_of_its_own_is_copied(rt: HostRuntime) -> Result<(), Fail> {
     let mut table = one(rt.alloc(), "\u{1b}[31mab\u{1b}[0m")?;
     table.with(angle(rt.alloc())?)?;
     let picture = "
-+----+
++-------------+
 | <\u{1b}[31mab\u{1b}[0m> |
-+----+
++-------------+
 ";
     assert!(rt; is_picture(table.to_ansi()?.as_str(), picture));
     Ok(())
