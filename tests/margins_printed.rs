@@ -152,10 +152,10 @@ fn a_margin_may_have_one_side(rt: HostRuntime) -> Result<(), Fail> {
 }
 
 #[test]
-fn a_margin_may_be_of_wide_characters(rt: HostRuntime) -> Result<(), Fail> {
-    let (none, wide) = (Indent::default(), Indent::new(1, '─'));
+fn a_margin_may_be_of_characters_of_several_bytes(rt: HostRuntime) -> Result<(), Fail> {
+    let (none, line) = (Indent::default(), Indent::new(1, '─'));
     let picture = "\n─────\n+---+\n| a |\n+---+\n";
-    assert!(rt; is_around(rt.alloc(), Sides::new(none, none, wide, none), picture)?);
+    assert!(rt; is_around(rt.alloc(), Sides::new(none, none, line, none), picture)?);
     Ok(())
 }
 
@@ -323,13 +323,15 @@ fn a_table_with_a_margin_is_appended(rt: HostRuntime) -> Result<(), Fail> {
 }
 
 #[test]
-fn a_margin_that_no_memory_holds_is_refused(rt: HostRuntime) -> Result<(), Fail> {
+fn lines_above_and_below_that_no_memory_holds_are_refused(rt: HostRuntime) -> Result<(), Fail> {
     let mut table = one(rt.alloc())?;
     let (most, none) = (Indent::new(usize::MAX, '.'), Indent::default());
     for margin in [
         Sides::new(most, none, Indent::new(1, '.'), none),
         Sides::new(none, most, none, Indent::new(1, '.')),
         Sides::new(most, most, Indent::new(1, '.'), none),
+        Sides::new(none, none, most, none),
+        Sides::new(none, none, none, most),
     ] {
         table.config_mut().config_mut().set_margin(margin);
         let mut text = String::from_str(rt.alloc(), "before:")?;
