@@ -166,7 +166,10 @@ fn a_line_of_the_text_that_is_empty_has_the_colors_beside_it(rt: HostRuntime) ->
         .with(angle(alloc)?)?
         .with(PaddingColor::filled(alloc, curly(alloc)?)?)?
         .with(Justification::default().color(square(alloc)?))?;
-    assert_eq!(rt; table.to_ansi()?.as_str(), "{ }<a>{ }\n{ }[ ]{ }\n{ }<b>{ }");
+    assert_eq!(rt;
+        table.to_ansi()?.as_str(),
+        "{ }<a>{ }\n{ }[ ]{ }\n{ }<b>{ }"
+    );
     Ok(())
 }
 
@@ -174,7 +177,12 @@ fn a_line_of_the_text_that_is_empty_has_the_colors_beside_it(rt: HostRuntime) ->
 fn uneven(alloc: Global) -> Result<TextTable, TableError> {
     let mut table = TextTable::new(alloc, &[&["x", "1\n2\n3"]])?;
     table.with(Style::ascii())?;
-    let padding = PaddingColor::new(Color::empty(), Color::empty(), square(alloc)?, curly(alloc)?);
+    let padding = PaddingColor::new(
+        Color::empty(),
+        Color::empty(),
+        square(alloc)?,
+        curly(alloc)?,
+    );
     table.modify(Cell::new(0, 0), padding)?;
     table.modify(Cell::new(0, 0), angle(alloc)?)?;
     Ok(table)

@@ -252,10 +252,12 @@ fn a_margin_and_a_border_of_one_color_are_written_as_one(rt: HostRuntime) -> Res
     let alloc = rt.alloc();
     let mut table = one(alloc)?;
     let side = Indent::new(1, '.');
-    table
-        .config_mut()
-        .config_mut()
-        .set_margin(Sides::new(side, side, Indent::default(), Indent::default()));
+    table.config_mut().config_mut().set_margin(Sides::new(
+        side,
+        side,
+        Indent::default(),
+        Indent::default(),
+    ));
     table.with(MarginColor::filled(alloc, signs(alloc, "<", ">")?)?)?;
     let frame = BorderColor::new()
         .left(signs(alloc, "<", ">")?)
@@ -297,7 +299,11 @@ fn a_shadow_falls_on_two_sides(rt: HostRuntime) -> Result<(), Fail> {
 fn a_shadow_has_a_color(rt: HostRuntime) -> Result<(), Fail> {
     let alloc = rt.alloc();
     let mut table = one(alloc)?;
-    table.with(Shadow::new(1).set_fill('#').set_color(signs(alloc, "<", ">")?))?;
+    table.with(
+        Shadow::new(1)
+            .set_fill('#')
+            .set_color(signs(alloc, "<", ">")?),
+    )?;
     table.modify(Segment::all(), signs(alloc, "[", "]")?)?;
     let picture = "
 +---+ 

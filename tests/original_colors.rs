@@ -144,7 +144,10 @@ fn characters_on_edges_have_no_color(rt: HostRuntime) -> Result<(), Fail> {
     table
         .modify(Rows::one(1), LineChar::horizontal(':', Offset::Start(0)))?
         .modify(Rows::one(1), LineChar::horizontal(':', Offset::End(0)))?
-        .modify((1, 0).and((1, 1)), LineChar::vertical('#', Offset::Start(0)))?;
+        .modify(
+            (1, 0).and((1, 1)),
+            LineChar::vertical('#', Offset::Start(0)),
+        )?;
     let picture = "
 | &str        |
 |:-----------:|
@@ -234,11 +237,7 @@ fn a_chess_board_has_a_frame_of_its_own_color(rt: HostRuntime) -> Result<(), Fai
 }
 
 /// Whether the table is printed so after an option.
-fn prints_after(
-    alloc: Global,
-    colors: Colorization,
-    picture: &str,
-) -> Result<bool, TableError> {
+fn prints_after(alloc: Global, colors: Colorization, picture: &str) -> Result<bool, TableError> {
     let mut table = greetings(alloc)?;
     table.with(colors)?;
     Ok(is_picture(table.to_ansi()?.as_str(), picture))

@@ -73,11 +73,7 @@ fn letter_of(code: &str, colors: &[(&str, char)]) -> Option<char> {
 }
 
 /// A line without its colors, and after five spaces the same with the letter of its color in each place that has one.
-fn lettered(
-    alloc: Global,
-    line: &str,
-    colors: &[(&str, char)],
-) -> Result<String, OutOfMemory> {
+fn lettered(alloc: Global, line: &str, colors: &[(&str, char)]) -> Result<String, OutOfMemory> {
     let (mut plain, mut letters) = (String::new(alloc), String::new(alloc));
     let (mut code, mut is_code, mut letter) = (String::new(alloc), false, None);
     for character in line.chars() {

@@ -75,8 +75,11 @@ fn shadowed(alloc: Global) -> Result<TextTable, TableError> {
 }
 
 /// The text of the table without its colors, and in color.
-const DRAWN: &str = "+---+----+ \n| a | bb |#\n+---+----+#\n| c | e. |#\n| d |    |#\n+---+----+#\n ##########";
-const COLORED: &str = "+---+----+ \n| a | bb |(#)\n+---+----+(#)\n| (c) | e(.) |(#)\n| (d) |    |(#)\n+---+----+(#)\n (##########)";
+const DRAWN: &str =
+    "+---+----+ \n| a | bb |#\n+---+----+#\n| c | e. |#\n| d |    |#\n+---+----+#\n ##########";
+
+const COLORED: &str =
+    "+---+----+ \n| a | bb |(#)\n+---+----+(#)\n| (c) | e(.) |(#)\n| (d) |    |(#)\n+---+----+(#)\n (##########)";
 
 /// What becomes of a text that is returned, with its colors or without them.
 fn returned(turn: &mut Turn, with_colors: bool) -> Result<Outcome, OutOfMemory> {
@@ -127,7 +130,13 @@ pub(crate) fn tables() -> [Named; 5] {
         ("TextTable::to_ansi", |turn| returned(turn, true)),
         ("TextTable::append_ansi_to", |turn| appended(turn, true)),
         ("TextTable::write_ansi_to", write_ansi_to),
-        ("TextTable::to_text (a margin)", |turn| returned(turn, false)),
-        ("TextTable::append_to (a margin)", |turn| appended(turn, false)),
+        (
+            "TextTable::to_text (a margin)",
+            |turn| returned(turn, false),
+        ),
+        (
+            "TextTable::append_to (a margin)",
+            |turn| appended(turn, false),
+        ),
     ]
 }

@@ -160,7 +160,9 @@ pub fn colors_in_turn(alloc: Global) -> Result<String, TableError> {
     let mut colors = Vec::new(alloc);
     colors.push(Color::BG_BLUE)?;
     colors.push(Color::BG_GREEN)?;
-    table.with(Style::sharp())?.with(Colorization::rows(colors))?;
+    table
+        .with(Style::sharp())?
+        .with(Colorization::rows(colors))?;
     Ok(table.to_ansi()?)
 }
 
