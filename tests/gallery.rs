@@ -1,6 +1,6 @@
 //! The functions of `tabled_uses`, each with the picture that it draws; `docs/GALLERY.md` is made of them.
 
-use crate::common::printing::is_picture;
+use crate::common::printing::{is_in_color, is_picture};
 use std::test::Fail;
 use tabled_uses::{options, own_option, recipes};
 
@@ -368,5 +368,104 @@ fn text_at_the_bottom_is_drawn(rt: HostRuntime) -> Result<(), Fail> {
 +---+-----+
 ";
     assert!(rt; is_picture(text.as_str(), picture));
+    Ok(())
+}
+
+#[test]
+fn in_color_is_drawn(rt: HostRuntime) -> Result<(), Fail> {
+    let text = recipes::in_color(rt.alloc())?;
+    let picture = "
+╭───────┬─────╮     bbbbbbbbbbbbbbb
+│ name  │ age │     b name  b age b
+├───────┼─────┤     bbbbbbbbbbbbbbb
+│ Alice │ 30  │     b Alice b rr  b
+│ Bob   │ 7   │     b Bob   b r   b
+╰───────┴─────╯     bbbbbbbbbbbbbbb
+";
+    let colors = [("[34", 'b'), ("[31", 'r')];
+    assert!(rt; is_in_color(rt.alloc(), text.as_str(), picture, &colors)?);
+    Ok(())
+}
+
+#[test]
+fn shadow_is_drawn(rt: HostRuntime) -> Result<(), Fail> {
+    let text = recipes::shadow(rt.alloc())?;
+    let picture = "
+╭───────┬─────╮ 
+│ name  │ age │▒
+├───────┼─────┤▒
+│ Alice │ 30  │▒
+│ Bob   │ 7   │▒
+╰───────┴─────╯▒
+ ▒▒▒▒▒▒▒▒▒▒▒▒▒▒▒
+";
+    assert!(rt; is_picture(text.as_str(), picture));
+    Ok(())
+}
+
+#[test]
+fn colors_in_turn_are_drawn(rt: HostRuntime) -> Result<(), Fail> {
+    let text = options::colors_in_turn(rt.alloc())?;
+    let picture = "
+┌───────┬─────┐     ┌───────┬─────┐
+│ name  │ age │     │bbbbbbb│bbbbb│
+├───────┼─────┤     ├───────┼─────┤
+│ Alice │ 30  │     │ggggggg│ggggg│
+│ Bob   │ 7   │     │bbbbbbb│bbbbb│
+└───────┴─────┘     └───────┴─────┘
+";
+    let colors = [("[44", 'b'), ("[42", 'g')];
+    assert!(rt; is_in_color(rt.alloc(), text.as_str(), picture, &colors)?);
+    Ok(())
+}
+
+#[test]
+fn outline_in_color_is_drawn(rt: HostRuntime) -> Result<(), Fail> {
+    let text = options::outline_in_color(rt.alloc())?;
+    let picture = "
++-------+-----+     +-------+-----+
+| name  | age |     | name  | age |
++-------+-----+     rrrrrrrrrrrrrrr
+| Alice | 30  |     r Alice | 30  r
++-------+-----+     rrrrrrrrrrrrrrr
+| Bob   | 7   |     | Bob   | 7   |
++-------+-----+     +-------+-----+
+";
+    let colors = [("[31", 'r')];
+    assert!(rt; is_in_color(rt.alloc(), text.as_str(), picture, &colors)?);
+    Ok(())
+}
+
+#[test]
+fn spaces_in_color_are_drawn(rt: HostRuntime) -> Result<(), Fail> {
+    let text = options::spaces_in_color(rt.alloc())?;
+    let picture = "
++-------+-----+     +-------+-----+
+| name  | age |     |bnamegb|bageb|
++-------+-----+     +-------+-----+
+| Alice | 30  |     |bAliceb|b30gb|
++-------+-----+     +-------+-----+
+| Bob   | 7   |     |bBobggb|b7ggb|
++-------+-----+     +-------+-----+
+";
+    let colors = [("[44", 'b'), ("[42", 'g')];
+    assert!(rt; is_in_color(rt.alloc(), text.as_str(), picture, &colors)?);
+    Ok(())
+}
+
+#[test]
+fn shadow_in_color_is_drawn(rt: HostRuntime) -> Result<(), Fail> {
+    let text = options::shadow_in_color(rt.alloc())?;
+    let picture = "
+###############      rrrrrrrrrrrrrrr 
+#╭───────┬─────╮     r╭───────┬─────╮
+#│ name  │ age │     r│ name  │ age │
+#├───────┼─────┤     r├───────┼─────┤
+#│ Alice │ 30  │     r│ Alice │ 30  │
+#│ Bob   │ 7   │     r│ Bob   │ 7   │
+ ╰───────┴─────╯      ╰───────┴─────╯
+";
+    let colors = [("[31", 'r')];
+    assert!(rt; is_in_color(rt.alloc(), text.as_str(), picture, &colors)?);
     Ok(())
 }

@@ -1,4 +1,4 @@
-//! The title and the mark of docs/LIBRARY.md, word for word.
+//! A title in the top line and a mark on a line, by the calls below a table of texts.
 
 use crate::common::printing::texts;
 use std::alloc::Global;

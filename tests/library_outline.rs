@@ -1,4 +1,4 @@
-//! The outline of docs/LIBRARY.md.
+//! An outline around a ring of cells and one that touches it at a corner, by the calls below a table of texts.
 
 use crate::common::printing::Cells;
 use crate::common::tables::Table;

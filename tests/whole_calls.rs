@@ -4,8 +4,11 @@ use crate::common::configs::{ascii_borders, begins, config, prints, seen};
 use std::alloc::Global;
 use std::test::Fail;
 use tabled_border::{ANSIBuf, Border};
-use tabled_config::{SpannedConfig, print_rows};
-use tabled_grid::{Entity, FixedDimension, Layers, OutOfMemory, Position, border_writes};
+use tabled_config::{ColoredConfig, Run, SpannedConfig, drawn_across, print_rows, runs_across};
+use tabled_grid::{
+    Borders, Entity, FixedDimension, Layers, LineOf, OutOfMemory, Position, Probes, border_writes,
+};
+use tabled_painting::{colored_text, plain_text};
 use tabled_settings::EntityMap;
 use tabled_style::ReadyStyle;
 
@@ -101,5 +104,74 @@ fn rows_are_printed_one_by_one(rt: HostRuntime) -> Result<(), Fail> {
     let mut text = String::from_str(alloc, "before:")?;
     print_rows(&mut text, &cfg, &dims, (1, 1), &rows.as_slice())?;
     assert_eq!(rt; text.as_str(), "before:+---+\n| a |\n+---+");
+    Ok(())
+}
+
+/// Which of the vertical lines of a table of two columns are drawn.
+fn are_drawn(cfg: &SpannedConfig, expected: &[bool]) -> Result<bool, OutOfMemory> {
+    let drawn = drawn_across(cfg, (2, 2), LineOf::Horizontal(1), &mut Probes::new())?;
+    Ok(drawn.as_slice() == expected)
+}
+
+#[test]
+fn a_line_meets_the_lines_that_are_drawn(rt: HostRuntime) -> Result<(), Fail> {
+    let mut cfg = SpannedConfig::new(rt.alloc());
+    assert!(rt; are_drawn(&cfg, &[false, false, false])?);
+    cfg.set_borders(Borders {
+        vertical: Some('|'),
+        ..Borders::empty()
+    });
+    assert!(rt; are_drawn(&cfg, &[false, true, false])?);
+    cfg.set_borders(ascii_borders());
+    assert!(rt; are_drawn(&cfg, &[true, true, true])?);
+    Ok(())
+}
+
+/// Whether runs show these characters, each so often.
+fn are_runs(runs: &[Run<'_>], expected: &[(char, usize)]) -> bool {
+    for (run, (character, count)) in runs.iter().zip(expected) {
+        if run.mark.shown != Some(*character) || run.count != *count || run.mark.color.is_some() {
+            return false;
+        }
+    }
+    runs.len() == expected.len()
+}
+
+#[test]
+fn a_line_is_walked_by_the_lines_that_it_meets(rt: HostRuntime) -> Result<(), Fail> {
+    let alloc = rt.alloc();
+    let mut cfg = SpannedConfig::new(alloc);
+    cfg.set_borders(ascii_borders());
+    let dims = FixedDimension::new(vec![in alloc; 3usize; 2]?, vec![in alloc; 1usize; 2]?);
+    let (line, probes) = (LineOf::Horizontal(1), &mut Probes::new());
+    let crossed = drawn_across(&cfg, (2, 2), line, probes)?;
+    let runs = runs_across(&cfg, &dims, (2, 2), line, &crossed, probes)?;
+    let expected = [('+', 1), ('-', 3), ('+', 1), ('-', 3), ('+', 1)];
+    assert!(rt; are_runs(&runs, &expected));
+    Ok(())
+}
+
+/// The texts of one row of one cell.
+fn one_text(alloc: Global, text: &str) -> Result<Vec<Vec<String>>, OutOfMemory> {
+    let mut row = Vec::new(alloc);
+    row.push(String::from_str(alloc, text)?)?;
+    let mut rows = Vec::new(alloc);
+    rows.push(row)?;
+    Ok(rows)
+}
+
+#[test]
+fn texts_are_painted_as_a_configuration_says(rt: HostRuntime) -> Result<(), Fail> {
+    let alloc = rt.alloc();
+    let mut config = SpannedConfig::new(alloc);
+    config.set_borders(ascii_borders());
+    let mut cfg = ColoredConfig::new(config);
+    cfg.set_color(Entity::Cell(0, 0), ANSIBuf::new(alloc, "<", ">")?)?;
+    let dims = FixedDimension::new(vec![in alloc; 4usize; 1]?, vec![in alloc; 1usize; 1]?);
+    let rows = one_text(alloc, "a")?;
+    let plain = plain_text(&cfg, &dims, (1, 1), &rows)?;
+    assert_eq!(rt; plain.as_str(), "+----+\n| a  |\n+----+");
+    let colored = colored_text(&cfg, &dims, (1, 1), &rows)?;
+    assert_eq!(rt; colored.as_str(), "+----+\n| <a>  |\n+----+");
     Ok(())
 }

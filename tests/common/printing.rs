@@ -61,3 +61,53 @@ pub(crate) fn is_picture(text: &str, picture: &str) -> bool {
         .and_then(|rest| rest.strip_suffix('\n'))
         == Some(text)
 }
+
+/// The letter of a color, by what stands between ESC and `m` in the text that begins it.
+fn letter_of(code: &str, colors: &[(&str, char)]) -> Option<char> {
+    for (begin, letter) in colors {
+        if code == *begin {
+            return Some(*letter);
+        }
+    }
+    None
+}
+
+/// A line without its colors, and after five spaces the same with the letter of its color in each place that has one.
+fn lettered(alloc: Global, line: &str, colors: &[(&str, char)]) -> Result<String, OutOfMemory> {
+    let (mut plain, mut letters) = (String::new(alloc), String::new(alloc));
+    let (mut code, mut is_code, mut letter) = (String::new(alloc), false, None);
+    for character in line.chars() {
+        if character == '\u{1b}' {
+            is_code = true;
+            code.clear();
+        } else if is_code && character == 'm' {
+            is_code = false;
+            letter = letter_of(code.as_str(), colors);
+        } else if is_code {
+            code.push(character)?;
+        } else {
+            plain.push(character)?;
+            letters.push(letter.unwrap_or(character))?;
+        }
+    }
+    plain.push_str("     ")?;
+    plain.push_str(letters.as_str())?;
+    Ok(plain)
+}
+
+/// Whether a picture shows a text in color: each of its lines without colors, and beside it with the letters of its colors. A color
+/// stands with its letter as what is between ESC and `m` in the text that begins it.
+pub(crate) fn is_in_color(
+    alloc: Global,
+    text: &str,
+    picture: &str,
+    colors: &[(&str, char)],
+) -> Result<bool, OutOfMemory> {
+    let mut shown = String::new(alloc);
+    for line in text.split('\n') {
+        shown.push('\n')?;
+        shown.push_str(lettered(alloc, line, colors)?.as_str())?;
+    }
+    shown.push('\n')?;
+    Ok(shown.as_str() == picture)
+}

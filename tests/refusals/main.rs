@@ -4,6 +4,7 @@ mod cells;
 mod objects;
 mod options;
 mod pages;
+mod painting;
 mod placing;
 mod printing;
 mod sample;
@@ -50,6 +51,8 @@ fn main(rt: HostRuntime) -> ExitCode {
             &placing::calls(),
             &printing::plain(),
             &printing::tables(),
+            &painting::lines(),
+            &painting::tables(),
             &pages::calls(),
         ],
     )

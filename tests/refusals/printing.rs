@@ -13,7 +13,7 @@ use tabled_options::LineText;
 use tabled_style::{Border, HorizontalLine, Style};
 
 /// The texts of rows.
-fn cells_of(alloc: Global, rows: &[&[&str]]) -> Result<Vec<Vec<String>>, OutOfMemory> {
+pub(crate) fn cells_of(alloc: Global, rows: &[&[&str]]) -> Result<Vec<Vec<String>>, OutOfMemory> {
     let mut cells = Vec::new(alloc);
     for texts in rows {
         let mut row = Vec::new(alloc);
@@ -221,8 +221,8 @@ fn append_to(turn: &mut Turn) -> Result<Outcome, OutOfMemory> {
 
 /// A writer that counts what it is given.
 #[derive(Drop)]
-struct Counts {
-    bytes: usize,
+pub(crate) struct Counts {
+    pub(crate) bytes: usize,
 }
 
 impl std::fmt::Write for Counts {

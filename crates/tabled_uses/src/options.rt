@@ -8,7 +8,10 @@ use tabled::settings::object::{Columns, Combine, Entity, Rows};
 use tabled::settings::style::{
     Border, HorizontalLine, LineChar, LineText, Offset, ReadyStyle, VerticalLine,
 };
-use tabled::settings::{Alignment, Highlight, Justification, Style, Theme};
+use tabled::settings::themes::Colorization;
+use tabled::settings::{
+    Alignment, Color, Highlight, Justification, PaddingColor, Shadow, Style, Theme,
+};
 use tabled::{TableError, TextTable};
 
 /// A ready style that is chosen while the program runs.
@@ -149,4 +152,43 @@ pub fn tall_and_wide_cells(alloc: Global) -> Result<String, TableError> {
     let mut table = TextTable::new(alloc, &[&["Ada\nLovelace", "1815"], &["東京", "都"]])?;
     table.with(Style::ascii())?;
     Ok(table.to_text()?)
+}
+
+/// Rows whose colors take turns.
+pub fn colors_in_turn(alloc: Global) -> Result<String, TableError> {
+    let mut table = people(alloc)?;
+    let mut colors = Vec::new(alloc);
+    colors.push(Color::BG_BLUE)?;
+    colors.push(Color::BG_GREEN)?;
+    table
+        .with(Style::sharp())?
+        .with(Colorization::rows(colors))?;
+    Ok(table.to_ansi()?)
+}
+
+/// An outline in color.
+pub fn outline_in_color(alloc: Global) -> Result<String, TableError> {
+    let mut table = people(alloc)?;
+    table.with(Style::ascii())?;
+    table.with(Highlight::colored(alloc, Rows::one(1), Color::FG_RED)?)?;
+    Ok(table.to_ansi()?)
+}
+
+/// The spaces around texts in color, and what fills cells.
+pub fn spaces_in_color(alloc: Global) -> Result<String, TableError> {
+    let mut table = people(alloc)?;
+    table.with(Style::ascii())?;
+    table.with(PaddingColor::filled(alloc, Color::BG_BLUE)?)?;
+    table.with(Justification::new(' ').color(Color::BG_GREEN))?;
+    Ok(table.to_ansi()?)
+}
+
+/// A shadow in color, at the left and above.
+pub fn shadow_in_color(alloc: Global) -> Result<String, TableError> {
+    let mut table = people(alloc)?;
+    let shadow = Shadow::new(1).set_left().set_top().set_fill('#');
+    table
+        .with(Style::rounded())?
+        .with(shadow.set_color(Color::FG_RED))?;
+    Ok(table.to_ansi()?)
 }

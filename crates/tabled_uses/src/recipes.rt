@@ -3,8 +3,8 @@
 
 use std::alloc::Global;
 use tabled::settings::object::{Cell, Columns, Combine, Rows, Segment};
-use tabled::settings::style::{Border, HorizontalLine, LineText};
-use tabled::settings::{Alignment, Highlight, Style};
+use tabled::settings::style::{Border, BorderColor, HorizontalLine, LineText};
+use tabled::settings::{Alignment, Color, Highlight, Shadow, Style};
 use tabled::{TableError, TextTable};
 
 /// The table that the recipes draw.
@@ -68,5 +68,21 @@ pub fn outline_around_cells(alloc: Global) -> Result<String, TableError> {
     let ring = Segment::all().not(Rows::last().and(Columns::last()).and((1, 1)));
     let border = Border::full('─', '─', '│', '│', '┌', '┐', '└', '┘');
     table.with(Highlight::new(ring.and((3, 3))).border(border))?;
+    Ok(table.to_text()?)
+}
+
+/// In color: the numbers red, the borders blue.
+pub fn in_color(alloc: Global) -> Result<String, TableError> {
+    let mut table = people(alloc)?;
+    table.with(Style::rounded())?;
+    table.modify(Segment::all(), BorderColor::filled(alloc, Color::FG_BLUE)?)?;
+    table.modify(Columns::one(1).not(Rows::first()), Color::FG_RED)?;
+    Ok(table.to_ansi()?)
+}
+
+/// A shadow.
+pub fn shadow(alloc: Global) -> Result<String, TableError> {
+    let mut table = people(alloc)?;
+    table.with(Style::rounded())?.with(Shadow::new(1))?;
     Ok(table.to_text()?)
 }

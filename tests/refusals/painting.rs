@@ -1,0 +1,142 @@
+//! The text of tables in color and with a margin, and what the printers walk along.
+
+use crate::printing::{Counts, cells_of};
+use crate::sample::{Sample, color};
+use crate::turn::{Named, Outcome, Turn};
+use std::alloc::Global;
+use tabled::{TableError, TextTable};
+use tabled_config::{PrintError, TableOption, drawn_across, runs_across};
+use tabled_grid::{Cell, LineOf, OutOfMemory, Probes};
+use tabled_options::{Justification, Shadow};
+use tabled_painting::{colored_text, plain_text};
+use tabled_style::Style;
+
+/// What becomes of the list of the lines that a line meets.
+fn list_crossed(turn: &mut Turn) -> Result<Outcome, OutOfMemory> {
+    let sample = Sample::new(turn.alloc())?;
+    turn.spend();
+    let (cfg, line) = (sample.cfg.config(), LineOf::Horizontal(1));
+    let crossed = drawn_across(cfg, (2, 2), line, &mut Probes::new());
+    Ok(Outcome::of_value(crossed.map(|crossed| crossed.len() == 3)))
+}
+
+/// What becomes of the runs of a line, where that list is there.
+fn list_runs(turn: &mut Turn) -> Result<Outcome, OutOfMemory> {
+    let sample = Sample::new(turn.alloc())?;
+    let (cfg, line, probes) = (sample.cfg.config(), LineOf::Vertical(1), &mut Probes::new());
+    let crossed = drawn_across(cfg, (2, 2), line, probes)?;
+    turn.spend();
+    let runs = runs_across(cfg, &sample.dims, (2, 2), line, &crossed, probes);
+    Ok(Outcome::of_value(runs.map(|runs| !runs.is_empty())))
+}
+
+/// What becomes of the text of a configuration, in color or without.
+fn paint(turn: &mut Turn, with_colors: bool) -> Result<Outcome, OutOfMemory> {
+    let mut sample = Sample::new(turn.alloc())?;
+    let Sample { records, dims, cfg } = &mut sample;
+    Shadow::new(1).change(records, cfg, dims)?;
+    let cells = cells_of(turn.alloc(), &[&["a", "b"], &["c", "d"]])?;
+    turn.spend();
+    let (cfg, sizes, shape) = (&sample.cfg, &sample.dims, (2, 2));
+    let text = if with_colors {
+        colored_text(cfg, sizes, shape, &cells)
+    } else {
+        plain_text(cfg, sizes, shape, &cells)
+    };
+    Ok(Outcome::of_value(text.map(|text| text.len() > 40)))
+}
+
+/// What the printers walk along, and the text of a configuration.
+pub(crate) fn lines() -> [Named; 4] {
+    [
+        ("drawn_across", list_crossed),
+        ("runs_across", list_runs),
+        ("plain_text", |turn| paint(turn, false)),
+        ("colored_text", |turn| paint(turn, true)),
+    ]
+}
+
+/// A table of texts with colors and a shadow.
+fn table(alloc: Global) -> Result<TextTable, OutOfMemory> {
+    match shadowed(alloc) {
+        Ok(table) => Ok(table),
+        Err(_) => Err(OutOfMemory),
+    }
+}
+
+/// The same, which may be refused for other things.
+fn shadowed(alloc: Global) -> Result<TextTable, TableError> {
+    let mut table = TextTable::new(alloc, &[&["a", "bb"], &["c\nd", "e"]])?;
+    table.with(Style::ascii())?;
+    table.with(Shadow::new(1).set_fill('#').set_color(color(alloc)?))?;
+    table.with(Justification::new('.').color(color(alloc)?))?;
+    table.modify(Cell::new(1, 0), color(alloc)?)?;
+    Ok(table)
+}
+
+/// The text of the table without its colors, and in color.
+const DRAWN: &str =
+    "+---+----+ \n| a | bb |#\n+---+----+#\n| c | e. |#\n| d |    |#\n+---+----+#\n ##########";
+
+const COLORED: &str =
+    "+---+----+ \n| a | bb |(#)\n+---+----+(#)\n| (c) | e(.) |(#)\n| (d) |    |(#)\n+---+----+(#)\n (##########)";
+
+/// What becomes of a text that is returned, with its colors or without them.
+fn returned(turn: &mut Turn, with_colors: bool) -> Result<Outcome, OutOfMemory> {
+    let table = table(turn.alloc())?;
+    turn.spend();
+    let (returned, expected) = if with_colors {
+        (table.to_ansi(), COLORED)
+    } else {
+        (table.to_text(), DRAWN)
+    };
+    match returned {
+        Ok(text) => Ok(Outcome::of_value::<OutOfMemory>(Ok(text.as_str() == expected))),
+        Err(PrintError::OutOfMemory) => Ok(Outcome::AsBefore),
+        Err(_) => Ok(Outcome::Changed),
+    }
+}
+
+/// What becomes of a text that is appended, with its colors or without them.
+fn appended(turn: &mut Turn, with_colors: bool) -> Result<Outcome, OutOfMemory> {
+    let table = table(turn.alloc())?;
+    let mut text = String::from_str(turn.alloc(), "before:")?;
+    turn.spend();
+    let (returned, expected) = if with_colors {
+        (table.append_ansi_to(&mut text), COLORED)
+    } else {
+        (table.append_to(&mut text), DRAWN)
+    };
+    let is_done = text.as_str().strip_prefix("before:") == Some(expected);
+    Ok(Outcome::of(returned, is_done, text.as_str() == "before:"))
+}
+
+/// What becomes of a text in color that is written.
+fn write_ansi_to(turn: &mut Turn) -> Result<Outcome, OutOfMemory> {
+    let table = table(turn.alloc())?;
+    let mut writer = Counts { bytes: 0 };
+    turn.spend();
+    match table.write_ansi_to(&mut writer) {
+        Err(TableError::OutOfMemory) if writer.bytes == 0 => Ok(Outcome::AsBefore),
+        Ok(()) if writer.bytes == COLORED.len() => Ok(Outcome::Done),
+        Ok(()) => Ok(Outcome::NotDone),
+        Err(_) => Ok(Outcome::Changed),
+    }
+}
+
+/// Tables of texts in color, and with a margin.
+pub(crate) fn tables() -> [Named; 5] {
+    [
+        ("TextTable::to_ansi", |turn| returned(turn, true)),
+        ("TextTable::append_ansi_to", |turn| appended(turn, true)),
+        ("TextTable::write_ansi_to", write_ansi_to),
+        (
+            "TextTable::to_text (a margin)",
+            |turn| returned(turn, false),
+        ),
+        (
+            "TextTable::append_to (a margin)",
+            |turn| appended(turn, false),
+        ),
+    ]
+}
