@@ -94,6 +94,7 @@ fn paint_in_margin<'a>(
     let margin = MarginSides::of(frame.cfg.config());
     let high = lines_high(frame, &margin)?;
     let long = columns_long(frame, &margin)?;
+    painter.reserve(high.saturating_mul(margin.left.size.saturating_add(margin.right.size)))?;
     margin.top.paint_strips(&mut painter, long)?;
     let mut page = Page {
         painter,

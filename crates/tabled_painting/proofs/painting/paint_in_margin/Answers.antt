@@ -1,8 +1,9 @@
 -- The lines above, the table between its sides, and the lines below.
-use Rattle.std.proofs.Common.{ap, ◌∙◌}
+use Rattle.std.proofs.Common.{[], ap, ◌∙◌}
 use Rattle.tabled_config.specs.Texts.{texts}
 use Rattle.tabled_painting.specs.Margin.{left_side, right_side, top_side, bottom_side}
 use Rattle.tabled_painting.specs.Viewed.{viewed, cells_of}
+use Rattle.tabled_painting.proofs.PageLemmas.{none_whole, whole_both}
 use Rattle.tabled_painting.proofs.MarginLemmas.{in_its_margin, painted_in_margin, lines_whole}
 use Rattle.tabled_painting.proofs.painting.paint_in_margin.Goals as goal
 
@@ -16,4 +17,5 @@ returns c =
     (sides.left ∙ ap (λ cfg. left_side cfg.settings.margin) c.config.ensures) (sides.right ∙ ap (λ cfg. right_side cfg.settings.margin) c.config.ensures)
     (sides.top ∙ ap (λ cfg. top_side cfg.settings.margin) c.config.ensures) (sides.bottom ∙ ap (λ cfg. bottom_side cfg.settings.margin) c.config.ensures)
     frame.has_places c.in_ok-long.ensures (c.in_ok-high.ensures cells))
-    c.in_ok-paint_strips.ensures (lines_whole _ _ c.paint_table.new.page c.in_ok-paint_table.ensures) c.in_ok-paint_strips-2.ensures
+    (whole_both [] _ c.args.painter c.reserve.new.self c.paint_strips.new.painter
+    (none_whole c.args.painter c.reserve.new.self c.requires.ended c.reserve.ensures.text c.reserve.ensures.color c.reserve.ensures.same_colors) c.in_ok-paint_strips.ensures) (lines_whole _ _ c.paint_table.new.page c.in_ok-paint_table.ensures) c.in_ok-paint_strips-2.ensures
