@@ -329,7 +329,7 @@ fn a_table_with_a_margin_is_appended(rt: HostRuntime) -> Result<(), Fail> {
 }
 
 #[test]
-fn lines_above_and_below_that_no_memory_holds_are_refused(rt: HostRuntime) -> Result<(), Fail> {
+fn a_margin_that_no_memory_holds_is_refused(rt: HostRuntime) -> Result<(), Fail> {
     let mut table = one(rt.alloc())?;
     let (most, none) = (Indent::new(usize::MAX, '.'), Indent::default());
     for margin in [
@@ -338,6 +338,9 @@ fn lines_above_and_below_that_no_memory_holds_are_refused(rt: HostRuntime) -> Re
         Sides::new(most, most, Indent::new(1, '.'), none),
         Sides::new(none, none, most, none),
         Sides::new(none, none, none, most),
+        Sides::new(most, none, none, none),
+        Sides::new(none, most, none, none),
+        Sides::new(most, most, none, none),
     ] {
         table.config_mut().config_mut().set_margin(margin);
         let mut text = String::from_str(rt.alloc(), "before:")?;
