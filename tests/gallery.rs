@@ -420,6 +420,22 @@ fn colors_in_turn_are_drawn(rt: HostRuntime) -> Result<(), Fail> {
 }
 
 #[test]
+fn color_of_an_object_is_drawn(rt: HostRuntime) -> Result<(), Fail> {
+    let text = options::color_of_an_object(rt.alloc())?;
+    let picture = "
+┌───────┬─────┐     ┌───────┬─────┐
+│ name  │ age │     │ name  │ggggg│
+├───────┼─────┤     ├───────┼─────┤
+│ Alice │ 30  │     │ Alice │ggggg│
+│ Bob   │ 7   │     │ Bob   │ggggg│
+└───────┴─────┘     └───────┴─────┘
+";
+    let colors = [("[42", 'g')];
+    assert!(rt; is_in_color(rt.alloc(), text.as_str(), picture, &colors)?);
+    Ok(())
+}
+
+#[test]
 fn outline_in_color_is_drawn(rt: HostRuntime) -> Result<(), Fail> {
     let text = options::outline_in_color(rt.alloc())?;
     let picture = "
@@ -464,6 +480,24 @@ fn shadow_in_color_is_drawn(rt: HostRuntime) -> Result<(), Fail> {
 #│ Alice │ 30  │     r│ Alice │ 30  │
 #│ Bob   │ 7   │     r│ Bob   │ 7   │
  ╰───────┴─────╯      ╰───────┴─────╯
+";
+    let colors = [("[31", 'r')];
+    assert!(rt; is_in_color(rt.alloc(), text.as_str(), picture, &colors)?);
+    Ok(())
+}
+
+#[test]
+fn margin_in_color_is_drawn(rt: HostRuntime) -> Result<(), Fail> {
+    let text = options::margin_in_color(rt.alloc())?;
+    let picture = "
+.................     rrrrrrrrrrrrrrrrr
+.╭───────┬─────╮.     r╭───────┬─────╮r
+.│ name  │ age │.     r│ name  │ age │r
+.├───────┼─────┤.     r├───────┼─────┤r
+.│ Alice │ 30  │.     r│ Alice │ 30  │r
+.│ Bob   │ 7   │.     r│ Bob   │ 7   │r
+.╰───────┴─────╯.     r╰───────┴─────╯r
+.................     rrrrrrrrrrrrrrrrr
 ";
     let colors = [("[31", 'r')];
     assert!(rt; is_in_color(rt.alloc(), text.as_str(), picture, &colors)?);

@@ -3,6 +3,7 @@
 
 use crate::recipes::people;
 use std::alloc::Global;
+use tabled::grid::config::{Indent, Sides};
 use tabled::settings::formatting::{AlignmentStrategy, TrimStrategy};
 use tabled::settings::object::{Columns, Combine, Entity, Rows};
 use tabled::settings::style::{
@@ -10,7 +11,7 @@ use tabled::settings::style::{
 };
 use tabled::settings::themes::Colorization;
 use tabled::settings::{
-    Alignment, Color, Highlight, Justification, PaddingColor, Shadow, Style, Theme,
+    Alignment, Color, Highlight, Justification, MarginColor, PaddingColor, Shadow, Style, Theme,
 };
 use tabled::{TableError, TextTable};
 
@@ -166,6 +167,17 @@ pub fn colors_in_turn(alloc: Global) -> Result<String, TableError> {
     Ok(table.to_ansi()?)
 }
 
+/// A color for the cells of an object.
+pub fn color_of_an_object(alloc: Global) -> Result<String, TableError> {
+    let mut table = people(alloc)?;
+    let mut colors = Vec::new(alloc);
+    colors.push(Color::BG_GREEN)?;
+    table
+        .with(Style::sharp())?
+        .with(Colorization::exact(colors, Columns::one(1)))?;
+    Ok(table.to_ansi()?)
+}
+
 /// An outline in color.
 pub fn outline_in_color(alloc: Global) -> Result<String, TableError> {
     let mut table = people(alloc)?;
@@ -190,5 +202,16 @@ pub fn shadow_in_color(alloc: Global) -> Result<String, TableError> {
     table
         .with(Style::rounded())?
         .with(shadow.set_color(Color::FG_RED))?;
+    Ok(table.to_ansi()?)
+}
+
+/// A margin in color.
+pub fn margin_in_color(alloc: Global) -> Result<String, TableError> {
+    let mut table = people(alloc)?;
+    let margin = Sides::filled(Indent::new(1, '.'));
+    table.config_mut().config_mut().set_margin(margin);
+    table
+        .with(Style::rounded())?
+        .with(MarginColor::filled(alloc, Color::FG_RED)?)?;
     Ok(table.to_ansi()?)
 }
