@@ -4,7 +4,9 @@ use crate::common::configs::{ascii_borders, begins, config, prints, seen};
 use std::alloc::Global;
 use std::test::Fail;
 use tabled_border::{ANSIBuf, Border};
-use tabled_config::{ColoredConfig, Run, SpannedConfig, drawn_across, print_rows, runs_across};
+use tabled_config::{
+    ColoredConfig, Run, SpannedConfig, drawn_across, print_rows, runs_across, write_across,
+};
 use tabled_grid::{
     Borders, Entity, FixedDimension, Layers, LineOf, OutOfMemory, Position, Probes, border_writes,
 };
@@ -148,6 +150,9 @@ fn a_line_is_walked_by_the_lines_that_it_meets(rt: HostRuntime) -> Result<(), Fa
     let runs = runs_across(&cfg, &dims, (2, 2), line, &crossed, probes)?;
     let expected = [('+', 1), ('-', 3), ('+', 1), ('-', 3), ('+', 1)];
     assert!(rt; are_runs(&runs, &expected));
+    let mut text = String::from_str(alloc, "line ")?;
+    write_across(&mut text, &cfg, &dims, (2, 2), line, &crossed)?;
+    assert_eq!(rt; text, "line +---+---+");
     Ok(())
 }
 

@@ -5,7 +5,7 @@ use crate::sample::{Sample, color};
 use crate::turn::{Named, Outcome, Turn};
 use std::alloc::Global;
 use tabled::{TableError, TextTable};
-use tabled_config::{PrintError, TableOption, drawn_across, runs_across};
+use tabled_config::{PrintError, TableOption, drawn_across, runs_across, write_across};
 use tabled_grid::{Cell, LineOf, OutOfMemory, Probes};
 use tabled_options::{Justification, Shadow};
 use tabled_painting::{colored_text, plain_text};
@@ -30,6 +30,17 @@ fn list_runs(turn: &mut Turn) -> Result<Outcome, OutOfMemory> {
     Ok(Outcome::of_value(runs.map(|runs| !runs.is_empty())))
 }
 
+/// What becomes of the characters of a line, where that list is there.
+fn write_characters(turn: &mut Turn) -> Result<Outcome, OutOfMemory> {
+    let sample = Sample::new(turn.alloc())?;
+    let (cfg, line) = (sample.cfg.config(), LineOf::Vertical(1));
+    let crossed = drawn_across(cfg, (2, 2), line, &mut Probes::new())?;
+    let mut text = String::new(turn.alloc());
+    turn.spend();
+    let returned = write_across(&mut text, cfg, &sample.dims, (2, 2), line, &crossed);
+    Ok(Outcome::of_value(returned.map(|()| !text.is_empty())))
+}
+
 /// What becomes of the text of a configuration, in color or without.
 fn paint(turn: &mut Turn, with_colors: bool) -> Result<Outcome, OutOfMemory> {
     let mut sample = Sample::new(turn.alloc())?;
@@ -47,10 +58,11 @@ fn paint(turn: &mut Turn, with_colors: bool) -> Result<Outcome, OutOfMemory> {
 }
 
 /// What the printers walk along, and the text of a configuration.
-pub(crate) fn lines() -> [Named; 4] {
+pub(crate) fn lines() -> [Named; 5] {
     [
         ("drawn_across", list_crossed),
         ("runs_across", list_runs),
+        ("write_across", write_characters),
         ("plain_text", |turn| paint(turn, false)),
         ("colored_text", |turn| paint(turn, true)),
     ]

@@ -7,10 +7,11 @@ ghost use Rattle.tabled_grid.specs.State.{state_at, HasNoOffsets};
 ghost use Rattle.tabled_grid.specs.Value.{plain_value};
 ghost use Rattle.tabled_object.specs.Entities.{below};
 ghost use Rattle.tabled_configuration.specs.Configuration.{ConfigEvent, Shows, all_writes};
-ghost use Rattle.tabled_config.specs.Picture.{edge_size, mark_at, marks};
+ghost use Rattle.tabled_config.specs.Picture.{edge_size, mark_at, marks, text_marked};
 ghost use Rattle.tabled_config.specs.LinePieces.{has_line, pieces_of, size_of, crossed_after, crossing_places, edge_places, piece_places, all_places, lines_met};
 ghost use Rattle.tabled_config.specs.Marks.{mark_of, marks_of};
 ghost use Rattle.tabled_config.specs.Sinks.{Put};
+ghost use Rattle.tabled_config.specs.Texts.{Appends};
 
 use crate::line_pieces::{crossing_line, crossing_of, edge_of, has_line, pieces_of, size_of};
 use crate::sink::Sink;
@@ -310,4 +311,29 @@ pub fn runs_across<'a, D: Dimension>(
     let mut runs = Vec::new(cfg.allocator());
     marked.put_all(&mut runs, probes)?;
     Ok(runs)
+}
+
+/// Writes the characters of the marks of a line that is there, a space for none, where `crossed` says which of the lines that it
+/// meets are drawn, as `runs_across` takes it. Where memory is refused some of them may have been written.
+pub fn write_across<D: Dimension>(
+    text: &mut String,
+    cfg: &SpannedConfig,
+    dims: &D,
+    shape: (usize, usize),
+    line: LineOf,
+    crossed: &[bool],
+) -> Result<(), OutOfMemory>
+    requires there { has_line shape line ≡ true }
+    requires crossed { crossed.now ≡ map (λ n. crossed_after (all_writes cfg.now) shape line n) (below (pieces_of shape line + 1)) }
+    ensures { Appends result text.old text.new (text_marked (marks (all_writes cfg.now) shape (D.width_of dims.now) (D.height_of dims.now) line)) }
+{
+    let marked = MarkedLine {
+        cfg,
+        dims,
+        shape,
+        line,
+        crossed,
+        with_colors: false,
+    };
+    marked.put_all(text, &mut Probes::new())
 }

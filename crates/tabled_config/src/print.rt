@@ -13,7 +13,7 @@ ghost use Rattle.tabled_config.specs.Picture.{character, look, text_lines, print
 ghost use Rattle.tabled_config.specs.Refusal as refusal;
 
 use crate::line_pieces::edge_of;
-use crate::marks::{MarkedLine, drawn_across};
+use crate::marks::{drawn_across, write_across};
 use crate::refusals::first_refusal;
 use crate::seen::edge_size;
 use crate::{CellRows, PrintError, SpannedConfig};
@@ -70,15 +70,8 @@ impl<D: Dimension> Frame<'_, D> {
         ensures { let view = framed D.width_of D.height_of self.now in
             Appends result text.old text.new (text_marked (marks_along view (Line.Horizontal row))) }
     {
-        let marked = MarkedLine {
-            cfg: self.cfg,
-            dims: self.dims,
-            shape: self.shape,
-            line: LineOf::Horizontal(row),
-            crossed: self.sides,
-            with_colors: false,
-        };
-        marked.put_all(text, &mut Probes::new())
+        let line = LineOf::Horizontal(row);
+        write_across(text, self.cfg, self.dims, self.shape, line, self.sides)
     }
 
     /// Writes a horizontal line and a line feed, if the line is drawn.

@@ -35,6 +35,10 @@ offset_values Vertical state = state.vertical_offsets
 abbrev pub HasNoOffsets : {T : Type 0} → Direction → State T → Type 0
 HasNoOffsets d state = offset_values d state ≡ empty
 
+-- nothing is kept for an edge or a crossing by itself
+abbrev pub HasNoCells : {T : Type 0} → State T → Type 0
+HasNoCells state = state.cells ≡ empty
+
 abbrev pub edge_place : ℕ → ℕ → Offset → EdgePlace
 edge_place r c offset = record { row = r; col = c; offset = offset }
 

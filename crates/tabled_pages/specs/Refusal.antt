@@ -1,5 +1,7 @@
 -- What each refusal of the program says, and the status that the program ends with.
 use Rattle.std.specs.Prelude.{ℕ, List, codes, Option, Some, None, Result, Ok, Err}
+use Rattle.std.specs.declared.io.ErrorKind.{ErrorKind}
+use Rattle.std.specs.declared.io.ErrorKind.TheVariants as io
 use Rattle.tabled_pages.specs.declared.error.ShowError.{ShowError}
 use Rattle.tabled_pages.specs.declared.error.ShowError.TheVariants.{Usage, ReadFailed, TooLong, ByteOutOfRange, UnequalRows, OutOfMemory, WriteFailed}
 
@@ -32,3 +34,13 @@ exit_status (Err refusal) = status_of refusal
 abbrev pub answer_of : Option ShowError → Result (Unit {0}) ShowError
 answer_of None = Ok tt
 answer_of (Some refusal) = Err refusal
+
+-- of which kind a refusal is among the errors of input and output
+abbrev pub kind_of : ShowError → ErrorKind
+kind_of Usage = io.InvalidInput
+kind_of ReadFailed = io.Other
+kind_of TooLong = io.InvalidInput
+kind_of ByteOutOfRange = io.InvalidInput
+kind_of UnequalRows = io.InvalidInput
+kind_of OutOfMemory = io.OutOfMemory
+kind_of WriteFailed = io.Other

@@ -1,11 +1,14 @@
 //! Why the program shows no table.
 
 ghost use Rattle.std.specs.Prelude.{◌≡◌};
+ghost use Rattle.std.specs.IoError.{error_kind};
+ghost use Rattle.tabled_pages.specs.Refusal.{kind_of};
 ghost use Rattle.tabled_pages.specs.declared.error.ShowError.TheVariants.{OutOfMemory};
 
 use std::alloc::{AllocError, AllocFailed};
 use std::error::Error;
-use std::fmt;
+use std::io::ErrorKind;
+use std::{fmt, io};
 
 /// Why the program shows no table, in the order in which the reasons are tested. Memory may be
 /// refused at any point after the first.
@@ -69,6 +72,21 @@ impl fmt::Display for ShowError {
 }
 
 impl Error for ShowError {}
+
+/// So that a program that reads and writes takes a refusal by `?`: as one of memory, of reading or writing, or of its input.
+impl From<ShowError> for io::Error {
+    ghost from_gives = { λ refused error. error_kind error ≡ kind_of refused };
+
+    fn from(refused: ShowError) -> io::Error {
+        match refused {
+            ShowError::OutOfMemory => io::Error::from(AllocError),
+            ShowError::ReadFailed | ShowError::WriteFailed => {
+                io::Error::new(ErrorKind::Other, refused.text())
+            }
+            _ => io::Error::new(ErrorKind::InvalidInput, refused.text()),
+        }
+    }
+}
 
 impl From<AllocError> for ShowError {
     ghost from_gives = { λ _ e. e ≡ OutOfMemory };

@@ -32,11 +32,11 @@ fn first_line(input: &str) -> Option<(&str, &str)>
     }
 }
 
-/// The cells of a line, copied.
-fn cells_of(alloc: Global, line: &str) -> Result<Vec<String>, AllocError>
+/// The cells of a line, copied. Room is made for so many at first.
+fn cells_of(alloc: Global, line: &str, room: usize) -> Result<Vec<String>, AllocError>
     ensures { IfOk result (λ cells. map string_bytes cells.items ≡ cells_of line.now) }
 {
-    let mut cells = Vec::new(alloc);
+    let mut cells = Vec::with_capacity(alloc, room)?;
     for cell in line.split('\t') {
         cells.push(String::from_str(alloc, cell)?)?;
     }
@@ -47,10 +47,11 @@ fn cells_of(alloc: Global, line: &str) -> Result<Vec<String>, AllocError>
 pub fn rows_of(alloc: Global, input: &str) -> Result<Vec<Vec<String>>, AllocError>
     ensures { IfOk result (λ rows. texts rows.items ≡ rows_of input.now) }
 {
-    let mut rows = Vec::new(alloc);
+    let mut rows: Vec<Vec<String>> = Vec::new(alloc);
     let mut rest = input;
     while let Some((line, more)) = first_line(rest) {
-        rows.push(cells_of(alloc, line)?)?;
+        let room = rows.first().map_or(0, |row| row.len());
+        rows.push(cells_of(alloc, line, room)?)?;
         rest = more;
     }
     Ok(rows)

@@ -1,34 +1,22 @@
 -- Sides, marks, rows and lines of a painted table, part by part.
-use Rattle.std.proofs.Common.{◌≡◌, ℕ, ◌+◌, ◌<◌, ◌≤◌, zero, suc, true, false, if◌then◌else◌, Option, List, [], ◌∷◌, ◌++◌, map, length, take, get_or, refl, sym, ap, subst, ◌∙◌, arith, encode_utf8, Result, Ok, Err, OnOk, String, Vec, string_bytes}
+use Rattle.std.proofs.Common.{◌≡◌, ℕ, ◌+◌, ◌<◌, ◌≤◌, zero, suc, true, false, List, [], ◌∷◌, ◌++◌, map, length, take, get_or, refl, sym, ap, subst, ◌∙◌, arith, encode_utf8, Result, Ok, Err, OnOk, String, Vec, string_bytes}
 use Rattle.std.specs.List.{flat_map}
 use Rattle.std.proofs.lemmas.List.{append-nil, map-append, take_more, take_all, length-append, length-map, get_or-map}
 use Rattle.std.proofs.lemmas.List.Concat.{flat_map-append}
 use Rattle.std.proofs.lemmas.List.FromFn.{map-range_with_len_more, length-map-range_with_len, get_or-map-range_with_len}
-use Rattle.tabled_border.specs.Texts.{Texts}
-use Rattle.tabled_grid.specs.declared.place.Place.{Place}
 use Rattle.tabled_object.specs.Entities.{below}
 use Rattle.tabled_configuration.proofs.Below.{flat_map_below}
+use Rattle.tabled_config.specs.Along.{is_empty}
 use Rattle.tabled_config.specs.Texts.{texts}
 use Rattle.tabled_config.specs.declared.mark.Run.{Run}
 use Rattle.tabled_config.specs.Marks.{mark_of, run_marks, marks_of}
-use Rattle.tabled_config.specs.Picture.{Look, Shown, character, mark_at}
+use Rattle.tabled_config.specs.Picture.{Look, Shown, character}
 use Rattle.tabled_cells.specs.Placed.{times}
 use Rattle.tabled_painting.specs.declared.painter.Painter.{Painter}
 use Rattle.tabled_painting.specs.Painted.{Painted, paint}
 use Rattle.tabled_painting.specs.InColor.{Paints}
 use Rattle.tabled_painting.specs.PaintedTable.{painted_mark, painted_marks, painted_side, painted_between}
 use Rattle.tabled_painting.proofs.PainterLemmas.{paints_both, parts_more}
-
--- a side that is drawn
-pub side_there : (view : Look) (r k c : ℕ) (found shown : Option ℕ) (color : Option Texts) (code : ℕ) → view.vertical c ≡ true → found ≡ view.shown (Place.Vertical r c k)
-    → color ≡ view.color (Place.Vertical r c k) → code ≡ character found → paint color (times 1 code) ≡ painted_side view r k c
-side_there view r k c found shown color code drawn is in_color as_code =
-    ap (λ n. paint color (times 1 n)) as_code
-    ∙ (λ i. painted_mark (is i, in_color i))
-    ∙ ap (λ b. if b then painted_mark (mark_at view (Place.Vertical r c k)) else []) (sym drawn)
-
-pub side_not_there : (view : Look) (r k c : ℕ) (painter : Painter) → view.vertical c ≡ false → Paints [] painter painter → Paints (painted_side view r k c) painter painter
-side_not_there view r k c painter hidden = subst (λ line. Paints line painter painter) (ap (λ b. if b then painted_mark (mark_at view (Place.Vertical r c k)) else []) (sym hidden))
 
 -- a run is its character, so many times
 same_marks : {X : Type 0} (mark : Shown) (xs : List X) → painted_marks (map (λ _. mark) xs) ≡ paint mark.1 (times (length xs) (character mark.0))
@@ -127,3 +115,28 @@ count_more runs at run found counted within read so_far is =
 
 pub all_counted : (runs items : List Run) (at found : ℕ) (marks : List Shown) → items ≡ runs → length items ≤ at → marks_of runs ≡ marks → found ≡ length (marks_of (take at items)) → found ≡ length marks
 all_counted runs items at found marks same all is so_far = so_far ∙ ap (λ rs. length (marks_of rs)) (take_all at items all ∙ same) ∙ ap length is
+
+-- the cells by the lines of their texts
+pub cells_by_texts : {A B : Type 0} (cell : ℕ → List A → B) (shown : ℕ → List A) (lines : List (List A)) (count number : ℕ) → lines ≡ map shown (below number) → count ≡ number
+    → map (λ col. cell col (get_or lines col [])) (below count) ≡ map (λ col. cell col (shown col)) (below number)
+cells_by_texts cell shown lines count number made counted =
+    ap (λ n. map (λ col. cell col (get_or lines col [])) (below n)) counted
+    ∙ map_same (λ col. cell col (get_or lines col [])) (λ col. cell col (shown col)) number
+    (λ col within. ap (cell col) (ap (λ ls. get_or ls col []) made ∙ get_or-map-range_with_len shown 0 number col col [] within (omega arith)))
+  where
+    map_same : {A : Type 0} (f g : ℕ → A) (n : ℕ) → ((k : ℕ) → k < n → f k ≡ g k) → map f (below n) ≡ map g (below n)
+    map_same f g zero same = refl
+    map_same f g (suc n) same =
+        let next : suc n ≡ n + 1 = omega arith in
+        ap (λ m. map f (below m)) next ∙ map-range_with_len_more f 0 n n (omega arith)
+        ∙ (λ i. map_same f g n (λ k within. same k (omega arith)) i ++ same n (omega arith) i ∷ [])
+        ∙ sym (map-range_with_len_more g 0 n n (omega arith)) ∙ ap (λ m. map g (below m)) (sym next)
+
+-- a table that has places has rows
+pub some_rows : (rows cols : ℕ) → is_empty (rows, cols) ≡ false → 0 < rows
+some_rows zero cols any = absurd (let no : true ≡ false = any in cc)
+some_rows (suc rows) cols any = omega arith
+
+-- as many are listed as there are vertical lines
+pub sides_count : {A : Type 0} (xs : List A) (f : ℕ → A) (n : ℕ) → xs ≡ map f (below n) → length xs ≡ n
+sides_count xs f n are = ap length are ∙ length-map-range_with_len f 0 n

@@ -5,3 +5,5 @@ pub mod PageLemmas
 pub mod MarginLemmas
 pub mod Plain
 pub mod StretchLemmas
+pub mod AlikeLemmas
+pub mod RepeatLemmas

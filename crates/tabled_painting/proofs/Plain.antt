@@ -27,6 +27,11 @@ use Rattle.tabled_painting.specs.PaintedTable.{Cells, painted_mark, painted_mark
 use Rattle.tabled_painting.proofs.PainterLemmas.{plain_paint, goes_on, stays}
 use Rattle.tabled_painting.proofs.MarginLemmas.{between_none}
 use Rattle.tabled_painting.proofs.FrameLemmas.{flat_map_same}
+use Rattle.tabled_painting.proofs.AlikeLemmas.{kept_text, kept_count}
+use Rattle.tabled_painting.specs.Pages.{text_of_lines}
+use Rattle.tabled_painting.specs.PaintedTable.{painted_table}
+use Rattle.tabled_config.specs.Viewed as looks
+use Rattle.std.specs.List.{join_with_byte}
 
 plain_both : (xs ys : Painted) → plain (xs ++ ys) ≡ plain xs ++ plain ys
 plain_both xs ys = map-append (λ painted. painted.0) xs ys
@@ -251,3 +256,59 @@ text_without_colors (line ∷ lines) = (λ i. uncolored_line (plain line) i ∷ 
 pub text_with_colors : (lines : List Painted) → map (λ line. in_color (colored_if true line)) lines ≡ map in_color lines
 text_with_colors [] = refl
 text_with_colors (line ∷ lines) = ap (λ rest. in_color line ∷ rest) (text_with_colors lines)
+
+-- ---- a look without colors
+
+module _ (view : Look) where
+  same_lines : (cells : Cells) (r : ℕ) → map plain (painted_row (looks.colored_if false view) cells r) ≡ map plain (painted_row view cells r)
+  same_lines cells r =
+      mapped_twice view plain (λ k. painted_between (looks.colored_if false view) r k (λ c. cells r c k)) (below (view.heights r))
+      ∙ map_same view (λ k. plain (painted_between (looks.colored_if false view) r k (λ c. cells r c k))) (λ k. plain (painted_between view r k (λ c. cells r c k))) (view.heights r)
+      (λ k within. plain_between (looks.colored_if false view) r k (λ c. cells r c k) (λ c. plain (cells r c k)) (λ c inside. refl)
+      ∙ sym (plain_between view r k (λ c. cells r c k) (λ c. plain (cells r c k)) (λ c inside. refl)))
+      ∙ sym (mapped_twice view plain (λ k. painted_between view r k (λ c. cells r c k)) (below (view.heights r)))
+
+  same_if_drawn : (r : ℕ) → map plain (painted_if_drawn (looks.colored_if false view) r) ≡ map plain (painted_if_drawn view r)
+  same_if_drawn r =
+      plain_if_drawn (looks.colored_if false view) r
+      ∙ ap (λ text. if view.horizontal r then text ∷ [] else []) (kept_text false view (LineOf.Horizontal r))
+      ∙ sym (plain_if_drawn view r)
+
+  same_table : (cells : Cells) → map plain (painted_lines (looks.colored_if false view) cells) ≡ map plain (painted_lines view cells)
+  unfolding painted_lines
+  same_table cells =
+      let rows : Look → ℕ → List Painted = λ of r. painted_if_drawn of r ++ painted_row of cells r in
+      let bare : Look = looks.colored_if false view in
+      map-append plain (flat_map (rows bare) (below view.shape.0)) (painted_if_drawn bare view.shape.0)
+      ∙ (λ i. (map_flat plain (rows bare) (below view.shape.0)
+      ∙ flat_map_same (λ r. map plain (rows bare r)) (λ r. map plain (rows view r)) view.shape.0
+      (λ r within. map-append plain (painted_if_drawn bare r) (painted_row bare cells r) ∙ (λ j. same_if_drawn r j ++ same_lines cells r j) ∙ sym (map-append plain (painted_if_drawn view r) (painted_row view cells r)))
+      ∙ sym (map_flat plain (rows view) (below view.shape.0))) i ++ same_if_drawn view.shape.0 i)
+      ∙ sym (map-append plain (flat_map (rows view) (below view.shape.0)) (painted_if_drawn view view.shape.0))
+
+  same_margin : (margin : Margin) (columns other : ℕ) (lines others : List Painted) → columns ≡ other → map plain lines ≡ map plain others → map plain (in_margin margin columns lines) ≡ map plain (in_margin margin other others)
+  same_margin margin columns other lines others long same =
+      plain_in_margin margin columns lines (map plain others) same ∙ ap (λ n. map plain (in_margin margin n (map (paint None) (map plain others)))) long
+      ∙ sym (plain_in_margin margin other others (map plain others) refl)
+
+  same_painted : (margin : Margin) (cells : Cells) (empty : Bool) → is_empty view.shape ≡ empty
+      → map plain (painted_table (looks.colored_if false view) margin cells) ≡ map plain (painted_table view margin cells)
+  unfolding painted_table
+  same_painted margin cells empty is =
+      let bare : Look = looks.colored_if false view in
+      let whole : Look → Bool → List Painted = λ of none. if none then [] else in_margin margin (length (marks_along of (LineOf.Horizontal 0))) (painted_lines of cells) in
+      ap (λ none. map plain (whole bare none)) is ∙ by_case empty ∙ sym (ap (λ none. map plain (whole view none)) is)
+    where
+      by_case : (none : Bool) → map plain (if none then [] else in_margin margin (length (marks_along (looks.colored_if false view) (LineOf.Horizontal 0))) (painted_lines (looks.colored_if false view) cells))
+          ≡ map plain (if none then [] else in_margin margin (length (marks_along view (LineOf.Horizontal 0))) (painted_lines view cells))
+      by_case true = refl
+      by_case false = same_margin margin (length (marks_along (looks.colored_if false view) (LineOf.Horizontal 0))) (length (marks_along view (LineOf.Horizontal 0)))
+          (painted_lines (looks.colored_if false view) cells) (painted_lines view cells) (kept_count false view (LineOf.Horizontal 0)) (same_table cells)
+
+-- without its colors a table is written as it is without them
+pub written_if : (with_colors : Bool) (view : Look) (margin : Margin) (cells : Cells)
+    → text_of_lines with_colors (painted_table (looks.colored_if with_colors view) margin cells) ≡ text_of_lines with_colors (painted_table view margin cells)
+unfolding text_of_lines
+written_if true view margin cells = refl
+written_if false view margin cells =
+    ap (join_with_byte 10) (text_without_colors (painted_table (looks.colored_if false view) margin cells) ∙ same_painted view margin cells (is_empty view.shape) refl ∙ sym (text_without_colors (painted_table view margin cells)))

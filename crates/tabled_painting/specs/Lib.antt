@@ -4,5 +4,7 @@ pub mod CellLines
 pub mod Margin
 pub mod PaintedTable
 pub mod Pages
+pub mod Alike
+pub mod Repeated
 pub mod Viewed
 pub mod Stretches

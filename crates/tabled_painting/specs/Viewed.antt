@@ -1,21 +1,21 @@
 -- How the table of a frame looks.
 use Rattle.std.specs.Prelude.{ℕ, List, [], slice_index, slice_index_or}
-use Rattle.tabled_configuration.specs.Configuration.{all_writes}
 use Rattle.tabled_config.specs.Pieces.{lent}
-use Rattle.tabled_config.specs.Picture.{Look, look}
+use Rattle.tabled_config.specs.Picture.{Look}
 use Rattle.tabled_painting.specs.declared.frame.Frame.{Frame}
 use Rattle.tabled_painting.specs.declared.cell_lines.CellLines.{CellLines}
 use Rattle.tabled_config.specs.Texts.{Table}
 use Rattle.tabled_painting.specs.Painted.{Painted}
 use Rattle.tabled_painting.specs.PaintedTable.{Cells, painted_cell, painted_cells, painted_row}
+use Rattle.tabled_painting.specs.Repeated.{looks_of}
 use Rattle.tabled_painting.specs.CellLines.{coloring_of, cell_line}
 
 abbrev pub viewed : Frame → Look
-viewed frame = look (all_writes frame.cfg.now.spanned) frame.shape (slice_index frame.sizes.now.widths.items) (slice_index frame.sizes.now.heights.items)
+viewed frame = looks_of frame.with_colors frame.cfg.now frame.shape frame.sizes.now
 
 -- line n of a cell, as the code has it
 abbrev pub line_of : ℕ → CellLines → Painted
-line_of n cell = cell_line cell.how (coloring_of cell.colors) cell.width cell.height (lent cell.lines.items) n
+line_of n cell = cell_line cell.how (coloring_of cell.colors) cell.width cell.height (lent cell.lines.now) n
 
 -- the cells of the table of a frame, and the lines of one row of it
 abbrev pub cells_of : Frame → Table → Cells

@@ -1,37 +1,93 @@
 //! Paints a table line by line.
 
-ghost use Rattle.std.specs.Prelude.{◌≡◌, ◌+◌, ◌<◌, ◌≤◌, [], false, None, OnOk, IfOk, ℕ, length, map, option_copied, string_bytes, slice_index, slice_index_or};
+ghost use Rattle.std.specs.Prelude.{◌≡◌, ◌+◌, ◌<◌, ◌≤◌, [], true, false, if◌then◌else◌, None, OnOk, IfOk, ℕ, length, map, option_copied, string_bytes, slice_index, slice_index_or};
+ghost use Rattle.std.specs.Option.{ForSome};
 ghost use Rattle.std.specs.List.{All};
 ghost use Rattle.tabled_grid.specs.declared.place.LineOf.{LineOf as Line};
+ghost use Rattle.tabled_grid.specs.State.{state_at};
+ghost use Rattle.tabled_grid.specs.Value.{plain_value};
 ghost use Rattle.tabled_object.specs.Entities.{below};
 ghost use Rattle.tabled_configuration.specs.Configuration.{all_writes};
 ghost use Rattle.tabled_config.specs.Along.{is_empty};
 ghost use Rattle.tabled_config.specs.LinePieces.{pieces_of, crossed_after};
-ghost use Rattle.tabled_config.specs.Picture.{marks_along};
+ghost use Rattle.tabled_config.specs.Marks.{mark_of};
+ghost use Rattle.tabled_config.specs.Picture.{edge_size, mark_at, marks_along};
+ghost use Rattle.tabled_cells.specs.Trimmed.{lines_shown};
+ghost use Rattle.tabled_config.specs.Pieces.{lent};
 ghost use Rattle.tabled_config.specs.Texts.{texts};
 ghost use Rattle.tabled_painting.specs.InColor.{Paints};
+ghost use Rattle.tabled_painting.specs.Painted.{paint};
 ghost use Rattle.tabled_painting.specs.Pages.{PaintsLines};
+ghost use Rattle.tabled_painting.specs.Repeated.{IsBetweenRows, AreBesideRows, looks_of};
 
-use crate::Painter;
+use crate::alike::{first_plain_line, has_alike_lines, has_alike_sides};
 use crate::cell_lines::CellLines;
 use crate::page::Page;
-use tabled_config::{ColoredConfig, runs_across};
+use crate::stretch::{Stretch, paint_stretches, put_run};
+use crate::{CellColors, Painter};
+use std::alloc::{AllocError, Global};
+use tabled_border::ANSIBuf;
+use tabled_cells::{Placement, lines_shown};
+use tabled_config::{ColoredConfig, Mark, Run, runs_across, write_across};
 use tabled_grid::{Dimension, FixedDimension, LineOf, OutOfMemory, Place, Position, Probes};
 
-/// How a table that has places is framed: its configuration and its sizes, and which of its vertical lines are drawn.
+/// From how many rows on it pays to look up once what repeats down a table.
+const MANY_ROWS: usize = 6;
+
+/// How a table that has places is framed: its configuration and its sizes, which of its vertical lines are drawn, and whether its
+/// colors are wanted.
 #[derive(Drop)]
 pub(crate) struct Frame<'a, 'b> {
     pub(crate) cfg: &'a ColoredConfig,
     pub(crate) sizes: &'b FixedDimension,
     pub(crate) shape: (usize, usize),
     pub(crate) sides: &'b [bool],
+    pub(crate) with_colors: bool,
+    /// What a horizontal line between two rows shows, where all of them but custom ones look alike.
+    between: Option<Vec<Stretch<'a>>>,
+    /// What each vertical line shows, where it looks alike beside all lines of text.
+    beside: Option<Vec<Mark<'a>>>,
     ghost has_places: { is_empty shape ≡ false },
     ghost sides_drawn: { sides.now ≡ map (λ n. crossed_after (all_writes cfg.now.spanned) shape (Line.Horizontal 0) n) (below (pieces_of shape (Line.Horizontal 0) + 1)) },
+    ghost is_between: { ForSome between (λ found. IsBetweenRows (looks_of with_colors cfg.now shape sizes.now) cfg.now.spanned found.items) },
+    ghost are_beside: { ForSome beside (λ found. AreBesideRows (looks_of with_colors cfg.now shape sizes.now) found.items) },
 }
 
-impl<'a> Frame<'a, '_> {
+impl<'a, 'b> Frame<'a, 'b> {
+    ghost use Rattle.tabled_painting.specs.CellLines.{coloring_at, cell_line};
+    ghost use Rattle.tabled_cells.specs.Placements.{placement_at};
+    ghost use Rattle.tabled_grid.specs.declared.place.Place.{Place as Spot};
     ghost use Rattle.tabled_painting.specs.PaintedTable.{painted_cell, painted_cells, painted_marks, painted_side, painted_between, painted_if_drawn, painted_row, painted_lines};
     ghost use Rattle.tabled_painting.specs.Viewed.{viewed, line_of, cells_of, row_painted};
+    ghost use Rattle.tabled_painting.specs.Repeated.{stretches_painted};
+    ghost use Rattle.tabled_config.specs.Marks.{marks_of};
+
+    /// A frame that looks up once what repeats down the table.
+    pub(crate) fn new(
+        cfg: &'a ColoredConfig,
+        sizes: &'b FixedDimension,
+        shape: (usize, usize),
+        sides: &'b [bool],
+        with_colors: bool,
+    ) -> Result<Self, OutOfMemory>
+        requires places { is_empty shape ≡ false }
+        requires sides { sides.now ≡ map (λ n. crossed_after (all_writes cfg.now.spanned) shape (Line.Horizontal 0) n) (below (pieces_of shape (Line.Horizontal 0) + 1)) }
+        ensures cfg { IfOk result (λ frame. frame.cfg ≡ cfg.entry) }
+        ensures sizes { IfOk result (λ frame. frame.sizes ≡ sizes.entry) }
+        ensures shape { IfOk result (λ frame. frame.shape ≡ shape) }
+        ensures with_colors { IfOk result (λ frame. frame.with_colors ≡ with_colors) }
+    {
+        let (between, beside) = repeated(cfg, sizes, shape, sides, with_colors)?;
+        Ok(Frame {
+            cfg,
+            sizes,
+            shape,
+            sides,
+            with_colors,
+            between,
+            beside,
+        })
+    }
 
     /// Whether a vertical line is drawn.
     fn has_side(&self, col: usize) -> bool
@@ -39,6 +95,50 @@ impl<'a> Frame<'a, '_> {
         ensures { result ≡ (viewed self.now).vertical col }
     {
         self.sides[col]
+    }
+
+    /// What a vertical line shows beside a line of text of a row.
+    fn side(&self, row: usize, col: usize, at: usize) -> Mark<'a>
+        requires { col ≤ self.now.shape.1 }
+        ensures { mark_of result ≡ mark_at (viewed self.now) (Spot.Vertical row col at) }
+    {
+        let size = self.sizes.get_height(row);
+        if let Some(marks) = &self.beside {
+            if row < self.shape.0 && at < size {
+                return marks[col];
+            }
+        }
+        let place = Place::Vertical { row, col, at };
+        let probes = &mut Probes::new();
+        Mark {
+            shown: self.cfg.config().char_at(place, self.shape, size, probes),
+            color: self.color(place, size),
+        }
+    }
+
+    /// The color of a place, whose edge has `size` places, if colors are wanted.
+    fn color(&self, place: Place, size: usize) -> Option<&'a ANSIBuf>
+        requires { size ≡ edge_size (slice_index self.now.sizes.now.widths.items) (slice_index self.now.sizes.now.heights.items) place }
+        ensures { option_copied result ≡ (viewed self.now).color place }
+    {
+        if !self.with_colors {
+            return None;
+        }
+        let probes = &mut Probes::new();
+        self.cfg.config().color_at(place, self.shape, size, probes)
+    }
+
+    /// The color of an edge without its offsets, if colors are wanted.
+    fn plain_color(&self, place: Place) -> Option<&'a ANSIBuf>
+        ensures { option_copied result ≡ (if self.now.with_colors then plain_value (state_at self.now.cfg.now.spanned.colors) self.now.shape place else None) }
+    {
+        if !self.with_colors {
+            return None;
+        }
+        let probes = &mut Probes::new();
+        self.cfg
+            .config()
+            .read_plain_color(place, self.shape, probes)
     }
 
     /// Paints the place of a vertical line at one line of text of a row, if the line is drawn.
@@ -55,13 +155,28 @@ impl<'a> Frame<'a, '_> {
         if !self.has_side(col) {
             return Ok(());
         }
-        let place = Place::Vertical { row, col, at };
-        let size = self.sizes.get_height(row);
-        let cfg = self.cfg.config();
-        let shown = cfg.char_at(place, self.shape, size, &mut Probes::new());
-        let color = cfg.color_at(place, self.shape, size, &mut Probes::new());
-        painter.push_times(color, 1, shown.unwrap_or(' '))?;
+        let mark = self.side(row, col, at);
+        painter.push_times(mark.color, 1, mark.shown.unwrap_or(' '))?;
         Ok(())
+    }
+
+    /// What each vertical line shows beside the rows, if that is the same beside each line of text.
+    fn beside_rows(&self) -> Result<Option<Vec<Mark<'a>>>, OutOfMemory>
+        ensures { IfOk result (λ found. ForSome found (λ marks. AreBesideRows (viewed self.now) marks.items)) }
+    {
+        let cfg = self.cfg.config();
+        if self.shape.0 < MANY_ROWS || !has_alike_sides(cfg) {
+            return Ok(None);
+        }
+        let mut marks = Vec::new(cfg.allocator());
+        for col in 0..self.sides.len() {
+            let place = Place::Vertical { row: 0, col, at: 0 };
+            marks.push(Mark {
+                shown: cfg.plain_char_at(place, self.shape),
+                color: self.plain_color(place),
+            })?;
+        }
+        Ok(Some(marks))
     }
 
     /// Paints one line of text of a row.
@@ -69,7 +184,7 @@ impl<'a> Frame<'a, '_> {
         &self,
         painter: &mut Painter<'a>,
         row: usize,
-        cells: &[CellLines<'a>],
+        cells: &[CellLines<'a, '_>],
         at: usize,
     ) -> Result<(), OutOfMemory>
         requires { length cells.now ≡ self.now.shape.1 }
@@ -83,21 +198,200 @@ impl<'a> Frame<'a, '_> {
         self.paint_side(painter, row, cols, at)
     }
 
-    /// The lines of the cells of a row.
-    fn row_cells(&self, row: usize, texts: &'a [String]) -> Result<Vec<CellLines<'a>>, OutOfMemory>
-        ensures { IfOk result (λ cells. (at : ℕ) → map (line_of at) cells.items
-            ≡ map (λ col. painted_cell self.now.cfg.now.spanned.settings.cells self.now.cfg.now.cell_colors (slice_index self.now.sizes.now.widths.items col) (slice_index self.now.sizes.now.heights.items row) (slice_index_or (map string_bytes texts.now) col []) row col at) (below (length texts.now))) }
+    /// A cell of these lines.
+    fn cell<'c>(
+        &self,
+        position: Position,
+        how: Placement,
+        lines: &'c [&'a str],
+    ) -> CellLines<'a, 'c>
+        requires { how ≡ placement_at self.now.cfg.now.spanned.settings.cells position.row position.col }
+        ensures { (at : ℕ) → line_of at result ≡ cell_line how (coloring_at self.now.cfg.now.spanned.settings.cells self.now.cfg.now.cell_colors position.row position.col)
+            (slice_index self.now.sizes.now.widths.items position.col) (slice_index self.now.sizes.now.heights.items position.row) (lent lines.now) at }
     {
-        let alloc = self.cfg.config().allocator();
-        let height = self.sizes.get_height(row);
-        let mut cells = Vec::with_capacity(alloc, texts.len())?;
+        let Position { row, col } = position;
+        CellLines::new(
+            self.cfg.config().allocator(),
+            how,
+            CellColors::of(self.cfg, position),
+            (self.sizes.get_width(col), self.sizes.get_height(row)),
+            lines,
+        )
+    }
+
+    /// The lines of the text of each cell of a row.
+    fn row_texts(&self, row: usize, texts: &'a [String]) -> Result<Vec<Vec<&'a str>>, OutOfMemory>
+        ensures { IfOk result (λ lines. map (λ cell. lent cell.items) lines.items
+            ≡ map (λ col. lines_shown (placement_at self.now.cfg.now.spanned.settings.cells row col) (slice_index_or (map string_bytes texts.now) col [])) (below (length texts.now))) }
+    {
+        let cfg = self.cfg.config();
+        let alloc = cfg.allocator();
+        let mut all = Vec::with_capacity(alloc, texts.len())?;
         for (col, text) in texts.iter().enumerate() {
+            let how = Placement::of(cfg, Position::new(row, col));
+            all.push(shown(alloc, &how, text.as_str())?)?;
+        }
+        Ok(all)
+    }
+
+    /// The cells of a row, by the lines of their texts.
+    fn row_cells<'c>(
+        &self,
+        row: usize,
+        lines: &'c [Vec<&'a str>],
+    ) -> Result<Vec<CellLines<'a, 'c>>, OutOfMemory>
+        ensures { IfOk result (λ cells. (at : ℕ) → map (line_of at) cells.items
+            ≡ map (λ col. cell_line (placement_at self.now.cfg.now.spanned.settings.cells row col) (coloring_at self.now.cfg.now.spanned.settings.cells self.now.cfg.now.cell_colors row col)
+            (slice_index self.now.sizes.now.widths.items col) (slice_index self.now.sizes.now.heights.items row) (slice_index_or (map (λ cell. lent cell.items) lines.now) col []) at) (below (length lines.now))) }
+    {
+        let cfg = self.cfg.config();
+        let mut cells = Vec::with_capacity(cfg.allocator(), lines.len())?;
+        for (col, lines) in lines.iter().enumerate() {
             let position = Position::new(row, col);
-            let width = self.sizes.get_width(col);
-            let cell = CellLines::of(alloc, self.cfg, position, width, height, text.as_str())?;
-            cells.push(cell)?;
+            cells.push(self.cell(position, Placement::of(cfg, position), lines))?;
         }
         Ok(cells)
+    }
+
+    /// Paints the first line of a cell. Its lines are put into `room`, in place of what that had.
+    fn paint_cell(
+        &self,
+        painter: &mut Painter<'a>,
+        position: Position,
+        text: &'a str,
+        room: &mut Vec<&'a str>,
+    ) -> Result<(), OutOfMemory>
+        ensures { OnOk result (Paints (painted_cell self.now.cfg.now.spanned.settings.cells self.now.cfg.now.cell_colors (slice_index self.now.sizes.now.widths.items position.col)
+            (slice_index self.now.sizes.now.heights.items position.row) text.now position.row position.col 0) painter.old painter.new) }
+    {
+        let how = Placement::of(self.cfg.config(), position);
+        let lines = lines_shown(room, &how, text)?;
+        self.cell(position, how, lines).paint_line(painter, 0)?;
+        Ok(())
+    }
+
+    /// Paints the first line of text of a row.
+    fn paint_first(
+        &self,
+        painter: &mut Painter<'a>,
+        row: usize,
+        texts: &'a [String],
+        room: &mut Vec<&'a str>,
+    ) -> Result<(), OutOfMemory>
+        requires { length texts.now ≡ self.now.shape.1 }
+        ensures { OnOk result (Paints (painted_between (viewed self.now) row 0 (λ col. painted_cell self.now.cfg.now.spanned.settings.cells self.now.cfg.now.cell_colors
+            (slice_index self.now.sizes.now.widths.items col) (slice_index self.now.sizes.now.heights.items row) (slice_index_or (map string_bytes texts.now) col []) row col 0)) painter.old painter.new) }
+    {
+        for (col, text) in texts.iter().enumerate() {
+            self.paint_side(painter, row, col, 0)?;
+            self.paint_cell(painter, Position::new(row, col), text.as_str(), room)?;
+        }
+        self.paint_side(painter, row, texts.len(), 0)
+    }
+
+    /// The marks of a horizontal line, which is not past the last one, as runs, with their colors.
+    fn runs(&self, row: usize) -> Result<Vec<Run<'a>>, OutOfMemory>
+        requires row { row ≤ self.now.shape.0 }
+        requires with_colors { self.now.with_colors ≡ true }
+        ensures { IfOk result (λ runs. marks_of runs.items ≡ marks_along (viewed self.now) (Line.Horizontal row)) }
+    {
+        let line = LineOf::Horizontal(row);
+        let cfg = self.cfg.config();
+        runs_across(
+            cfg,
+            self.sizes,
+            self.shape,
+            line,
+            self.sides,
+            &mut Probes::new(),
+        )
+    }
+
+    /// The characters of a horizontal line, which is not past the last one.
+    fn characters(&self, row: usize) -> Result<String, OutOfMemory>
+        requires { row ≤ self.now.shape.0 }
+        ensures { self.now.with_colors ≡ false → IfOk result (λ text. paint None (string_bytes text) ≡ painted_marks (marks_along (viewed self.now) (Line.Horizontal row))) }
+    {
+        let line = LineOf::Horizontal(row);
+        let cfg = self.cfg.config();
+        let mut text = String::with_capacity(cfg.allocator(), self.length())?;
+        write_across(&mut text, cfg, self.sizes, self.shape, line, self.sides)?;
+        Ok(text)
+    }
+
+    /// A horizontal line with its colors, which is not past the last one, as stretches of one color each.
+    fn colored_stretches(&self, row: usize) -> Result<Vec<Stretch<'a>>, OutOfMemory>
+        requires row { row ≤ self.now.shape.0 }
+        requires with_colors { self.now.with_colors ≡ true }
+        ensures { IfOk result (λ found. stretches_painted found.items ≡ painted_marks (marks_along (viewed self.now) (Line.Horizontal row))) }
+    {
+        let alloc = self.cfg.config().allocator();
+        let runs = self.runs(row)?;
+        let mut stretches = Vec::new(alloc);
+        for run in &runs {
+            put_run(alloc, &mut stretches, run)?;
+        }
+        Ok(stretches)
+    }
+
+    /// A horizontal line, which is not past the last one, as stretches of one color each.
+    fn stretches(&self, row: usize) -> Result<Vec<Stretch<'a>>, OutOfMemory>
+        requires { row ≤ self.now.shape.0 }
+        ensures { IfOk result (λ found. stretches_painted found.items ≡ painted_marks (marks_along (viewed self.now) (Line.Horizontal row))) }
+    {
+        if self.with_colors {
+            return self.colored_stretches(row);
+        }
+        let mut stretches = Vec::new(self.cfg.config().allocator());
+        stretches.push(Stretch {
+            color: None,
+            text: self.characters(row)?,
+        })?;
+        Ok(stretches)
+    }
+
+    /// A horizontal line between two rows that is drawn and no custom one, if there is one and all of these look alike.
+    fn between_rows(&self) -> Result<Option<Vec<Stretch<'a>>>, OutOfMemory>
+        ensures { IfOk result (λ found. ForSome found (λ stretches. IsBetweenRows (viewed self.now) self.now.cfg.now.spanned stretches.items)) }
+    {
+        let cfg = self.cfg.config();
+        if self.shape.0 < MANY_ROWS || !has_alike_lines(cfg) {
+            return Ok(None);
+        }
+        let (rows, _) = self.shape;
+        match first_plain_line(cfg, rows) {
+            Some(row) if cfg.has_horizontal(row, rows) => Ok(Some(self.stretches(row)?)),
+            _ => Ok(None),
+        }
+    }
+
+    /// How many columns a line has with the sides that are drawn, and one more. A number that is too large is the largest there is.
+    fn length(&self) -> usize {
+        let (_, cols) = self.shape;
+        let mut length = 1usize;
+        for drawn in self.sides {
+            length = length.saturating_add(usize::from(*drawn));
+        }
+        for col in 0..cols {
+            length = length.saturating_add(self.sizes.get_width(col));
+        }
+        length
+    }
+
+    /// How many bytes the lines of a table take at least, or nearly so: each column of a line is one or more. A number that is
+    /// too large is the largest there is.
+    pub(crate) fn least_bytes(&self) -> usize {
+        let (rows, _) = self.shape;
+        let mut high = 0usize;
+        for row in 0..rows {
+            high = high.saturating_add(self.sizes.get_height(row));
+        }
+        let mut between = 0usize;
+        for stretch in self.between.as_deref().unwrap_or(&[]) {
+            between = between.saturating_add(stretch.text.len());
+        }
+        let texts = self.length().saturating_mul(high);
+        texts.saturating_add(between.saturating_mul(rows.saturating_sub(1)))
     }
 
     /// Paints a horizontal line, which is not past the last one.
@@ -105,11 +399,26 @@ impl<'a> Frame<'a, '_> {
         requires { row ≤ self.now.shape.0 }
         ensures { OnOk result (Paints (painted_marks (marks_along (viewed self.now) (Line.Horizontal row))) painter.old painter.new) }
     {
-        let line = LineOf::Horizontal(row);
-        let cfg = self.cfg.config();
-        let probes = &mut Probes::new();
-        let runs = runs_across(cfg, self.sizes, self.shape, line, self.sides, probes)?;
-        for run in &runs {
+        if let Some(stretches) = &self.between {
+            if 0 < row && row < self.shape.0 && !self.cfg.config().has_custom_line(row) {
+                paint_stretches(painter, stretches)?;
+                return Ok(());
+            }
+        }
+        if self.with_colors {
+            return self.paint_runs(painter, row);
+        }
+        painter.push_str(None, self.characters(row)?.as_str())?;
+        Ok(())
+    }
+
+    /// Paints a horizontal line with its colors, which is not past the last one.
+    fn paint_runs(&self, painter: &mut Painter<'a>, row: usize) -> Result<(), OutOfMemory>
+        requires row { row ≤ self.now.shape.0 }
+        requires with_colors { self.now.with_colors ≡ true }
+        ensures { OnOk result (Paints (painted_marks (marks_along (viewed self.now) (Line.Horizontal row))) painter.old painter.new) }
+    {
+        for run in &self.runs(row)? {
             painter.push_times(run.mark.color, run.count, run.mark.shown.unwrap_or(' '))?;
         }
         Ok(())
@@ -130,8 +439,27 @@ impl<'a> Frame<'a, '_> {
         Ok(())
     }
 
-    /// Paints the lines of text of a row.
-    fn paint_row(
+    /// Paints a row of one line of text.
+    fn paint_low_row(
+        &self,
+        page: &mut Page<'a>,
+        row: usize,
+        texts: &'a [String],
+        room: &mut Vec<&'a str>,
+    ) -> Result<(), OutOfMemory>
+        requires cells { length texts.now ≡ self.now.shape.1 }
+        requires height { slice_index self.now.sizes.now.heights.items row ≡ 1 }
+        requires ended { option_copied page.old.painter.color ≡ None }
+        ensures { OnOk result (PaintsLines (row_painted self.now row (map string_bytes texts.now)) page.old page.new) }
+    {
+        page.begin_line()?;
+        self.paint_first(&mut page.painter, row, texts, room)?;
+        page.end_line()?;
+        Ok(())
+    }
+
+    /// Paints a row of any number of lines of text.
+    fn paint_high_row(
         &self,
         page: &mut Page<'a>,
         row: usize,
@@ -141,13 +469,33 @@ impl<'a> Frame<'a, '_> {
         requires ended { option_copied page.old.painter.color ≡ None }
         ensures { OnOk result (PaintsLines (row_painted self.now row (map string_bytes texts.now)) page.old page.new) }
     {
-        let cells = self.row_cells(row, texts)?;
+        let lines = self.row_texts(row, texts)?;
+        let cells = self.row_cells(row, &lines)?;
         for at in 0..self.sizes.get_height(row) {
             page.begin_line()?;
             self.paint_between(&mut page.painter, row, &cells, at)?;
             page.end_line()?;
         }
         Ok(())
+    }
+
+    /// Paints the lines of text of a row. `room` is for the lines of a cell.
+    fn paint_row(
+        &self,
+        page: &mut Page<'a>,
+        row: usize,
+        texts: &'a [String],
+        room: &mut Vec<&'a str>,
+    ) -> Result<(), OutOfMemory>
+        requires cells { length texts.now ≡ self.now.shape.1 }
+        requires ended { option_copied page.old.painter.color ≡ None }
+        ensures { OnOk result (PaintsLines (row_painted self.now row (map string_bytes texts.now)) page.old page.new) }
+    {
+        if self.sizes.get_height(row) == 1 {
+            self.paint_low_row(page, row, texts, room)
+        } else {
+            self.paint_high_row(page, row, texts)
+        }
     }
 
     /// Paints the lines of a table.
@@ -161,10 +509,45 @@ impl<'a> Frame<'a, '_> {
         requires ended { option_copied page.old.painter.color ≡ None }
         ensures { OnOk result (PaintsLines (painted_lines (viewed self.now) (cells_of self.now (texts rows.now))) page.old page.new) }
     {
+        let mut room = Vec::new(self.cfg.config().allocator());
         for (row, texts) in rows.iter().enumerate() {
             self.paint_line(page, row)?;
-            self.paint_row(page, row, texts)?;
+            self.paint_row(page, row, texts, &mut room)?;
         }
         self.paint_line(page, rows.len())
     }
+}
+
+/// What repeats down a table that has places, of which these vertical lines are drawn: a horizontal line between two rows, and what
+/// the vertical lines show beside the rows, each if it does.
+fn repeated<'a>(
+    cfg: &'a ColoredConfig,
+    sizes: &FixedDimension,
+    shape: (usize, usize),
+    sides: &[bool],
+    with_colors: bool,
+) -> Result<(Option<Vec<Stretch<'a>>>, Option<Vec<Mark<'a>>>), OutOfMemory>
+    requires places { is_empty shape ≡ false }
+    requires sides { sides.now ≡ map (λ n. crossed_after (all_writes cfg.now.spanned) shape (Line.Horizontal 0) n) (below (pieces_of shape (Line.Horizontal 0) + 1)) }
+    ensures between { IfOk result (λ found. ForSome found.0 (λ stretches. IsBetweenRows (looks_of with_colors cfg.now shape sizes.now) cfg.now.spanned stretches.items)) }
+    ensures beside { IfOk result (λ found. ForSome found.1 (λ marks. AreBesideRows (looks_of with_colors cfg.now shape sizes.now) marks.items)) }
+{
+    let frame = Frame {
+        cfg,
+        sizes,
+        shape,
+        sides,
+        with_colors,
+        between: None,
+        beside: None,
+    };
+    Ok((frame.between_rows()?, frame.beside_rows()?))
+}
+
+/// The lines of a text that are shown.
+fn shown<'a>(alloc: Global, how: &Placement, text: &'a str) -> Result<Vec<&'a str>, AllocError>
+    ensures { IfOk result (λ lines. lent lines.items ≡ lines_shown how.now text.now) }
+{
+    let mut room = Vec::new(alloc);
+    lines_shown(&mut room, how, text)?.to_vec(alloc)
 }

@@ -4,6 +4,7 @@
 //! `docs/DEFINITIONS.md` explains the words of the contracts.
 #![tactic(auto)]
 
+mod alike;
 mod cell_colors;
 mod cell_lines;
 mod frame;
@@ -12,9 +13,10 @@ mod margin_sides;
 mod page;
 mod painter;
 mod painting;
+mod stretch;
 
 pub(crate) use cell_colors::CellColors;
 pub(crate) use margin_side::MarginSide;
 pub(crate) use margin_sides::MarginSides;
 pub(crate) use painter::Painter;
-pub use painting::{colored_text, has_margin, plain_text};
+pub use painting::{colored_text, plain_text};

@@ -91,12 +91,17 @@ impl<'a> Painter<'a> {
     }
 
     /// Begins what is written next, which is colored if colors are wanted.
+    #[inline(always)]
+    #[tactic(auto, unfolding(crate::specs::InColor::between))]
     fn begin(&mut self, color: Option<&'a ANSIBuf>) -> Result<(), AllocError>
         ensures text { OnOk result (string_bytes self.new.text ≡ string_bytes self.old.text ++ between (option_copied self.old.color) (color_if self.old.with_colors (option_copied color.entry))) }
         ensures color { OnOk result (option_copied self.new.color ≡ color_if self.old.with_colors (option_copied color.entry)) }
         ensures same_colors { self.new.with_colors ≡ self.old.with_colors }
     {
         let wanted = if self.with_colors { color } else { None };
+        if wanted.is_none() && self.color.is_none() {
+            return Ok(());
+        }
         self.change_color(wanted)
     }
 

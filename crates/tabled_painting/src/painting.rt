@@ -1,12 +1,12 @@
 //! The text of a table with its colors and its margin.
 
-ghost use Rattle.std.specs.Prelude.{◌≡◌, ◌+◌, true, not, None, length, IfOk, string_bytes, slice_index, option_copied};
+ghost use Rattle.std.specs.Prelude.{◌≡◌, ◌+◌, true, None, length, IfOk, string_bytes, slice_index, option_copied};
 ghost use Rattle.std.specs.List.{All};
 ghost use Rattle.tabled_configuration.specs.Configuration.{all_writes};
 ghost use Rattle.tabled_config.specs.LinePieces.{has_line};
-ghost use Rattle.tabled_config.specs.Picture.{marks};
+ghost use Rattle.tabled_config.specs.Picture.{marks_along};
 ghost use Rattle.tabled_config.specs.Texts.{texts};
-ghost use Rattle.tabled_painting.specs.Margin.{side_of, between_sides, is_without_room};
+ghost use Rattle.tabled_painting.specs.Margin.{side_of, between_sides};
 ghost use Rattle.tabled_painting.specs.Pages.{PaintsWhole, Strips, text_of_lines};
 ghost use Rattle.tabled_painting.specs.PaintedTable.{Cells, painted_by, painted_lines, painted_table, plain_text, colored_text};
 ghost use Rattle.tabled_painting.specs.Viewed.{viewed, cells_of};
@@ -15,7 +15,7 @@ use crate::frame::Frame;
 use crate::page::Page;
 use crate::{MarginSides, Painter};
 use tabled_cells::join_lines;
-use tabled_config::{ColoredConfig, SpannedConfig, drawn_across, runs_across};
+use tabled_config::{ColoredConfig, drawn_across, runs_across};
 use tabled_grid::{FixedDimension, LineOf, OutOfMemory, Probes};
 
 /// The sum of two numbers. Refused where no number says it: no memory holds so many characters.
@@ -27,18 +27,14 @@ fn sum_of(first: usize, second: usize) -> Result<usize, OutOfMemory>
 
 /// How many places a line has that is there: for a horizontal one, how many columns the table is long, and for a vertical one, how
 /// many lines it is high. Refused where memory is, and where no number says it.
-fn line_length(
-    cfg: &SpannedConfig,
-    sizes: &FixedDimension,
-    shape: (usize, usize),
-    line: LineOf,
-) -> Result<usize, OutOfMemory>
-    requires { has_line shape line ≡ true }
-    ensures { IfOk result (λ found. found ≡ length (marks (all_writes cfg.now) shape (slice_index sizes.now.widths.items) (slice_index sizes.now.heights.items) line)) }
+fn line_length(frame: &Frame, line: LineOf) -> Result<usize, OutOfMemory>
+    requires { has_line frame.now.shape line ≡ true }
+    ensures { IfOk result (λ found. found ≡ length (marks_along (viewed frame.now) line)) }
 {
+    let cfg = frame.cfg.config();
     let probes = &mut Probes::new();
-    let crossed = drawn_across(cfg, shape, line, probes)?;
-    let runs = runs_across(cfg, sizes, shape, line, &crossed, probes)?;
+    let crossed = drawn_across(cfg, frame.shape, line, probes)?;
+    let runs = runs_across(cfg, frame.sizes, frame.shape, line, &crossed, probes)?;
     let mut found = 0usize;
     for run in &runs {
         found = sum_of(found, run.count)?;
@@ -54,12 +50,7 @@ fn lines_high(frame: &Frame, margin: &MarginSides) -> Result<usize, OutOfMemory>
     if margin.left.size == 0 && margin.right.size == 0 {
         return Ok(0);
     }
-    line_length(
-        frame.cfg.config(),
-        frame.sizes,
-        frame.shape,
-        LineOf::Vertical(0),
-    )
+    line_length(frame, LineOf::Vertical(0))
 }
 
 /// How many columns a table is long with the sides of its margin, where that matters: where nothing stands above it and below it,
@@ -70,12 +61,7 @@ fn columns_long(frame: &Frame, margin: &MarginSides) -> Result<usize, OutOfMemor
     if margin.top.size == 0 && margin.bottom.size == 0 {
         return Ok(0);
     }
-    let columns = line_length(
-        frame.cfg.config(),
-        frame.sizes,
-        frame.shape,
-        LineOf::Horizontal(0),
-    )?;
+    let columns = line_length(frame, LineOf::Horizontal(0))?;
     let left = sum_of(margin.left.size, columns)?;
     sum_of(left, margin.right.size)
 }
@@ -94,7 +80,9 @@ fn paint_in_margin<'a>(
     let margin = MarginSides::of(frame.cfg.config());
     let high = lines_high(frame, &margin)?;
     let long = columns_long(frame, &margin)?;
-    painter.reserve(high.saturating_mul(margin.left.size.saturating_add(margin.right.size)))?;
+    let sides = margin.left.size.saturating_add(margin.right.size);
+    let bytes = frame.least_bytes();
+    painter.reserve(bytes.saturating_add(high.saturating_mul(sides)))?;
     margin.top.paint_strips(&mut painter, long)?;
     let mut page = Page {
         painter,
@@ -110,11 +98,11 @@ fn paint_in_margin<'a>(
 }
 
 /// The text of a table of texts as its configuration says, with its colors or without them.
-fn written(
-    cfg: &ColoredConfig,
+fn written<'a>(
+    cfg: &'a ColoredConfig,
     sizes: &FixedDimension,
     shape: (usize, usize),
-    rows: &[Vec<String>],
+    rows: &'a [Vec<String>],
     with_colors: bool,
 ) -> Result<String, OutOfMemory>
     requires rows { length rows.now ≡ shape.0 }
@@ -131,12 +119,7 @@ fn written(
         LineOf::Horizontal(0),
         &mut Probes::new(),
     )?;
-    let frame = Frame {
-        cfg,
-        sizes,
-        shape,
-        sides: &sides,
-    };
+    let frame = Frame::new(cfg, sizes, shape, &sides, with_colors)?;
     let painter = paint_in_margin(Painter::new(alloc, with_colors), &frame, rows)?;
     let mut text = painter.into_text();
     join_lines(&mut text);
@@ -172,15 +155,4 @@ pub fn colored_text(
     ensures { IfOk result (λ text. string_bytes text ≡ colored_text (painted_by cfg.now shape sizes.now.widths.items sizes.now.heights.items (texts rows.now))) }
 {
     written(cfg, sizes, shape, rows, true)
-}
-
-/// Whether a margin of a configuration has room on some side.
-pub fn has_margin(cfg: &SpannedConfig) -> bool
-    ensures { result ≡ not (is_without_room cfg.now.settings.margin) }
-{
-    let margin = cfg.get_margin();
-    margin.left.size != 0
-        || margin.right.size != 0
-        || margin.top.size != 0
-        || margin.bottom.size != 0
 }

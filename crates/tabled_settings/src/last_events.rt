@@ -89,6 +89,9 @@ impl<T> LastEvents<T> {
         requires { has_event Entity.Global self.now ≡ false }
         ensures { option_copied result ≡ option_map (λ event. event.1) (last_or None (covering self.now cell)) }
     {
+        if self.is_empty() {
+            return None;
+        }
         let Position { row, col } = cell;
         let of_row = slots::place_of(&self.places, Entity::Row(row));
         let of_column = slots::place_of(&self.places, Entity::Column(col));

@@ -1,6 +1,8 @@
 //! The ready styles as values, so that one is chosen while the program runs.
 
 ghost use Rattle.std.specs.Prelude.{◌≡◌, [], None, Some, Ok, codes, IfSome, IsErr, IsOk, MatchOption, OnErr, OnOk};
+ghost use Rattle.std.specs.IoError.{error_kind};
+ghost use Rattle.std.specs.declared.io.ErrorKind.TheVariants.{InvalidInput};
 ghost use Rattle.tabled_configuration.specs.Colored.{Changes as ColoredChanges};
 ghost use Rattle.tabled_configuration.specs.Configuration.{Changes, borders_replaced};
 ghost use Rattle.tabled_style.specs.declared.ready_style.ReadyStyle.{ReadyStyle as Ready};
@@ -8,8 +10,9 @@ ghost use Rattle.tabled_style.specs.Named.{all_ready, name_of, ready_applied, sh
 
 use crate::Style;
 use std::error::Error;
-use std::fmt;
+use std::io::ErrorKind;
 use std::str::FromStr;
+use std::{fmt, io};
 use tabled_configuration::{ColoredConfig, SpannedConfig, TableOption};
 use tabled_grid::{Borders, Entity, OutOfMemory};
 
@@ -232,6 +235,18 @@ impl fmt::Display for UnknownStyle {
 }
 
 impl Error for UnknownStyle {}
+
+/// So that a program that reads and writes takes it by `?`, as a mistake in its input.
+impl From<UnknownStyle> for io::Error {
+    ghost from_gives = { λ _ error. error_kind error ≡ InvalidInput };
+
+    fn from(_unknown: UnknownStyle) -> io::Error {
+        io::Error::new(
+            ErrorKind::InvalidInput,
+            "no style of the library has this name",
+        )
+    }
+}
 
 impl FromStr for ReadyStyle {
     type Err = UnknownStyle;

@@ -1,4 +1,4 @@
--- The cells of a table fit their columns and rows as they are printed, so that the printer does not refuse them.
+-- The columns and rows of a table leave room for its cells, and what the cells say.
 use Rattle.std.proofs.Common.{◌≡◌, ◌==◌, ◌||◌, ℕ, ◌+◌, ◌<◌, ◌≤◌, zero, suc, Bool, true, false, if◌then◌else◌, List, [], ◌∷◌, ◌++◌, map, length, get_or, refl, sym, ap, ◌∙◌, arith, eq-eqb, Some, None, String, string_bytes, Vec}
 use Rattle.std.specs.Prelude.{slice_index}
 use Rattle.std.specs.Str.{IsUtf8}
@@ -20,55 +20,6 @@ use Rattle.tabled_cells.proofs.Fits.{greatest_bound, cut_placed, placed_high, pl
 use Rattle.tabled_text.specs.Sizes.{cell, first_unequal, column_count, column_width, column_widths, row_height, row_heights, width_asked, height_asked}
 use Rattle.tabled_text.specs.Cells.{placed_row, placed_rows}
 
--- ---- a cell
-
-not_zero : (n : ℕ) → 0 < n → (n == 0) ≡ false
-not_zero n some = grind (arith, nat_tests)
-
-module _ (how : Placement) (width height : ℕ) (text : List ℕ) (u : IsUtf8 text) (some : 0 < height) (room : width_asked text ≤ width) (high : height_asked text ≤ height) where
-  asked : greatest (map width_of_text (pieces text)) + 2 ≤ width
-  unfolding width_asked
-  asked = room
-
-  pub cell_fits : (r c : ℕ) (widths heights : ℕ → ℕ) → widths c ≡ width → heights r ≡ height → cell_faults widths heights r (c, placed how width height text) ≡ []
-  cell_fits r c widths heights w h =
-      let cell : List ℕ = placed how width height text in
-      ap (λ n. (unless (if n == 0 then length cell == 0 else length (pieces cell) == n) (Height r c))
-      ++ unless ((n == 0) || list_all (λ piece. width_of_text piece == widths c) (pieces cell)) (Width r c)) h
-      ∙ ap (λ n. (unless (if height == 0 then length cell == 0 else length (pieces cell) == height) (Height r c))
-      ++ unless ((height == 0) || list_all (λ piece. width_of_text piece == n) (pieces cell)) (Width r c)) w
-      ∙ ap (λ b. (unless (if b then length cell == 0 else length (pieces cell) == height) (Height r c))
-      ++ unless (b || list_all (λ piece. width_of_text piece == width) (pieces cell)) (Width r c)) (not_zero height some)
-      ∙ ap (λ ps. (unless (length ps == height) (Height r c)) ++ unless (list_all (λ piece. width_of_text piece == width) ps) (Width r c)) (cut_placed how width height text u asked high some)
-      ∙ ap (λ b. (unless b (Height r c)) ++ unless (list_all (λ piece. width_of_text piece == width) (placed_lines how width height text)) (Width r c))
-      (eq-eqb _ _ (placed_high how width height text u asked high))
-      ∙ ap (λ b. unless b (Width r c)) (placed_wide how width height text u asked high)
-
--- ---- rows and tables
-
--- where no item gives anything, nothing is given
-flat_map-none : {X A : Type 0} (g : ℕ × X → List A) (start : ℕ) (xs : List X)
-    → ((k : ℕ) (d : X) → k < length xs → g (start + k, get_or xs k d) ≡ []) → flat_map g (enumerate_from start xs) ≡ []
-flat_map-none g start [] none = refl
-flat_map-none g start (x ∷ xs) none =
-    ap (λ front. front ++ flat_map g (enumerate_from (start + 1) xs)) (ap (λ (n : ℕ). g (n, x)) (omega arith) ∙ none 0 x (omega arith))
-    ∙ flat_map-none g (start + 1) xs (λ k d within. ap (λ (n : ℕ). g (n, get_or xs k d)) (omega arith) ∙ none (suc k) d (omega arith))
-
-row_fits : (how : ℕ → Placement) (widths : List ℕ) (heights : ℕ → ℕ) (columns r : ℕ) (row : List (List ℕ)) → length row ≡ columns
-    → ((c : ℕ) → IsUtf8 (cell row c)) → ((c : ℕ) → c < length row → height_asked (cell row c) ≤ heights r) → ((c : ℕ) → c < length row → width_asked (cell row c) ≤ slice_index widths c)
-    → row_faults (slice_index widths) heights columns (r, placed_row how widths (heights r) row) ≡ []
-unfolding placed_row
-row_fits how widths heights columns r row count utf8 high room =
-    let shown : ℕ → List ℕ = λ c. placed (how c) (slice_index widths c) (heights r) (cell row c) in
-    let long = length-map-range_with_len shown 0 (length row) in
-    ap (λ b. unless b (ColumnCount r) ++ flat_map (cell_faults (slice_index widths) heights r) (enumerate_from 0 (placed_row how widths (heights r) row))) (eq-eqb _ _ (long ∙ count))
-    ∙ flat_map-none (cell_faults (slice_index widths) heights r) 0 (placed_row how widths (heights r) row) (λ k d within.
-    let inside : k < length row = omega (arith, long) in
-    ap (λ text. cell_faults (slice_index widths) heights r (0 + k, text)) (get_or-map-range_with_len shown 0 (length row) k (0 + k) d inside refl)
-    ∙ cell_fits (how (0 + k)) (slice_index widths (0 + k)) (heights r) (cell row (0 + k)) (utf8 (0 + k))
-    (let most = high (0 + k) (omega arith) in omega (arith, most, length-slice_split (λ byte. byte == 10) (cell row (0 + k))))
-    (room (0 + k) (omega arith)) (high (0 + k) (omega arith)) r (0 + k) (slice_index widths) heights refl refl)
-
 -- the widths and heights that a table asks for leave room for each cell
 pub column_room : (table : Table) (r c : ℕ) → r < length table → c < column_count table → width_asked (cell (get_or table r []) c) ≤ slice_index (column_widths table) c
 unfolding column_widths
@@ -81,23 +32,6 @@ unfolding row_height
 row_room table r c within inside =
     let here : slice_index (row_heights table) r ≡ row_height (get_or table r []) = get_or-map row_height table r [] 0 within in
     omega (arith, greatest_bound height_asked 0 (get_or table r []) c [] inside, here)
-
-pub placed_fits : (settings : CellSettings) (table : Table) → ((r c : ℕ) → IsUtf8 (cell (get_or table r []) c)) → ((r : ℕ) → r < length table → length (get_or table r []) ≡ column_count table)
-    → table_faults (slice_index (column_widths table)) (slice_index (row_heights table)) (length table, column_count table)
-    (placed_rows settings (column_widths table) (row_heights table) table) ≡ []
-unfolding placed_rows
-placed_fits settings table utf8 equal =
-    let widths : List ℕ = column_widths table in
-    let heights : ℕ → ℕ = slice_index (row_heights table) in
-    let shown : ℕ → List (List ℕ) = λ r. placed_row (placement_at settings r) widths (heights r) (get_or table r []) in
-    let long = length-map-range_with_len shown 0 (length table) in
-    ap (λ b. unless b RowCount ++ flat_map (row_faults (slice_index widths) heights (column_count table)) (enumerate_from 0 (map shown (below (length table))))) (eq-eqb _ _ long)
-    ∙ flat_map-none (row_faults (slice_index widths) heights (column_count table)) 0 (map shown (below (length table))) (λ k d within.
-    let inside : k < length table = omega (arith, long) in
-    ap (λ cells. row_faults (slice_index widths) heights (column_count table) (0 + k, cells)) (get_or-map-range_with_len shown 0 (length table) k (0 + k) d inside refl)
-    ∙ row_fits (placement_at settings (0 + k)) widths heights (column_count table) (0 + k) (get_or table (0 + k) []) (equal (0 + k) (omega arith)) (utf8 (0 + k))
-    (λ c within. row_room table (0 + k) c (omega arith) within)
-    (λ c within. column_room table (0 + k) c (omega arith) (omega (arith, equal (0 + k) (omega arith)))))
 
 -- ---- what the cells of a table say
 

@@ -108,24 +108,6 @@ same_characters settings colors margin es table utf8 equal =
 
 module _ (cfg : Configuration) (table : Table) (shape : Shape) (widths heights : List ℕ)
     (shaped : shape ≡ shape_of table) (wide : widths ≡ column_widths table) (high : heights ≡ row_heights table) where
-  -- the text of a table without a margin
-  pub is_text_of : (es : List ConfigEvent) (cells : Table) → borders.Shows es cfg → is_without_room cfg.settings.margin ≡ true → cells ≡ placed_rows cfg.settings.cells widths heights table
-      → printed es (shape.rows, shape.cols) (slice_index widths) (slice_index heights) cells ≡ text_of es table
-  unfolding text_of
-  is_text_of es cells shows none made =
-      let placed : Table = placed_rows (cells_set es) (column_widths table) (row_heights table) table in
-      ap (printed es (shape.rows, shape.cols) (slice_index widths) (slice_index heights)) made
-      ∙ (λ i. printed es ((shaped i).rows, (shaped i).cols) (slice_index (wide i)) (slice_index (high i)) (placed_rows (shows.settings_shown i).cells (wide i) (high i) table))
-      ∙ sym (without_margin (look_of es table) (margin_set es) placed _ refl (ap (λ settings. is_without_room settings.margin) (sym shows.settings_shown) ∙ none))
-
-  pub fits : (cells : Table) → cells ≡ placed_rows cfg.settings.cells widths heights table → table_faults (slice_index (column_widths table)) (slice_index (row_heights table)) (length table, column_count table)
-      (placed_rows cfg.settings.cells (column_widths table) (row_heights table) table) ≡ []
-      → table_faults (slice_index widths) (slice_index heights) (shape.rows, shape.cols) cells ≡ []
-  fits cells made fit =
-      ap (table_faults (slice_index widths) (slice_index heights) (shape.rows, shape.cols)) made
-      ∙ (λ i. table_faults (slice_index (wide i)) (slice_index (high i)) ((shaped i).rows, (shaped i).cols) (placed_rows cfg.settings.cells (wide i) (high i) table))
-      ∙ fit
-
   -- its painted lines, by the events that the configuration shows
   pub painted_by_events : (colors : Option (Live Texts)) (es : List ConfigEvent) → borders.Shows es cfg
       → painted_by (record { spanned = cfg; cell_colors = colors }) (shape.rows, shape.cols) widths heights table

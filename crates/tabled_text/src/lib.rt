@@ -3,7 +3,6 @@
 //! `docs/DEFINITIONS.md` explains the words of the contracts.
 #![tactic(auto)]
 
-mod cells;
 mod display;
 mod measure;
 mod table_error;

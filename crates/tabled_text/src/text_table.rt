@@ -8,16 +8,13 @@ ghost use Rattle.tabled_text.specs.Sizes.{column_widths, row_heights};
 ghost use Rattle.tabled_text.specs.TextTable.{lent_rows};
 
 use crate::TableError;
-use crate::cells::PlacedRows;
 use crate::measure::{column_count, column_widths, row_heights, unequal_row};
 use std::alloc::{AllocError, Global};
 use std::fmt;
 use std::marker::Model;
-use tabled_config::{
-    CellOption, ColoredConfig, PrintError, SpannedConfig, TableOption, modify, print_rows,
-};
+use tabled_config::{CellOption, ColoredConfig, PrintError, SpannedConfig, TableOption, modify};
 use tabled_grid::{FixedDimension, Object, OutOfMemory, Shape};
-use tabled_painting::{colored_text, has_margin, plain_text};
+use tabled_painting::{colored_text, plain_text};
 
 /// A table of texts with its sizes and its configuration: options draw its borders, and it prints itself.
 ///
@@ -88,7 +85,6 @@ impl TextTable {
     ghost use Rattle.tabled_config.specs.declared.print_error.PrintError.{PrintError as Fault};
     ghost use Rattle.tabled_text.specs.Refusal.{of_printer, unequal};
     ghost use Rattle.tabled_text.specs.Sizes.{column_count, column_widths, row_heights, unequal_row};
-    ghost use Rattle.tabled_painting.specs.Margin.{is_without_room};
     ghost use Rattle.tabled_painting.specs.PaintedTable.{plain_text, colored_text};
     ghost use Rattle.tabled_text.specs.TextTable.{lent_rows, shape_of, text_of, painted};
     ghost use Rattle.tabled_text.specs.declared.table_error.TableError.{TableError as Refusal};
@@ -264,9 +260,11 @@ impl TextTable {
         ensures text { (es : List ConfigEvent) → borders.Shows es self.now.config.spanned → IfOk result (λ text. string_bytes text ≡ text_of es self.now.texts) }
         ensures refusal { MatchOption (slice_get (span_faults self.now.config.spanned) 0) (IsOkUnless result Fault.OutOfMemory) (λ e. result ≡ Err e) }
     {
-        let mut text = String::new(self.config.config().allocator());
-        self.append_to(&mut text)?;
-        Ok(text)
+        if self.config().config().has_spans() {
+            return Err(PrintError::Spans);
+        }
+        let shape = (self.shape.rows, self.shape.cols);
+        Ok(plain_text(self.config(), &self.sizes, shape, &self.cells)?)
     }
 
     /// Writes the text of the table to a writer, in one call of it. Where it is refused by `to_text` nothing is written; where
@@ -287,42 +285,9 @@ impl TextTable {
         ensures unchanged { OnErr result (string_bytes out.new ≡ string_bytes out.old) }
         ensures refusal { MatchOption (slice_get (span_faults self.now.config.spanned) 0) (IsOkUnless result Fault.OutOfMemory) (λ e. result ≡ Err e) }
     {
-        let cfg = self.config().config();
-        if cfg.has_spans() {
-            return Err(PrintError::Spans);
-        }
-        if has_margin(cfg) {
-            return Ok(self.append_with_margin(out)?);
-        }
-        Ok(self.append_without_margin(out)?)
-    }
-
-    /// Writes the text of the table with its margin.
-    fn append_with_margin(&self, out: &mut String) -> Result<(), OutOfMemory>
-        ensures text { (es : List ConfigEvent) → borders.Shows es self.now.config.spanned → OnOk result (string_bytes out.new ≡ string_bytes out.old ++ text_of es self.now.texts) }
-        ensures unchanged { OnErr result (string_bytes out.new ≡ string_bytes out.old) }
-    {
-        let shape = (self.shape.rows, self.shape.cols);
-        let text = plain_text(self.config(), &self.sizes, shape, &self.cells)?;
+        let text = self.to_text()?;
         out.push_str(text.as_str())?;
         Ok(())
-    }
-
-    /// Writes the text of a table that has no margin: each row is laid out when it is its turn.
-    fn append_without_margin(&self, out: &mut String) -> Result<(), OutOfMemory>
-        requires { is_without_room self.now.config.spanned.settings.margin ≡ true }
-        ensures text { (es : List ConfigEvent) → borders.Shows es self.now.config.spanned → OnOk result (string_bytes out.new ≡ string_bytes out.old ++ text_of es self.now.texts) }
-        ensures unchanged { OnErr result (string_bytes out.new ≡ string_bytes out.old) }
-    {
-        let cfg = self.config().config();
-        let cells = PlacedRows {
-            alloc: cfg.allocator(),
-            rows: &self.cells,
-            sizes: &self.sizes,
-            cfg,
-        };
-        let shape = (self.shape.rows, self.shape.cols);
-        print_rows(out, cfg, &self.sizes, shape, &cells)
     }
 
     /// The text of the table in color, as terminals show it: the same characters as in `to_text`, each between the two texts of

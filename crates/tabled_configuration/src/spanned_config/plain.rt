@@ -1,10 +1,11 @@
 //! What is asked of edges as wholes, besides single places.
 
-ghost use Rattle.std.specs.Prelude.{◌≡◌, ◌↔◌, IsFalse, option_copied};
+ghost use Rattle.std.specs.Prelude.{◌≡◌, ◌↔◌, ◌||◌, IsFalse, is_some, option_copied};
+ghost use Rattle.std.specs.FinMap as map;
 ghost use Rattle.tabled_grid.specs.Probing.{IsRaised};
 ghost use Rattle.tabled_grid.specs.Reading.{direction_of};
 ghost use Rattle.tabled_grid.specs.Value.{plain_value};
-ghost use Rattle.tabled_grid.specs.State.{state_at, HasNoOffsets};
+ghost use Rattle.tabled_grid.specs.State.{state_at, HasNoOffsets, HasNoCells};
 
 use super::SpannedConfig;
 use tabled_grid::{ANSIBuf, LineOf, Place, Probes};
@@ -62,5 +63,26 @@ impl SpannedConfig {
             LineOf::Horizontal(_) => self.colors.has_horizontal_offsets(),
             LineOf::Vertical(_) => self.colors.has_vertical_offsets(),
         }
+    }
+
+    /// Whether a character is kept for an edge or a crossing by itself.
+    pub fn has_cell_chars(&self) -> bool
+        ensures { IsFalse result ↔ HasNoCells self.now.characters }
+    {
+        self.characters.has_cells()
+    }
+
+    /// Whether a color is kept for an edge or a crossing by itself.
+    pub fn has_cell_colors(&self) -> bool
+        ensures { IsFalse result ↔ HasNoCells self.now.colors }
+    {
+        self.colors.has_cells()
+    }
+
+    /// Whether a custom horizontal line of characters, or one of colors, stands at an index.
+    pub fn has_custom_line(&self, line: usize) -> bool
+        ensures { result ≡ (is_some (map.get self.now.characters.horizontal_lines line) || is_some (map.get self.now.colors.horizontal_lines line)) }
+    {
+        self.characters.get_hline(line).is_some() || self.colors.get_hline(line).is_some()
     }
 }

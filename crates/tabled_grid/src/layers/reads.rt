@@ -24,7 +24,7 @@ use tabled_kept::CountedMap;
 impl<T> Layers<T> {
     ghost use Rattle.tabled_grid.specs.Value.{value, plain_value};
     ghost use Rattle.tabled_grid.specs.Drawn.{Drawn};
-    ghost use Rattle.tabled_grid.specs.State.{state_at, HasNoOffsets};
+    ghost use Rattle.tabled_grid.specs.State.{state_at, HasNoOffsets, HasNoCells};
     ghost use Rattle.tabled_grid.specs.Writes.{kept_at};
     ghost use Rattle.tabled_grid.specs.Reading.{main_of, offset_of, plain_edge, plain_crossing, edge_shown};
 
@@ -181,6 +181,13 @@ impl<T> Layers<T> {
         ensures { IsFalse result ↔ HasNoOffsets vertical self.now }
     {
         !self.vertical_offsets.is_empty()
+    }
+
+    /// Whether something is kept for an edge or a crossing by itself.
+    pub fn has_cells(&self) -> bool
+        ensures { IsFalse result ↔ HasNoCells self.now }
+    {
+        !self.cells.is_empty()
     }
 
     /// What the edge of a line, of the lines 0 to `line.1` of its direction, shows at place `at.0` of its `at.1` places.

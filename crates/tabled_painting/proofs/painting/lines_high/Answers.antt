@@ -1,8 +1,5 @@
 -- The table has as many lines as a vertical line has places; where its sides have no room that does not matter.
-use Rattle.std.proofs.Common.{length, slice_index, ap, sym, ◌∙◌}
-use Rattle.tabled_grid.specs.declared.place.LineOf.{LineOf}
-use Rattle.tabled_configuration.specs.Configuration.{all_writes}
-use Rattle.tabled_config.specs.Picture.{marks}
+use Rattle.std.proofs.Common.{length, ap, sym, ◌∙◌}
 use Rattle.tabled_painting.specs.Margin.{side_of, between_sides}
 use Rattle.tabled_painting.specs.PaintedTable.{painted_lines}
 use Rattle.tabled_painting.specs.Viewed.{viewed}
@@ -22,6 +19,4 @@ returns c =
     let frame = c.args.frame.now in
     on_value c.line_length.result _ _ c.line_length.ensures (λ high is cells.
     let lines = painted_lines (viewed frame) cells in
-    ap (λ n. between_sides (side_of c.args.margin.now.left) (side_of c.args.margin.now.right) n 0 lines)
-    (is ∙ ap (λ cfg. length (marks (all_writes cfg) frame.shape (slice_index frame.sizes.now.widths.items) (slice_index frame.sizes.now.heights.items) (LineOf.Vertical 0))) c.config.ensures
-    ∙ sym (lines_count (viewed frame) cells frame.has_places)))
+    ap (λ n. between_sides (side_of c.args.margin.now.left) (side_of c.args.margin.now.right) n 0 lines) (is ∙ sym (lines_count (viewed frame) cells frame.has_places)))

@@ -1,0 +1,68 @@
+//! A stretch of a line: characters next to each other that have one color.
+
+ghost use Rattle.std.specs.Prelude.{◌≡◌, ◌++◌, IfOk, OnOk, option_copied};
+ghost use Rattle.tabled_config.specs.Marks.{run_marks};
+ghost use Rattle.tabled_painting.specs.InColor.{Paints};
+ghost use Rattle.tabled_painting.specs.PaintedTable.{painted_marks};
+ghost use Rattle.tabled_painting.specs.Repeated.{stretch_painted, stretches_painted};
+
+use crate::Painter;
+use std::alloc::{AllocError, Global};
+use tabled_border::ANSIBuf;
+use tabled_cells::push_times;
+use tabled_config::Run;
+
+/// Characters of a line that have one color, or none.
+#[derive(Debug, Drop)]
+pub(crate) struct Stretch<'a> {
+    pub(crate) color: Option<&'a ANSIBuf>,
+    pub(crate) text: String,
+}
+
+/// A stretch to which a run of its color can be put: the last one, where it has that color, and else one without text.
+fn begun<'a>(
+    alloc: Global,
+    stretches: &mut Vec<Stretch<'a>>,
+    color: Option<&'a ANSIBuf>,
+) -> Result<Stretch<'a>, AllocError>
+    ensures painted { IfOk result (λ begun. stretches_painted stretches.new.items ++ stretch_painted begun ≡ stretches_painted stretches.old.items) }
+    ensures color { IfOk result (λ begun. option_copied begun.color ≡ option_copied color.entry) }
+{
+    if let Some(last) = stretches.pop() {
+        if last.color == color {
+            return Ok(last);
+        }
+        stretches.push(last)?;
+    }
+    Ok(Stretch {
+        color,
+        text: String::new(alloc),
+    })
+}
+
+/// Puts the characters of a run after stretches.
+pub(crate) fn put_run<'a>(
+    alloc: Global,
+    stretches: &mut Vec<Stretch<'a>>,
+    run: &Run<'a>,
+) -> Result<(), AllocError>
+    ensures { OnOk result (stretches_painted stretches.new.items ≡ stretches_painted stretches.old.items ++ painted_marks (run_marks run.now)) }
+{
+    let mut stretch = begun(alloc, stretches, run.mark.color)?;
+    push_times(&mut stretch.text, run.count, run.mark.shown.unwrap_or(' '))?;
+    stretches.push(stretch)?;
+    Ok(())
+}
+
+/// Paints stretches in their order.
+pub(crate) fn paint_stretches<'a>(
+    painter: &mut Painter<'a>,
+    stretches: &[Stretch<'a>],
+) -> Result<(), AllocError>
+    ensures { OnOk result (Paints (stretches_painted stretches.now) painter.old painter.new) }
+{
+    for stretch in stretches {
+        painter.push_str(stretch.color, stretch.text.as_str())?;
+    }
+    Ok(())
+}
