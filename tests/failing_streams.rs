@@ -284,3 +284,22 @@ fn a_table_is_written_in_one_piece_or_its_writer_has_failed(rt: HostRuntime) -> 
     assert!(rt; table.write_to(&mut second) == Err(TableError::Write));
     Ok(())
 }
+
+#[test]
+fn a_table_is_printed_to_a_stream_or_the_stream_has_failed(rt: HostRuntime) -> Result<(), Fail> {
+    let table = framed(rt.alloc())?;
+    let text = b"+---+---+\n| a | b |\n+---+---+";
+    let mut whole = Writes::new(128, None);
+    assert!(rt; table.print_to(&mut whole) == Ok(()));
+    assert!(rt; whole.taken() == Some(text.as_slice()));
+    let mut bytewise = Writes::new(1, None);
+    assert!(rt; table.print_ansi_to(&mut bytewise) == Ok(()));
+    assert!(rt; bytewise.taken() == Some(text.as_slice()));
+    let mut shut = Writes::new(1, Some((3, ErrorKind::BrokenPipe)));
+    assert!(rt; table.print_to(&mut shut) == Err(TableError::Write));
+    assert!(rt; shut.taken() == Some(b"+--".as_slice()));
+    let mut closed = Writes::new(1, Some((0, ErrorKind::BrokenPipe)));
+    assert!(rt; table.print_ansi_to(&mut closed) == Err(TableError::Write));
+    assert!(rt; closed.taken() == Some(b"".as_slice()));
+    Ok(())
+}

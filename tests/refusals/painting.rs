@@ -136,12 +136,26 @@ fn write_ansi_to(turn: &mut Turn) -> Result<Outcome, OutOfMemory> {
     }
 }
 
+/// What becomes of a text in color that is printed to a stream.
+fn print_ansi_to(turn: &mut Turn) -> Result<Outcome, OutOfMemory> {
+    let table = table(turn.alloc())?;
+    let mut stream = Counts { bytes: 0 };
+    turn.spend();
+    match table.print_ansi_to(&mut stream) {
+        Err(TableError::OutOfMemory) if stream.bytes == 0 => Ok(Outcome::AsBefore),
+        Ok(()) if stream.bytes == COLORED.len() => Ok(Outcome::Done),
+        Ok(()) => Ok(Outcome::NotDone),
+        Err(_) => Ok(Outcome::Changed),
+    }
+}
+
 /// Tables of texts in color, and with a margin.
-pub(crate) fn tables() -> [Named; 5] {
+pub(crate) fn tables() -> [Named; 6] {
     [
         ("TextTable::to_ansi", |turn| returned(turn, true)),
         ("TextTable::append_ansi_to", |turn| appended(turn, true)),
         ("TextTable::write_ansi_to", write_ansi_to),
+        ("TextTable::print_ansi_to", print_ansi_to),
         (
             "TextTable::to_text (a margin)",
             |turn| returned(turn, false),

@@ -232,6 +232,30 @@ impl std::fmt::Write for Counts {
     }
 }
 
+impl std::io::Write for Counts {
+    fn write(&mut self, bytes: &[u8]) -> std::io::Result<usize> {
+        self.bytes = self.bytes.saturating_add(bytes.len());
+        Ok(bytes.len())
+    }
+
+    fn flush(&mut self) -> std::io::Result<()> {
+        Ok(())
+    }
+}
+
+/// What becomes of a text that is printed to a stream.
+fn print_to(turn: &mut Turn) -> Result<Outcome, OutOfMemory> {
+    let (table, _copy) = table(turn.alloc())?;
+    let mut stream = Counts { bytes: 0 };
+    turn.spend();
+    match table.print_to(&mut stream) {
+        Err(TableError::OutOfMemory) if stream.bytes == 0 => Ok(Outcome::AsBefore),
+        Ok(()) if stream.bytes == DRAWN.len() => Ok(Outcome::Done),
+        Ok(()) => Ok(Outcome::NotDone),
+        Err(_) => Ok(Outcome::Changed),
+    }
+}
+
 /// What becomes of a text that is written.
 fn write_to(turn: &mut Turn) -> Result<Outcome, OutOfMemory> {
     let (table, _copy) = table(turn.alloc())?;
@@ -261,7 +285,7 @@ fn title(turn: &mut Turn) -> Result<Outcome, OutOfMemory> {
 }
 
 /// Tables of texts.
-pub(crate) fn tables() -> [Named; 11] {
+pub(crate) fn tables() -> [Named; 12] {
     [
         ("TextTable::new", make),
         ("TextTable::from_rows", make_of_rows),
@@ -274,5 +298,6 @@ pub(crate) fn tables() -> [Named; 11] {
         ("TextTable::to_text", to_text),
         ("TextTable::append_to", append_to),
         ("TextTable::write_to", write_to),
+        ("TextTable::print_to", print_to),
     ]
 }

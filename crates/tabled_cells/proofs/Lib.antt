@@ -3,3 +3,4 @@ pub mod Measuring
 pub mod Writing
 pub mod Fits
 pub mod Unset
+pub mod Printing

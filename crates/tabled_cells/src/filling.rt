@@ -9,9 +9,9 @@ ghost use Rattle.tabled_cells.specs.Placed as parts;
 
 use crate::Placement;
 use crate::placement::free_before;
+use crate::width::width_of;
 use std::alloc::{AllocError, Global};
 use tabled_settings::AlignmentHorizontal;
-use unicode_width::UnicodeWidthStr;
 
 /// What stands beside the text of a line, between the spaces at its ends.
 #[derive(Clone, Copy, Debug)]
@@ -68,7 +68,7 @@ fn fill_of(
     }
     let mut tried = String::new(alloc);
     push_filled(&mut tried, character, before, after, line)?;
-    if tried.as_str().width() == width {
+    if width_of(tried.as_str()) == width {
         Ok(character)
     } else {
         Ok(' ')
@@ -87,7 +87,7 @@ pub fn line_parts(
 {
     let room = width.saturating_sub(2);
     let before = free_before(how.alignment_horizontal, room.saturating_sub(aligned));
-    let after = room.saturating_sub(before).saturating_sub(line.width());
+    let after = room.saturating_sub(before).saturating_sub(width_of(line));
     let fill = fill_of(alloc, how.justification, width, before, after, line)?;
     Ok(LineParts {
         before,
@@ -103,7 +103,7 @@ pub fn widest(how: &Placement, lines: &[&str]) -> usize
     if how.line_alignment || how.alignment_horizontal == AlignmentHorizontal::Left {
         return 0;
     }
-    lines.iter().map(|line| line.width()).max().unwrap_or(0)
+    lines.iter().map(|line| width_of(line)).max().unwrap_or(0)
 }
 
 /// How wide what is aligned is: a line by itself, or all lines as one.
@@ -111,7 +111,7 @@ pub fn aligned(how: &Placement, widest: usize, line: &str) -> usize
     ensures { result ≡ (if how.now.line_alignment then width_of_text line.now else widest) }
 {
     if how.line_alignment {
-        line.width()
+        width_of(line)
     } else {
         widest
     }

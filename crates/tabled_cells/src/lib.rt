@@ -7,8 +7,10 @@ mod filling;
 mod place;
 mod placement;
 mod trim;
+mod width;
 
 pub use filling::{LineParts, aligned, line_parts, push_times, widest};
 pub use place::{join_lines, placed_text};
 pub use placement::{Placement, free_above};
 pub use trim::lines_shown;
+pub use width::{is_printable, width_of};

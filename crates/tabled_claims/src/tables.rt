@@ -1,6 +1,7 @@
 //! Tables of texts.
 
 ghost use Rattle.std.specs.Prelude.{◌≡◌, ◌++◌, ◌⊎◌, ℕ, List, [], true, slice_index, map, length, take, string_bytes, slice_get, IfOk, IfErr, OnOk, OnErr, MatchOption, IsOkUnless};
+ghost use Rattle.std.specs.Io.KnownBytes.{Appends};
 ghost use Rattle.tabled_configuration.specs.Colored.{Shows, Changes};
 ghost use Rattle.tabled_configuration.specs.Configuration.{ConfigEvent};
 ghost use Rattle.tabled_configuration.specs.Configuration as borders;
@@ -18,7 +19,7 @@ ghost use Rattle.tabled_text.specs.TextTable.{lent_rows, shape_of, text_of, pain
 ghost use Rattle.tabled_text.specs.declared.table_error.TableError.{TableError as Refusal};
 
 use std::alloc::Global;
-use std::fmt;
+use std::{fmt, io};
 use tabled_config::{CellOption, ColoredConfig, PrintError, TableOption};
 use tabled_grid::{FixedDimension, Object, OutOfMemory, Shape};
 use tabled_text::{TableError, TextTable};
@@ -175,6 +176,24 @@ pub fn text_in_color_written<W: fmt::Write>(
     ensures unwritten { IfErr result (λ e. (e ≡ Refusal.Write) ⊎ (out.new ≡ out.old)) }
 {
     table.write_ansi_to(out)
+}
+
+/// The text to a stream of bytes, such as standard output: only the stream's own fault can leave something written.
+pub fn text_printed<W: io::Write>(table: &TextTable, out: &mut W) -> Result<(), TableError>
+    ensures text { (events : List ConfigEvent) → borders.Shows events table.now.config.spanned → OnOk result (Appends (W.contents out.old) (W.contents out.new) (text_of events table.now.texts)) }
+    ensures refusal { MatchOption (slice_get (span_faults table.now.config.spanned) 0) (IfErr result (λ e. (e ≡ Refusal.OutOfMemory) ⊎ (e ≡ Refusal.Write))) (λ fault. result ≡ Err (of_printer fault)) }
+    ensures unwritten { IfErr result (λ e. (e ≡ Refusal.Write) ⊎ (out.new ≡ out.old)) }
+{
+    table.print_to(out)
+}
+
+/// The same in color.
+pub fn text_in_color_printed<W: io::Write>(table: &TextTable, out: &mut W) -> Result<(), TableError>
+    ensures text { (events : List ConfigEvent) → Shows events table.now.config → OnOk result (Appends (W.contents out.old) (W.contents out.new) (colored_text (painted events table.now.texts))) }
+    ensures refusal { MatchOption (slice_get (span_faults table.now.config.spanned) 0) (IfErr result (λ e. (e ≡ Refusal.OutOfMemory) ⊎ (e ≡ Refusal.Write))) (λ fault. result ≡ Err (of_printer fault)) }
+    ensures unwritten { IfErr result (λ e. (e ≡ Refusal.Write) ⊎ (out.new ≡ out.old)) }
+{
+    table.print_ansi_to(out)
 }
 
 /// The texts of a table are lent as they were given.

@@ -1,12 +1,12 @@
 //! How large the cells of a table are.
 
 ghost use Rattle.std.specs.Prelude.{◌≡◌, max, map, slice_index, EachIndex, IfOk, OnOk, replicate, string_bytes};
-ghost use Rattle.tabled_config.specs.Texts.{texts};
-ghost use Rattle.tabled_text.specs.Sizes.{cell, column_count, unequal_row, width_asked, height_asked, column_widths, row_height, row_heights};
+ghost use Rattle.tabled_config.specs.Texts.{texts, pieces, width_of_text};
+ghost use Rattle.tabled_text.specs.Sizes.{cell, greatest, column_count, unequal_row, width_asked, height_asked, column_widths, row_height, row_heights};
 
 use std::alloc::{AllocError, Global};
+use tabled_cells::{is_printable, width_of};
 use tabled_grid::OutOfMemory;
-use unicode_width::UnicodeWidthStr;
 
 /// How many cells the first row has.
 pub(crate) fn column_count(rows: &[Vec<String>]) -> usize
@@ -26,13 +26,26 @@ pub(crate) fn unequal_row(rows: &[Vec<String>]) -> Option<usize>
     rows.iter().position(|row| row.len() != columns)
 }
 
+/// How many terminal columns the widest line of a text takes.
+fn widest_line(text: &str) -> usize
+    ensures { result ≡ greatest (map width_of_text (pieces text.now)) }
+{
+    if is_printable(text) {
+        return text.len();
+    }
+    text.split('\n')
+        .map(|line| width_of(line))
+        .max()
+        .unwrap_or(0)
+}
+
 /// How many terminal columns a text asks for: those of its widest line, and two for spaces around it. Refused where no
 /// number says it.
+#[tactic(auto, unfolding(crate::specs::Sizes::width_asked))]
 fn width_asked(text: &str) -> Result<usize, OutOfMemory>
     ensures { IfOk result (λ width. width ≡ width_asked text.now) }
 {
-    let widest = text.split('\n').map(|line| line.width()).max().unwrap_or(0);
-    widest.checked_add(2).ok_or(OutOfMemory)
+    widest_line(text).checked_add(2).ok_or(OutOfMemory)
 }
 
 /// How many terminal columns the cell of a row in a column asks for.

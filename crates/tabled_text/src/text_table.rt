@@ -1,6 +1,8 @@
 //! A table of texts.
 
-ghost use Rattle.std.specs.Prelude.{◌≡◌, [], length, map, string_bytes, slice_index_or, IfOk};
+ghost use Rattle.std.specs.Prelude.{◌≡◌, [], length, map, string_bytes, slice_index_or, IfOk, IfErr, OnOk};
+ghost use Rattle.std.specs.Io.KnownBytes.{Appends};
+ghost use Rattle.tabled_text.specs.declared.table_error.TableError.{TableError as Refusal};
 ghost use Rattle.tabled_config.specs.Pieces.{lent};
 ghost use Rattle.tabled_config.specs.Texts.{texts};
 ghost use Rattle.tabled_text.specs.Refusal.{unequal as refusal_of};
@@ -10,8 +12,8 @@ ghost use Rattle.tabled_text.specs.TextTable.{lent_rows};
 use crate::TableError;
 use crate::measure::{column_count, column_widths, row_heights, unequal_row};
 use std::alloc::{AllocError, Global};
-use std::fmt;
 use std::marker::Model;
+use std::{fmt, io};
 use tabled_config::{CellOption, ColoredConfig, PrintError, SpannedConfig, TableOption, modify};
 use tabled_grid::{FixedDimension, Object, OutOfMemory, Shape};
 use tabled_painting::{colored_text, plain_text};
@@ -87,7 +89,6 @@ impl TextTable {
     ghost use Rattle.tabled_text.specs.Sizes.{column_count, column_widths, row_heights, unequal_row};
     ghost use Rattle.tabled_painting.specs.PaintedTable.{plain_text, colored_text};
     ghost use Rattle.tabled_text.specs.TextTable.{lent_rows, shape_of, text_of, painted};
-    ghost use Rattle.tabled_text.specs.declared.table_error.TableError.{TableError as Refusal};
     ghost use Rattle.tabled_text.specs.contracts.text_table.TextTable.{the_row};
     ghost use Rattle.tabled_configuration.specs.contracts.colored_config.ColoredConfig.{the_row as config_row};
 
@@ -279,6 +280,17 @@ impl TextTable {
         Ok(())
     }
 
+    /// Writes the text of the table to a stream of bytes, such as standard output. Where it is refused by `to_text` nothing is
+    /// written; where the stream fails some of the text may be.
+    pub fn print_to<W: io::Write>(&self, out: &mut W) -> Result<(), TableError>
+        ensures text { (es : List ConfigEvent) → borders.Shows es self.now.config.spanned → OnOk result (Appends (W.contents out.old) (W.contents out.new) (text_of es self.now.texts)) }
+        ensures refusal { MatchOption (slice_get (span_faults self.now.config.spanned) 0) (IfErr result (λ e. (e ≡ Refusal.OutOfMemory) ⊎ (e ≡ Refusal.Write))) (λ e. result ≡ Err (of_printer e)) }
+        ensures unwritten { IfErr result (λ e. (e ≡ Refusal.Write) ⊎ (out.new ≡ out.old)) }
+    {
+        let text = self.to_text()?;
+        write_bytes(out, text.as_str())
+    }
+
     /// Writes the text of the table after what `out` has. Where it is refused, as by `to_text`, `out` is as before.
     pub fn append_to(&self, out: &mut String) -> Result<(), PrintError>
         ensures text { (es : List ConfigEvent) → borders.Shows es self.now.config.spanned → OnOk result (string_bytes out.new ≡ string_bytes out.old ++ text_of es self.now.texts) }
@@ -329,11 +341,33 @@ impl TextTable {
         Ok(())
     }
 
+    /// Writes the text of the table in color to a stream of bytes, such as standard output. Where it is refused by `to_ansi`
+    /// nothing is written; where the stream fails some of the text may be.
+    pub fn print_ansi_to<W: io::Write>(&self, out: &mut W) -> Result<(), TableError>
+        ensures text { (es : List ConfigEvent) → Shows es self.now.config → OnOk result (Appends (W.contents out.old) (W.contents out.new) (colored_text (painted es self.now.texts))) }
+        ensures refusal { MatchOption (slice_get (span_faults self.now.config.spanned) 0) (IfErr result (λ e. (e ≡ Refusal.OutOfMemory) ⊎ (e ≡ Refusal.Write))) (λ e. result ≡ Err (of_printer e)) }
+        ensures unwritten { IfErr result (λ e. (e ≡ Refusal.Write) ⊎ (out.new ≡ out.old)) }
+    {
+        let text = self.to_ansi()?;
+        write_bytes(out, text.as_str())
+    }
+
     /// The texts of the cells, row by row, as they were given.
     pub fn texts(&self) -> &[Vec<String>]
         ensures { texts result.now ≡ self.now.texts }
     {
         self.cells.as_slice()
+    }
+}
+
+/// Writes the bytes of a text to a stream.
+fn write_bytes<W: io::Write>(out: &mut W, text: &str) -> Result<(), TableError>
+    ensures written { OnOk result (Appends (W.contents out.old) (W.contents out.new) text.now) }
+    ensures refused { IfErr result (λ e. e ≡ Refusal.Write) }
+{
+    match out.write_all(text.as_bytes()) {
+        Ok(()) => Ok(()),
+        Err(_) => Err(TableError::Write),
     }
 }
 

@@ -1,22 +1,24 @@
--- The widest line is found by a walk over the lines.
-use Rattle.std.proofs.Common.{rules, tests, ◌≡◌, map, unwrap_or, ap, sym, ◌∙◌, lit<}
+-- A text of printable characters is as wide as it is long; else the widest line is found by a walk over the lines.
+use Rattle.std.proofs.Common.{rules, tests, ◌≡◌, map, unwrap_or, ap, sym, ◌∙◌, lit<, arith}
 use Rattle.std.proofs.lemmas.Iterator.{YieldsList-from_map}
 use Rattle.std.proofs.lemmas.Iterator.Adapters.{option_map_id}
 use Rattle.std.proofs.lemmas.Iterator.Consumers.{max_from_yields_List}
 use Rattle.std.proofs.lemmas.Iterator.Splits.{YieldsList-from_str_split}
 use Rattle.tabled_config.specs.Texts.{pieces, width_of_text}
-use Rattle.tabled_text.specs.Sizes.{width_asked}
 use Rattle.tabled_cells.specs.Placed.{greatest}
 use Rattle.tabled_cells.proofs.Measuring.{greatest_found}
-use Rattle.tabled_text.proofs.measure.width_asked.Goals as goal
+use Rattle.tabled_cells.proofs.Printing.{one_piece, printable_width}
+use Rattle.tabled_text.proofs.measure.widest_line.Goals as goal
+
+pub returns-then-is_printable : goal.returns-then-is_printable
+returns-then-is_printable c =
+    let printable = sym c.is_printable.ensures ∙ c.if-is_printable.true in
+    sym (ap (λ lines. greatest (map width_of_text lines)) (one_piece c.args.text.now printable) ∙ omega (arith, printable_width c.args.text.now printable))
 
 pub returns : goal.returns
-unfolding width_asked
 returns c =
-    let found : c.unwrap_or-widest.result ≡ greatest (map width_of_text (pieces c.args.text.now)) =
-    c.unwrap_or-widest.ensures
+    c.unwrap_or.ensures
     ∙ ap (λ found. unwrap_or found 0) (sym (option_map_id c.max.result)
     ∙ max_from_yields_List c.map.result c.max.result c.max.ensures.ran
     (YieldsList-from_map _ width_of_text (YieldsList-from_str_split 10 c.args.text.now (lit< tt) (cc) (cc) (cc)) c.map.ensures.closure (λ x r q k. search (rules, tests))))
-    ∙ greatest_found (map width_of_text (pieces c.args.text.now)) in
-    search (rules, found)
+    ∙ greatest_found (map width_of_text (pieces c.args.text.now))
