@@ -107,6 +107,22 @@ fn a_program_of_input_and_output_takes_each_refusal(rt: HostRuntime) -> Result<(
     Ok(())
 }
 
+/// A program of input and output that reads the name of a style.
+fn named(name: &str) -> io::Result<ReadyStyle> {
+    let style = name.parse::<ReadyStyle>()?;
+    Ok(style)
+}
+
+#[test]
+fn a_program_of_input_and_output_takes_an_unknown_name(rt: HostRuntime) -> Result<(), Fail> {
+    assert!(rt; named("ascii").is_ok_and(|style| style == ReadyStyle::Ascii));
+    let unknown = named("fancy").err().ok_or("taken")?;
+    assert!(rt; unknown.kind() == io::ErrorKind::InvalidInput);
+    let said = sentence(rt.alloc(), &unknown)?;
+    assert!(rt; said.as_str() == "no style of the library has this name");
+    Ok(())
+}
+
 #[test]
 fn a_table_is_displayed_as_its_text(rt: HostRuntime) -> Result<(), Fail> {
     let mut table = TextTable::new(rt.alloc(), ROWS)?;

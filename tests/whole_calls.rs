@@ -152,7 +152,7 @@ fn a_line_is_walked_by_the_lines_that_it_meets(rt: HostRuntime) -> Result<(), Fa
     assert!(rt; are_runs(&runs, &expected));
     let mut text = String::from_str(alloc, "line ")?;
     write_across(&mut text, &cfg, &dims, (2, 2), line, &crossed)?;
-    assert_eq!(rt; text, "line +---+---+");
+    assert_eq!(rt; text.as_str(), "line +---+---+");
     Ok(())
 }
 

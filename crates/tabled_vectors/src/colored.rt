@@ -1,6 +1,6 @@
 //! The colors of borders and of cells, and what is set by entity.
 
-use crate::tables::{ONE, apply, apply_to, config, crossing, has_color, is_plain, top};
+use crate::tables::{ONE, apply, apply_to, config, crossing, has_color, is_plain, let_go, top};
 use std::alloc::Global;
 use tabled_color::{BorderColor, Color};
 use tabled_config::{ColoredConfig, Colors};
@@ -14,102 +14,83 @@ const BLUE: &str = "\u{1b}[34m";
 
 const CELL: Position = Position { row: 0, col: 0 };
 
-/// Each place of a table of one cell that is three columns wide.
-static PLACES: [Place; 12] = [
-    Place::Cross { row: 0, col: 0 },
-    Place::Horizontal {
-        row: 0,
-        col: 0,
-        at: 0,
-    },
-    Place::Horizontal {
-        row: 0,
-        col: 0,
-        at: 1,
-    },
-    Place::Horizontal {
-        row: 0,
-        col: 0,
-        at: 2,
-    },
-    Place::Cross { row: 0, col: 1 },
-    Place::Vertical {
-        row: 0,
-        col: 0,
-        at: 0,
-    },
-    Place::Vertical {
-        row: 0,
-        col: 1,
-        at: 0,
-    },
-    Place::Cross { row: 1, col: 0 },
-    Place::Horizontal {
-        row: 1,
-        col: 0,
-        at: 0,
-    },
-    Place::Horizontal {
-        row: 1,
-        col: 0,
-        at: 1,
-    },
-    Place::Horizontal {
-        row: 1,
-        col: 0,
-        at: 2,
-    },
-    Place::Cross { row: 1, col: 1 },
-];
-
 /// Whether the places above the cell begin with these texts.
 fn top_has(cfg: &ColoredConfig, colors: [&str; 3]) -> bool {
+    let table = ONE;
     let [first, second, third] = colors;
-    has_color(cfg, ONE, top(0, 0), first)
-        && has_color(cfg, ONE, top(0, 1), second)
-        && has_color(cfg, ONE, top(0, 2), third)
+    has_color(cfg, table, top(0, 0), first)
+        && has_color(cfg, table, top(0, 1), second)
+        && has_color(cfg, table, top(0, 2), third)
 }
 
 /// Whether the top of a table is red, and no crossing.
 fn top_is_red(alloc: Global) -> bool {
+    let table = ONE;
     let mut cfg = config(alloc);
-    let is_red = apply(&mut cfg, ONE, BorderColor::new().top(Color::FG_RED))
+    let is_red = apply(&mut cfg, table, BorderColor::new().top(Color::FG_RED))
         && top_has(&cfg, [RED, RED, RED])
-        && is_plain(&cfg, ONE, crossing(0, 0))
-        && is_plain(&cfg, ONE, crossing(0, 1));
-    drop(cfg);
+        && is_plain(&cfg, table, crossing(0, 0))
+        && is_plain(&cfg, table, crossing(0, 1));
+    let_go(cfg);
     is_red
 }
 
-/// Makes one place above the cell red, and then all cells blue all around.
-fn red_in_blue(alloc: Global, cfg: &mut ColoredConfig) -> Result<bool, OutOfMemory> {
-    let red = ANSIBuf::new(alloc, RED, "\u{1b}[39m")?;
-    cfg.config_mut()
-        .set_horizontal_char_color(CELL, Offset::Start(1), red)?;
-    let blue = BorderColor::filled(alloc, Color::FG_BLUE)?;
-    let is_applied = apply_to(alloc, cfg, ONE, &Entity::Global, &blue);
-    drop(blue);
-    Ok(is_applied)
+/// Makes one place above the cell red: whether there was memory for it.
+fn make_place_red(alloc: Global, cfg: &mut ColoredConfig) -> bool {
+    match ANSIBuf::new(alloc, RED, "\u{1b}[39m") {
+        Ok(red) => cfg
+            .config_mut()
+            .set_horizontal_char_color(CELL, Offset::Start(1), red)
+            .is_ok(),
+        Err(OutOfMemory) => false,
+    }
 }
 
-/// Whether no place has a color.
-fn all_are_plain(cfg: &ColoredConfig) -> bool {
-    for place in PLACES.iter() {
-        if !is_plain(cfg, ONE, *place) {
-            return false;
+/// Makes all cells blue all around: whether there was memory for it.
+fn make_blue(alloc: Global, cfg: &mut ColoredConfig) -> bool {
+    match BorderColor::filled(alloc, Color::FG_BLUE) {
+        Ok(blue) => {
+            let is_applied = apply_to(alloc, cfg, ONE, &Entity::Global, &blue);
+            drop(blue);
+            is_applied
         }
+        Err(OutOfMemory) => false,
     }
-    true
+}
+
+/// A place above the cell, or below it.
+fn edge(row: usize, at: usize) -> Place {
+    Place::Horizontal { row, col: 0, at }
+}
+
+/// Whether no place of the line above the cell has a color, or of that below it.
+fn line_is_plain(cfg: &ColoredConfig, row: usize) -> bool {
+    let table = ONE;
+    is_plain(cfg, table, crossing(row, 0))
+        && is_plain(cfg, table, edge(row, 0))
+        && is_plain(cfg, table, edge(row, 1))
+        && is_plain(cfg, table, edge(row, 2))
+        && is_plain(cfg, table, crossing(row, 1))
+}
+
+/// Whether the place beside the cell has no color.
+fn side_is_plain(cfg: &ColoredConfig, col: usize) -> bool {
+    let (row, at) = (0, 0);
+    is_plain(cfg, ONE, Place::Vertical { row, col, at })
 }
 
 /// Whether the red place stays in the blue, and no place has a color after a style.
 fn red_stays_until_a_style(alloc: Global) -> bool {
     let mut cfg = config(alloc);
-    let is_red_until_then = red_in_blue(alloc, &mut cfg) == Ok(true)
+    let is_red_until_then = make_place_red(alloc, &mut cfg)
+        && make_blue(alloc, &mut cfg)
         && top_has(&cfg, [BLUE, RED, BLUE])
         && apply(&mut cfg, ONE, Style::ascii())
-        && all_are_plain(&cfg);
-    drop(cfg);
+        && line_is_plain(&cfg, 0)
+        && side_is_plain(&cfg, 0)
+        && side_is_plain(&cfg, 1)
+        && line_is_plain(&cfg, 1);
+    let_go(cfg);
     is_red_until_then
 }
 
@@ -157,7 +138,7 @@ fn removals_leave(alloc: Global, cfg: &mut ColoredConfig) -> bool {
 fn removals_leave_the_map(alloc: Global) -> bool {
     let mut cfg = config(alloc);
     let is_left = removals_leave(alloc, &mut cfg);
-    drop(cfg);
+    let_go(cfg);
     is_left
 }
 
@@ -175,7 +156,7 @@ fn last_alignment_counts(alloc: Global) -> bool {
         && align(&mut cfg, Entity::Column(0), AlignmentHorizontal::Center)
         && align(&mut cfg, Entity::Global, AlignmentHorizontal::Left)
         && cfg.config().get_alignment_horizontal(CELL) == AlignmentHorizontal::Left;
-    drop(cfg);
+    let_go(cfg);
     is_left
 }
 

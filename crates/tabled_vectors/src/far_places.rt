@@ -1,6 +1,6 @@
 //! What shows about row and column 256, where the slots of a store end.
 
-use crate::tables::{ONE, config, prints};
+use crate::tables::{ONE, config, let_go, makes};
 use std::alloc::Global;
 use tabled_config::SpannedConfig;
 use tabled_grid::{Border, HorizontalLine, LineOf, Place, Position, Probes};
@@ -140,8 +140,9 @@ fn border_has_no_line_below(config: &mut SpannedConfig) -> bool {
 /// column.
 fn last_row_has_no_line_below(alloc: Global) -> bool {
     let mut cfg = config(alloc);
-    let has_none = border_has_no_line_below(cfg.config_mut()) && prints(alloc, &cfg, ONE, "  a  ");
-    drop(cfg);
+    let has_none = border_has_no_line_below(cfg.config_mut())
+        && makes(alloc, &cfg, ONE, "", Ok(()), "  a  ");
+    let_go(cfg);
     has_none
 }
 

@@ -1,10 +1,9 @@
 //! What shows at each level: the default, custom lines, cells and offsets.
 
-use crate::tables::{FOUR, ONE, TWO_ROWS, Table, apply, config, prints};
+use crate::tables::{FOUR, ONE, TWO_ROWS, Table, config, framed, let_go, makes};
 use std::alloc::Global;
 use tabled_config::ColoredConfig;
 use tabled_grid::{Border, HorizontalLine, LineOf, Offset, Place, Position, Probes, VerticalLine};
-use tabled_style::Style;
 
 const CELL: Position = Position { row: 0, col: 0 };
 
@@ -24,17 +23,17 @@ fn set_offsets(cfg: &mut ColoredConfig, offsets: &[(Offset, char)]) -> bool {
 /// Whether one cell is printed in a full frame alone once its offset characters are removed.
 fn offsets_are_removed(alloc: Global, cfg: &mut ColoredConfig) -> bool {
     cfg.config_mut().remove_horizontal_chars();
-    prints(alloc, cfg, ONE, "+---+\n| a |\n+---+")
+    makes(alloc, cfg, ONE, "", Ok(()), "+---+\n| a |\n+---+")
 }
 
 /// Whether one cell in a full frame is printed so with these offset characters, and as before once they are removed.
 fn offsets_show(alloc: Global, offsets: &[(Offset, char)], text: &str) -> bool {
-    let mut cfg = config(alloc);
-    let is_shown = apply(&mut cfg, ONE, Style::ascii())
-        && set_offsets(&mut cfg, offsets)
-        && prints(alloc, &cfg, ONE, text)
+    let table = ONE;
+    let mut cfg = framed(alloc, table);
+    let is_shown = set_offsets(&mut cfg, offsets)
+        && makes(alloc, &cfg, table, "", Ok(()), text)
         && offsets_are_removed(alloc, &mut cfg);
-    drop(cfg);
+    let_go(cfg);
     is_shown
 }
 
@@ -55,27 +54,29 @@ fn put_corner(cfg: &mut ColoredConfig) -> bool {
     cfg.config_mut().set_border(CELL, corner).is_ok()
 }
 
-/// Whether a corner alone draws its row and its column until it is removed, and, where it was put twice and removed once, draws
-/// no row, which is found by at most six readings.
-fn corner_shows(alloc: Global, cfg: &mut ColoredConfig) -> bool {
+/// Whether the row between two cells is not drawn, which is found by at most six readings.
+fn draws_no_row(cfg: &ColoredConfig) -> bool {
     let mut probes = Probes::new();
-    if !put_corner(cfg) || !prints(alloc, cfg, TWO_ROWS, "  a \n#   \n  b ") {
-        return false;
-    }
+    !cfg.config().draws(LineOf::Horizontal(1), 2, &mut probes) && probes.count() <= 6
+}
+
+/// Whether a corner alone draws its row and its column until it is removed, and, where it was put twice and removed once, draws
+/// no row.
+fn corner_shows(alloc: Global, cfg: &mut ColoredConfig) -> bool {
+    let table = TWO_ROWS;
+    let is_shown = put_corner(cfg) && makes(alloc, cfg, table, "", Ok(()), "  a \n#   \n  b ");
     cfg.config_mut().remove_border(CELL);
-    if !prints(alloc, cfg, TWO_ROWS, " a \n b ") || !put_corner(cfg) || !put_corner(cfg) {
-        return false;
-    }
+    let is_removed = makes(alloc, cfg, table, "", Ok(()), " a \n b ");
+    let is_put_twice = put_corner(cfg) && put_corner(cfg);
     cfg.config_mut().remove_border(CELL);
-    let line = LineOf::Horizontal(1);
-    !cfg.config().draws(line, 2, &mut probes) && probes.count() <= 6
+    is_shown && is_removed && is_put_twice && draws_no_row(cfg)
 }
 
 #[test]
 fn a_corner_alone_draws_its_row_and_its_column(rt: HostRuntime) {
     let mut cfg = config(rt.alloc());
     let shows = corner_shows(rt.alloc(), &mut cfg);
-    drop(cfg);
+    let_go(cfg);
     assert!(rt; shows);
 }
 
@@ -83,8 +84,8 @@ fn a_corner_alone_draws_its_row_and_its_column(rt: HostRuntime) {
 fn default_shows(alloc: Global) -> bool {
     let mut cfg = config(alloc);
     cfg.config_mut().set_border_default('*');
-    let is_shown = prints(alloc, &cfg, ONE, "*****\n* a *\n*****");
-    drop(cfg);
+    let is_shown = makes(alloc, &cfg, ONE, "", Ok(()), "*****\n* a *\n*****");
+    let_go(cfg);
     is_shown
 }
 
@@ -93,8 +94,8 @@ fn vertical_line_shows(alloc: Global) -> bool {
     let mut cfg = config(alloc);
     let line = VerticalLine::new(Some('|'), Some('+'), None, None);
     let is_shown = cfg.config_mut().insert_vertical_line(1, line).is_ok()
-        && prints(alloc, &cfg, FOUR, " a | b \n c | d ");
-    drop(cfg);
+        && makes(alloc, &cfg, FOUR, "", Ok(()), " a | b \n c | d ");
+    let_go(cfg);
     is_shown
 }
 
@@ -105,7 +106,7 @@ fn nothing_shows(alloc: Global) -> bool {
     let (row, col, at) = (0, 0, 0);
     let edge = Place::Horizontal { row, col, at };
     let character = cfg.config().char_at(edge, (1, 1), 3, &mut probes);
-    drop(cfg);
+    let_go(cfg);
     character.is_none() && probes.count() <= 6
 }
 
@@ -120,11 +121,17 @@ fn put_two_lines(cfg: &mut ColoredConfig) -> bool {
 
 /// Whether a line that is put over another keeps nothing of it.
 fn later_line_shows(alloc: Global, table: Table) -> bool {
-    let mut cfg = config(alloc);
-    let is_shown = apply(&mut cfg, table, Style::ascii())
-        && put_two_lines(&mut cfg)
-        && prints(alloc, &cfg, table, "+---+\n| a |\n+===+\n| b |\n+---+");
-    drop(cfg);
+    let mut cfg = framed(alloc, table);
+    let is_shown = put_two_lines(&mut cfg)
+        && makes(
+            alloc,
+            &cfg,
+            table,
+            "",
+            Ok(()),
+            "+---+\n| a |\n+===+\n| b |\n+---+",
+        );
+    let_go(cfg);
     is_shown
 }
 

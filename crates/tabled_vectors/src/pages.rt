@@ -109,15 +109,13 @@ fn pages_are_drawn(rt: HostRuntime) {
 
 #[test]
 fn words_and_inputs_are_refused(rt: HostRuntime) {
-    for (words, input, refusal, status) in [
-        ("fancy", "a\n", ShowError::Usage, 2),
-        ("", "a\n", ShowError::Usage, 2),
-        ("ascii", "a\tb\nc\n", ShowError::UnequalRows, 3),
-        ("ascii", "a\r\n", ShowError::ByteOutOfRange, 4),
-    ] {
-        let given = gives(rt.alloc(), words, input.as_bytes(), Err(refusal), "");
-        assert!(rt; given && refusal.status() == status, "{words} of {input}");
-    }
+    let alloc = rt.alloc();
+    let (usage, unequal) = (ShowError::Usage, ShowError::UnequalRows);
+    let byte = ShowError::ByteOutOfRange;
+    assert!(rt; gives(alloc, "fancy", b"a\n", Err(usage), "") && usage.status() == 2);
+    assert!(rt; gives(alloc, "", b"a\n", Err(usage), "") && usage.status() == 2);
+    assert!(rt; gives(alloc, "ascii", b"a\tb\nc\n", Err(unequal), "") && unequal.status() == 3);
+    assert!(rt; gives(alloc, "ascii", b"a\r\n", Err(byte), "") && byte.status() == 4);
 }
 
 #[test]
@@ -191,15 +189,11 @@ fn says(refusal: ShowError, text: &str, status: u8) -> bool {
 
 #[test]
 fn each_refusal_has_a_text_and_a_status(rt: HostRuntime) {
-    for (refusal, text, status) in [
-        (ShowError::Usage, "usage: tabled_show STYLE", 2),
-        (ShowError::ReadFailed, "read failed", 1),
-        (ShowError::TooLong, "input too long", 5),
-        (ShowError::ByteOutOfRange, "byte out of range", 4),
-        (ShowError::UnequalRows, "rows of unequal count", 3),
-        (ShowError::OutOfMemory, "out of memory", 1),
-        (ShowError::WriteFailed, "write failed", 1),
-    ] {
-        assert!(rt; says(refusal, text, status), "{text}");
-    }
+    assert!(rt; says(ShowError::Usage, "usage: tabled_show STYLE", 2));
+    assert!(rt; says(ShowError::ReadFailed, "read failed", 1));
+    assert!(rt; says(ShowError::TooLong, "input too long", 5));
+    assert!(rt; says(ShowError::ByteOutOfRange, "byte out of range", 4));
+    assert!(rt; says(ShowError::UnequalRows, "rows of unequal count", 3));
+    assert!(rt; says(ShowError::OutOfMemory, "out of memory", 1));
+    assert!(rt; says(ShowError::WriteFailed, "write failed", 1));
 }

@@ -1,6 +1,6 @@
 //! Colors in turn, fillings, trims, shadows, and options on compact configurations.
 
-use crate::tables::{FOUR, ONE, Table, apply, apply_made, begins, config};
+use crate::tables::{FOUR, ONE, Table, apply, apply_made, begins, config, let_go};
 use std::alloc::Global;
 use tabled_color::Color;
 use tabled_config::{ColoredConfig, CompactConfig, TableOption};
@@ -27,12 +27,12 @@ fn push_colors(colors: &mut Vec<Color>) -> Result<(), OutOfMemory> {
     Ok(())
 }
 
-/// The first colors of x, y and z.
-fn colors(alloc: Global, count: usize) -> Result<Vec<Color>, OutOfMemory> {
+/// The first colors of x, y and z, of which those are missing for which there was no memory.
+fn colors(alloc: Global, count: usize) -> Vec<Color> {
     let mut colors = Vec::new(alloc);
-    push_colors(&mut colors)?;
-    colors.truncate(count);
-    Ok(colors)
+    let are_pushed = push_colors(&mut colors).is_ok();
+    colors.truncate(if are_pushed { count } else { 0 });
+    colors
 }
 
 /// Whether the cells have colors that begin so, each with its row and column.
@@ -50,61 +50,64 @@ fn have_colors(cfg: &ColoredConfig, cells: &[(usize, usize, &str)]) -> bool {
 }
 
 /// Whether cells have these colors after an option.
-fn colors_cells<O>(
-    alloc: Global,
-    option: Result<O, OutOfMemory>,
-    table: Table,
-    cells: &[(usize, usize, &str)],
-) -> bool
+fn colors_cells<O>(alloc: Global, option: O, table: Table, cells: &[(usize, usize, &str)]) -> bool
 where
     O: TableOption<Shape, ColoredConfig, ()>,
 {
     let mut cfg = config(alloc);
-    let is_colored = apply_made(&mut cfg, table, option) && have_colors(&cfg, cells);
-    drop(cfg);
+    let is_colored = apply(&mut cfg, table, option) && have_colors(&cfg, cells);
+    let_go(cfg);
     is_colored
 }
 
 /// Three cells in a row.
-static IN_A_ROW: Table = (&[3, 3, 3], &[&[" a ", " b ", " c "]]);
+static IN_A_ROW: Table = (&[3, 3, 3], &[1], &[&[" a ", " b ", " c "]]);
 
 /// Three rows of two cells.
 static BOARD: Table = (
     &[3, 3],
+    &[1, 1, 1],
     &[&[" a ", " b "], &[" c ", " d "], &[" e ", " f "]],
 );
 
 #[test]
 fn cells_have_colors_in_turn(rt: HostRuntime) {
     let alloc = rt.alloc();
-    let by_column = colors(alloc, 3).map(Colorization::by_column);
+    let by_column = Colorization::by_column(colors(alloc, 3));
     let cells = [(0, 0, X), (1, 0, Y), (0, 1, Z), (1, 1, X)];
     assert!(rt; colors_cells(alloc, by_column, FOUR, &cells));
-    let columns = colors(alloc, 2).map(Colorization::columns);
+    let columns = Colorization::columns(colors(alloc, 2));
     let cells = [(0, 0, X), (0, 1, Y), (0, 2, X)];
     assert!(rt; colors_cells(alloc, columns, IN_A_ROW, &cells));
-    let chess = Colorization::chess(alloc, Color::FG_RED, Color::FG_GREEN);
-    let cells = [(0, 1, Y), (1, 1, X), (2, 0, X)];
-    assert!(rt; colors_cells(alloc, chess, BOARD, &cells));
+    assert!(rt; chess_is_colored(alloc));
+}
+
+/// Whether cells have two colors by turns.
+fn chess_is_colored(alloc: Global) -> bool {
+    match Colorization::chess(alloc, Color::FG_RED, Color::FG_GREEN) {
+        Ok(chess) => colors_cells(alloc, chess, BOARD, &[(0, 1, Y), (1, 1, X), (2, 0, X)]),
+        Err(OutOfMemory) => false,
+    }
 }
 
 /// Whether listed entities have colors as a whole.
 fn exact_entities_are_colored(alloc: Global) -> bool {
     let target = Rows::one(1).and((0usize, 0usize));
-    let exact = colors(alloc, 2).map(|colors| Colorization::exact(colors, target));
+    let exact = Colorization::exact(colors(alloc, 2), target);
     let cells = [(1, 0, X), (1, 1, X), (0, 0, Y), (0, 1, "")];
     colors_cells(alloc, exact, FOUR, &cells)
 }
 
 /// Whether no colors make no map of colors.
 fn no_colors_make_no_map(alloc: Global) -> bool {
+    let table = FOUR;
     let mut cfg = config(alloc);
     let by_row = Colorization::by_row(Vec::new(alloc));
-    let is_first_applied = apply(&mut cfg, FOUR, by_row);
+    let is_first_applied = apply(&mut cfg, table, by_row);
     let exact = Colorization::exact(Vec::new(alloc), Rows::one(0));
-    let is_second_applied = apply(&mut cfg, FOUR, exact);
+    let is_second_applied = apply(&mut cfg, table, exact);
     let makes_none = is_first_applied && is_second_applied && cfg.get_colors().is_empty();
-    drop(cfg);
+    let_go(cfg);
     makes_none
 }
 
@@ -116,24 +119,26 @@ fn entities_have_colors_in_turn(rt: HostRuntime) {
 
 /// Whether the default filling is a space of no color, whatever was there.
 fn default_filling_is_a_space(alloc: Global) -> bool {
+    let table = ONE;
     let mut cfg = config(alloc);
     let colored = Justification::colored('#', Color::FG_RED);
-    let is_space = apply(&mut cfg, ONE, colored)
-        && apply(&mut cfg, ONE, Justification::default())
+    let is_space = apply(&mut cfg, table, colored)
+        && apply(&mut cfg, table, Justification::default())
         && cfg.config().get_justification(CELL) == ' '
         && cfg.config().get_justification_color(CELL).is_none();
-    drop(cfg);
+    let_go(cfg);
     is_space
 }
 
 /// Whether one trim leaves the other.
 fn one_trim_leaves_the_other(alloc: Global) -> bool {
+    let table = ONE;
     let mut cfg = config(alloc);
-    let is_left = apply(&mut cfg, ONE, TrimStrategy::Vertical)
-        && apply(&mut cfg, ONE, TrimStrategy::Horizontal)
+    let is_left = apply(&mut cfg, table, TrimStrategy::Vertical)
+        && apply(&mut cfg, table, TrimStrategy::Horizontal)
         && cfg.config().get_trim_horizontal(CELL)
         && cfg.config().get_trim_vertical(CELL);
-    drop(cfg);
+    let_go(cfg);
     is_left
 }
 
@@ -164,13 +169,14 @@ fn is_red(cfg: &ColoredConfig) -> bool {
 
 /// Whether a shadow makes its margin, and leaves the color that was set before.
 fn shadow_makes_its_margin(alloc: Global) -> bool {
+    let table = ONE;
     let mut cfg = config(alloc);
     let red = MarginColor::filled(alloc, Color::FG_RED);
-    let is_colored = apply_made(&mut cfg, ONE, red);
+    let is_colored = apply_made(&mut cfg, table, red);
     let shadow = Shadow::new(2).set_offset(3).set_left();
-    let is_applied = apply(&mut cfg, ONE, shadow);
+    let is_applied = apply(&mut cfg, table, shadow);
     let is_made = is_colored && is_applied && is_shadowed(&cfg) && is_red(&cfg);
-    drop(cfg);
+    let_go(cfg);
     is_made
 }
 

@@ -1,12 +1,9 @@
 //! Spans, their correction, and what the printer says of them.
 
-use crate::printing::{Sized, makes_of_before};
-use crate::tables::{
-    FOUR, NINE, ONE, TWO_COLUMNS, Table, apply, char_at, config, crossing, prints,
-};
+use crate::tables::{FOUR, NINE, ONE, TWO_COLUMNS, Table, apply, config, counts, let_go, makes};
 use std::alloc::Global;
 use tabled_config::{ColoredConfig, PrintError, TableOption};
-use tabled_grid::{Position, Shape};
+use tabled_grid::{Place, Position, Probes, Shape};
 use tabled_options::BorderCorrection;
 use tabled_style::Style;
 
@@ -24,13 +21,25 @@ where
         && apply(cfg, table, BorderCorrection::span())
 }
 
-/// Whether the crossings of a table are these characters, row by row.
-fn has_crossings(cfg: &ColoredConfig, table: Table, rows: &[&str]) -> bool {
-    for (row, characters) in rows.iter().enumerate() {
-        for (col, character) in characters.chars().enumerate() {
-            if char_at(cfg, table, crossing(row, col)) != Some(character) {
-                return false;
-            }
+/// Whether the crossings of a line of a table are these characters.
+fn line_has(cfg: &ColoredConfig, table: Table, row: usize, characters: &str) -> bool {
+    for (col, character) in characters.chars().enumerate() {
+        let place = Place::Cross { row, col };
+        let shown = cfg
+            .config()
+            .char_at(place, counts(table), 0, &mut Probes::new());
+        if shown != Some(character) {
+            return false;
+        }
+    }
+    true
+}
+
+/// Whether the crossings of a table are these characters, line by line.
+fn has_crossings(cfg: &ColoredConfig, table: Table, lines: &[&str]) -> bool {
+    for (row, characters) in lines.iter().enumerate() {
+        if !line_has(cfg, table, row, characters) {
+            return false;
         }
     }
     true
@@ -51,18 +60,19 @@ where
     let mut cfg = config(alloc);
     let is_left = correct(&mut cfg, table, style, columns, rows)
         && has_crossings(&cfg, table, crossings);
-    drop(cfg);
+    let_go(cfg);
     is_left
 }
 
 #[test]
 fn spans_are_corrected(rt: HostRuntime) {
+    let table = NINE;
     let alloc = rt.alloc();
     let crossings = ["+--+", "++++", "++++", "++++"];
-    assert!(rt; leaves(alloc, NINE, Style::ascii(), 3, 1, &crossings));
+    assert!(rt; leaves(alloc, table, Style::ascii(), 3, 1, &crossings));
     assert!(rt; leaves(alloc, FOUR, Style::ascii(), 1, 2, &["+++", "|++", "+++"]));
     let crossings = ["┌─┬┐", "││├┤", "├┬┼┤", "└┴┴┘"];
-    assert!(rt; leaves(alloc, NINE, Style::modern(), 2, 2, &crossings));
+    assert!(rt; leaves(alloc, table, Style::modern(), 2, 2, &crossings));
     assert!(rt;
         leaves(
             alloc,
@@ -77,8 +87,8 @@ fn spans_are_corrected(rt: HostRuntime) {
 
 /// Whether a cell that is too wide is refused so, and the text stays.
 fn refuses_wide(alloc: Global, cfg: &ColoredConfig, refusal: PrintError) -> bool {
-    let wide: Sized = (&[3], &[1], &[&[" ab "]]);
-    makes_of_before(alloc, cfg, wide, Err(refusal), "before:")
+    let wide: Table = (&[3], &[1], &[&[" ab "]]);
+    makes(alloc, cfg, wide, "before:", Err(refusal), "before:")
 }
 
 /// Whether a width is refused, and a span before it.
@@ -89,7 +99,7 @@ fn spans_are_refused_first(alloc: Global) -> bool {
         && refuses_wide(alloc, &cfg, PrintError::Spans)
         && cfg.config_mut().set_column_span(FIRST, usize::MAX).is_ok()
         && refuses_wide(alloc, &cfg, PrintError::Spans);
-    drop(cfg);
+    let_go(cfg);
     are_refused
 }
 
@@ -99,8 +109,8 @@ fn span_is_taken_back(alloc: Global) -> bool {
     let is_none = cfg.config_mut().set_column_span(FIRST, 3).is_ok()
         && cfg.config_mut().set_column_span(FIRST, 1).is_ok()
         && cfg.config().get_column_spans().is_empty()
-        && prints(alloc, &cfg, ONE, " a ");
-    drop(cfg);
+        && makes(alloc, &cfg, ONE, "", Ok(()), " a ");
+    let_go(cfg);
     is_none
 }
 

@@ -1,7 +1,8 @@
 //! Styles and borders as options.
 
 use crate::tables::{
-    ONE, TWO_ROWS, Table, apply, apply_to, config, prints, prints_with, prints_with_both,
+    ONE, TWO_ROWS, Table, apply, apply_to, config, framed, let_go, makes, prints_with,
+    prints_with_both,
 };
 use std::alloc::Global;
 use tabled_config::ColoredConfig;
@@ -9,22 +10,23 @@ use tabled_style::{Border, EmptyBorder, HorizontalLine, Style};
 
 /// Whether a frame leaves what was written for a cell.
 fn frame_leaves(alloc: Global, cfg: &mut ColoredConfig) -> bool {
-    apply(cfg, ONE, Style::ascii())
-        && apply_to(alloc, cfg, ONE, &(0, 0), &Border::new().top('x'))
-        && apply(cfg, ONE, Border::filled('#'))
-        && prints(alloc, cfg, ONE, "#xxx#\n# a #\n#####")
+    let table = ONE;
+    apply_to(alloc, cfg, table, &(0, 0), &Border::new().top('x'))
+        && apply(cfg, table, Border::filled('#'))
+        && makes(alloc, cfg, table, "", Ok(()), "#xxx#\n# a #\n#####")
 }
 
 /// Whether a style leaves nothing of that.
 fn style_erases(alloc: Global, cfg: &mut ColoredConfig) -> bool {
-    apply(cfg, ONE, Style::empty()) && prints(alloc, cfg, ONE, " a ")
+    let table = ONE;
+    apply(cfg, table, Style::empty()) && makes(alloc, cfg, table, "", Ok(()), " a ")
 }
 
 /// Whether a frame leaves what was written for a cell, and a style does not.
 fn frame_leaves_a_cell(alloc: Global) -> bool {
-    let mut cfg = config(alloc);
+    let mut cfg = framed(alloc, ONE);
     let is_left = frame_leaves(alloc, &mut cfg) && style_erases(alloc, &mut cfg);
-    drop(cfg);
+    let_go(cfg);
     is_left
 }
 
@@ -35,23 +37,29 @@ fn a_frame_leaves_what_was_written_for_a_cell(rt: HostRuntime) {
 }
 
 /// A table of three rows.
-static LANGUAGES: Table = (&[7], &[&[" &str  "], &[" Hello "], &[" 2022  "]]);
+static LANGUAGES: Table = (
+    &[7],
+    &[1, 1, 1],
+    &[&[" &str  "], &[" Hello "], &[" 2022  "]],
+);
 
 /// Whether a cell has the frame of another style.
 fn cell_is_framed(alloc: Global) -> bool {
+    let table = LANGUAGES;
     let mut cfg = config(alloc);
     let frame = Border::inherit(Style::modern());
     let text = "┌───────┐\n│ &str  │\n└───────┘\n  Hello  \n  2022   ";
-    let is_framed = apply(&mut cfg, LANGUAGES, Style::psql())
-        && apply_to(alloc, &mut cfg, LANGUAGES, &(0, 0), &frame)
-        && prints(alloc, &cfg, LANGUAGES, text);
-    drop(cfg);
+    let is_framed = apply(&mut cfg, table, Style::psql())
+        && apply_to(alloc, &mut cfg, table, &(0, 0), &frame)
+        && makes(alloc, &cfg, table, "", Ok(()), text);
+    let_go(cfg);
     is_framed
 }
 
 /// A table of three rows and two columns.
 static NUMBERS: Table = (
     &[10, 7],
+    &[1, 1, 1],
     &[
         &[" 0        ", " 1     "],
         &[" 2        ", " 3     "],
@@ -80,12 +88,13 @@ fn a_cell_and_a_table_have_the_frame_of_another_style(rt: HostRuntime) {
 
 #[test]
 fn lines_take_what_they_do_not_give(rt: HostRuntime) {
+    let table = TWO_ROWS;
     let twice = Style::rounded().horizontals([
         (1, HorizontalLine::filled('#')),
         (1, HorizontalLine::filled('&')),
     ]);
     let text = "╭───╮\n│ a │\n&&&&&\n│ b │\n╰───╯";
-    assert!(rt; prints_with(rt.alloc(), twice, TWO_ROWS, text));
+    assert!(rt; prints_with(rt.alloc(), twice, table, text));
     let bare = Style::ascii().line_horizontal(HorizontalLine::new('='));
-    assert!(rt; prints_with(rt.alloc(), bare, TWO_ROWS, "---\n a \n===\n b \n---"));
+    assert!(rt; prints_with(rt.alloc(), bare, table, "---\n a \n===\n b \n---"));
 }

@@ -5,23 +5,29 @@ use tabled_config::{
     CellOption, ColoredConfig, PrintError, SpannedConfig, TableOption, modify, print_plain,
 };
 use tabled_grid::{ANSIBuf, FixedDimension, Object, OutOfMemory, Place, Probes, Shape};
+use tabled_style::Style;
 
-/// The widths of the columns, and the cells, each of which is one line high.
-pub(crate) type Table = (&'static [usize], &'static [&'static [&'static str]]);
+/// The widths of the columns, the heights of the rows, and the cells.
+pub(crate) type Table = (
+    &'static [usize],
+    &'static [usize],
+    &'static [&'static [&'static str]],
+);
 
-pub(crate) static ONE: Table = (&[3], &[&[" a "]]);
+pub(crate) static ONE: Table = (&[3], &[1], &[&[" a "]]);
 
-pub(crate) static TWO_COLUMNS: Table = (&[3, 3], &[&[" a ", " b "]]);
+pub(crate) static TWO_COLUMNS: Table = (&[3, 3], &[1], &[&[" a ", " b "]]);
 
-pub(crate) static TWO_ROWS: Table = (&[3], &[&[" a "], &[" b "]]);
+pub(crate) static TWO_ROWS: Table = (&[3], &[1, 1], &[&[" a "], &[" b "]]);
 
-pub(crate) static THREE_ROWS: Table = (&[3], &[&[" a "], &[" b "], &[" c "]]);
+pub(crate) static THREE_ROWS: Table = (&[3], &[1, 1, 1], &[&[" a "], &[" b "], &[" c "]]);
 
-pub(crate) static FOUR: Table = (&[3, 3], &[&[" a ", " b "], &[" c ", " d "]]);
+pub(crate) static FOUR: Table = (&[3, 3], &[1, 1], &[&[" a ", " b "], &[" c ", " d "]]);
 
 /// A table of nine cells.
 pub(crate) static NINE: Table = (
     &[3, 3, 3],
+    &[1, 1, 1],
     &[
         &[" a ", " b ", " c "],
         &[" d ", " e ", " f "],
@@ -30,26 +36,35 @@ pub(crate) static NINE: Table = (
 );
 
 /// A table of two rows and one column.
-pub(crate) static GREETING: Table = (&[13], &[&[" &str        "], &[" Hello World "]]);
+pub(crate) static GREETING: Table = (&[13], &[1, 1], &[&[" &str        "], &[" Hello World "]]);
 
 /// A configuration in which nothing was set.
 pub(crate) fn config(alloc: Global) -> ColoredConfig {
     ColoredConfig::new(SpannedConfig::new(alloc))
 }
 
-/// The shape of a table.
-pub(crate) fn shape(table: Table) -> Shape {
-    Shape {
-        rows: table.1.len(),
-        cols: table.0.len(),
-    }
+/// A configuration with a full frame around a table and between its cells.
+pub(crate) fn framed(alloc: Global, table: Table) -> ColoredConfig {
+    let mut cfg = config(alloc);
+    let _ = apply(&mut cfg, table, Style::ascii());
+    cfg
 }
 
-/// The sizes of a table.
-pub(crate) fn sizes(alloc: Global, table: Table) -> Result<FixedDimension, OutOfMemory> {
-    let heights = vec![in alloc; 1usize; table.1.len()]?;
-    let widths = table.0.to_vec(alloc)?;
-    Ok(FixedDimension::new(widths, heights))
+/// Lets go of a configuration: first of the colors of cells, and then of the rest, which is one call.
+pub(crate) fn let_go(cfg: ColoredConfig) {
+    drop(cfg.into_inner());
+}
+
+/// How many rows and columns a table has.
+pub(crate) fn counts(table: Table) -> (usize, usize) {
+    (table.1.len(), table.0.len())
+}
+
+/// The sizes of a table, of which those are missing for which there was no memory.
+pub(crate) fn sizes(alloc: Global, table: Table) -> FixedDimension {
+    let widths = table.0.to_vec(alloc).unwrap_or(Vec::new(alloc));
+    let heights = table.1.to_vec(alloc).unwrap_or(Vec::new(alloc));
+    FixedDimension::new(widths, heights)
 }
 
 /// Applies an option that asks for no sizes to a table: whether there was memory for it.
@@ -57,7 +72,11 @@ pub(crate) fn apply<O>(cfg: &mut ColoredConfig, table: Table, option: O) -> bool
 where
     O: TableOption<Shape, ColoredConfig, ()>,
 {
-    option.change(&mut shape(table), cfg, &mut ()).is_ok()
+    let mut shape = Shape {
+        rows: table.1.len(),
+        cols: table.0.len(),
+    };
+    option.change(&mut shape, cfg, &mut ()).is_ok()
 }
 
 /// Applies such an option, if there was memory for it: whether there was, also for what it changes.
@@ -83,35 +102,29 @@ pub(crate) fn write<O>(
     text: Result<O, OutOfMemory>,
 ) -> bool
 where
-    O: TableOption<Shape, ColoredConfig, FixedDimension> + Drop,
+    O: TableOption<Shape, ColoredConfig, FixedDimension>,
 {
-    match sizes(alloc, table) {
-        Ok(mut dims) => {
+    match text {
+        Ok(text) => {
+            let mut dims = sizes(alloc, table);
             let is_written = change(cfg, table, &mut dims, text);
             drop(dims);
             is_written
         }
-        Err(OutOfMemory) => {
-            drop(text);
-            false
-        }
+        Err(OutOfMemory) => false,
     }
 }
 
-/// Applies an option to a table of these sizes, if there was memory for it: whether there was, also for what it changes.
-fn change<O>(
-    cfg: &mut ColoredConfig,
-    table: Table,
-    dims: &mut FixedDimension,
-    option: Result<O, OutOfMemory>,
-) -> bool
+/// Applies an option to a table of these sizes: whether there was memory for it.
+fn change<O>(cfg: &mut ColoredConfig, table: Table, dims: &mut FixedDimension, option: O) -> bool
 where
     O: TableOption<Shape, ColoredConfig, FixedDimension>,
 {
-    match option {
-        Ok(option) => option.change(&mut shape(table), cfg, dims).is_ok(),
-        Err(OutOfMemory) => false,
-    }
+    let mut shape = Shape {
+        rows: table.1.len(),
+        cols: table.0.len(),
+    };
+    option.change(&mut shape, cfg, dims).is_ok()
 }
 
 /// Applies an option to the cells of an object: whether there was memory for it.
@@ -126,57 +139,62 @@ where
     O: Object<Shape>,
     P: CellOption<Shape, ColoredConfig>,
 {
-    modify(alloc, &mut shape(table), cfg, object, option).is_ok()
+    let mut shape = Shape {
+        rows: table.1.len(),
+        cols: table.0.len(),
+    };
+    modify(alloc, &mut shape, cfg, object, option).is_ok()
 }
 
-/// The texts of one row.
-fn row_of(alloc: Global, row: &[&str]) -> Result<Vec<String>, OutOfMemory> {
-    let mut texts = Vec::new(alloc);
-    for text in row {
-        texts.push(String::from_str(alloc, text)?)?;
-    }
-    Ok(texts)
-}
-
-/// The texts of rows.
-pub(crate) fn cells_of(alloc: Global, rows: &[&[&str]]) -> Result<Vec<Vec<String>>, OutOfMemory> {
-    let mut cells = Vec::new(alloc);
-    for row in rows {
-        cells.push(row_of(alloc, row)?)?;
-    }
-    Ok(cells)
-}
-
-/// Whether printing onto a text returns this, and leaves that text.
-pub(crate) fn makes(
+/// Adds the texts of rows: whether there was memory for them.
+fn push_rows(
     alloc: Global,
+    cells: &mut Vec<Vec<String>>,
+    rows: &[&[&str]],
+) -> Result<(), OutOfMemory> {
+    for row in rows {
+        let mut texts = Vec::new(alloc);
+        for text in *row {
+            texts.push(String::from_str(alloc, text)?)?;
+        }
+        cells.push(texts)?;
+    }
+    Ok(())
+}
+
+/// Whether printing cells after a text returns this, and makes this text of it.
+fn makes_of(
+    shown: &mut String,
     cfg: &ColoredConfig,
     dims: &FixedDimension,
     shape: (usize, usize),
-    rows: &[&[&str]],
-    start: &str,
+    cells: &[Vec<String>],
     expected: (Result<(), PrintError>, &str),
-) -> Result<bool, OutOfMemory> {
-    let cells = cells_of(alloc, rows)?;
-    let mut shown = String::from_str(alloc, start)?;
-    let returned = print_plain(&mut shown, cfg.config(), dims, shape, &cells);
-    let is_expected = returned == expected.0 && shown.as_str() == expected.1;
-    drop(shown);
-    drop(cells);
-    Ok(is_expected)
+) -> bool {
+    let returned = print_plain(shown, cfg.config(), dims, shape, cells);
+    returned == expected.0 && shown.as_str() == expected.1
 }
 
-/// Whether a table is printed as this text.
-pub(crate) fn prints(alloc: Global, cfg: &ColoredConfig, table: Table, text: &str) -> bool {
-    match sizes(alloc, table) {
-        Ok(dims) => {
-            let (shape, expected) = (shape(table).into(), (Ok(()), text));
-            let is_made = makes(alloc, cfg, &dims, shape, table.1, "", expected) == Ok(true);
-            drop(dims);
-            is_made
-        }
-        Err(OutOfMemory) => false,
-    }
+/// Whether printing a table after a text returns this, and makes this text of it.
+pub(crate) fn makes(
+    alloc: Global,
+    cfg: &ColoredConfig,
+    table: Table,
+    start: &str,
+    outcome: Result<(), PrintError>,
+    text: &str,
+) -> bool {
+    let dims = sizes(alloc, table);
+    let mut cells = Vec::new(alloc);
+    let mut shown = String::new(alloc);
+    let has_start = shown.push_str(start).is_ok();
+    let has_cells = push_rows(alloc, &mut cells, table.2).is_ok();
+    let expected = (outcome, text);
+    let is_made = makes_of(&mut shown, cfg, &dims, counts(table), &cells, expected);
+    drop(shown);
+    drop(cells);
+    drop(dims);
+    has_start && has_cells && is_made
 }
 
 /// Whether a table is printed so after an option.
@@ -185,8 +203,8 @@ where
     O: TableOption<Shape, ColoredConfig, ()>,
 {
     let mut cfg = config(alloc);
-    let is_printed = apply(&mut cfg, table, option) && prints(alloc, &cfg, table, text);
-    drop(cfg);
+    let is_printed = apply(&mut cfg, table, option) && makes(alloc, &cfg, table, "", Ok(()), text);
+    let_go(cfg);
     is_printed
 }
 
@@ -205,8 +223,10 @@ where
     let mut cfg = config(alloc);
     let is_first_applied = apply(&mut cfg, table, first);
     let is_second_applied = apply(&mut cfg, table, second);
-    let is_printed = is_first_applied && is_second_applied && prints(alloc, &cfg, table, text);
-    drop(cfg);
+    let is_printed = is_first_applied
+        && is_second_applied
+        && makes(alloc, &cfg, table, "", Ok(()), text);
+    let_go(cfg);
     is_printed
 }
 
@@ -221,7 +241,7 @@ fn size(table: Table, place: Place) -> usize {
 
 /// The character of a place of a table.
 pub(crate) fn char_at(cfg: &ColoredConfig, table: Table, place: Place) -> Option<char> {
-    let (shape, size) = (shape(table).into(), size(table, place));
+    let (shape, size) = (counts(table), size(table, place));
     cfg.config().char_at(place, shape, size, &mut Probes::new())
 }
 
@@ -235,7 +255,7 @@ pub(crate) fn begins(color: Option<&ANSIBuf>, prefix: &str) -> bool {
 
 /// Whether a place of a table has a color that begins with this text.
 pub(crate) fn has_color(cfg: &ColoredConfig, table: Table, place: Place, prefix: &str) -> bool {
-    let (shape, size) = (shape(table).into(), size(table, place));
+    let (shape, size) = (counts(table), size(table, place));
     let color = cfg
         .config()
         .color_at(place, shape, size, &mut Probes::new());
@@ -244,7 +264,7 @@ pub(crate) fn has_color(cfg: &ColoredConfig, table: Table, place: Place, prefix:
 
 /// Whether a place of a table has no color.
 pub(crate) fn is_plain(cfg: &ColoredConfig, table: Table, place: Place) -> bool {
-    let (shape, size) = (shape(table).into(), size(table, place));
+    let (shape, size) = (counts(table), size(table, place));
     let color = cfg
         .config()
         .color_at(place, shape, size, &mut Probes::new());

@@ -1,8 +1,8 @@
 //! Texts and characters on lines.
 
 use crate::tables::{
-    FOUR, GREETING, ONE, TWO_COLUMNS, Table, apply, apply_to, char_at, config, crossing, has_color,
-    is_plain, prints, top, write,
+    FOUR, GREETING, ONE, TWO_COLUMNS, Table, apply, apply_to, char_at, config, crossing, framed,
+    has_color, is_plain, let_go, makes, top, write,
 };
 use std::alloc::Global;
 use tabled_color::Color;
@@ -100,30 +100,27 @@ fn title_of(alloc: Global, title: Title) -> Result<LineText<FirstRow>, OutOfMemo
     }
 }
 
-/// Whether a table in a style is printed so with a text on a line, if there was memory for it.
-fn prints_in<O, P>(
+/// Whether a table is printed so once a text is put on a line, if there was memory for it.
+fn prints_on<P>(
     alloc: Global,
-    style: O,
+    mut cfg: ColoredConfig,
     text: Result<P, OutOfMemory>,
     table: Table,
     expected: &str,
 ) -> bool
 where
-    O: TableOption<Shape, ColoredConfig, ()>,
-    P: TableOption<Shape, ColoredConfig, FixedDimension> + Drop,
+    P: TableOption<Shape, ColoredConfig, FixedDimension>,
 {
-    let mut cfg = config(alloc);
-    let is_styled = apply(&mut cfg, table, style);
-    let is_written = write(alloc, &mut cfg, table, text);
-    let is_printed = is_styled && is_written && prints(alloc, &cfg, table, expected);
-    drop(cfg);
+    let is_printed = write(alloc, &mut cfg, table, text)
+        && makes(alloc, &cfg, table, "", Ok(()), expected);
+    let_go(cfg);
     is_printed
 }
 
 /// Whether a title makes its top line, and nothing else.
 fn makes_its_top_line(alloc: Global, title: Title) -> bool {
     let option = title_of(alloc, title);
-    prints_in(alloc, Style::ascii(), option, GREETING, title.4)
+    prints_on(alloc, framed(alloc, GREETING), option, GREETING, title.4)
 }
 
 #[test]
@@ -136,7 +133,7 @@ fn titles_make_their_top_lines(rt: HostRuntime) {
 /// Whether a table in the full frame is printed so with a text above a row.
 fn prints_above(alloc: Global, text: &str, row: Row, expected: &str) -> bool {
     let option = LineText::new(alloc, text, row);
-    prints_in(alloc, Style::ascii(), option, GREETING, expected)
+    prints_on(alloc, framed(alloc, GREETING), option, GREETING, expected)
 }
 
 /// The table in the full frame with a text in its closing line.
@@ -155,14 +152,23 @@ TABLE---------+
 
 #[test]
 fn a_text_stands_above_the_row_that_is_named(rt: HostRuntime) {
+    let table = GREETING;
     let alloc = rt.alloc();
     assert!(rt; prints_above(alloc, "TABLE", Rows::one(2), CLOSED));
     assert!(rt; prints_above(alloc, "TABLE", Rows::one(3), UNTOUCHED));
     assert!(rt; prints_above(alloc, "TABLE", Rows::one(usize::MAX), UNTOUCHED));
     let above_the_last = LineText::new(alloc, "TABLE", Rows::last());
-    assert!(rt; prints_in(alloc, Style::ascii(), above_the_last, GREETING, INNER));
+    assert!(rt; prints_on(alloc, framed(alloc, table), above_the_last, table, INNER));
     let before_the_first = LineText::new(alloc, "TABLE", Rows::last().offset(usize::MAX));
-    assert!(rt; prints_in(alloc, Style::ascii(), before_the_first, GREETING, UNTOUCHED));
+    assert!(rt;
+        prints_on(
+            alloc,
+            framed(alloc, table),
+            before_the_first,
+            table,
+            UNTOUCHED
+        )
+    );
 }
 
 /// The table with a text down both sides.
@@ -187,10 +193,9 @@ fn put_before(alloc: Global, cfg: &mut ColoredConfig, column: usize) -> bool {
 
 /// Whether texts run down both sides.
 fn has_both_sides(alloc: Global, cfg: &mut ColoredConfig) -> bool {
-    apply(cfg, GREETING, Style::ascii())
-        && put_before(alloc, cfg, 0)
+    put_before(alloc, cfg, 0)
         && put_before(alloc, cfg, 1)
-        && prints(alloc, cfg, GREETING, BOTH_SIDES)
+        && makes(alloc, cfg, GREETING, "", Ok(()), BOTH_SIDES)
 }
 
 /// A text that ends at the bottom of the first column.
@@ -201,14 +206,14 @@ fn at_the_bottom(alloc: Global) -> Result<LineText<FirstColumn>, OutOfMemory> {
 #[test]
 fn texts_run_down_the_sides(rt: HostRuntime) {
     let alloc = rt.alloc();
-    let mut cfg = config(alloc);
+    let mut cfg = framed(alloc, GREETING);
     let has_both = has_both_sides(alloc, &mut cfg);
-    drop(cfg);
+    let_go(cfg);
     assert!(rt; has_both);
     assert!(rt;
-        prints_in(
+        prints_on(
             alloc,
-            Style::ascii(),
+            framed(alloc, GREETING),
             at_the_bottom(alloc),
             GREETING,
             AT_THE_BOTTOM
@@ -217,12 +222,17 @@ fn texts_run_down_the_sides(rt: HostRuntime) {
 }
 
 /// A table of three rows.
-static LANGUAGES: Table = (&[7], &[&[" &str  "], &[" Hello "], &[" 2022  "]]);
+static LANGUAGES: Table = (
+    &[7],
+    &[1, 1, 1],
+    &[&[" &str  "], &[" Hello "], &[" 2022  "]],
+);
 
 /// Whether a text on the middle line of a table of four cells makes this of it.
 fn makes_of_four(alloc: Global, cfg: &mut ColoredConfig, text: &str, expected: &str) -> bool {
+    let table = FOUR;
     let text = LineText::new(alloc, text, Rows::one(1));
-    write(alloc, cfg, FOUR, text) && prints(alloc, cfg, FOUR, expected)
+    write(alloc, cfg, table, text) && makes(alloc, cfg, table, "", Ok(()), expected)
 }
 
 /// Whether two texts on the middle line of a table with a vertical line alone make these texts.
@@ -233,18 +243,26 @@ fn draws_its_line(alloc: Global, cfg: &mut ColoredConfig) -> bool {
         && makes_of_four(alloc, cfg, "xyz", " a | b \nxyzDEFG\n c | d ")
 }
 
+/// A configuration with a line below the first row of a table and lines between its columns.
+fn headed(alloc: Global, table: Table) -> ColoredConfig {
+    let mut cfg = config(alloc);
+    let _ = apply(&mut cfg, table, Style::psql());
+    cfg
+}
+
 #[test]
 fn a_text_draws_a_line_by_its_crossings_alone(rt: HostRuntime) {
+    let table = LANGUAGES;
     let alloc = rt.alloc();
     let text = " &str  \nSanta--\n Hello \n 2022  ";
     let drawn = LineText::new(alloc, "Santa", Rows::one(1));
-    assert!(rt; prints_in(alloc, Style::psql(), drawn, LANGUAGES, text));
+    assert!(rt; prints_on(alloc, headed(alloc, table), drawn, table, text));
     let text = " &str  \n-------\n Hello \n 2022  ";
     let undrawn = LineText::new(alloc, "Santa", Rows::first());
-    assert!(rt; prints_in(alloc, Style::psql(), undrawn, LANGUAGES, text));
+    assert!(rt; prints_on(alloc, headed(alloc, table), undrawn, table, text));
     let mut cfg = config(alloc);
     let is_drawn = draws_its_line(alloc, &mut cfg);
-    drop(cfg);
+    let_go(cfg);
     assert!(rt; is_drawn);
 }
 
@@ -257,12 +275,13 @@ fn blue(alloc: Global, text: &str) -> Result<LineText<FirstRow>, OutOfMemory> {
 
 /// Whether the first places of a title in blue are blue, and the next one plain.
 fn title_is_blue(cfg: &ColoredConfig) -> bool {
-    has_color(cfg, GREETING, crossing(0, 0), BLUE)
-        && has_color(cfg, GREETING, top(0, 0), BLUE)
-        && has_color(cfg, GREETING, top(0, 1), BLUE)
-        && has_color(cfg, GREETING, top(0, 2), BLUE)
-        && has_color(cfg, GREETING, top(0, 3), BLUE)
-        && is_plain(cfg, GREETING, top(0, 4))
+    let table = GREETING;
+    has_color(cfg, table, crossing(0, 0), BLUE)
+        && has_color(cfg, table, top(0, 0), BLUE)
+        && has_color(cfg, table, top(0, 1), BLUE)
+        && has_color(cfg, table, top(0, 2), BLUE)
+        && has_color(cfg, table, top(0, 3), BLUE)
+        && is_plain(cfg, table, top(0, 4))
 }
 
 /// A theme of a top line and of a line between columns that has nothing at their crossing.
@@ -275,79 +294,82 @@ fn open(alloc: Global) -> Theme {
 
 /// Whether a crossing without a character uses up a character of the text and has its color.
 fn crossing_is_blue(alloc: Global, cfg: &ColoredConfig) -> bool {
-    prints(alloc, cfg, TWO_COLUMNS, "ABC EFG\n a | b ")
-        && char_at(cfg, TWO_COLUMNS, crossing(0, 1)).is_none()
-        && has_color(cfg, TWO_COLUMNS, crossing(0, 1), BLUE)
+    let table = TWO_COLUMNS;
+    makes(alloc, cfg, table, "", Ok(()), "ABC EFG\n a | b ")
+        && char_at(cfg, table, crossing(0, 1)).is_none()
+        && has_color(cfg, table, crossing(0, 1), BLUE)
 }
 
 /// Whether texts in blue are blue.
 fn texts_are_blue(alloc: Global, cfg: &mut ColoredConfig) -> bool {
-    apply(cfg, GREETING, Style::ascii())
-        && write(alloc, cfg, GREETING, blue(alloc, "TABLE"))
+    let table = TWO_COLUMNS;
+    write(alloc, cfg, GREETING, blue(alloc, "TABLE"))
         && title_is_blue(cfg)
-        && apply(cfg, TWO_COLUMNS, open(alloc))
-        && write(alloc, cfg, TWO_COLUMNS, blue(alloc, "ABCDEFG"))
+        && apply(cfg, table, open(alloc))
+        && write(alloc, cfg, table, blue(alloc, "ABCDEFG"))
         && crossing_is_blue(alloc, cfg)
 }
 
 #[test]
 fn a_color_stands_at_each_place_of_a_text(rt: HostRuntime) {
-    let mut cfg = config(rt.alloc());
+    let mut cfg = framed(rt.alloc(), GREETING);
     let are_blue = texts_are_blue(rt.alloc(), &mut cfg);
-    drop(cfg);
+    let_go(cfg);
     assert!(rt; are_blue);
 }
 
 /// Whether a text of two lines stands at the right by the wider one, with its line feed on a place of its own.
 fn has_a_line_feed(cfg: &ColoredConfig) -> bool {
-    char_at(cfg, GREETING, top(0, 11)) == Some('A')
-        && char_at(cfg, GREETING, top(0, 12)) == Some('B')
-        && char_at(cfg, GREETING, crossing(0, 1)) == Some('\n')
+    let table = GREETING;
+    char_at(cfg, table, top(0, 11)) == Some('A')
+        && char_at(cfg, table, top(0, 12)) == Some('B')
+        && char_at(cfg, table, crossing(0, 1)) == Some('\n')
 }
 
 /// A column without width.
-static NARROW: Table = (&[0], &[&[""]]);
+static NARROW: Table = (&[0], &[1], &[&[""]]);
 
 #[test]
 fn each_character_takes_a_place(rt: HostRuntime) {
+    let table = GREETING;
     let alloc = rt.alloc();
-    let mut cfg = config(alloc);
+    let mut cfg = framed(alloc, table);
     let title = title_of(alloc, ("AB\nCDE", RIGHT, HERE, None, ""));
-    let is_framed = apply(&mut cfg, GREETING, Style::ascii());
-    let is_written = write(alloc, &mut cfg, GREETING, title);
-    let has_text = is_framed && is_written && has_a_line_feed(&cfg);
-    drop(cfg);
+    let is_written = write(alloc, &mut cfg, table, title);
+    let has_text = is_written && has_a_line_feed(&cfg);
+    let_go(cfg);
     assert!(rt; has_text);
     let text = LineText::new(alloc, "AB", Rows::first());
-    assert!(rt; prints_in(alloc, Style::ascii(), text, NARROW, "AB\n||\n++"));
+    assert!(rt; prints_on(alloc, framed(alloc, NARROW), text, NARROW, "AB\n||\n++"));
 }
 
 /// Whether marks stand on a row and beside cells.
 fn has_marks(alloc: Global) -> bool {
+    let table = GREETING;
     let mut cfg = config(alloc);
     let first = LineChar::horizontal(':', Offset::Start(0));
     let last = LineChar::horizontal(':', Offset::End(0));
     let side = LineChar::vertical('#', Offset::Start(0));
     let text = "| &str        |\n|:-----------:|\n# Hello World #";
     let sides = (1, 0).and((1, 1));
-    let are_drawn = apply(&mut cfg, GREETING, Style::markdown())
-        && apply_to(alloc, &mut cfg, GREETING, &Rows::one(1), &first)
-        && apply_to(alloc, &mut cfg, GREETING, &Rows::one(1), &last)
-        && apply_to(alloc, &mut cfg, GREETING, &sides, &side)
-        && prints(alloc, &cfg, GREETING, text);
+    let are_drawn = apply(&mut cfg, table, Style::markdown())
+        && apply_to(alloc, &mut cfg, table, &Rows::one(1), &first)
+        && apply_to(alloc, &mut cfg, table, &Rows::one(1), &last)
+        && apply_to(alloc, &mut cfg, table, &sides, &side)
+        && makes(alloc, &cfg, table, "", Ok(()), text);
     drop(sides);
-    drop(cfg);
+    let_go(cfg);
     are_drawn
 }
 
 /// Whether two marks above a cell, in this order, make this text.
 fn has_two_marks(alloc: Global, first: LineChar, second: LineChar, text: &str) -> bool {
-    let mut cfg = config(alloc);
-    let are_drawn = apply(&mut cfg, ONE, Style::ascii())
-        && apply_to(alloc, &mut cfg, ONE, &(0, 0), &first)
-        && apply_to(alloc, &mut cfg, ONE, &(0, 0), &second)
-        && prints(alloc, &cfg, ONE, text);
-    drop(cfg);
+    let table = ONE;
+    let mut cfg = framed(alloc, table);
+    let are_drawn = apply_to(alloc, &mut cfg, table, &(0, 0), &first)
+        && apply_to(alloc, &mut cfg, table, &(0, 0), &second)
+        && makes(alloc, &cfg, table, "", Ok(()), text);
+    let_go(cfg);
     are_drawn
 }
 

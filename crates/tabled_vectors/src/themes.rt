@@ -1,6 +1,6 @@
 //! Themes, and their custom lines.
 
-use crate::tables::{THREE_ROWS, TWO_ROWS, Table, prints_with};
+use crate::tables::{THREE_ROWS, TWO_ROWS, Table, apply_made, config, let_go, makes};
 use std::alloc::Global;
 use std::collections::BTreeMap;
 use tabled_grid::{Keep, OutOfMemory, VerticalLine};
@@ -10,6 +10,7 @@ use tabled_theme::Theme;
 /// A table of four rows and two columns.
 static LANGUAGES: Table = (
     &[7, 5],
+    &[1, 1, 1, 1],
     &[
         &[" &str  ", " i32 "],
         &[" Hello ", " 0   "],
@@ -53,19 +54,21 @@ fn lined(alloc: Global, is_vertical: bool) -> Result<Theme, OutOfMemory> {
     Ok(theme)
 }
 
-/// Whether a theme is drawn so.
+/// Whether a theme is drawn so, if there was memory for it.
 fn draws(alloc: Global, theme: Result<Theme, OutOfMemory>, table: Table, text: &str) -> bool {
-    match theme {
-        Ok(theme) => prints_with(alloc, theme, table, text),
-        Err(OutOfMemory) => false,
-    }
+    let mut cfg = config(alloc);
+    let is_drawn = apply_made(&mut cfg, table, theme)
+        && makes(alloc, &cfg, table, "", Ok(()), text);
+    let_go(cfg);
+    is_drawn
 }
 
 #[test]
 fn a_line_of_another_style_stands_between(rt: HostRuntime) {
+    let table = LANGUAGES;
     let alloc = rt.alloc();
-    assert!(rt; draws(alloc, lined(alloc, true), LANGUAGES, CROSSED));
-    assert!(rt; draws(alloc, lined(alloc, false), LANGUAGES, UNDERLINED));
+    assert!(rt; draws(alloc, lined(alloc, true), table, CROSSED));
+    assert!(rt; draws(alloc, lined(alloc, false), table, UNDERLINED));
 }
 
 /// A theme of a style with lines of `#` and of `&` at these indices.
@@ -75,11 +78,6 @@ fn two_lines(alloc: Global, first: usize, second: usize) -> Result<Theme, OutOfM
         (second, HorizontalLine::filled('&')),
     ]);
     Theme::from_style(alloc, style)
-}
-
-/// Whether a copy of a theme is drawn so.
-fn shows(alloc: Global, theme: &Theme, text: &str) -> bool {
-    draws(alloc, theme.keep(alloc), THREE_ROWS, text)
 }
 
 /// Two lines of a style, of which the first is covered by one that is set.
@@ -92,32 +90,17 @@ static UNCOVERED: &str = "╭───╮\n│ a │\n#####\n│ b │\n&&&&&\n�
 static REMOVED: &str = "╭───╮\n│ a │\n│ b │\n│ c │\n╰───╯";
 
 /// Whether a line that is set covers that of the style until it is replaced by none, so that the one beneath shows again in all
-/// its fields, and none shows once all are removed.
+/// its fields, and none shows once all are removed. What is drawn is a copy.
 fn set_line_covers(alloc: Global, theme: &mut Theme) -> bool {
     let (first, set) = (HorizontalLine::filled('#'), HorizontalLine::filled('='));
-    if theme.insert_horizontal_line(1, set.into_inner()).is_err() || !shows(alloc, theme, COVERED) {
-        return false;
-    }
+    let is_set = theme.insert_horizontal_line(1, set.into_inner()).is_ok();
+    let is_covered = draws(alloc, theme.keep(alloc), THREE_ROWS, COVERED);
     theme.set_horizontal_lines(BTreeMap::new(alloc));
-    if theme.get_horizontal_line(1).copied() != Some(first.into_inner())
-        || !shows(alloc, theme, UNCOVERED)
-    {
-        return false;
-    }
+    let is_beneath = theme.get_horizontal_line(1).copied() == Some(first.into_inner());
+    let is_uncovered = draws(alloc, theme.keep(alloc), THREE_ROWS, UNCOVERED);
     theme.remove_horizontal_lines();
-    shows(alloc, theme, REMOVED)
-}
-
-/// Whether that holds of a theme of a style with two lines.
-fn lines_are_covered(alloc: Global) -> bool {
-    match two_lines(alloc, 1, 2) {
-        Ok(mut theme) => {
-            let is_covered = set_line_covers(alloc, &mut theme);
-            drop(theme);
-            is_covered
-        }
-        Err(OutOfMemory) => false,
-    }
+    let is_removed = draws(alloc, theme.keep(alloc), THREE_ROWS, REMOVED);
+    is_set && is_covered && is_beneath && is_uncovered && is_removed
 }
 
 #[test]
@@ -125,5 +108,13 @@ fn lines_that_are_set_stand_over_those_of_a_style(rt: HostRuntime) {
     let alloc = rt.alloc();
     let text = "╭───╮\n│ a │\n&&&&&\n│ b │\n╰───╯";
     assert!(rt; draws(alloc, two_lines(alloc, 1, 1), TWO_ROWS, text));
-    assert!(rt; lines_are_covered(alloc));
+    let are_covered = match two_lines(alloc, 1, 2) {
+        Ok(mut theme) => {
+            let is_covered = set_line_covers(alloc, &mut theme);
+            drop(theme);
+            is_covered
+        }
+        Err(OutOfMemory) => false,
+    };
+    assert!(rt; are_covered);
 }
