@@ -13,25 +13,7 @@ use Rattle.tabled_config.specs.Texts.{width_of_text}
 use Rattle.tabled_cells.specs.declared.placement.Placement.{Placement}
 use Rattle.tabled_cells.specs.Placed.{times, ended, empty_line, greatest, placed_line, aligned_width}
 use Rattle.tabled_cells.proofs.Measuring.{aligned_same}
-
--- once more
-pub times_more : (count character : ℕ) → times (count + 1) character ≡ times count character ++ encode_utf8 character
-times_more count character =
-    ap encode_utf8_all (sym (replicate_more count character)) ∙ encodes-append (replicate count character) (character ∷ [])
-    ∙ ap (λ bs. times count character ++ bs) (append-nil (encode_utf8 character))
-
-pub one_more : (start old new : List ℕ) (count character : ℕ) → old ≡ start ++ times count character → new ≡ old ++ encode_utf8 character → new ≡ start ++ times (count + 1) character
-one_more start old new count character so_far pushed =
-    pushed ∙ ap (λ bs. bs ++ encode_utf8 character) so_far ∙ append_assoc start (times count character) (encode_utf8 character)
-    ∙ ap (λ bs. start ++ bs) (sym (times_more count character))
-
--- so many spaces are bytes as they are
-pub IsAscii-spaces : (n : ℕ) → IsAscii (replicate n 32)
-IsAscii-spaces zero = IsAscii-nil
-IsAscii-spaces (suc n) = IsAscii-cons 32 (replicate n 32) (lit< tt) (IsAscii-spaces n)
-
-pub times_spaces : (n : ℕ) → times n 32 ≡ replicate n 32
-times_spaces n = encodes-IsAscii (replicate n 32) (IsAscii-spaces n)
+pub use Rattle.tabled_config.proofs.TimesLemmas.{IsAscii-spaces, times_spaces, string_len-is}
 
 -- one line more, with its line feed
 pub ended_push : (lines : List (List ℕ)) (line : List ℕ) → flat_map ended (lines ++ line ∷ []) ≡ flat_map ended lines ++ ended line
@@ -72,9 +54,6 @@ last_feed_off (line ∷ lines) old new are fewer last =
     let same : length (join_with_byte 10 (line ∷ lines)) ≡ length old - 1 = omega arith in
     let feed : get_or old (length old - 1) 0 ≡ 10 = ap (λ bs. get_or bs (length old - 1) 0) whole ∙ get_or_at (join_with_byte 10 (line ∷ lines)) 10 [] 0 (length old - 1) same in
     last (omega arith) (omega (arith, feed)) ∙ ap (take (length old - 1)) whole ∙ take_at (join_with_byte 10 (line ∷ lines)) (10 ∷ []) (length old - 1) same
-
-string_len-is : {Z : Type 0} (text : String Z) → string_len text ≡ length (string_bytes text)
-string_len-is text = search rules
 
 -- the same of two states of a text
 pub feed_off : {Z : Type 0} (old new : String Z) (lines : List (List ℕ)) → string_bytes old ≡ flat_map ended lines → string_len new ≤ string_len old

@@ -1,5 +1,6 @@
 -- A cell as it is printed: where its text stands in it, and what fills the rest.
-use Rattle.std.specs.Prelude.{ℕ, ◌-◌, ◌/◌, ◌==◌, ◌&&◌, not, max, fold, if◌then◌else◌, List, [], ◌∷◌, ◌++◌, map, length, replicate, encode_utf8_all}
+pub use Rattle.tabled_config.specs.Texts.{times}
+use Rattle.std.specs.Prelude.{ℕ, ◌-◌, ◌/◌, ◌==◌, ◌&&◌, not, max, fold, if◌then◌else◌, List, [], ◌∷◌, ◌++◌, map, length, replicate}
 use Rattle.std.specs.List.{join_with_byte}
 use Rattle.tabled_settings.specs.declared.alignment.AlignmentHorizontal.{AlignmentHorizontal}
 use Rattle.tabled_settings.specs.declared.alignment.AlignmentVertical.{AlignmentVertical}
@@ -19,10 +20,6 @@ abbrev pub free_above : AlignmentVertical → ℕ → ℕ
 free_above AlignmentVertical.Top free = 0
 free_above AlignmentVertical.Center free = free / 2
 free_above AlignmentVertical.Bottom free = free
-
--- a character, so many times
-abbrev pub times : ℕ → ℕ → List ℕ
-times count character = encode_utf8_all (replicate count character)
 
 -- a line between two spaces, with so many of a character before it and after it
 abbrev pub filled : ℕ → ℕ → ℕ → List ℕ → List ℕ

@@ -4,13 +4,14 @@ ghost use Rattle.std.specs.Prelude.{◌≡◌, ◌≢◌, ◌++◌, false, if◌
 ghost use Rattle.tabled_settings.specs.declared.alignment.AlignmentHorizontal.{AlignmentHorizontal as Side};
 ghost use Rattle.tabled_config.specs.Pieces.{lent};
 ghost use Rattle.tabled_config.specs.Texts.{width_of_text};
-ghost use Rattle.tabled_cells.specs.Placed.{times, filled, greatest};
+ghost use Rattle.tabled_cells.specs.Placed.{filled, greatest};
 ghost use Rattle.tabled_cells.specs.Placed as parts;
 
 use crate::Placement;
 use crate::placement::free_before;
 use crate::width::width_of;
 use std::alloc::{AllocError, Global};
+use tabled_config::push_times;
 use tabled_settings::AlignmentHorizontal;
 
 /// What stands beside the text of a line, between the spaces at its ends.
@@ -22,16 +23,6 @@ pub struct LineParts {
     pub after: usize,
     /// Which character these are.
     pub fill: char,
-}
-
-/// Writes a character so many times.
-pub fn push_times(cell: &mut String, count: usize, character: char) -> Result<(), AllocError>
-    ensures { OnOk result (string_bytes cell.new ≡ string_bytes cell.old ++ times count character) }
-{
-    for _ in 0..count {
-        cell.push(character)?;
-    }
-    Ok(())
 }
 
 /// Writes a line between two spaces, with so many of a character before it and after it.

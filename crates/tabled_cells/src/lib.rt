@@ -9,7 +9,7 @@ mod placement;
 mod trim;
 mod width;
 
-pub use filling::{LineParts, aligned, line_parts, push_times, widest};
+pub use filling::{LineParts, aligned, line_parts, widest};
 pub use place::{join_lines, placed_text};
 pub use placement::{Placement, free_above};
 pub use trim::lines_shown;

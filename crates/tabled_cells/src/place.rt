@@ -6,10 +6,11 @@ ghost use Rattle.tabled_config.specs.Pieces.{lent};
 ghost use Rattle.tabled_cells.specs.Placed.{placed_line, aligned_width, empty_line, around, ended, placed};
 
 use crate::Placement;
-use crate::filling::{aligned, line_parts, push_filled, push_times, widest};
+use crate::filling::{aligned, line_parts, push_filled, widest};
 use crate::placement::free_above;
 use crate::trim::lines_shown;
 use std::alloc::{AllocError, Global};
+use tabled_config::push_times;
 
 /// Writes a line in a column, where something as wide as `aligned` is aligned.
 fn push_line(

@@ -5,3 +5,4 @@ pub mod LineLemmas
 pub mod MarkLemmas
 pub mod TextLemmas
 pub mod PieceLemmas
+pub mod TimesLemmas

@@ -1,17 +1,19 @@
 -- Marks that are put into something, run by run, and the meter on the way.
-use Rattle.std.proofs.Common.{◌≡◌, ℕ, ◌+◌, ◌≤◌, ◌<◌, Bool, true, if◌then◌else◌, Option, List, [], ◌∷◌, ◌++◌, length, take, map, zero, suc, add-one, refl, ap, sym, subst, ◌∙◌, arith, Result, Ok, Err, IsErr, String, string_bytes}
-use Rattle.std.proofs.lemmas.List.{map-append, take_at}
+use Rattle.std.proofs.Common.{◌≡◌, ℕ, ◌+◌, ◌≤◌, ◌<◌, Bool, true, if◌then◌else◌, Option, List, [], ◌∷◌, ◌++◌, length, take, map, replicate, encode_utf8_all, zero, suc, add-one, refl, ap, sym, subst, ◌∙◌, arith, Result, Ok, Err, IsErr, String, string_bytes}
+use Rattle.std.proofs.lemmas.List.{map-append, take_at, replicate_more}
 use Rattle.std.proofs.lemmas.List.FromFn.{map-range_with_len_more}
 use Rattle.tabled_border.specs.Texts.{Texts}
 use Rattle.tabled_grid.specs.Probing.{IsRaised}
 use Rattle.tabled_grid.specs.declared.place.Place.{Place}
 use Rattle.tabled_grid.specs.declared.place.LineOf.{LineOf}
 use Rattle.tabled_object.specs.Entities.{below}
-use Rattle.tabled_config.specs.Picture.{Look, Shown, text_shown, text_marked, mark_at, marks_along}
+use Rattle.tabled_config.specs.Picture.{Look, Shown, character, text_shown, text_marked, mark_at, marks_along}
 use Rattle.tabled_config.specs.LinePieces.{has_line, size_of, edge_of, edge_places, all_places}
 use Rattle.tabled_config.specs.Along.{along}
 use Rattle.tabled_config.specs.Sinks.{Put, text_gains}
-use Rattle.tabled_config.specs.Texts.{Appends}
+use Rattle.tabled_config.specs.Texts.{Appends, times}
+use Rattle.tabled_config.specs.Marks.{mark_of}
+use Rattle.tabled_config.specs.declared.mark.Run.{Run}
 use Rattle.tabled_config.specs.Viewed.{colored_if}
 use Rattle.tabled_config.proofs.LineLemmas.{along_pieces}
 
@@ -48,6 +50,23 @@ alike_all {A} {B} f g m (suc n) alike =
     ∙ ap (λ xs. xs ++ f (g n) ∷ []) (alike_all f g m n (λ k h. alike k (omega (arith, h, add-one n))))
     ∙ ap (λ x. map (λ _. m) (below n) ++ x ∷ []) (alike n (omega (arith, add-one n)))
     ∙ sym (alike_more m n))
+
+-- the characters of marks that are alike
+pub marked_times : (mark : Shown) (n : ℕ) → text_marked (map (λ _. mark) (below n)) ≡ times n (character mark.0)
+marked_times mark n = ap encode_utf8_all (ap (λ shown. map character shown) (alike_below (λ m. m.0) mark n) ∙ alike_below character mark.0 n ∙ replicated (character mark.0) n)
+  where
+    alike_below : {A B : Type 0} (f : A → B) (m : A) (n : ℕ) → map f (map (λ _. m) (below n)) ≡ map (λ _. f m) (below n)
+    alike_below f m n = alike_all f (λ _. m) (f m) n (λ k within. refl)
+
+    replicated : {A : Type 0} (m : A) (n : ℕ) → map (λ _. m) (below n) ≡ replicate n m
+    replicated m zero = refl
+    replicated {A} m (suc n) =
+        subst (λ k. map (λ _. m) (below k) ≡ replicate k m) (add-one n)
+        (alike_more m n ∙ ap (λ xs. xs ++ m ∷ []) (replicated m n) ∙ replicate_more n m)
+
+-- the marks of some places of a run
+abbrev pub some_marks : Run → ℕ → List Shown
+some_marks run n = map (λ _. mark_of run.mark) (below n)
 
 -- an edge whose places all have one mark
 pub alike_edge : (view : Look) (line : LineOf) (n size : ℕ) (mark : Shown) → size ≡ size_of view.widths view.heights line n → ((k : ℕ) → k < size_of view.widths view.heights line n → mark ≡ mark_at view (edge_of line n k))

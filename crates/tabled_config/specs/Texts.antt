@@ -1,5 +1,5 @@
 -- Cell texts: bytes that are cut at line feeds, and how wide they are on a terminal.
-use Rattle.std.specs.Prelude.{◌≡◌, ℕ, false, ◌==◌, List, ◌++◌, map, length, take, chars, MatchResult, Result}
+use Rattle.std.specs.Prelude.{◌≡◌, ℕ, false, ◌==◌, List, ◌++◌, map, length, take, replicate, chars, encode_utf8_all, MatchResult, Result}
 use Rattle.std.specs.List.{slice_split}
 use Rattle.std.specs.String.{string_bytes}
 use Rattle.std.specs.declared.string.String.{String}
@@ -21,6 +21,10 @@ pieces text = slice_split (λ byte. byte == 10) text
 -- how many terminal columns a text takes
 abbrev pub width_of_text : List ℕ → ℕ
 width_of_text text = str_width false (chars text)
+
+-- a character, so many times
+abbrev pub times : ℕ → ℕ → List ℕ
+times count character = encode_utf8_all (replicate count character)
 
 -- where a call succeeds, the new text is the old one followed by these bytes; where it is refused, the new text still begins
 -- with the old one

@@ -11,6 +11,7 @@ mod marks;
 mod print;
 mod print_error;
 mod refusals;
+mod repeat;
 mod seen;
 mod sink;
 
@@ -20,6 +21,7 @@ pub use mark::{Mark, Run};
 pub use marks::{drawn_across, line_marks, line_runs, runs_across, write_across};
 pub use print::{print_plain, print_rows};
 pub use print_error::PrintError;
+pub use repeat::push_times;
 pub use seen::{Seen, headline};
 pub use tabled_configuration::{
     BorderEvent, CellOption, ColorMap, ColoredConfig, Colors, CompactConfig,

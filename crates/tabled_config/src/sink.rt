@@ -7,7 +7,7 @@ ghost use Rattle.tabled_config.specs.Sinks.{Put};
 ghost use Rattle.tabled_config.specs.Sinks as gains;
 
 use crate::print::printed_as;
-use crate::{Mark, Run};
+use crate::{Mark, Run, push_times};
 use tabled_grid::OutOfMemory;
 
 /// What marks are put into, run by run.
@@ -32,10 +32,7 @@ impl<'a> Sink<'a> for String {
     ghost puts = { gains.text_gains };
 
     fn put(&mut self, run: Run<'a>) -> Result<(), OutOfMemory> {
-        let shown = printed_as(run.mark.shown);
-        for _ in 0..run.count {
-            self.push(shown)?;
-        }
+        push_times(self, run.count, printed_as(run.mark.shown))?;
         Ok(())
     }
 

@@ -6,3 +6,4 @@ pub mod SameConfiguration
 pub mod Options
 pub mod Compact
 pub mod EntitiesColored
+pub mod AlikeCells

@@ -7,3 +7,4 @@ pub mod Plain
 pub mod StretchLemmas
 pub mod AlikeLemmas
 pub mod RepeatLemmas
+pub mod PlainLemmas

@@ -1,5 +1,5 @@
 -- Painted lines as texts in color, part by part.
-use Rattle.std.proofs.Common.{◌≡◌, eq-eqb, ℕ, Bool, true, false, ◌==◌, ◌&&◌, if◌then◌else◌, Option, Some, None, List, [], ◌∷◌, ◌++◌, refl, sym, ap, ◌∙◌, string_bytes, option_copied, zero, suc, ◌+◌, ◌≤◌, length, subst, arith, replicate, encode_utf8, lit<}
+use Rattle.std.proofs.Common.{◌≡◌, eq-eqb, ℕ, Bool, true, false, ◌==◌, ◌&&◌, if◌then◌else◌, Option, Some, None, List, [], ◌∷◌, ◌++◌, refl, sym, ap, ◌∙◌, string_bytes, option_copied, zero, suc, ◌+◌, ◌-◌, ◌≤◌, length, subst, arith, replicate, encode_utf8, lit<}
 use Rattle.std.specs.Cmp.Lexicographic.{pointwise}
 use Rattle.std.proofs.lemmas.List.{append-nil, append_assoc, map-append, length-replicate}
 use Rattle.std.proofs.lemmas.Str.{encode_ascii, length-le-encodes}
@@ -9,6 +9,7 @@ use Rattle.std.specs.List.{flat_map}
 use Rattle.tabled_object.specs.Entities.{below}
 use Rattle.tabled_configuration.proofs.Below.{flat_map_below}
 use Rattle.tabled_painting.specs.Pages.{written}
+use Rattle.tabled_painting.specs.PlainCells.{at_left}
 use Rattle.tabled_painting.specs.declared.painter.Painter.{Painter}
 use Rattle.tabled_painting.specs.Painted.{Painted, paint, plain, colored_if}
 use Rattle.tabled_painting.specs.InColor.{same_color, prefix_of, suffix_of, between, colored, last_color, color_if, Paints}
@@ -127,6 +128,36 @@ paints_begun color (byte ∷ bytes) old begun new some began is same wrote kept 
       color = ap option_copied kept ∙ is ∙ sym (stays next bytes) ∙ ap (last_color (option_copied old.color)) (sym line);
       same_colors = still ∙ same;
     }
+
+-- without a color there is none, whether colors are wanted or not
+color_if-None : (wanted : Bool) → color_if wanted None ≡ None
+color_if-None true = refl
+color_if-None false = refl
+
+-- a text without color is painted after what has none
+pub paints_uncolored : (bytes : List ℕ) (old new : Painter) → option_copied old.color ≡ None → string_bytes new.text ≡ string_bytes old.text ++ bytes
+    → new.color ≡ old.color → new.with_colors ≡ old.with_colors → Paints (paint None bytes) old new
+paints_uncolored bytes old new none wrote kept still =
+    let line : colored_if old.with_colors (paint None bytes) ≡ paint None bytes = if_paint old.with_colors None bytes ∙ ap (λ color. paint color bytes) (color_if-None old.with_colors) in
+    record {
+      text =
+          wrote ∙ ap (λ bs. string_bytes old.text ++ bs) (sym (goes_on None bytes))
+          ∙ ap (λ color. string_bytes old.text ++ colored color (paint None bytes)) (sym none)
+          ∙ ap (λ l. string_bytes old.text ++ colored (option_copied old.color) l) (sym line);
+      color =
+          ap option_copied kept ∙ none ∙ sym (stays None bytes) ∙ ap (λ color. last_color color (paint None bytes)) (sym none)
+          ∙ ap (last_color (option_copied old.color)) (sym line);
+      same_colors = still;
+    }
+
+-- the parts of a text at the left of a column
+pub at_left_written : (start first second end text : List ℕ) (width free : ℕ) → free ≡ width - 2 - length text → first ≡ start ++ encode_utf8 32 → second ≡ first ++ text
+    → end ≡ second ++ times (free + 1) 32 → end ≡ start ++ at_left width text
+at_left_written start first second end text width free is space wrote spaces =
+    spaces ∙ ap (λ n. second ++ times (n + 1) 32) is
+    ∙ ap (λ bs. bs ++ times ((width - 2 - length text) + 1) 32) (wrote ∙ ap (λ bs. bs ++ text) (space ∙ ap (λ bs. start ++ bs) (encode_ascii 32 (lit< tt))))
+    ∙ append_assoc (start ++ 32 ∷ []) text (times ((width - 2 - length text) + 1) 32)
+    ∙ append_assoc start (32 ∷ []) (text ++ times ((width - 2 - length text) + 1) 32)
 
 -- a text that is said not to be empty
 pub some_bytes : (bytes : List ℕ) (empty : Bool) → empty ≡ false → empty ≡ (length bytes == 0) → bytes ≡ [] → ⊥

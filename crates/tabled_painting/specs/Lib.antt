@@ -8,3 +8,4 @@ pub mod Alike
 pub mod Repeated
 pub mod Viewed
 pub mod Stretches
+pub mod PlainCells

@@ -18,21 +18,26 @@ ghost use Rattle.tabled_config.specs.Texts.{texts};
 ghost use Rattle.tabled_painting.specs.InColor.{Paints};
 ghost use Rattle.tabled_painting.specs.Painted.{paint};
 ghost use Rattle.tabled_painting.specs.Pages.{PaintsLines};
+ghost use Rattle.tabled_painting.specs.PlainCells.{ArePlain};
 ghost use Rattle.tabled_painting.specs.Repeated.{IsBetweenRows, AreBesideRows, looks_of};
 
 use crate::alike::{first_plain_line, has_alike_lines, has_alike_sides};
 use crate::cell_lines::CellLines;
 use crate::page::Page;
+use crate::plain_cells::has_plain_cells;
 use crate::stretch::{Stretch, paint_stretches, put_run};
 use crate::{CellColors, Painter};
 use std::alloc::{AllocError, Global};
 use tabled_border::ANSIBuf;
-use tabled_cells::{Placement, lines_shown};
+use tabled_cells::{Placement, is_printable, lines_shown};
 use tabled_config::{ColoredConfig, Mark, Run, runs_across, write_across};
 use tabled_grid::{Dimension, FixedDimension, LineOf, OutOfMemory, Place, Position, Probes};
 
-/// From how many rows on it pays to look up once what repeats down a table.
-const MANY_ROWS: usize = 6;
+/// From how many rows on it pays to look up once what stands beside each of them.
+const MANY_ROWS: usize = 2;
+
+/// From how many rows on it pays to keep what stands between them.
+const MANY_LINES: usize = 3;
 
 /// How a table that has places is framed: its configuration and its sizes, which of its vertical lines are drawn, and whether its
 /// colors are wanted.
@@ -43,12 +48,15 @@ pub(crate) struct Frame<'a, 'b> {
     pub(crate) shape: (usize, usize),
     pub(crate) sides: &'b [bool],
     pub(crate) with_colors: bool,
+    /// Whether nothing is set for cells.
+    plain_cells: bool,
     /// What a horizontal line between two rows shows, where all of them but custom ones look alike.
     between: Option<Vec<Stretch<'a>>>,
     /// What each vertical line shows, where it looks alike beside all lines of text.
     beside: Option<Vec<Mark<'a>>>,
     ghost has_places: { is_empty shape ≡ false },
     ghost sides_drawn: { sides.now ≡ map (λ n. crossed_after (all_writes cfg.now.spanned) shape (Line.Horizontal 0) n) (below (pieces_of shape (Line.Horizontal 0) + 1)) },
+    ghost are_plain: { plain_cells ≡ true → ArePlain cfg.now.spanned.settings.cells cfg.now.cell_colors },
     ghost is_between: { ForSome between (λ found. IsBetweenRows (looks_of with_colors cfg.now shape sizes.now) cfg.now.spanned found.items) },
     ghost are_beside: { ForSome beside (λ found. AreBesideRows (looks_of with_colors cfg.now shape sizes.now) found.items) },
 }
@@ -84,6 +92,7 @@ impl<'a, 'b> Frame<'a, 'b> {
             shape,
             sides,
             with_colors,
+            plain_cells: has_plain_cells(cfg),
             between,
             beside,
         })
@@ -264,6 +273,10 @@ impl<'a, 'b> Frame<'a, 'b> {
         ensures { OnOk result (Paints (painted_cell self.now.cfg.now.spanned.settings.cells self.now.cfg.now.cell_colors (slice_index self.now.sizes.now.widths.items position.col)
             (slice_index self.now.sizes.now.heights.items position.row) text.now position.row position.col 0) painter.old painter.new) }
     {
+        if self.plain_cells && is_printable(text) {
+            painter.push_at_left(self.sizes.get_width(position.col), text)?;
+            return Ok(());
+        }
         let how = Placement::of(self.cfg.config(), position);
         let lines = lines_shown(room, &how, text)?;
         self.cell(position, how, lines).paint_line(painter, 0)?;
@@ -355,7 +368,7 @@ impl<'a, 'b> Frame<'a, 'b> {
         ensures { IfOk result (λ found. ForSome found (λ stretches. IsBetweenRows (viewed self.now) self.now.cfg.now.spanned stretches.items)) }
     {
         let cfg = self.cfg.config();
-        if self.shape.0 < MANY_ROWS || !has_alike_lines(cfg) {
+        if self.shape.0 < MANY_LINES || !has_alike_lines(cfg) {
             return Ok(None);
         }
         let (rows, _) = self.shape;
@@ -408,7 +421,23 @@ impl<'a, 'b> Frame<'a, 'b> {
         if self.with_colors {
             return self.paint_runs(painter, row);
         }
-        painter.push_str(None, self.characters(row)?.as_str())?;
+        if painter.is_colored() {
+            painter.push_str(None, self.characters(row)?.as_str())?;
+            return Ok(());
+        }
+        self.paint_characters(painter, row)
+    }
+
+    /// Paints the characters of a horizontal line, which is not past the last one, after what has no color.
+    fn paint_characters(&self, painter: &mut Painter<'a>, row: usize) -> Result<(), OutOfMemory>
+        requires row { row ≤ self.now.shape.0 }
+        requires plain { self.now.with_colors ≡ false }
+        requires color { option_copied painter.old.color ≡ None }
+        ensures { OnOk result (Paints (painted_marks (marks_along (viewed self.now) (Line.Horizontal row))) painter.old painter.new) }
+    {
+        let line = LineOf::Horizontal(row);
+        let cfg = self.cfg.config();
+        painter.push_across(cfg, self.sizes, self.shape, line, self.sides)?;
         Ok(())
     }
 
@@ -538,6 +567,7 @@ fn repeated<'a>(
         shape,
         sides,
         with_colors,
+        plain_cells: false,
         between: None,
         beside: None,
     };

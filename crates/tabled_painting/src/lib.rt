@@ -13,6 +13,7 @@ mod margin_sides;
 mod page;
 mod painter;
 mod painting;
+mod plain_cells;
 mod stretch;
 
 pub(crate) use cell_colors::CellColors;

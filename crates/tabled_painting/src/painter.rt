@@ -1,13 +1,19 @@
 //! Writes painted lines.
 
-ghost use Rattle.std.specs.Prelude.{◌≡◌, ◌++◌, ◌∷◌, [], if◌then◌else◌, None, OnOk, option_copied, string_bytes};
+ghost use Rattle.std.specs.Prelude.{◌≡◌, ◌↔◌, ◌+◌, ◌++◌, ◌∷◌, [], if◌then◌else◌, true, None, IsFalse, OnOk, map, option_copied, slice_index, string_bytes};
+ghost use Rattle.tabled_object.specs.Entities.{below};
+ghost use Rattle.tabled_configuration.specs.Configuration.{all_writes};
+ghost use Rattle.tabled_config.specs.LinePieces.{has_line, pieces_of, crossed_after};
+ghost use Rattle.tabled_config.specs.Picture.{marks, text_marked};
 ghost use Rattle.tabled_cells.specs.Placed.{times};
+ghost use Rattle.tabled_painting.specs.PlainCells.{at_left};
 ghost use Rattle.tabled_painting.specs.Painted.{paint};
 ghost use Rattle.tabled_painting.specs.InColor.{Paints, between, prefix_of, suffix_of, color_if};
 
 use std::alloc::{AllocError, Global};
 use tabled_border::ANSIBuf;
-use tabled_cells::push_times;
+use tabled_config::{SpannedConfig, push_times, write_across};
+use tabled_grid::{FixedDimension, LineOf, OutOfMemory};
 
 /// A text that painted lines are written into, one after another, and the color of what was written last.
 #[derive(Drop)]
@@ -135,6 +141,44 @@ impl<'a> Painter<'a> {
         }
         self.begin(color)?;
         push_times(&mut self.text, count, character)?;
+        Ok(())
+    }
+
+    /// Writes a text at the left of a column between spaces without color: one before it, and after it as many as the column has
+    /// room for, but at least one. The text takes as many terminal columns as it has bytes.
+    pub(crate) fn push_at_left(&mut self, width: usize, text: &str) -> Result<(), AllocError>
+        ensures { OnOk result (Paints (paint None (at_left width text.now)) self.old self.new) }
+    {
+        let free = width.saturating_sub(2).saturating_sub(text.len());
+        self.begin(None)?;
+        self.text.push(' ')?;
+        self.text.push_str(text)?;
+        push_times(&mut self.text, free + 1, ' ')?;
+        Ok(())
+    }
+
+    /// Whether what was written last has a color.
+    pub(crate) fn is_colored(&self) -> bool
+        ensures { IsFalse result ↔ (option_copied self.now.color ≡ None) }
+    {
+        self.color.is_some()
+    }
+
+    /// Writes the characters of a line, as `write_across` does, where what was written last has no color.
+    pub(crate) fn push_across(
+        &mut self,
+        cfg: &SpannedConfig,
+        sizes: &FixedDimension,
+        shape: (usize, usize),
+        line: LineOf,
+        crossed: &[bool],
+    ) -> Result<(), OutOfMemory>
+        requires there { has_line shape line ≡ true }
+        requires crossed { crossed.now ≡ map (λ n. crossed_after (all_writes cfg.now) shape line n) (below (pieces_of shape line + 1)) }
+        requires color { option_copied self.old.color ≡ None }
+        ensures { OnOk result (Paints (paint None (text_marked (marks (all_writes cfg.now) shape (slice_index sizes.now.widths.items) (slice_index sizes.now.heights.items) line))) self.old self.new) }
+    {
+        write_across(&mut self.text, cfg, sizes, shape, line, crossed)?;
         Ok(())
     }
 

@@ -9,8 +9,7 @@ ghost use Rattle.tabled_painting.specs.Repeated.{stretch_painted, stretches_pain
 use crate::Painter;
 use std::alloc::{AllocError, Global};
 use tabled_border::ANSIBuf;
-use tabled_cells::push_times;
-use tabled_config::Run;
+use tabled_config::{Run, push_times};
 
 /// Characters of a line that have one color, or none.
 #[derive(Debug, Drop)]

@@ -1,11 +1,12 @@
-//! What is asked of edges as wholes, besides single places.
+//! What is asked of edges as wholes and of all cells, besides single places.
 
-ghost use Rattle.std.specs.Prelude.{◌≡◌, ◌↔◌, ◌||◌, IsFalse, is_some, option_copied};
+ghost use Rattle.std.specs.Prelude.{◌≡◌, ◌↔◌, ◌||◌, IsFalse, IsTrue, is_some, option_copied};
 ghost use Rattle.std.specs.FinMap as map;
 ghost use Rattle.tabled_grid.specs.Probing.{IsRaised};
 ghost use Rattle.tabled_grid.specs.Reading.{direction_of};
 ghost use Rattle.tabled_grid.specs.Value.{plain_value};
 ghost use Rattle.tabled_grid.specs.State.{state_at, HasNoOffsets, HasNoCells};
+ghost use Rattle.tabled_configuration.specs.AlikeCells.{AreAlike};
 
 use super::SpannedConfig;
 use tabled_grid::{ANSIBuf, LineOf, Place, Probes};
@@ -77,6 +78,22 @@ impl SpannedConfig {
         ensures { IsFalse result ↔ HasNoCells self.now.colors }
     {
         self.colors.has_cells()
+    }
+
+    /// Whether nothing was set for the cells of an entity but `Global` since something was set for all, so that all cells have the
+    /// same settings.
+    pub fn has_alike_cells(&self) -> bool
+        ensures { IsTrue result ↔ AreAlike self.now.settings.cells }
+    {
+        let cells = &self.settings.cells;
+        cells.alignment_horizontal.is_empty()
+            && cells.alignment_vertical.is_empty()
+            && cells.trim_horizontal.is_empty()
+            && cells.trim_vertical.is_empty()
+            && cells.line_alignment.is_empty()
+            && cells.justification.is_empty()
+            && cells.justification_color.is_empty()
+            && cells.padding_color.is_empty()
     }
 
     /// Whether a custom horizontal line of characters, or one of colors, stands at an index.

@@ -6,4 +6,4 @@ use Rattle.tabled_painting.proofs.painter.Painter.push_times.Goals as goal
 pub returns : goal.returns
 returns c =
     paints_begun _ _ c.args.self.now c.begin.new.self _ (some_times c.args.count c.args.character c.if-count-eq0.false)
-    c.in_ok-begin.ensures.text c.in_ok-begin.ensures.color c.begin.ensures.same_colors c.in_ok-push_times.ensures refl refl
+    c.in_ok-begin.ensures.text c.in_ok-begin.ensures.color c.begin.ensures.same_colors c.in_ok-push_times.ensures.ok refl refl
