@@ -8,9 +8,9 @@ use tabled::settings::object::{Columns, Rows};
 use tabled::settings::{Alignment, Style};
 use tabled::{TableError, TextTable};
 use tabled_cells::{
-    Placement, aligned, free_above, line_parts, lines_shown, placed_text, push_times, widest,
+    Placement, aligned, free_above, line_parts, lines_shown, placed_text, widest,
 };
-use tabled_config::SpannedConfig;
+use tabled_config::{SpannedConfig, push_times};
 use tabled_grid::{Entity, Position};
 use tabled_settings::{AlignmentHorizontal, AlignmentVertical};
 

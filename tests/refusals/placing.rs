@@ -1,8 +1,8 @@
 //! The calls that put one text into its cell.
 
 use crate::turn::{Named, Outcome, Turn};
-use tabled_cells::{Placement, line_parts, lines_shown, placed_text, push_times};
-use tabled_config::SpannedConfig;
+use tabled_cells::{Placement, line_parts, lines_shown, placed_text};
+use tabled_config::{SpannedConfig, push_times};
 use tabled_grid::{Entity, OutOfMemory, Position};
 use tabled_settings::AlignmentHorizontal;
 

@@ -2,7 +2,7 @@
 use Rattle.std.proofs.Common.{◌≡◌, ℕ, ◌+◌, ◌-◌, Bool, true, false, if◌then◌else◌, ◌==◌, ◌&&◌, not, Option, None, List, [], ◌∷◌, ◌++◌, map, length, refl, sym, ap, subst, ◌∙◌, arith, lit<, option_map, encode_utf8, nat_lt}
 use Rattle.std.specs.Prelude.{slice_index_or}
 use Rattle.std.specs.List.{list_all}
-use Rattle.std.proofs.lemmas.List.{append-nil, map-append}
+use Rattle.std.proofs.lemmas.List.{append-nil, append_assoc, map-append}
 use Rattle.std.proofs.lemmas.Str.{encode_ascii}
 use Rattle.tabled_border.specs.Texts.{Texts}
 use Rattle.tabled_object.specs.declared.entity.Entity.TheVariants.{Global}
@@ -64,6 +64,13 @@ all_plain settings colors alike none first r c =
     subst (λ how. IsPlain how (coloring_at settings colors r c)) (placement_alike settings r c alike)
     (subst (IsPlain (placement_at settings 0 0)) (coloring_alike settings colors r c alike none) first)
 
+-- what was read of the first one
+pub first_plain : (settings : CellSettings) (colors : Option (Live Texts)) (read : CellSettings) (row col : ℕ) (how : Placement) (coloring : Coloring) → read ≡ settings → row ≡ 0 → col ≡ 0
+    → how ≡ placement_at read row col → coloring ≡ coloring_at settings colors row col → IsPlain how coloring → IsPlain (placement_at settings 0 0) (coloring_at settings colors 0 0)
+first_plain settings colors read row col how coloring same at_row at_col placed colored =
+    subst (λ how. IsPlain how coloring → IsPlain (placement_at settings 0 0) (coloring_at settings colors 0 0)) (sym (placed ∙ (λ i. placement_at (same i) (at_row i) (at_col i))))
+    (subst (IsPlain (placement_at settings 0 0)) (colored ∙ (λ i. coloring_at settings colors (at_row i) (at_col i))))
+
 -- ---- such a cell
 
 either_same : (b : Bool) (n : ℕ) → (if b then n else n) ≡ n
@@ -72,8 +79,9 @@ either_same false n = refl
 
 painted_in_turn : (xs ys zs : List ℕ) → paint None xs ++ paint None ys ++ paint None zs ≡ paint None (xs ++ ys ++ zs)
 painted_in_turn xs ys zs =
-    ap (λ rest. paint None xs ++ rest) (sym (map-append (λ byte. (byte, None)) ys zs))
-    ∙ sym (map-append (λ byte. (byte, None)) xs (ys ++ zs))
+    let uncolored : ℕ → ℕ × Option Texts = λ byte. (byte, None) in
+    let first : paint None xs ++ paint None ys ≡ paint None (xs ++ ys) = sym (map-append uncolored xs ys) in
+    ap (λ front. front ++ paint None zs) first ∙ sym (map-append uncolored (xs ++ ys) zs)
 
 module _ (how : Placement) (colors : Coloring) (is : IsPlain how colors) (width height : ℕ) (text : List ℕ) (printable : list_all is_printable text ≡ true) where
   shown : lines_shown how text ≡ text ∷ []
@@ -83,7 +91,7 @@ module _ (how : Placement) (colors : Coloring) (is : IsPlain how colors) (width 
       ∙ ap (map (line_shown how)) (one_piece text printable)
       ∙ ap (λ b. (if b then without_ends is_space text else text) ∷ []) is.whole_lines
 
-  after : ℕ
+  abbrev after : ℕ
   after = width - 2 - length text
 
   parts : (aligned : ℕ) → line_parts how width aligned text ≡ record { before = 0; after = after; fill = 32 }
@@ -117,10 +125,10 @@ module _ (how : Placement) (colors : Coloring) (is : IsPlain how colors) (width 
       ∙ ap (λ right. whole None None None right (line_parts how width aligned text)) is.after
       ∙ ap (whole None None None None) (parts aligned)
       ∙ ap (λ rest. paint None (32 ∷ []) ++ rest) (painted_in_turn text (times after 32) (32 ∷ []))
-      ∙ ap (λ bs. paint None (32 ∷ text ++ bs)) (sym spaces_after)
+      ∙ ap (λ bs. paint None (32 ∷ bs)) (append_assoc text (times after 32) (32 ∷ []) ∙ ap (λ bs. text ++ bs) (sym spaces_after))
 
   -- line 0 of it, where so many lines stand above the text
-  by_place : ℕ → Painted
+  abbrev by_place : ℕ → Painted
   by_place above =
       let own = slice_index_or (text ∷ []) (0 - above) [] in
       if nat_lt 0 above then paint colors.padding.top (times width 32) else
