@@ -1,10 +1,10 @@
 -- A character many times: written one by one, as pieces of spaces, and as copies of what was written.
-use Rattle.std.proofs.Common.{rules, Result, Ok, Err, OnErr, min, String, string_bytes, string_len, ◌≡◌, ℕ, zero, suc, ◌+◌, ◌-◌, ◌*◌, ◌<◌, ◌≤◌, true, List, [], ◌∷◌, ◌++◌, length, take, drop, replicate, refl, sym, ap, subst, ◌∙◌, arith, lit<, encode_utf8, encode_utf8_all, length-append}
+use Rattle.std.proofs.Common.{rules, Result, Ok, Err, OnErr, min, String, string_bytes, string_len, ◌≡◌, ℕ, zero, suc, ◌+◌, ◌-◌, ◌*◌, ◌≤◌, true, List, ◌++◌, length, take, drop, replicate, refl, sym, ap, subst, ◌∙◌, arith, lit<, encode_utf8, encode_utf8_all, length-append}
 use Rattle.std.specs.Str.{IsAscii, IsUtf8, IsCharBoundary, all_scalars}
 use Rattle.std.specs.Char.{IsScalar}
 use Rattle.std.specs.List.{slice_range}
 use Rattle.std.specs.String.Boundary.{IsSplitPoint}
-use Rattle.std.proofs.lemmas.List.{append-nil, append_assoc, replicate_more, replicate-append-replicate, length-replicate, take_at, take_all, drop_at, take-replicate}
+use Rattle.std.proofs.lemmas.List.{append-nil, append_assoc, replicate-append-replicate, take_all, drop_at, take-replicate}
 use Rattle.std.proofs.lemmas.Str.{encodes-append, encodes-IsAscii, IsCharBoundary-at_seam}
 use Rattle.std.proofs.lemmas.Str.Ascii.{IsAscii-nil, IsAscii-cons}
 use Rattle.std.proofs.Math.Nat.{zero-mul, suc-mul}

@@ -7,4 +7,4 @@ pub mod Plain
 pub mod StretchLemmas
 pub mod AlikeLemmas
 pub mod RepeatLemmas
-pub mod PlainLemmas
+pub mod BareLemmas

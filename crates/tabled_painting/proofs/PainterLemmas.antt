@@ -9,7 +9,7 @@ use Rattle.std.specs.List.{flat_map}
 use Rattle.tabled_object.specs.Entities.{below}
 use Rattle.tabled_configuration.proofs.Below.{flat_map_below}
 use Rattle.tabled_painting.specs.Pages.{written}
-use Rattle.tabled_painting.specs.PlainCells.{at_left}
+use Rattle.tabled_painting.specs.BareCells.{at_left}
 use Rattle.tabled_painting.specs.declared.painter.Painter.{Painter}
 use Rattle.tabled_painting.specs.Painted.{Painted, paint, plain, colored_if}
 use Rattle.tabled_painting.specs.InColor.{same_color, prefix_of, suffix_of, between, colored, last_color, color_if, Paints}

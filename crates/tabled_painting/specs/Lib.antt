@@ -8,4 +8,4 @@ pub mod Alike
 pub mod Repeated
 pub mod Viewed
 pub mod Stretches
-pub mod PlainCells
+pub mod BareCells

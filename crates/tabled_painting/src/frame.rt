@@ -18,13 +18,13 @@ ghost use Rattle.tabled_config.specs.Texts.{texts};
 ghost use Rattle.tabled_painting.specs.InColor.{Paints};
 ghost use Rattle.tabled_painting.specs.Painted.{paint};
 ghost use Rattle.tabled_painting.specs.Pages.{PaintsLines};
-ghost use Rattle.tabled_painting.specs.PlainCells.{ArePlain};
+ghost use Rattle.tabled_painting.specs.BareCells.{AreBare};
 ghost use Rattle.tabled_painting.specs.Repeated.{IsBetweenRows, AreBesideRows, looks_of};
 
 use crate::alike::{first_plain_line, has_alike_lines, has_alike_sides};
+use crate::bare_cells::has_bare_cells;
 use crate::cell_lines::CellLines;
 use crate::page::Page;
-use crate::plain_cells::has_plain_cells;
 use crate::stretch::{Stretch, paint_stretches, put_run};
 use crate::{CellColors, Painter};
 use std::alloc::{AllocError, Global};
@@ -49,14 +49,14 @@ pub(crate) struct Frame<'a, 'b> {
     pub(crate) sides: &'b [bool],
     pub(crate) with_colors: bool,
     /// Whether nothing is set for cells.
-    plain_cells: bool,
+    bare_cells: bool,
     /// What a horizontal line between two rows shows, where all of them but custom ones look alike.
     between: Option<Vec<Stretch<'a>>>,
     /// What each vertical line shows, where it looks alike beside all lines of text.
     beside: Option<Vec<Mark<'a>>>,
     ghost has_places: { is_empty shape ≡ false },
     ghost sides_drawn: { sides.now ≡ map (λ n. crossed_after (all_writes cfg.now.spanned) shape (Line.Horizontal 0) n) (below (pieces_of shape (Line.Horizontal 0) + 1)) },
-    ghost are_plain: { plain_cells ≡ true → ArePlain cfg.now.spanned.settings.cells cfg.now.cell_colors },
+    ghost are_bare: { bare_cells ≡ true → AreBare cfg.now.spanned.settings.cells cfg.now.cell_colors },
     ghost is_between: { ForSome between (λ found. IsBetweenRows (looks_of with_colors cfg.now shape sizes.now) cfg.now.spanned found.items) },
     ghost are_beside: { ForSome beside (λ found. AreBesideRows (looks_of with_colors cfg.now shape sizes.now) found.items) },
 }
@@ -92,7 +92,7 @@ impl<'a, 'b> Frame<'a, 'b> {
             shape,
             sides,
             with_colors,
-            plain_cells: has_plain_cells(cfg),
+            bare_cells: has_bare_cells(cfg),
             between,
             beside,
         })
@@ -273,7 +273,7 @@ impl<'a, 'b> Frame<'a, 'b> {
         ensures { OnOk result (Paints (painted_cell self.now.cfg.now.spanned.settings.cells self.now.cfg.now.cell_colors (slice_index self.now.sizes.now.widths.items position.col)
             (slice_index self.now.sizes.now.heights.items position.row) text.now position.row position.col 0) painter.old painter.new) }
     {
-        if self.plain_cells && is_printable(text) {
+        if self.bare_cells && is_printable(text) {
             painter.push_at_left(self.sizes.get_width(position.col), text)?;
             return Ok(());
         }
@@ -567,7 +567,7 @@ fn repeated<'a>(
         shape,
         sides,
         with_colors,
-        plain_cells: false,
+        bare_cells: false,
         between: None,
         beside: None,
     };

@@ -5,6 +5,7 @@
 #![tactic(auto)]
 
 mod alike;
+mod bare_cells;
 mod cell_colors;
 mod cell_lines;
 mod frame;
@@ -13,7 +14,6 @@ mod margin_sides;
 mod page;
 mod painter;
 mod painting;
-mod plain_cells;
 mod stretch;
 
 pub(crate) use cell_colors::CellColors;

@@ -6,7 +6,7 @@ ghost use Rattle.tabled_configuration.specs.Configuration.{all_writes};
 ghost use Rattle.tabled_config.specs.LinePieces.{has_line, pieces_of, crossed_after};
 ghost use Rattle.tabled_config.specs.Picture.{marks, text_marked};
 ghost use Rattle.tabled_cells.specs.Placed.{times};
-ghost use Rattle.tabled_painting.specs.PlainCells.{at_left};
+ghost use Rattle.tabled_painting.specs.BareCells.{at_left};
 ghost use Rattle.tabled_painting.specs.Painted.{paint};
 ghost use Rattle.tabled_painting.specs.InColor.{Paints, between, prefix_of, suffix_of, color_if};
 

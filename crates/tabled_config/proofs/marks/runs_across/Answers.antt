@@ -1,8 +1,8 @@
 -- The places of a line that is there are all that are walked.
-use Rattle.std.proofs.Common.{◌*◌, ◌++◌, length, map, sym, ap, subst, ◌∙◌}
+use Rattle.std.proofs.Common.{◌*◌, ◌++◌, map, sym, ap, subst, ◌∙◌}
 use Rattle.tabled_grid.specs.Probing.{IsRaised}
 use Rattle.tabled_configuration.specs.Configuration.{all_writes}
-use Rattle.tabled_config.specs.Picture.{Look, look, mark_at, marks_along}
+use Rattle.tabled_config.specs.Picture.{Look, look, mark_at}
 use Rattle.tabled_config.specs.LinePieces.{all_places}
 use Rattle.tabled_config.specs.Marks.{marks_of}
 use Rattle.tabled_config.proofs.LineLemmas.{marks_are, marks_count}

@@ -1,5 +1,5 @@
 -- The first characters, and then copies of the last ones.
-use Rattle.std.proofs.Common.{rules, ◌≡◌, ◌∙◌, ◌++◌, ◌≤◌, ap, arith, string_bytes}
+use Rattle.std.proofs.Common.{rules, ◌≡◌, ◌∙◌, ◌++◌, ap, arith, string_bytes}
 use Rattle.std.specs.Char.{IsScalar}
 use Rattle.tabled_config.specs.Texts.{times}
 use Rattle.tabled_config.proofs.TimesLemmas.{none_more, written_since, written_some, string_len-is, so_far, copied_fit, copied_split, copied}
@@ -44,11 +44,10 @@ returns-in_err-extend_from_within-clause-err c =
 
 pub loop-written-preserved : goal.loop-written-preserved
 loop-written-preserved c =
-    let all = c.loop-written.invariant in
-    (
+    let all = c.loop-written.invariant in (
       copied (string_bytes c.args.text.now) _ (string_bytes c.loop-written.text) c.first_ones-written.result c.loop-written.written c.args.count c.min-more.result c.args.character
-      c.in_ok-push_each.ensures.ok all.0 all.1 c.min-more.ensures c.len.result c.len_utf8.result (c.len.ensures ∙ string_len-is c.loop-written.text) c.len_utf8.ensures.len
-      _ _ (string_len-is c.loop-written.text) c.in_ok-extend_from_within.ensures.bytes,
+          c.in_ok-push_each.ensures.ok all.0 all.1 c.min-more.ensures c.len.result c.len_utf8.result (c.len.ensures ∙ string_len-is c.loop-written.text) c.len_utf8.ensures.len
+          _ _ (string_len-is c.loop-written.text) c.in_ok-extend_from_within.ensures.bytes,
       omega (arith, all.1),
       omega (arith, c.min-more.ensures, c.loop-written-test.true),
       all.3,

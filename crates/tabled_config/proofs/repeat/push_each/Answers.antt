@@ -1,5 +1,4 @@
 -- One character more.
-use Rattle.std.proofs.Common.{◌∙◌}
 use Rattle.tabled_config.proofs.TimesLemmas.{one_more}
 use Rattle.tabled_config.proofs.repeat.push_each.Goals as goal
 

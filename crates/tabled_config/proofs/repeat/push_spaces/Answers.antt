@@ -8,8 +8,7 @@ pub loop-left-preserved : goal.loop-left-preserved
 loop-left-preserved c =
     let all = c.loop-left.invariant in
     let left = c.loop-left.left in
-    let more : c.args.count - left + 64 ≡ c.args.count - (left - 64) = omega (arith, all.1, c.loop-left-test.true) in
-    (
+    let more : c.args.count - left + 64 ≡ c.args.count - (left - 64) = omega (arith, all.1, c.loop-left-test.true) in (
       both_written _ _ _ (c.args.count - left) 64 32 all.0 c.in_ok-push_part.ensures.ok ∙ ap (λ n. string_bytes c.args.text.now ++ times n 32) more,
       omega (arith, all.1),
     )

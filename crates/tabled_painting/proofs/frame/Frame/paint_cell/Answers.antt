@@ -4,8 +4,8 @@ use Rattle.tabled_cells.specs.Placements.{placement_at}
 use Rattle.tabled_painting.specs.InColor.{Paints}
 use Rattle.tabled_painting.specs.Painted.{paint}
 use Rattle.tabled_painting.specs.CellLines.{coloring_at}
-use Rattle.tabled_painting.specs.PlainCells.{at_left}
-use Rattle.tabled_painting.proofs.PlainLemmas.{plain_cell}
+use Rattle.tabled_painting.specs.BareCells.{at_left}
+use Rattle.tabled_painting.proofs.BareLemmas.{bare_cell}
 use Rattle.tabled_painting.proofs.frame.Frame.paint_cell.Goals as goal
 
 pub returns-then-is_printable : goal.returns-then-is_printable
@@ -16,6 +16,6 @@ returns-then-is_printable c =
     let col = c.args.position.col in
     subst (λ line. Paints line c.args.painter.now c.push_at_left.new.self)
     (ap (λ width. paint None (at_left width c.args.text.now)) c.get_width.ensures
-    ∙ plain_cell (placement_at settings row col) (coloring_at settings frame.cfg.now.cell_colors row col) (frame.are_plain c.if-self.true row col)
+    ∙ bare_cell (placement_at settings row col) (coloring_at settings frame.cfg.now.cell_colors row col) (frame.are_bare c.if-self.true row col)
     (slice_index frame.sizes.now.widths.items col) (slice_index frame.sizes.now.heights.items row) c.args.text.now (sym c.is_printable.ensures ∙ c.if-is_printable.true))
     c.in_ok-push_at_left.ensures

@@ -11,7 +11,7 @@ use Rattle.tabled_cells.specs.Placements.{placement_at}
 use Rattle.tabled_painting.specs.CellLines.{Coloring, coloring_at}
 
 -- such a cell
-pub record IsPlain (how : Placement) (colors : Coloring) : Type 0 where
+pub record IsBareCell (how : Placement) (colors : Coloring) : Type 0 where
   pub left : how.alignment_horizontal ≡ AlignmentHorizontal.Left
   pub top : how.alignment_vertical ≡ AlignmentVertical.Top
   pub whole_lines : how.trim_horizontal ≡ false
@@ -23,8 +23,8 @@ pub record IsPlain (how : Placement) (colors : Coloring) : Type 0 where
   pub after : colors.padding.right ≡ None
 
 -- each cell is such a one
-abbrev pub ArePlain : CellSettings → Option (Live Texts) → Type 0
-ArePlain settings colors = (r c : ℕ) → IsPlain (placement_at settings r c) (coloring_at settings colors r c)
+abbrev pub AreBare : CellSettings → Option (Live Texts) → Type 0
+AreBare settings colors = (r c : ℕ) → IsBareCell (placement_at settings r c) (coloring_at settings colors r c)
 
 -- a text in such a cell of a column of that width: a space before it and spaces after it, at least one
 abbrev pub at_left : ℕ → List ℕ → List ℕ

@@ -24,7 +24,7 @@ use Rattle.tabled_cells.specs.Trimmed.{without_ends, is_space, is_blank, line_sh
 use Rattle.tabled_cells.proofs.Printing.{one_piece, printable_width}
 use Rattle.tabled_painting.specs.Painted.{Painted, paint}
 use Rattle.tabled_painting.specs.CellLines.{Coloring, coloring_at, painted_line, cell_line}
-use Rattle.tabled_painting.specs.PlainCells.{IsPlain, ArePlain, at_left}
+use Rattle.tabled_painting.specs.BareCells.{IsBareCell, AreBare, at_left}
 
 -- ---- all cells
 
@@ -59,17 +59,17 @@ coloring_alike settings colors r c alike none = λ i. record {
   padding = value_alike settings.padding_color (cell_at 0 0) (cell_at r c) alike.padding_color i;
 }
 
-pub all_plain : (settings : CellSettings) (colors : Option (Live Texts)) → AreAlike settings → colors ≡ None → IsPlain (placement_at settings 0 0) (coloring_at settings colors 0 0) → ArePlain settings colors
-all_plain settings colors alike none first r c =
-    subst (λ how. IsPlain how (coloring_at settings colors r c)) (placement_alike settings r c alike)
-    (subst (IsPlain (placement_at settings 0 0)) (coloring_alike settings colors r c alike none) first)
+pub all_bare : (settings : CellSettings) (colors : Option (Live Texts)) → AreAlike settings → colors ≡ None → IsBareCell (placement_at settings 0 0) (coloring_at settings colors 0 0) → AreBare settings colors
+all_bare settings colors alike none first r c =
+    subst (λ how. IsBareCell how (coloring_at settings colors r c)) (placement_alike settings r c alike)
+    (subst (IsBareCell (placement_at settings 0 0)) (coloring_alike settings colors r c alike none) first)
 
 -- what was read of the first one
-pub first_plain : (settings : CellSettings) (colors : Option (Live Texts)) (read : CellSettings) (row col : ℕ) (how : Placement) (coloring : Coloring) → read ≡ settings → row ≡ 0 → col ≡ 0
-    → how ≡ placement_at read row col → coloring ≡ coloring_at settings colors row col → IsPlain how coloring → IsPlain (placement_at settings 0 0) (coloring_at settings colors 0 0)
-first_plain settings colors read row col how coloring same at_row at_col placed colored =
-    subst (λ how. IsPlain how coloring → IsPlain (placement_at settings 0 0) (coloring_at settings colors 0 0)) (sym (placed ∙ (λ i. placement_at (same i) (at_row i) (at_col i))))
-    (subst (IsPlain (placement_at settings 0 0)) (colored ∙ (λ i. coloring_at settings colors (at_row i) (at_col i))))
+pub first_bare : (settings : CellSettings) (colors : Option (Live Texts)) (read : CellSettings) (row col : ℕ) (how : Placement) (coloring : Coloring) → read ≡ settings → row ≡ 0 → col ≡ 0
+    → how ≡ placement_at read row col → coloring ≡ coloring_at settings colors row col → IsBareCell how coloring → IsBareCell (placement_at settings 0 0) (coloring_at settings colors 0 0)
+first_bare settings colors read row col how coloring same at_row at_col placed colored =
+    subst (λ how. IsBareCell how coloring → IsBareCell (placement_at settings 0 0) (coloring_at settings colors 0 0)) (sym (placed ∙ (λ i. placement_at (same i) (at_row i) (at_col i))))
+    (subst (IsBareCell (placement_at settings 0 0)) (colored ∙ (λ i. coloring_at settings colors (at_row i) (at_col i))))
 
 -- ---- such a cell
 
@@ -83,7 +83,7 @@ painted_in_turn xs ys zs =
     let first : paint None xs ++ paint None ys ≡ paint None (xs ++ ys) = sym (map-append uncolored xs ys) in
     ap (λ front. front ++ paint None zs) first ∙ sym (map-append uncolored (xs ++ ys) zs)
 
-module _ (how : Placement) (colors : Coloring) (is : IsPlain how colors) (width height : ℕ) (text : List ℕ) (printable : list_all is_printable text ≡ true) where
+module _ (how : Placement) (colors : Coloring) (is : IsBareCell how colors) (width height : ℕ) (text : List ℕ) (printable : list_all is_printable text ≡ true) where
   shown : lines_shown how text ≡ text ∷ []
   unfolding lines_shown
   shown =
@@ -135,9 +135,9 @@ module _ (how : Placement) (colors : Coloring) (is : IsPlain how colors) (width 
       if nat_lt (0 - above) (length (text ∷ [])) then painted_line how colors width (aligned_width how (text ∷ []) own) own else
       paint colors.padding.bottom (times width 32)
 
-  pub plain_cell : paint None (at_left width text) ≡ cell_line how colors width height (lines_shown how text) 0
+  pub bare_cell : paint None (at_left width text) ≡ cell_line how colors width height (lines_shown how text) 0
   unfolding cell_line
-  plain_cell =
+  bare_cell =
       sym (ap (λ lines. cell_line how colors width height lines 0) shown
       ∙ ap (λ side. by_place (free_above side (height - 1))) is.top
       ∙ line (aligned_width how (text ∷ []) text))

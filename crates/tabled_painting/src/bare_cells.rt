@@ -1,7 +1,7 @@
 //! Whether nothing is set for the cells of a table, so that their texts are shown as they are.
 
 ghost use Rattle.std.specs.Prelude.{◌↔◌, IsTrue};
-ghost use Rattle.tabled_painting.specs.PlainCells.{ArePlain, IsPlain};
+ghost use Rattle.tabled_painting.specs.BareCells.{AreBare, IsBareCell};
 ghost use Rattle.tabled_painting.specs.CellLines.{coloring_of};
 
 use crate::CellColors;
@@ -11,8 +11,8 @@ use tabled_grid::Position;
 use tabled_settings::{AlignmentHorizontal, AlignmentVertical};
 
 /// Whether a cell shows its text whole, at the left and at the top, between spaces, and without colors.
-fn is_plain(how: &Placement, colors: &CellColors) -> bool
-    ensures { IsTrue result → IsPlain how.now (coloring_of colors.now) }
+fn is_bare(how: &Placement, colors: &CellColors) -> bool
+    ensures { IsTrue result → IsBareCell how.now (coloring_of colors.now) }
 {
     how.alignment_horizontal == AlignmentHorizontal::Left
         && how.alignment_vertical == AlignmentVertical::Top
@@ -26,8 +26,8 @@ fn is_plain(how: &Placement, colors: &CellColors) -> bool
 }
 
 /// Whether all cells are known to be such ones: since all have the same settings, and one of them is.
-pub(crate) fn has_plain_cells(cfg: &ColoredConfig) -> bool
-    ensures { IsTrue result → ArePlain cfg.now.spanned.settings.cells cfg.now.cell_colors }
+pub(crate) fn has_bare_cells(cfg: &ColoredConfig) -> bool
+    ensures { IsTrue result → AreBare cfg.now.spanned.settings.cells cfg.now.cell_colors }
 {
     if !cfg.config().has_alike_cells() || !cfg.get_colors().is_empty() {
         return false;
@@ -35,5 +35,5 @@ pub(crate) fn has_plain_cells(cfg: &ColoredConfig) -> bool
     let first = Position::new(0, 0);
     let how = Placement::of(cfg.config(), first);
     let colors = CellColors::of(cfg, first);
-    is_plain(&how, &colors)
+    is_bare(&how, &colors)
 }
