@@ -1,11 +1,9 @@
 -- The bytes of a cell, written part by part.
-use Rattle.std.proofs.Common.{rules, ◌≡◌, ◌≢◌, false, if◌then◌else◌, map, subst, String, string_bytes, string_len, ℕ, ◌+◌, ◌-◌, ◌<◌, ◌≤◌, zero, suc, List, [], ◌∷◌, ◌++◌, length, take, get_or, refl, sym, ap, ◌∙◌, arith, lit<, replicate, encode_utf8, encode_utf8_all, length-append}
+use Rattle.std.proofs.Common.{◌≡◌, ◌≢◌, false, if◌then◌else◌, map, subst, String, string_bytes, string_len, ℕ, ◌+◌, ◌-◌, ◌<◌, ◌≤◌, List, [], ◌∷◌, ◌++◌, length, take, get_or, refl, sym, ap, ◌∙◌, arith, lit<, replicate, encode_utf8, length-append}
 use Rattle.std.specs.List.{flat_map, join_with_byte}
-use Rattle.std.specs.Str.{IsAscii}
 use Rattle.std.proofs.lemmas.List.{append-nil, append_assoc, replicate_more, get_or_at, take_at, map-append, take_more, get_or-map, length-map}
 use Rattle.std.proofs.lemmas.List.Concat.{flat_map-append}
-use Rattle.std.proofs.lemmas.Str.{encodes-append, encodes-IsAscii, encode_ascii}
-use Rattle.std.proofs.lemmas.Str.Ascii.{IsAscii-nil, IsAscii-cons}
+use Rattle.std.proofs.lemmas.Str.{encode_ascii}
 use denote.Ref.{Bor}
 use Rattle.tabled_settings.specs.declared.alignment.AlignmentHorizontal.TheVariants.{Left}
 use Rattle.tabled_config.specs.Pieces.{lent}

@@ -1,24 +1,14 @@
 -- The columns and rows of a table leave room for its cells, and what the cells say.
-use Rattle.std.proofs.Common.{◌≡◌, ◌==◌, ◌||◌, ℕ, ◌+◌, ◌<◌, ◌≤◌, zero, suc, Bool, true, false, if◌then◌else◌, List, [], ◌∷◌, ◌++◌, map, length, get_or, refl, sym, ap, ◌∙◌, arith, eq-eqb, Some, None, String, string_bytes, Vec}
+use Rattle.std.proofs.Common.{◌≡◌, ◌==◌, ℕ, ◌+◌, ◌<◌, ◌≤◌, zero, suc, Bool, true, false, if◌then◌else◌, List, [], ◌∷◌, map, length, get_or, refl, sym, ap, ◌∙◌, arith, Some, None, String, string_bytes, Vec}
 use Rattle.std.specs.Prelude.{slice_index}
 use Rattle.std.specs.Str.{IsUtf8}
-use Rattle.std.specs.List.{list_all, flat_map, enumerate_from}
 use Rattle.std.proofs.lemmas.Bool.Decides.{nat_tests}
 use Rattle.std.proofs.lemmas.List.{get_or-map}
-use Rattle.std.proofs.lemmas.List.FromFn.{length-map-range_with_len, get_or-map-range_with_len}
-use Rattle.std.proofs.lemmas.List.Splits.{length-slice_split}
+use Rattle.std.proofs.lemmas.List.FromFn.{get_or-map-range_with_len}
 use Rattle.std.proofs.lemmas.Str.{IsUtf8-nil, IsUtf8-string_bytes}
-use Rattle.tabled_object.specs.Entities.{below}
-use Rattle.tabled_settings.specs.declared.cell_settings.CellSettings.{CellSettings}
-use Rattle.tabled_config.specs.Texts.{Table, texts, pieces, width_of_text}
-use Rattle.tabled_config.specs.Refusal.{unless, cell_faults, row_faults, table_faults}
-use Rattle.tabled_config.specs.declared.print_error.PrintError.TheVariants.{RowCount, ColumnCount, Height, Width}
-use Rattle.tabled_cells.specs.declared.placement.Placement.{Placement}
-use Rattle.tabled_cells.specs.Placements.{placement_at}
-use Rattle.tabled_cells.specs.Placed.{placed, placed_lines, greatest}
-use Rattle.tabled_cells.proofs.Fits.{greatest_bound, cut_placed, placed_high, placed_wide}
+use Rattle.tabled_config.specs.Texts.{Table, texts}
+use Rattle.tabled_cells.proofs.Fits.{greatest_bound}
 use Rattle.tabled_text.specs.Sizes.{cell, first_unequal, column_count, column_width, column_widths, row_height, row_heights, width_asked, height_asked}
-use Rattle.tabled_text.specs.Cells.{placed_row, placed_rows}
 
 -- the widths and heights that a table asks for leave room for each cell
 pub column_room : (table : Table) (r c : ℕ) → r < length table → c < column_count table → width_asked (cell (get_or table r []) c) ≤ slice_index (column_widths table) c

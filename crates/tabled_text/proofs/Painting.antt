@@ -5,7 +5,6 @@ use Rattle.std.specs.Str.{IsUtf8}
 use Rattle.std.specs.List.{All, flat_map, join_with_byte}
 use Rattle.std.proofs.lemmas.List.{get_or_default}
 use Rattle.tabled_object.specs.Entities.{below}
-use Rattle.tabled_config.specs.Refusal.{table_faults}
 use Rattle.std.proofs.lemmas.Bool.{and_parts, eqb-true}
 use Rattle.std.proofs.lemmas.List.FromFn.{get_or-map-range_with_len}
 use Rattle.std.proofs.lemmas.List.Splits.{length-slice_split}
@@ -19,7 +18,7 @@ use Rattle.tabled_configuration.specs.Configuration.{Configuration, ConfigEvent,
 use Rattle.tabled_configuration.specs.Colored.{Colored, Shows}
 use Rattle.tabled_config.specs.Along.{is_empty}
 use Rattle.tabled_config.specs.Texts.{Table, pieces}
-use Rattle.tabled_config.specs.Picture.{Look, look, text_lines, marks_along, line_if_drawn, row_lines, printed}
+use Rattle.tabled_config.specs.Picture.{Look, look, text_lines, marks_along, line_if_drawn, row_lines}
 use Rattle.tabled_config.proofs.LookLemmas.{own_look}
 use Rattle.tabled_grid.specs.declared.place.LineOf.{LineOf}
 use Rattle.tabled_cells.specs.Placed.{placed}

@@ -1,9 +1,7 @@
 -- All cells are as the first one.
-use Rattle.std.proofs.Common.{◌≡◌, ap, subst, sym, ◌∙◌}
-use Rattle.tabled_cells.specs.Placements.{placement_at}
+use Rattle.std.proofs.Common.{ap, subst, sym, ◌∙◌}
 use Rattle.tabled_configuration.specs.AlikeCells.{AreAlike}
-use Rattle.tabled_painting.specs.CellLines.{coloring_at, coloring_of}
-use Rattle.tabled_painting.specs.BareCells.{IsBareCell}
+use Rattle.tabled_painting.specs.CellLines.{coloring_of}
 use Rattle.tabled_painting.proofs.BareLemmas.{all_bare, first_bare}
 use Rattle.tabled_painting.proofs.bare_cells.has_bare_cells.Goals as goal
 

@@ -1,5 +1,5 @@
 -- A text of printable characters is as wide as it is long; else the widest line is found by a walk over the lines.
-use Rattle.std.proofs.Common.{rules, tests, ◌≡◌, map, unwrap_or, ap, sym, ◌∙◌, lit<, arith}
+use Rattle.std.proofs.Common.{rules, tests, map, unwrap_or, ap, sym, ◌∙◌, lit<, arith}
 use Rattle.std.proofs.lemmas.Iterator.{YieldsList-from_map}
 use Rattle.std.proofs.lemmas.Iterator.Adapters.{option_map_id}
 use Rattle.std.proofs.lemmas.Iterator.Consumers.{max_from_yields_List}
