@@ -1,4 +1,4 @@
-//! The plain program beside `tables.rt`: 20,000 tables of 3 x 3 cells in the style `modern`, each made of its cells and turned into a
+//! The plain program beside `tables.rs`: 20,000 tables of 3 x 3 cells in the style `modern`, each made of its cells and turned into a
 //! text, with nothing but the standard library and a `String` for each cell.
 
 const ROWS: [[&str; 3]; 3] = [["name", "age", "city"], ["Alice", "30", "Oslo"], ["Bob", "7", "Rome"]];
