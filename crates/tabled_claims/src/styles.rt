@@ -8,6 +8,7 @@ ghost use Rattle.tabled_grid.specs.declared.place.Rank.{Rank};
 ghost use Rattle.tabled_grid.specs.Borders.{horizontal_of, vertical_of};
 ghost use Rattle.tabled_style.specs.Shown.{Shown, frame_of};
 ghost use Rattle.tabled_style.specs.Lines.{turned_horizontal};
+ghost use Rattle.tabled_style.specs.Setting.{with_horizontal};
 ghost use Rattle.tabled_style.specs.LineCalls.{with_line_horizontal, with_line_vertical};
 ghost use Rattle.tabled_style.specs.Frame.{with_frame};
 ghost use Rattle.tabled_grid.specs.declared.place.LineOf.{LineOf as Line};
@@ -25,7 +26,7 @@ ghost use Rattle.tabled_theme.specs.Shown.{ThemeShown, of_style, of_configuratio
 ghost use Rattle.tabled_theme.specs.Events.{as_style, color_texts, style_applied, theme_applied, DrawsLike};
 
 use tabled_grid::VerticalLine as VLine;
-use tabled_style::HorizontalLine;
+use tabled_style::{HorizontalLine, On, Style};
 
 /// A horizontal line that is converted to a vertical one, whose four characters are then those of a horizontal line,
 /// its upper end on the left, has its four characters again.
@@ -42,6 +43,28 @@ pub fn inherited_again()
     ensures vertical { (rank : Rank) (line : Vertical ℕ) (style : Shown) → vertical_of rank (with_line_vertical rank line style).borders ≡ line }
     ensures frame { (border : Frame ℕ) (style : Shown) → frame_of (with_frame border style).borders ≡ border }
 {}
+
+/// A style whose top is set: the character stands along the edges above the first row, at the corners there of the sides that
+/// it has, at the crossings there where it has lines between columns, and at the upper ends of its custom vertical lines.
+pub fn top_of_a_style<T, B, L, R, H, V, const HN: usize, const VN: usize>(
+    style: Style<T, B, L, R, H, V, HN, VN>,
+    c: char,
+) -> Style<On, B, L, R, H, V, HN, VN>
+    ensures { result ≡ with_horizontal Rank.First c style }
+{
+    style.top(c)
+}
+
+/// A style whose line between rows is replaced: the line stands there with its four characters, and the rest of the style
+/// follows it.
+pub fn line_of_a_style<T, B, L, R, H, V, Left, Right, I, const HN: usize, const VN: usize>(
+    style: Style<T, B, L, R, H, V, HN, VN>,
+    line: HorizontalLine<Left, Right, I>,
+) -> Style<T, B, Left, Right, On, I, HN, VN>
+    ensures { result ≡ with_line_horizontal Rank.Inner line style }
+{
+    style.line_horizontal(line)
+}
 
 /// After a style the character of every border place, and which lines are drawn, are those of what the style writes,
 /// by the shape of the table and the length of the edge, and no place has a color, whatever was there before. A class

@@ -3,6 +3,7 @@ pub mod MadeInTurn
 pub mod LookLemmas
 pub mod LineLemmas
 pub mod MarkLemmas
+pub mod KnownLemmas
 pub mod TextLemmas
 pub mod PieceLemmas
 pub mod TimesLemmas

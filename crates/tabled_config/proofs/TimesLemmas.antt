@@ -4,7 +4,7 @@ use Rattle.std.specs.Str.{IsAscii, IsUtf8, IsCharBoundary, all_scalars}
 use Rattle.std.specs.Char.{IsScalar}
 use Rattle.std.specs.List.{slice_range}
 use Rattle.std.specs.String.Boundary.{IsSplitPoint}
-use Rattle.std.proofs.lemmas.List.{append-nil, append_assoc, replicate-append-replicate, take_all, drop_at, take-replicate}
+use Rattle.std.proofs.lemmas.List.{append-nil, append_assoc, replicate-append-replicate, take_all, drop_at, take_at}
 use Rattle.std.proofs.lemmas.Str.{encodes-append, encodes-IsAscii, IsCharBoundary-at_seam}
 use Rattle.std.proofs.lemmas.Str.Ascii.{IsAscii-nil, IsAscii-cons}
 use Rattle.std.proofs.Math.Nat.{zero-mul, suc-mul}
@@ -52,9 +52,6 @@ IsAscii-spaces (suc n) = IsAscii-cons 32 (replicate n 32) (lit< tt) (IsAscii-spa
 
 pub times_spaces : (n : ℕ) → times n 32 ≡ replicate n 32
 times_spaces n = encodes-IsAscii (replicate n 32) (IsAscii-spaces n)
-
-pub spaces_written : (start old new : List ℕ) (n m : ℕ) → old ≡ start ++ times n 32 → new ≡ old ++ replicate m 32 → new ≡ start ++ times (n + m) 32
-spaces_written start old new n m so_far wrote = both_written start old new n m 32 so_far (wrote ∙ ap (λ bs. old ++ bs) (sym (times_spaces m)))
 
 -- ---- copies
 
@@ -117,11 +114,26 @@ module _ (start middle old : List ℕ) (few written count more character : ℕ) 
         written_next middle old new few written more character since grown
         (wrote ∙ ap (λ n. old ++ slice_range old (len - more * size) n) ends ∙ ap (λ bs. old ++ bs) last_ones)
 
--- a part of a text of spaces
-pub part_of_spaces : (text : List ℕ) (n : ℕ) → text ≡ replicate (length text) 32 → n ≤ length text → slice_range text 0 n ≡ times n 32
-part_of_spaces text n are within =
-    let whole : n - 0 ≡ n = omega arith in
-    ap (λ k. take k text) whole ∙ ap (take n) are ∙ take-replicate n (length text) 32 within ∙ sym (times_spaces n)
+-- a part of a text of one character
+module _ (piece : List ℕ) (count character size : ℕ) (is : piece ≡ times 64 character) (within : count ≤ 64) (sized : size ≡ length (encode_utf8 character)) where
+  in_parts : piece ≡ times count character ++ times (64 - count) character
+  in_parts =
+      let all : 64 ≡ count + (64 - count) = omega (arith, within) in
+      is ∙ ap (λ n. times n character) all ∙ times_both count (64 - count) character
+
+  at_seam : length (times count character) ≡ count * size
+  at_seam = length-times count character ∙ ap (λ n. count * n) (sym sized)
+
+  pub part_fits : count * size ≤ length piece
+  part_fits = omega (arith, at_seam, ap length in_parts, length-append (times count character) (times (64 - count) character))
+
+  pub part_split : IsScalar character → IsCharBoundary piece (count * size)
+  part_split scalar = subst (IsCharBoundary piece) at_seam (IsCharBoundary-at_seam piece (times count character) (times (64 - count) character) in_parts (IsUtf8-times (64 - count) character scalar))
+
+  pub part_of : slice_range piece 0 (count * size) ≡ times count character
+  part_of =
+      let whole : count * size - 0 ≡ length (times count character) = omega (arith, at_seam) in
+      ap (λ k. take k piece) whole ∙ ap (take (length (times count character))) in_parts ∙ take_at (times count character) (times (64 - count) character) (length (times count character)) refl
 
 -- of a call that was refused: some were written
 pub written_some : {T E : Type 0} (r : Result T E) (P : ℕ → Type 0) (n : ℕ) → P n → OnErr r ((some : ℕ) × P some)

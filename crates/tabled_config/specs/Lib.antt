@@ -18,6 +18,7 @@ pub mod Along
 pub mod Picture
 pub mod LinePieces
 pub mod Marks
+pub mod Known
 pub mod Sinks
 pub mod Viewed
 pub mod TextOrder

@@ -18,7 +18,7 @@ mod sink;
 pub use cell_rows::CellRows;
 pub use line_pieces::{crossing_line, crossing_of, edge_of, has_line, pieces_of, size_of};
 pub use mark::{Mark, Run};
-pub use marks::{drawn_across, line_marks, line_runs, runs_across, write_across};
+pub use marks::{drawn_across, has_none_across, line_marks, line_runs, runs_across, write_across};
 pub use print::{print_plain, print_rows};
 pub use print_error::PrintError;
 pub use repeat::push_times;

@@ -1,6 +1,6 @@
 //! What the places along a line show, in order: the one walk along a line, which the printer takes too.
 
-ghost use Rattle.std.specs.Prelude.{◌≡◌, ℕ, ◌+◌, ◌*◌, ◌≤◌, true, false, if◌then◌else◌, IsFalse, Option, None, List, IfOk, length, map, option_copied};
+ghost use Rattle.std.specs.Prelude.{◌≡◌, ◌↔◌, ℕ, ◌+◌, ◌*◌, ◌≤◌, ◌<◌, true, false, if◌then◌else◌, IsTrue, IsFalse, Option, None, List, IfOk, length, map, option_copied};
 ghost use Rattle.tabled_grid.specs.Probing.{IsRaised};
 ghost use Rattle.tabled_grid.specs.Reading.{direction_of};
 ghost use Rattle.tabled_grid.specs.State.{state_at, HasNoOffsets};
@@ -8,7 +8,8 @@ ghost use Rattle.tabled_grid.specs.Value.{plain_value};
 ghost use Rattle.tabled_object.specs.Entities.{below};
 ghost use Rattle.tabled_configuration.specs.Configuration.{ConfigEvent, Shows, all_writes};
 ghost use Rattle.tabled_config.specs.Picture.{edge_size, mark_at, marks, text_marked};
-ghost use Rattle.tabled_config.specs.LinePieces.{has_line, pieces_of, size_of, crossed_after, crossing_places, edge_places, piece_places, all_places, lines_met};
+ghost use Rattle.tabled_config.specs.Known.{HasNoneAcross, IsAlike, AreKnown};
+ghost use Rattle.tabled_config.specs.LinePieces.{has_line, pieces_of, size_of, crossed_after, crossing_of, edge_of, crossing_places, edge_places, piece_places, all_places, lines_met};
 ghost use Rattle.tabled_config.specs.Marks.{mark_of, marks_of};
 ghost use Rattle.tabled_config.specs.Sinks.{Put};
 ghost use Rattle.tabled_config.specs.Texts.{Appends};
@@ -17,6 +18,19 @@ use crate::line_pieces::{crossing_line, crossing_of, edge_of, has_line, pieces_o
 use crate::sink::Sink;
 use crate::{Mark, Run, SpannedConfig};
 use tabled_grid::{ANSIBuf, Dimension, LineOf, OutOfMemory, Place, Probes};
+
+/// What was looked up of the characters of a line.
+#[derive(Drop)]
+pub(crate) struct LineChars {
+    /// Whether a place of an edge may show something else than its edge.
+    have_offsets: bool,
+    /// Whether its edges look alike, and its crossings between the first and the last one.
+    are_alike: bool,
+    /// What its edges show, where they look alike and one was looked up.
+    edge: Option<Option<char>>,
+    /// What its crossings between the first and the last one show, likewise.
+    crossing: Option<Option<char>>,
+}
 
 /// A line of a table that is there, with what decides how it looks, and whether its colors are wanted.
 #[derive(Drop)]
@@ -78,17 +92,62 @@ impl<'a, D: Dimension> MarkedLine<'a, '_, D> {
         self.cfg.read_plain_color(place, self.shape, probes)
     }
 
-    /// What a crossing shows, or an edge without its offsets.
-    #[inline(always)]
-    fn plain_mark(&self, place: Place, probes: &mut Probes) -> Mark<'a>
-        ensures shown { result.shown ≡ plain_value (state_at self.now.cfg.now.characters) self.now.shape place }
-        ensures color { option_copied result.color ≡ (if self.now.with_colors then plain_value (state_at self.now.cfg.now.colors) self.now.shape place else None) }
-        ensures probes { IsRaised 10 probes.old probes.new }
+    /// Whether no character is kept for one edge or one crossing of the line alone.
+    fn is_alike(&self) -> bool
+        ensures { IsTrue result → IsAlike self.now.cfg.now.characters self.now.line }
     {
-        Mark {
-            shown: self.cfg.read_plain_char(place, self.shape, probes),
-            color: self.plain_color(place, probes),
+        !self.cfg.has_cell_chars() && has_none_across(self.cfg, self.line)
+    }
+
+    /// The character of an edge without its offsets, which is looked up once where edges look alike.
+    #[inline(always)]
+    fn edge_char(&self, n: usize, chars: &mut LineChars, probes: &mut Probes) -> Option<char>
+        requires within { n < pieces_of self.now.shape self.now.line }
+        requires known { AreKnown self.now.cfg.now self.now.with_colors self.now.shape self.now.line chars.old }
+        ensures shown { result ≡ plain_value (state_at self.now.cfg.now.characters) self.now.shape (edge_of self.now.line n 0) }
+        ensures known { AreKnown self.now.cfg.now self.now.with_colors self.now.shape self.now.line chars.new }
+        ensures probes { IsRaised 5 probes.old probes.new }
+    {
+        if let Some(shown) = chars.edge {
+            return shown;
         }
+        let shown = self
+            .cfg
+            .read_plain_char(edge_of(self.line, n, 0), self.shape, probes);
+        if chars.are_alike {
+            chars.edge = Some(shown);
+        }
+        shown
+    }
+
+    /// Whether line `n` of the other direction is neither the first nor the last one.
+    fn is_inner(&self, n: usize) -> bool
+        ensures { IsTrue result ↔ ((0 < n) × (n < pieces_of self.now.shape self.now.line)) }
+    {
+        0 < n && n < pieces_of(self.shape, self.line)
+    }
+
+    /// The character of a crossing, which is looked up once where those between the first and the last one look alike.
+    #[inline(always)]
+    fn crossing_char(&self, n: usize, chars: &mut LineChars, probes: &mut Probes) -> Option<char>
+        requires within { n ≤ pieces_of self.now.shape self.now.line }
+        requires known { AreKnown self.now.cfg.now self.now.with_colors self.now.shape self.now.line chars.old }
+        ensures shown { result ≡ plain_value (state_at self.now.cfg.now.characters) self.now.shape (crossing_of self.now.line n) }
+        ensures known { AreKnown self.now.cfg.now self.now.with_colors self.now.shape self.now.line chars.new }
+        ensures probes { IsRaised 5 probes.old probes.new }
+    {
+        let is_inner = self.is_inner(n);
+        if is_inner {
+            if let Some(shown) = chars.crossing {
+                return shown;
+            }
+        }
+        let place = crossing_of(self.line, n);
+        let shown = self.cfg.read_plain_char(place, self.shape, probes);
+        if is_inner && chars.are_alike {
+            chars.crossing = Some(shown);
+        }
+        shown
     }
 
     /// Whether a place of an edge may show something else than its edge.
@@ -106,18 +165,24 @@ impl<'a, D: Dimension> MarkedLine<'a, '_, D> {
         &self,
         sink: &mut S,
         n: usize,
+        chars: &mut LineChars,
         probes: &mut Probes,
     ) -> Result<(), OutOfMemory>
-        requires { n ≤ pieces_of self.now.shape self.now.line }
+        requires within { n ≤ pieces_of self.now.shape self.now.line }
+        requires known { AreKnown self.now.cfg.now self.now.with_colors self.now.shape self.now.line chars.old }
         ensures put { let view = viewed D.width_of D.height_of self.now in
             Put S.puts result (map (mark_at view) (crossing_places view self.now.line n)) sink.old sink.new }
+        ensures known { AreKnown self.now.cfg.now self.now.with_colors self.now.shape self.now.line chars.new }
         ensures probes { let view = viewed D.width_of D.height_of self.now in
             IsRaised (12 * length (crossing_places view self.now.line n)) probes.old probes.new }
     {
         if !self.is_crossed(n) {
             return Ok(());
         }
-        let mark = self.plain_mark(crossing_of(self.line, n), probes);
+        let mark = Mark {
+            shown: self.crossing_char(n, chars, probes),
+            color: self.plain_color(crossing_of(self.line, n), probes),
+        };
         sink.put(Run { mark, count: 1 })
     }
 
@@ -147,10 +212,14 @@ impl<'a, D: Dimension> MarkedLine<'a, '_, D> {
         &self,
         sink: &mut S,
         n: usize,
+        chars: &mut LineChars,
         probes: &mut Probes,
     ) -> Result<(), OutOfMemory>
+        requires within { n < pieces_of self.now.shape self.now.line }
+        requires known { AreKnown self.now.cfg.now self.now.with_colors self.now.shape self.now.line chars.old }
         ensures put { let view = viewed D.width_of D.height_of self.now in
             Put S.puts result (map (mark_at view) (edge_places view self.now.line n)) sink.old sink.new }
+        ensures known { AreKnown self.now.cfg.now self.now.with_colors self.now.shape self.now.line chars.new }
         ensures probes { let view = viewed D.width_of D.height_of self.now in
             IsRaised (12 * length (edge_places view self.now.line n)) probes.old probes.new }
     {
@@ -158,11 +227,13 @@ impl<'a, D: Dimension> MarkedLine<'a, '_, D> {
         if size == 0 {
             return Ok(());
         }
-        if self.has_offsets() {
+        if chars.have_offsets {
             return self.put_each_place(sink, n, size, probes);
         }
-        let edge = edge_of(self.line, n, 0);
-        let mark = self.plain_mark(edge, probes);
+        let mark = Mark {
+            shown: self.edge_char(n, chars, probes),
+            color: self.plain_color(edge_of(self.line, n, 0), probes),
+        };
         sink.put(Run { mark, count: size })
     }
 
@@ -171,16 +242,19 @@ impl<'a, D: Dimension> MarkedLine<'a, '_, D> {
         &self,
         sink: &mut S,
         n: usize,
+        chars: &mut LineChars,
         probes: &mut Probes,
     ) -> Result<(), OutOfMemory>
-        requires { n ≤ pieces_of self.now.shape self.now.line }
+        requires within { n < pieces_of self.now.shape self.now.line }
+        requires known { AreKnown self.now.cfg.now self.now.with_colors self.now.shape self.now.line chars.old }
         ensures put { let view = viewed D.width_of D.height_of self.now in
             Put S.puts result (map (mark_at view) (piece_places view self.now.line n)) sink.old sink.new }
+        ensures known { AreKnown self.now.cfg.now self.now.with_colors self.now.shape self.now.line chars.new }
         ensures probes { let view = viewed D.width_of D.height_of self.now in
             IsRaised (12 * length (piece_places view self.now.line n)) probes.old probes.new }
     {
-        self.put_crossing(sink, n, probes)?;
-        self.put_edge(sink, n, probes)
+        self.put_crossing(sink, n, chars, probes)?;
+        self.put_edge(sink, n, chars, probes)
     }
 
     /// Puts the marks of the line, run by run.
@@ -195,10 +269,26 @@ impl<'a, D: Dimension> MarkedLine<'a, '_, D> {
             IsRaised (12 * length (all_places view self.now.line)) probes.old probes.new }
     {
         let count = pieces_of(self.shape, self.line);
+        let mut chars = LineChars {
+            have_offsets: self.has_offsets(),
+            are_alike: self.is_alike(),
+            edge: None,
+            crossing: None,
+        };
         for n in 0..count {
-            self.put_piece(sink, n, probes)?;
+            self.put_piece(sink, n, &mut chars, probes)?;
         }
-        self.put_crossing(sink, count, probes)
+        self.put_crossing(sink, count, &mut chars, probes)
+    }
+}
+
+/// Whether no custom line of characters stands across a line: of the other direction, at whatever index.
+pub fn has_none_across(cfg: &SpannedConfig, line: LineOf) -> bool
+    ensures { IsTrue result ↔ HasNoneAcross cfg.now.characters line }
+{
+    match line {
+        LineOf::Horizontal(_) => cfg.vertical_lines().next().is_none(),
+        LineOf::Vertical(_) => cfg.horizontal_lines().next().is_none(),
     }
 }
 

@@ -1,38 +1,70 @@
 //! Writes a character many times.
 
-ghost use Rattle.std.specs.Prelude.{◌≡◌, ◌<◌, ◌≤◌, ◌++◌, ℕ, OnErr, OnOk, length, replicate, string_bytes};
+ghost use Rattle.std.specs.Prelude.{◌≡◌, ◌<◌, ◌≤◌, ◌++◌, ℕ, IfSome, OnErr, OnOk, string_bytes};
 ghost use Rattle.tabled_config.specs.Texts.{times};
 
 use std::alloc::AllocError;
 
-/// As many spaces as are written at once.
+/// How many characters the texts have from which pieces of a character are taken.
+const PIECE: usize = 64;
+
 const SPACES: &str = "                                                                ";
+
+const HYPHENS: &str = "----------------------------------------------------------------";
+
+const LINES: &str = "────────────────────────────────────────────────────────────────";
+
+const DOUBLE_LINES: &str = "════════════════════════════════════════════════════════════════";
 
 /// How many characters of ASCII, which are a byte each, are written one by one before what was written is copied.
 const FEW: usize = 16;
 
-/// Writes so many characters of a text of spaces.
-fn push_part(text: &mut String, spaces: &str, count: usize) -> Result<(), AllocError>
-    requires within { count ≤ length spaces.now }
-    requires spaces { spaces.now ≡ replicate (length spaces.now) 32 }
-    ensures ok { OnOk result (string_bytes text.new ≡ string_bytes text.old ++ times count 32) }
+/// A text of one character alone, `PIECE` times: of those that tables are mostly drawn with.
+fn piece_of(character: char) -> Option<&'static str>
+    ensures { IfSome result (λ piece. piece.now ≡ times 64 character) }
+{
+    match character {
+        ' ' => Some(SPACES),
+        '-' => Some(HYPHENS),
+        '─' => Some(LINES),
+        '═' => Some(DOUBLE_LINES),
+        _ => None,
+    }
+}
+
+/// Writes so many characters of a text that has one character alone.
+fn push_part(
+    text: &mut String,
+    piece: &str,
+    count: usize,
+    character: char,
+) -> Result<(), AllocError>
+    requires within { count ≤ 64 }
+    requires piece { piece.now ≡ times 64 character }
+    ensures ok { OnOk result (string_bytes text.new ≡ string_bytes text.old ++ times count character) }
     ensures err { OnErr result (string_bytes text.new ≡ string_bytes text.old) }
 {
-    text.push_str(&spaces[..count])?;
+    text.push_str(&piece[..count * character.len_utf8()])?;
     Ok(())
 }
 
-/// Writes so many spaces.
-fn push_spaces(text: &mut String, count: usize) -> Result<(), AllocError>
-    ensures ok { OnOk result (string_bytes text.new ≡ string_bytes text.old ++ times count 32) }
-    ensures err { OnErr result ((some : ℕ) × (string_bytes text.new ≡ string_bytes text.old ++ times some 32)) }
+/// Writes a character so many times, as pieces of a text that has it alone.
+fn push_pieces(
+    text: &mut String,
+    piece: &str,
+    count: usize,
+    character: char,
+) -> Result<(), AllocError>
+    requires { piece.now ≡ times 64 character }
+    ensures ok { OnOk result (string_bytes text.new ≡ string_bytes text.old ++ times count character) }
+    ensures err { OnErr result ((some : ℕ) × (string_bytes text.new ≡ string_bytes text.old ++ times some character)) }
 {
     let mut left = count;
-    while left > SPACES.len() {
-        push_part(text, SPACES, SPACES.len())?;
-        left -= SPACES.len();
+    while left > PIECE {
+        push_part(text, piece, PIECE, character)?;
+        left -= PIECE;
     }
-    push_part(text, SPACES, left)?;
+    push_part(text, piece, left, character)?;
     Ok(())
 }
 
@@ -72,14 +104,26 @@ fn push_copies(text: &mut String, count: usize, character: char) -> Result<(), A
     Ok(())
 }
 
+/// Writes a character so many times, other than once.
+fn push_many(text: &mut String, count: usize, character: char) -> Result<(), AllocError>
+    ensures ok { OnOk result (string_bytes text.new ≡ string_bytes text.old ++ times count character) }
+    ensures err { OnErr result ((some : ℕ) × (string_bytes text.new ≡ string_bytes text.old ++ times some character)) }
+{
+    match piece_of(character) {
+        Some(piece) => push_pieces(text, piece, count, character),
+        None => push_copies(text, count, character),
+    }
+}
+
 /// Writes a character so many times. Where memory is refused it may have been written fewer times.
+#[inline(always)]
 pub fn push_times(text: &mut String, count: usize, character: char) -> Result<(), AllocError>
     ensures ok { OnOk result (string_bytes text.new ≡ string_bytes text.old ++ times count character) }
     ensures err { OnErr result ((some : ℕ) × (string_bytes text.new ≡ string_bytes text.old ++ times some character)) }
 {
-    if character == ' ' {
-        push_spaces(text, count)
-    } else {
-        push_copies(text, count, character)
+    if count == 1 {
+        text.push(character)?;
+        return Ok(());
     }
+    push_many(text, count, character)
 }

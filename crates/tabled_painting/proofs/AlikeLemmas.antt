@@ -2,6 +2,7 @@
 use Rattle.std.proofs.Common.{◌≡◌, ℕ, ◌-◌, ◌==◌, ◌≤◌, ◌<◌, Bool, true, false, ◌&&◌, ◌||◌, is_some, nat_le, nat_lt, if◌then◌else◌, Option, Some, None, option_map, option_and_then, List, [], ◌∷◌, ◌++◌, map, length, refl, sym, ap, ◌∙◌, arith, encode_utf8}
 use Rattle.std.specs.List.{flat_map}
 use Rattle.std.specs.FinMap.{FinMap, empty, get, get-empty}
+use Rattle.std.specs.Ordering.{nat_cmp}
 use Rattle.std.specs.declared.cmp.Ordering.{Ordering}
 use Rattle.std.proofs.lemmas.Bool.{le-leb, lt-ltb}
 use Rattle.std.proofs.lemmas.List.{append-nil, map-append, length-map}
@@ -52,6 +53,17 @@ plain_line cfg r custom is not_custom =
     or_false false false e = (refl, refl)
     or_false false true e = absurd cc
     or_false true b e = absurd cc
+
+between : (rows r : ℕ) → 0 < r → r < rows → rank rows r ≡ inner
+between rows r some within =
+    ap (λ b. if b then first else (if r == rows then last else inner)) (not_zero r some)
+    ∙ ap (λ b. if b then last else inner) (not_last r rows within)
+  where
+    not_zero : (n : ℕ) → 0 < n → (n == 0) ≡ false
+    not_zero n some = grind (arith, nat_tests)
+
+    not_last : (n m : ℕ) → n < m → (n == m) ≡ false
+    not_last n m within = grind (arith, nat_tests)
 
 -- ---- what a store has for a place, where it has nothing for single ones
 
@@ -118,6 +130,21 @@ module _ {T : Type 0} (state : State T) (shape : ℕ × ℕ) where
       side_by_line r c cells
       ∙ (λ i. if nat_lt 0 shape.1 && within i && nat_le c shape.1 then sign_or (option_and_then (vertical_part main_edges) (get state.vertical_lines c)) (by_class (edges Vertical (rank shape.1 c))) else None)
       ∙ sym (side_by_line s c cells)
+
+  -- two vertical lines beside one row, neither the first one nor the last one, where none is a custom one
+  side_by_class : (r c : ℕ) → HasNoCells state → state.vertical_lines ≡ empty
+      → plain_value (state_at state) shape (Place.Vertical r c 0) ≡ (if has_spot shape (Place.Vertical r c 0) then by_class (edges Vertical (rank shape.1 c)) else None)
+  side_by_class r c cells none =
+      side_by_line r c cells
+      ∙ (λ i. if has_spot shape (Place.Vertical r c 0) then sign_or (option_and_then (vertical_part main_edges) (absent nat_cmp state.vertical_lines c none i)) (by_class (edges Vertical (rank shape.1 c))) else None)
+
+  pub inner_sides : (r c d : ℕ) → HasNoCells state → state.vertical_lines ≡ empty → 0 < c → c < shape.1 → 0 < d → d < shape.1 → plain_value (state_at state) shape (Place.Vertical r c 0) ≡ plain_value (state_at state) shape (Place.Vertical r d 0)
+  inner_sides r c d cells none some_c in_c some_d in_d =
+      let within : nat_le c shape.1 ≡ nat_le d shape.1 = le-leb c shape.1 (omega (arith, in_c)) ∙ sym (le-leb d shape.1 (omega (arith, in_d))) in
+      let ranked : rank shape.1 c ≡ rank shape.1 d = between shape.1 c some_c in_c ∙ sym (between shape.1 d some_d in_d) in
+      side_by_class r c cells none
+      ∙ (λ i. if nat_lt 0 shape.1 && nat_lt r shape.0 && within i then by_class (edges Vertical (ranked i)) else None)
+      ∙ sym (side_by_class r d cells none)
 
 -- ---- how a table looks
 
@@ -245,17 +272,6 @@ without_colors view line = by_place (along view.horizontal view.vertical view.sh
         ∙ (λ i. paint None (sym (append-nil shown) i) ++ by_place places i)
 
 -- ---- what repeats down a table
-
-between : (rows r : ℕ) → 0 < r → r < rows → rank rows r ≡ inner
-between rows r some within =
-    ap (λ b. if b then first else (if r == rows then last else inner)) (not_zero r some)
-    ∙ ap (λ b. if b then last else inner) (not_last r rows within)
-  where
-    not_zero : (n : ℕ) → 0 < n → (n == 0) ≡ false
-    not_zero n some = grind (arith, nat_tests)
-
-    not_last : (n m : ℕ) → n < m → (n == m) ≡ false
-    not_last n m within = grind (arith, nat_tests)
 
 -- the stretches of one line between two rows are those of all
 pub all_between : (cfg : Configuration) (shape : ℕ × ℕ) (widths heights : ℕ → ℕ) (with_colors : Bool) (s : ℕ) (stretches : List Stretch) → is_empty shape ≡ false → LinesAlike cfg → 0 < s → s < shape.0 → IsPlainLine cfg s

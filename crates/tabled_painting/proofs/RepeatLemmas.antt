@@ -1,5 +1,6 @@
 -- Stretches of a line, and the marks beside rows, one after another.
-use Rattle.std.proofs.Common.{◌≡◌, ℕ, Bool, None, zero, suc, true, if◌then◌else◌, ◌+◌, ◌<◌, ◌≤◌, Option, Some, unwrap_or, List, [], ◌∷◌, ◌++◌, map, length, take, get_or, refl, sym, ap, subst, ◌∙◌, arith, option_copied, string_bytes}
+use Rattle.std.proofs.Common.{◌≡◌, ◌==◌, ℕ, Bool, None, zero, suc, true, false, if◌then◌else◌, ◌+◌, ◌<◌, ◌≤◌, Option, Some, unwrap_or, List, [], ◌∷◌, ◌++◌, map, length, take, get_or, refl, sym, ap, subst, ◌∙◌, arith, option_copied, string_bytes}
+use Rattle.std.proofs.lemmas.Bool.Decides.{nat_tests}
 use Rattle.std.proofs.lemmas.List.{append-nil, append_assoc, map-append, take_more, take_all, length-map}
 use Rattle.std.proofs.lemmas.List.Concat.{flat_map-append}
 use Rattle.std.proofs.lemmas.List.FromFn.{length-map-range_with_len, get_or-map-range_with_len}
@@ -7,24 +8,27 @@ use Rattle.tabled_border.specs.Texts.{Texts}
 use Rattle.tabled_grid.specs.State.{state_at}
 use Rattle.tabled_grid.specs.Value.{plain_value}
 use Rattle.tabled_grid.specs.declared.place.Place.{Place}
+use Rattle.tabled_grid.specs.declared.place.LineOf.{LineOf}
 use Rattle.tabled_object.specs.Entities.{below}
 use Rattle.tabled_configuration.specs.Configuration.{Configuration, all_writes}
 use Rattle.tabled_config.specs.declared.mark.Mark.{Mark}
 use Rattle.tabled_config.specs.declared.mark.Run.{Run}
+use Rattle.tabled_config.specs.Known.{HasNoneAcross}
 use Rattle.tabled_config.specs.Marks.{mark_of, run_marks, marks_of}
 use Rattle.tabled_config.specs.Picture.{Look, Shown, look, character, mark_at}
 use Rattle.tabled_config.specs.Viewed.{colored_if}
 use Rattle.tabled_cells.specs.Placed.{times}
+use Rattle.tabled_painting.specs.declared.frame.Beside.{Beside}
 use Rattle.tabled_painting.specs.declared.painter.Painter.{Painter}
 use Rattle.tabled_painting.specs.declared.stretch.Stretch.{Stretch}
 use Rattle.tabled_painting.specs.Painted.{Painted, paint}
 use Rattle.tabled_painting.specs.InColor.{Paints}
 use Rattle.tabled_painting.specs.Alike.{SidesAlike}
 use Rattle.tabled_painting.specs.PaintedTable.{painted_mark, painted_marks, painted_side}
-use Rattle.tabled_painting.specs.Repeated.{stretch_painted, stretches_painted, AreBesideRows}
+use Rattle.tabled_painting.specs.Repeated.{stretch_painted, stretches_painted, AreBesideRows, IsBesideRows, shown_by_rank}
 use Rattle.tabled_painting.proofs.PainterLemmas.{paints_both}
 use Rattle.tabled_painting.proofs.FrameLemmas.{run_painted}
-use Rattle.tabled_painting.proofs.AlikeLemmas.{side_marks_alike}
+use Rattle.tabled_painting.proofs.AlikeLemmas.{side_marks_alike, inner_sides}
 
 -- a run after stretches
 pub run_after : (before new : List Stretch) (begun ended : Stretch) (all : Painted) (run : Run) (code : ℕ) → stretches_painted before ++ stretch_painted begun ≡ all
@@ -85,6 +89,36 @@ all_beside cfg shape widths heights with_colors marks alike some made =
     mapped [] c none = refl
     mapped (mark ∷ marks) zero none = refl
     mapped (mark ∷ marks) (suc c) none = mapped marks c none
+
+-- the first vertical line, one between, and the last one show beside the first row what all do, where none is a custom one
+module _ (cfg : Configuration) (shape : ℕ × ℕ) (first inner last : Option ℕ) (alike : SidesAlike cfg) (none : HasNoneAcross cfg.characters (LineOf.Horizontal 0))
+    (is_first : first ≡ plain_value (state_at cfg.characters) shape (Place.Vertical 0 0 0)) (is_inner : inner ≡ plain_value (state_at cfg.characters) shape (Place.Vertical 0 1 0))
+    (is_last : last ≡ plain_value (state_at cfg.characters) shape (Place.Vertical 0 shape.1 0)) where
+  by_number : (at_first at_last : Bool) (c : ℕ) → (c == 0) ≡ at_first → (c == shape.1) ≡ at_last → c ≤ shape.1
+      → (if at_first then first else (if at_last then last else inner)) ≡ plain_value (state_at cfg.characters) shape (Place.Vertical 0 c 0)
+  by_number true at_last c is_zero ends within =
+      let same : c ≡ 0 = grind (arith, nat_tests) in
+      is_first ∙ ap (λ n. plain_value (state_at cfg.characters) shape (Place.Vertical 0 n 0)) (sym same)
+  by_number false true c is_zero ends within =
+      let same : c ≡ shape.1 = grind (arith, nat_tests) in
+      is_last ∙ ap (λ n. plain_value (state_at cfg.characters) shape (Place.Vertical 0 n 0)) (sym same)
+  by_number false false c is_zero ends within =
+      let some : 0 < c = grind (arith, nat_tests) in
+      let less : c < shape.1 = grind (arith, nat_tests) in
+      is_inner ∙ inner_sides cfg.characters shape 0 1 c alike.no_cells none (omega arith) (omega (arith, some, less)) some less
+
+  pub beside_by_rank : (widths heights : ℕ → ℕ) (with_colors : Bool) → with_colors ≡ false → 0 < shape.0
+      → IsBesideRows (colored_if with_colors (look (all_writes cfg) shape widths heights)) (Beside.ByRank first inner last)
+  beside_by_rank widths heights with_colors plain some = record {
+    each = λ marks same. absurd cc;
+    by_rank = λ a b d same r k c in_row in_line in_cols.
+        let one : a ≡ first = cc in
+        let two : b ≡ inner = cc in
+        let three : d ≡ last = cc in
+        (λ i. (shown_by_rank (one i) (two i) (three i) shape.1 c, None))
+        ∙ side_marks_alike cfg shape widths heights with_colors r 0 c k (shown_by_rank first inner last shape.1 c) None alike in_row some in_line
+        (by_number (c == 0) (c == shape.1) c refl refl in_cols) (sym (ap (λ b. if b then plain_value (state_at cfg.colors) shape (Place.Vertical 0 c 0) else None) plain));
+  }
 
 -- a side that is drawn, by its mark
 pub marked_side : (view : Look) (r k c : ℕ) (mark : Mark) (code : ℕ) → view.vertical c ≡ true → mark_of mark ≡ mark_at view (Place.Vertical r c k) → code ≡ character (mark_of mark).0

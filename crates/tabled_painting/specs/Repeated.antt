@@ -1,6 +1,7 @@
 -- What repeats down a table, so that it is looked up once.
-use Rattle.std.specs.Prelude.{◌≡◌, ℕ, Bool, ◌<◌, ◌≤◌, ◌+◌, List, length, slice_index, slice_index_or, option_copied, string_bytes}
+use Rattle.std.specs.Prelude.{◌≡◌, ◌==◌, ℕ, Bool, Option, None, if◌then◌else◌, ◌<◌, ◌≤◌, ◌+◌, List, length, slice_index, slice_index_or, option_copied, string_bytes}
 use Rattle.std.specs.List.{flat_map}
+use Rattle.std.specs.declared.vec.Vec.{Vec}
 use Rattle.tabled_grid.specs.declared.place.Place.{Place}
 use Rattle.tabled_grid.specs.declared.place.LineOf.{LineOf}
 use Rattle.tabled_object.specs.declared.dimension.FixedDimension.{FixedDimension}
@@ -8,8 +9,9 @@ use Rattle.tabled_configuration.specs.Colored.{Colored}
 use Rattle.tabled_configuration.specs.Configuration.{Configuration, all_writes}
 use Rattle.tabled_config.specs.declared.mark.Mark.{Mark}
 use Rattle.tabled_config.specs.Marks.{mark_of}
-use Rattle.tabled_config.specs.Picture.{Look, look, mark_at, marks_along}
+use Rattle.tabled_config.specs.Picture.{Look, Shown, look, mark_at, marks_along}
 use Rattle.tabled_config.specs.Viewed.{colored_if}
+use Rattle.tabled_painting.specs.declared.frame.Beside.{Beside}
 use Rattle.tabled_painting.specs.declared.stretch.Stretch.{Stretch}
 use Rattle.tabled_painting.specs.Painted.{Painted, paint}
 use Rattle.tabled_painting.specs.Alike.{IsPlainLine}
@@ -35,3 +37,13 @@ IsBetweenRows view cfg stretches =
 pub record AreBesideRows (view : Look) (marks : List Mark) : Type 0 where
   pub count : length marks ≡ view.shape.1 + 1
   pub alike : (r k c : ℕ) (none : Mark) → r < view.shape.0 → k < view.heights r → c ≤ view.shape.1 → mark_of (slice_index_or marks c none) ≡ mark_at view (Place.Vertical r c k)
+
+-- what line c shows of the lines 0 to count: what the first one does, or those between, or the last one
+abbrev pub shown_by_rank : Option ℕ → Option ℕ → Option ℕ → ℕ → ℕ → Option ℕ
+shown_by_rank first inner last count c = if c == 0 then first else (if c == count then last else inner)
+
+-- the same of what the code has, one by one or by rank and without colors
+pub record IsBesideRows (view : Look) (beside : Beside) : Type 0 where
+  pub each : (marks : Vec Mark _) → beside ≡ Beside.Each marks → AreBesideRows view marks.items
+  pub by_rank : (first inner last : Option ℕ) → beside ≡ Beside.ByRank first inner last → (r k c : ℕ) → r < view.shape.0 → k < view.heights r → c ≤ view.shape.1
+      → ◌≡◌ {A = Shown} (shown_by_rank first inner last view.shape.1 c, None) (mark_at view (Place.Vertical r c k))

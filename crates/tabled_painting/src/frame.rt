@@ -9,6 +9,8 @@ ghost use Rattle.tabled_grid.specs.Value.{plain_value};
 ghost use Rattle.tabled_object.specs.Entities.{below};
 ghost use Rattle.tabled_configuration.specs.Configuration.{all_writes};
 ghost use Rattle.tabled_config.specs.Along.{is_empty};
+ghost use Rattle.tabled_config.specs.Known.{HasNoneAcross};
+ghost use Rattle.tabled_painting.specs.Alike.{SidesAlike};
 ghost use Rattle.tabled_config.specs.LinePieces.{pieces_of, crossed_after};
 ghost use Rattle.tabled_config.specs.Marks.{mark_of};
 ghost use Rattle.tabled_config.specs.Picture.{edge_size, mark_at, marks_along};
@@ -19,7 +21,7 @@ ghost use Rattle.tabled_painting.specs.InColor.{Paints};
 ghost use Rattle.tabled_painting.specs.Painted.{paint};
 ghost use Rattle.tabled_painting.specs.Pages.{PaintsLines};
 ghost use Rattle.tabled_painting.specs.BareCells.{AreBare};
-ghost use Rattle.tabled_painting.specs.Repeated.{IsBetweenRows, AreBesideRows, looks_of};
+ghost use Rattle.tabled_painting.specs.Repeated.{IsBetweenRows, AreBesideRows, IsBesideRows, shown_by_rank, looks_of};
 
 use crate::alike::{first_plain_line, has_alike_lines, has_alike_sides};
 use crate::bare_cells::has_bare_cells;
@@ -30,7 +32,7 @@ use crate::{CellColors, Painter};
 use std::alloc::{AllocError, Global};
 use tabled_border::ANSIBuf;
 use tabled_cells::{Placement, is_printable, lines_shown};
-use tabled_config::{ColoredConfig, Mark, Run, runs_across, write_across};
+use tabled_config::{ColoredConfig, Mark, Run, has_none_across, runs_across, write_across};
 use tabled_grid::{Dimension, FixedDimension, LineOf, OutOfMemory, Place, Position, Probes};
 
 /// From how many rows on it pays to look up once what stands beside each of them.
@@ -38,6 +40,19 @@ const MANY_ROWS: usize = 2;
 
 /// From how many rows on it pays to keep what stands between them.
 const MANY_LINES: usize = 3;
+
+/// What vertical lines show beside lines of text, where each looks alike beside all of them.
+#[derive(Drop)]
+enum Beside<'a> {
+    /// Each of them by itself.
+    Each(Vec<Mark<'a>>),
+    /// The first one, those between, and the last one, all without colors.
+    ByRank {
+        first: Option<char>,
+        inner: Option<char>,
+        last: Option<char>,
+    },
+}
 
 /// How a table that has places is framed: its configuration and its sizes, which of its vertical lines are drawn, and whether its
 /// colors are wanted.
@@ -53,12 +68,12 @@ pub(crate) struct Frame<'a, 'b> {
     /// What a horizontal line between two rows shows, where all of them but custom ones look alike.
     between: Option<Vec<Stretch<'a>>>,
     /// What each vertical line shows, where it looks alike beside all lines of text.
-    beside: Option<Vec<Mark<'a>>>,
+    beside: Option<Beside<'a>>,
     ghost has_places: { is_empty shape ≡ false },
     ghost sides_drawn: { sides.now ≡ map (λ n. crossed_after (all_writes cfg.now.spanned) shape (Line.Horizontal 0) n) (below (pieces_of shape (Line.Horizontal 0) + 1)) },
     ghost are_bare: { bare_cells ≡ true → AreBare cfg.now.spanned.settings.cells cfg.now.cell_colors },
     ghost is_between: { ForSome between (λ found. IsBetweenRows (looks_of with_colors cfg.now shape sizes.now) cfg.now.spanned found.items) },
-    ghost are_beside: { ForSome beside (λ found. AreBesideRows (looks_of with_colors cfg.now shape sizes.now) found.items) },
+    ghost are_beside: { ForSome beside (λ found. IsBesideRows (looks_of with_colors cfg.now shape sizes.now) found) },
 }
 
 impl<'a, 'b> Frame<'a, 'b> {
@@ -112,9 +127,9 @@ impl<'a, 'b> Frame<'a, 'b> {
         ensures { mark_of result ≡ mark_at (viewed self.now) (Spot.Vertical row col at) }
     {
         let size = self.sizes.get_height(row);
-        if let Some(marks) = &self.beside {
+        if let Some(beside) = &self.beside {
             if row < self.shape.0 && at < size {
-                return marks[col];
+                return self.mark_beside(beside, col);
             }
         }
         let place = Place::Vertical { row, col, at };
@@ -169,14 +184,44 @@ impl<'a, 'b> Frame<'a, 'b> {
         Ok(())
     }
 
+    /// What a vertical line shows, where that is the same beside all lines of text.
+    fn mark_beside(&self, beside: &Beside<'a>, col: usize) -> Mark<'a>
+        requires col { col ≤ self.now.shape.1 }
+        requires beside { IsBesideRows (viewed self.now) beside.now }
+        ensures { (row at : ℕ) → row < self.now.shape.0 → at < slice_index self.now.sizes.now.heights.items row → mark_of result ≡ mark_at (viewed self.now) (Spot.Vertical row col at) }
+    {
+        match beside {
+            Beside::Each(marks) => marks[col],
+            Beside::ByRank { first, inner, last } => Mark {
+                shown: by_rank(*first, *inner, *last, self.shape.1, col),
+                color: None,
+            },
+        }
+    }
+
     /// What each vertical line shows beside the rows, if that is the same beside each line of text.
-    fn beside_rows(&self) -> Result<Option<Vec<Mark<'a>>>, OutOfMemory>
-        ensures { IfOk result (λ found. ForSome found (λ marks. AreBesideRows (viewed self.now) marks.items)) }
+    fn beside_rows(&self) -> Result<Option<Beside<'a>>, OutOfMemory>
+        ensures { IfOk result (λ found. ForSome found (λ beside. IsBesideRows (viewed self.now) beside)) }
     {
         let cfg = self.cfg.config();
-        if self.shape.0 < MANY_ROWS || !has_alike_sides(cfg) {
+        if !has_alike_sides(cfg) {
             return Ok(None);
         }
+        if !self.with_colors && has_none_across(cfg, LineOf::Horizontal(0)) {
+            return Ok(Some(self.beside_by_rank()));
+        }
+        if self.shape.0 < MANY_ROWS {
+            return Ok(None);
+        }
+        Ok(Some(Beside::Each(self.each_beside()?)))
+    }
+
+    /// What each vertical line shows beside the first row.
+    fn each_beside(&self) -> Result<Vec<Mark<'a>>, OutOfMemory>
+        requires { SidesAlike self.now.cfg.now.spanned }
+        ensures { IfOk result (λ marks. AreBesideRows (viewed self.now) marks.items) }
+    {
+        let cfg = self.cfg.config();
         let mut marks = Vec::new(cfg.allocator());
         for col in 0..self.sides.len() {
             let place = Place::Vertical { row: 0, col, at: 0 };
@@ -185,7 +230,29 @@ impl<'a, 'b> Frame<'a, 'b> {
                 color: self.plain_color(place),
             })?;
         }
-        Ok(Some(marks))
+        Ok(marks)
+    }
+
+    /// What the first, the inner and the last vertical lines show beside the first row, where no color is wanted.
+    fn beside_by_rank(&self) -> Beside<'a>
+        requires alike { SidesAlike self.now.cfg.now.spanned }
+        requires none_across { HasNoneAcross self.now.cfg.now.spanned.characters (Line.Horizontal 0) }
+        requires plain { self.now.with_colors ≡ false }
+        ensures { IsBesideRows (viewed self.now) result }
+    {
+        Beside::ByRank {
+            first: self.shown_beside(0),
+            inner: self.shown_beside(1),
+            last: self.shown_beside(self.shape.1),
+        }
+    }
+
+    /// The character of a vertical line beside the first row.
+    fn shown_beside(&self, col: usize) -> Option<char>
+        ensures { result ≡ plain_value (state_at self.now.cfg.now.spanned.characters) self.now.shape (Spot.Vertical 0 col 0) }
+    {
+        let place = Place::Vertical { row: 0, col, at: 0 };
+        self.cfg.config().plain_char_at(place, self.shape)
     }
 
     /// Paints one line of text of a row.
@@ -547,6 +614,25 @@ impl<'a, 'b> Frame<'a, 'b> {
     }
 }
 
+/// What line `line` shows of the lines 0 to `count`: what the first one does, or those between, or the last one.
+fn by_rank(
+    first: Option<char>,
+    inner: Option<char>,
+    last: Option<char>,
+    count: usize,
+    line: usize,
+) -> Option<char>
+    ensures { result ≡ shown_by_rank first inner last count line }
+{
+    if line == 0 {
+        first
+    } else if line == count {
+        last
+    } else {
+        inner
+    }
+}
+
 /// What repeats down a table that has places, of which these vertical lines are drawn: a horizontal line between two rows, and what
 /// the vertical lines show beside the rows, each if it does.
 fn repeated<'a>(
@@ -555,11 +641,11 @@ fn repeated<'a>(
     shape: (usize, usize),
     sides: &[bool],
     with_colors: bool,
-) -> Result<(Option<Vec<Stretch<'a>>>, Option<Vec<Mark<'a>>>), OutOfMemory>
+) -> Result<(Option<Vec<Stretch<'a>>>, Option<Beside<'a>>), OutOfMemory>
     requires places { is_empty shape ≡ false }
     requires sides { sides.now ≡ map (λ n. crossed_after (all_writes cfg.now.spanned) shape (Line.Horizontal 0) n) (below (pieces_of shape (Line.Horizontal 0) + 1)) }
     ensures between { IfOk result (λ found. ForSome found.0 (λ stretches. IsBetweenRows (looks_of with_colors cfg.now shape sizes.now) cfg.now.spanned stretches.items)) }
-    ensures beside { IfOk result (λ found. ForSome found.1 (λ marks. AreBesideRows (looks_of with_colors cfg.now shape sizes.now) marks.items)) }
+    ensures beside { IfOk result (λ found. ForSome found.1 (λ beside. IsBesideRows (looks_of with_colors cfg.now shape sizes.now) beside)) }
 {
     let frame = Frame {
         cfg,

@@ -14,6 +14,13 @@ loop-n-init g c =
     record {
       put = subst (λ marks. g.S.Sink.puts marks c.args.sink.now c.args.sink.now) (sym (no_marks_before view c.args.self.now.line)) (laws.puts_none c.args.sink.now);
       raised = raised_none (12 * length (places_before view c.args.self.now.line 0)) c.args.probes.now;
+      known = record {
+        no_offsets = c.has_offsets.ensures.characters;
+        no_colored_offsets = c.has_offsets.ensures.colors;
+        alike = c.is_alike.ensures;
+        edges = λ shown none. absurd cc;
+        crossings = λ shown none. absurd cc;
+      };
     }
 
 pub loop-n-preserved : goal.loop-n-preserved
@@ -30,6 +37,7 @@ loop-n-preserved g c =
           (let more = before_more_count view line n in
           raised_both (12 * length (places_before view line n)) (12 * length (piece_places view line n)) (12 * length (places_before view line (n + 1)))
           c.args.probes.now c.loop-n.probes c.put_piece.new.probes c.loop-n.invariant.raised c.put_piece.ensures.probes (omega (arith, more)));
+      known = c.put_piece.ensures.known;
     }
 
 pub returns-in_err-put_piece-clause-put : goal.returns-in_err-put_piece-clause-put

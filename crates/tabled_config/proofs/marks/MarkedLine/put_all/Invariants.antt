@@ -2,6 +2,7 @@
 use Rattle.std.proofs.Common.{◌*◌, length, map}
 use Rattle.tabled_grid.specs.Probing.{IsRaised}
 use Rattle.tabled_config.specs.Picture.{Look, mark_at}
+use Rattle.tabled_config.specs.Known.{AreKnown}
 use Rattle.tabled_config.specs.LinePieces.{places_before}
 use Rattle.tabled_config.specs.Viewed.{viewed}
 use Rattle.tabled_config.proofs.marks.MarkedLine.put_all.Given as goal
@@ -12,4 +13,5 @@ invariant-loop-n g l =
     record {
       put : g.S.Sink.puts (map (mark_at view) (places_before view l.self.line l.n)) l.initial.sink l.sink;
       raised : IsRaised (12 * length (places_before view l.self.line l.n)) l.initial.probes l.probes;
+      known : AreKnown l.self.cfg.now l.self.with_colors l.self.shape l.self.line l.chars;
     }

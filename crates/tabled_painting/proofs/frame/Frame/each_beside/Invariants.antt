@@ -5,7 +5,7 @@ use Rattle.tabled_grid.specs.Value.{plain_value}
 use Rattle.tabled_grid.specs.declared.place.Place.{Place}
 use Rattle.tabled_object.specs.Entities.{below}
 use Rattle.tabled_config.specs.Marks.{mark_of}
-use Rattle.tabled_painting.proofs.frame.Frame.beside_rows.Given as goal
+use Rattle.tabled_painting.proofs.frame.Frame.each_beside.Given as goal
 
 abbrev pub invariant-loop-col : goal.invariant-loop-col
 invariant-loop-col l =
