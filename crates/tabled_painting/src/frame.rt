@@ -41,6 +41,9 @@ const MANY_ROWS: usize = 2;
 /// From how many rows on it pays to keep what stands between them.
 const MANY_LINES: usize = 3;
 
+/// How many bytes the characters take that lines are mostly drawn with.
+const LINE_BYTES: usize = 3;
+
 /// What vertical lines show beside lines of text, where each looks alike beside all of them.
 #[derive(Drop)]
 enum Beside<'a> {
@@ -122,6 +125,7 @@ impl<'a, 'b> Frame<'a, 'b> {
     }
 
     /// What a vertical line shows beside a line of text of a row.
+    #[inline(always)]
     fn side(&self, row: usize, col: usize, at: usize) -> Mark<'a>
         requires { col ≤ self.now.shape.1 }
         ensures { mark_of result ≡ mark_at (viewed self.now) (Spot.Vertical row col at) }
@@ -166,6 +170,7 @@ impl<'a, 'b> Frame<'a, 'b> {
     }
 
     /// Paints the place of a vertical line at one line of text of a row, if the line is drawn.
+    #[inline(always)]
     fn paint_side(
         &self,
         painter: &mut Painter<'a>,
@@ -185,6 +190,7 @@ impl<'a, 'b> Frame<'a, 'b> {
     }
 
     /// What a vertical line shows, where that is the same beside all lines of text.
+    #[inline(always)]
     fn mark_beside(&self, beside: &Beside<'a>, col: usize) -> Mark<'a>
         requires col { col ≤ self.now.shape.1 }
         requires beside { IsBesideRows (viewed self.now) beside.now }
@@ -394,7 +400,7 @@ impl<'a, 'b> Frame<'a, 'b> {
     {
         let line = LineOf::Horizontal(row);
         let cfg = self.cfg.config();
-        let mut text = String::with_capacity(cfg.allocator(), self.length())?;
+        let mut text = String::with_capacity(cfg.allocator(), self.line_bytes(LINE_BYTES, LINE_BYTES))?;
         write_across(&mut text, cfg, self.sizes, self.shape, line, self.sides)?;
         Ok(text)
     }
@@ -445,17 +451,27 @@ impl<'a, 'b> Frame<'a, 'b> {
         }
     }
 
-    /// How many columns a line has with the sides that are drawn, and one more. A number that is too large is the largest there is.
-    fn length(&self) -> usize {
+    /// How many bytes a line takes with its line feed, where each vertical line that is drawn takes so many, and each column of a
+    /// cell so many. A number that is too large is the largest there is.
+    fn line_bytes(&self, side: usize, column: usize) -> usize {
         let (_, cols) = self.shape;
-        let mut length = 1usize;
+        let mut bytes = 1usize;
         for drawn in self.sides {
-            length = length.saturating_add(usize::from(*drawn));
+            bytes = bytes.saturating_add(if *drawn { side } else { 0 });
         }
         for col in 0..cols {
-            length = length.saturating_add(self.sizes.get_width(col));
+            let width = self.sizes.get_width(col);
+            bytes = bytes.saturating_add(width.saturating_mul(column));
         }
-        length
+        bytes
+    }
+
+    /// How many bytes the character of a vertical line takes, as far as that is known.
+    fn side_bytes(&self) -> usize {
+        match &self.beside {
+            Some(Beside::ByRank { inner, .. }) => inner.unwrap_or(' ').len_utf8(),
+            _ => 1,
+        }
     }
 
     /// How many bytes the lines of a table take at least, or nearly so: each column of a line is one or more. A number that is
@@ -470,8 +486,8 @@ impl<'a, 'b> Frame<'a, 'b> {
         for stretch in self.between.as_deref().unwrap_or(&[]) {
             between = between.saturating_add(stretch.text.len());
         }
-        let texts = self.length().saturating_mul(high);
-        texts.saturating_add(between.saturating_mul(rows.saturating_sub(1)))
+        let texts = self.line_bytes(self.side_bytes(), 1).saturating_mul(high);
+        texts.saturating_add(between.saturating_mul(rows.saturating_add(1)))
     }
 
     /// Paints a horizontal line, which is not past the last one.
