@@ -38,10 +38,11 @@ none_kept {X} m all rest view (Some x) false is more answered = (
       absurd cc,
 )
 
-absent : {K X : Type 0} (R : K → K → Ordering) (m : FinMap R X) (k : K) → m ≡ empty → get m k ≡ None
+-- what a map without entries has under a key, and the rank of a line between the first one and the last one
+pub absent : {K X : Type 0} (R : K → K → Ordering) (m : FinMap R X) (k : K) → m ≡ empty → get m k ≡ None
 absent R m k none = ap (λ n. get n k) none ∙ get-empty R k
 
-between : (count n : ℕ) → 0 < n → n < count → rank count n ≡ inner
+pub between : (count n : ℕ) → 0 < n → n < count → rank count n ≡ inner
 between count n some within =
     ap (λ b. if b then first else (if n == count then last else inner)) (not_zero n some)
     ∙ ap (λ b. if b then last else inner) (not_last n count within)

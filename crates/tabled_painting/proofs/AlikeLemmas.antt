@@ -1,10 +1,9 @@
 -- Places that look alike, since nothing is kept for one of them alone.
-use Rattle.std.proofs.Common.{◌≡◌, ℕ, ◌-◌, ◌==◌, ◌≤◌, ◌<◌, Bool, true, false, ◌&&◌, ◌||◌, is_some, nat_le, nat_lt, if◌then◌else◌, Option, Some, None, option_map, option_and_then, List, [], ◌∷◌, ◌++◌, map, length, refl, sym, ap, ◌∙◌, arith, encode_utf8}
+use Rattle.std.proofs.Common.{◌≡◌, ℕ, ◌-◌, ◌≤◌, ◌<◌, Bool, true, false, ◌&&◌, ◌||◌, is_some, nat_le, nat_lt, if◌then◌else◌, Option, Some, None, option_map, option_and_then, List, [], ◌∷◌, ◌++◌, map, length, refl, sym, ap, ◌∙◌, arith, encode_utf8}
 use Rattle.std.specs.List.{flat_map}
-use Rattle.std.specs.FinMap.{FinMap, empty, get, get-empty}
+use Rattle.std.specs.FinMap.{empty, get}
 use Rattle.std.specs.Ordering.{nat_cmp}
-use Rattle.std.specs.declared.cmp.Ordering.{Ordering}
-use Rattle.std.proofs.lemmas.Bool.{le-leb, lt-ltb}
+use Rattle.std.proofs.lemmas.Bool.{le-leb}
 use Rattle.std.proofs.lemmas.List.{append-nil, map-append, length-map}
 use Rattle.tabled_border.specs.Texts.{Texts}
 use Rattle.tabled_grid.specs.declared.place.Place.{Place}
@@ -29,14 +28,13 @@ use Rattle.tabled_config.specs.Along.{along}
 use Rattle.tabled_config.specs.Picture.{Look, Shown, look, character, edge_size, mark_at, marks_along, text_marked, text_shown}
 use Rattle.tabled_config.specs.Viewed.{colored_if}
 use Rattle.tabled_painting.specs.Painted.{paint}
+use Rattle.tabled_config.proofs.KnownLemmas.{absent, between, edges_same}
 use Rattle.tabled_config.proofs.LookLemmas.{own_shown, own_color, plain_edge}
 use Rattle.tabled_config.proofs.LineLemmas.{along_pieces, horizontal_there}
 use Rattle.tabled_painting.specs.Alike.{LinesAlike, SidesAlike, IsPlainLine}
 use Rattle.tabled_painting.specs.PaintedTable.{painted_marks}
 use Rattle.tabled_painting.specs.Repeated.{stretches_painted, IsBetweenRows}
 use Rattle.tabled_painting.specs.declared.stretch.Stretch.{Stretch}
-use Rattle.std.proofs.lemmas.Bool.Decides.{nat_tests}
-use Rattle.tabled_grid.specs.declared.place.Rank.TheVariants.{First as first, Inner as inner, Last as last}
 use Rattle.tabled_painting.proofs.FrameLemmas.{flat_map_same}
 
 -- a line that is no custom one, neither of characters nor of colors
@@ -54,21 +52,7 @@ plain_line cfg r custom is not_custom =
     or_false false true e = absurd cc
     or_false true b e = absurd cc
 
-between : (rows r : ℕ) → 0 < r → r < rows → rank rows r ≡ inner
-between rows r some within =
-    ap (λ b. if b then first else (if r == rows then last else inner)) (not_zero r some)
-    ∙ ap (λ b. if b then last else inner) (not_last r rows within)
-  where
-    not_zero : (n : ℕ) → 0 < n → (n == 0) ≡ false
-    not_zero n some = grind (arith, nat_tests)
-
-    not_last : (n m : ℕ) → n < m → (n == m) ≡ false
-    not_last n m within = grind (arith, nat_tests)
-
 -- ---- what a store has for a place, where it has nothing for single ones
-
-absent : {K X : Type 0} (R : K → K → Ordering) (m : FinMap R X) (k : K) → m ≡ empty → get m k ≡ None
-absent R m k none = ap (λ n. get n k) none ∙ get-empty R k
 
 module _ {T : Type 0} (state : State T) (shape : ℕ × ℕ) where
   by_class : Class → Option T
@@ -122,14 +106,6 @@ module _ {T : Type 0} (state : State T) (shape : ℕ × ℕ) where
       sign_or (option_map sign (absent spot_cmp state.cells (Edge Vertical r c) cells i))
       (sign_or (option_and_then (vertical_part main_edges) (get state.vertical_lines c)) (by_class (edges Vertical (rank shape.1 c))))
       else None
-
-  -- a vertical line beside two rows
-  pub sides_alike : (r s c : ℕ) → r < shape.0 → s < shape.0 → HasNoCells state → plain_value (state_at state) shape (Place.Vertical r c 0) ≡ plain_value (state_at state) shape (Place.Vertical s c 0)
-  sides_alike r s c in_r in_s cells =
-      let within : nat_lt r shape.0 ≡ nat_lt s shape.0 = lt-ltb r shape.0 in_r ∙ sym (lt-ltb s shape.0 in_s) in
-      side_by_line r c cells
-      ∙ (λ i. if nat_lt 0 shape.1 && within i && nat_le c shape.1 then sign_or (option_and_then (vertical_part main_edges) (get state.vertical_lines c)) (by_class (edges Vertical (rank shape.1 c))) else None)
-      ∙ sym (side_by_line s c cells)
 
   -- two vertical lines beside one row, neither the first one nor the last one, where none is a custom one
   side_by_class : (r c : ℕ) → HasNoCells state → state.vertical_lines ≡ empty
@@ -228,10 +204,10 @@ module _ (cfg : Configuration) (shape : ℕ × ℕ) (widths heights : ℕ → �
       → shown ≡ plain_value (state_at cfg.characters) shape (Place.Vertical s c 0) → color ≡ (if with_colors then plain_value (state_at cfg.colors) shape (Place.Vertical s c 0) else None)
       → ◌≡◌ {A = Shown} (shown, color) (mark_at (colored_if with_colors view) (Place.Vertical r c k))
   side_marks_alike with_colors r s c k shown color alike in_r in_s within is in_color = λ i. (
-    (is ∙ sides_alike cfg.characters shape s r c in_s in_r alike.no_cells
+    (is ∙ edges_same cfg.characters shape (LineOf.Vertical c) s r alike.no_cells in_s in_r
         ∙ sym (plain_edge cfg.characters shape (heights r) (LineOf.Vertical c) r k alike.no_offsets within)
         ∙ sym (shown_by (Place.Vertical r c k))) i,
-    (in_color ∙ ap (λ found. if with_colors then found else None) (sides_alike cfg.colors shape s r c in_s in_r alike.no_colored_cells
+    (in_color ∙ ap (λ found. if with_colors then found else None) (edges_same cfg.colors shape (LineOf.Vertical c) s r alike.no_colored_cells in_s in_r
         ∙ sym (plain_edge cfg.colors shape (heights r) (LineOf.Vertical c) r k alike.no_colored_offsets within)
         ∙ sym (colored_by (Place.Vertical r c k)))) i,
   )

@@ -400,7 +400,10 @@ impl<'a, 'b> Frame<'a, 'b> {
     {
         let line = LineOf::Horizontal(row);
         let cfg = self.cfg.config();
-        let mut text = String::with_capacity(cfg.allocator(), self.line_bytes(LINE_BYTES, LINE_BYTES))?;
+        let mut text = String::with_capacity(
+            cfg.allocator(),
+            self.line_bytes(LINE_BYTES, LINE_BYTES),
+        )?;
         write_across(&mut text, cfg, self.sizes, self.shape, line, self.sides)?;
         Ok(text)
     }
