@@ -94,7 +94,7 @@ impl<'a, D: Dimension> MarkedLine<'a, '_, D> {
 
     /// Whether no character is kept for one edge or one crossing of the line alone.
     fn is_alike(&self) -> bool
-        ensures { IsTrue result → IsAlike self.now.cfg.now.characters self.now.line }
+        ensures { IsTrue result ↔ IsAlike self.now.cfg.now.characters self.now.line }
     {
         !self.cfg.has_cell_chars() && has_none_across(self.cfg, self.line)
     }

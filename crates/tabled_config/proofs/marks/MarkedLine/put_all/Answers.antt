@@ -17,7 +17,7 @@ loop-n-init g c =
       known = record {
         no_offsets = c.has_offsets.ensures.characters;
         no_colored_offsets = c.has_offsets.ensures.colors;
-        alike = c.is_alike.ensures;
+        alike = c.is_alike.ensures.0;
         edges = λ shown none. absurd cc;
         crossings = λ shown none. absurd cc;
       };
