@@ -50,17 +50,25 @@ pub trait AnsiText {
 /// Two colors are equal where their texts are. Colors are ordered by prefix, then by suffix.
 #[derive(Debug, Drop)]
 pub struct ANSIBuf {
+    /// Its texts, or none where both are empty: most places that can have a color have none, and each of them is as large as this.
+    texts: Option<Box<OwnedTexts>>,
+}
+
+/// The two texts of a color.
+#[derive(Debug, Drop)]
+struct OwnedTexts {
     prefix: String,
     suffix: String,
 }
 
 impl Model for ANSIBuf {
-    ghost use Rattle.tabled_border.specs.Texts.{Texts};
+    ghost use Rattle.std.specs.Prelude.{option_map, unwrap_or};
+    ghost use Rattle.tabled_border.specs.Texts.{Texts, no_texts};
     ghost use Rattle.std.specs.String.{string_bytes};
 
     ghost Value = { Texts };
 
-    ghost view = { λ color. record { prefix = string_bytes color.prefix; suffix = string_bytes color.suffix } };
+    ghost view = { λ color. unwrap_or (option_map (λ texts. record { prefix = string_bytes texts.value.prefix; suffix = string_bytes texts.value.suffix }) color.texts) no_texts };
 }
 
 impl ANSIBuf {
@@ -69,9 +77,15 @@ impl ANSIBuf {
         ensures texts { IfOk result (λ color. color ≡ record { prefix = prefix.now; suffix = suffix.now }) }
         ensures empty { prefix.now ≡ [] → suffix.now ≡ [] → IsOk result }
     {
+        if prefix.is_empty() && suffix.is_empty() {
+            return Ok(ANSIBuf { texts: None });
+        }
+        let texts = OwnedTexts {
+            prefix: String::from_str(alloc, prefix)?,
+            suffix: String::from_str(alloc, suffix)?,
+        };
         Ok(ANSIBuf {
-            prefix: copied(alloc, prefix)?,
-            suffix: copied(alloc, suffix)?,
+            texts: Some(Box::new(alloc, texts)?),
         })
     }
 
@@ -79,32 +93,28 @@ impl ANSIBuf {
     pub fn get_prefix(&self) -> &str
         ensures { result.now ≡ self.now.prefix }
     {
-        self.prefix.as_str()
+        match &self.texts {
+            Some(texts) => texts.prefix.as_str(),
+            None => "",
+        }
     }
 
     /// The text after what is colored.
     pub fn get_suffix(&self) -> &str
         ensures { result.now ≡ self.now.suffix }
     {
-        self.suffix.as_str()
+        match &self.texts {
+            Some(texts) => texts.suffix.as_str(),
+            None => "",
+        }
     }
 
     /// Whether both texts are empty.
     pub fn is_empty(&self) -> bool
         ensures { IsTrue result ↔ ((self.now.prefix ≡ []) × (self.now.suffix ≡ [])) }
     {
-        self.prefix.is_empty() && self.suffix.is_empty()
+        self.get_prefix().is_empty() && self.get_suffix().is_empty()
     }
-}
-
-/// A copy of a text. An empty one takes no memory.
-fn copied(alloc: Global, text: &str) -> Result<String, OutOfMemory>
-    ensures copy { IfOk result (λ copy. string_bytes copy ≡ text.now) }
-    ensures empty { text.now ≡ [] → IsOk result }
-{
-    let mut copy = String::with_capacity(alloc, text.len())?;
-    copy.push_str(text)?;
-    Ok(copy)
 }
 
 impl Keep for ANSIBuf {

@@ -7,11 +7,13 @@ use Rattle.tabled_grid.specs.declared.place.LineOf.{LineOf}
 use Rattle.tabled_grid.specs.Site.{Direction, Horizontal, Vertical, Rank, first, inner, last, stands, Class, edges, crossings, main_edges, meeting, horizontal_meeting, vertical_meeting, rank, the_default, of_class, of_line, at_spot, Crossing, class_value}
 use Rattle.tabled_grid.specs.Event.{sign}
 use Rattle.tabled_grid.specs.Value.{has_spot, inside, class_at, plain_sites, sites, sign_or, first_sign, value, plain_value}
-use Rattle.tabled_grid.specs.Drawn.{draws}
-use Rattle.std.specs.FinMap.{get}
+use Rattle.tabled_grid.specs.Drawn.{draws, number}
+use Rattle.tabled_grid.specs.Keys.{spot_cmp}
+use Rattle.std.specs.Ordering.{nat_cmp}
+use Rattle.std.specs.FinMap.{get, get-empty}
 use Rattle.tabled_grid.specs.declared.lines.HorizontalLine.{HorizontalLine}
 use Rattle.tabled_grid.specs.declared.lines.VerticalLine.{VerticalLine}
-use Rattle.tabled_grid.specs.Reading.{pick, main_of, plain_edge, plain_crossing, edge_shown}
+use Rattle.tabled_grid.specs.Reading.{pick, direction_of, main_of, plain_edge, plain_crossing, edge_shown, HasClassAlone}
 use Rattle.tabled_grid.specs.Calls.{edge_of}
 use Rattle.tabled_grid.specs.declared.offset.Offset.{Offset}
 use Rattle.tabled_grid.specs.State.{State, state_at, edge_place, horizontal_part, vertical_part, line_classes, has_class, rank_draws}
@@ -102,6 +104,24 @@ module _ {T : Type 0} (k : State T) where
   unfolding value
   value-crossing rows cols size r c h =
       ap (λ b. cond b (first_sign (state_at k) (sites (rows, cols) size (Place.Cross r c))) None) h ∙ plain-crossing rows cols r c
+
+-- where nothing is kept but for classes and by default, those are all that is looked at
+pub class_alone_edge : {T : Type 0} (k : State T) → HasClassAlone k → (line : LineOf) (count at : ℕ) → pick (class_value (edges (direction_of line) (rank count (number line))) k.class_record) k.default_value ≡ plain_edge k line count at
+class_alone_edge k h line count at =
+    let class = pick (class_value (edges (direction_of line) (rank count (number line))) k.class_record) k.default_value in
+    sym (ap (λ cell. pick cell (pick (main_of k line) class)) (ap (λ m. get m (edge_of line at)) h.0 ∙ get-empty spot_cmp (edge_of line at)) ∙ ap (λ main. pick main class) (no_main line))
+  where
+    no_main : (line : LineOf) → main_of k line ≡ None
+    no_main (LineOf.Horizontal n) = ap (option_and_then (λ custom. custom.main)) (ap (λ m. get m n) h.1 ∙ get-empty nat_cmp n)
+    no_main (LineOf.Vertical n) = ap (option_and_then (λ custom. custom.main)) (ap (λ m. get m n) h.2 ∙ get-empty nat_cmp n)
+
+pub class_alone_crossing : {T : Type 0} (k : State T) → HasClassAlone k → (rows cols r c : ℕ) → pick (class_value (crossings (rank rows r) (rank cols c)) k.class_record) k.default_value ≡ plain_crossing k rows cols r c
+class_alone_crossing k h rows cols r c =
+    let class = pick (class_value (crossings (rank rows r) (rank cols c)) k.class_record) k.default_value in
+    let below = pick (option_and_then (vertical_meeting (rank rows r)) (get k.vertical_lines c)) class in
+    sym (ap (λ cell. pick cell (pick (option_and_then (horizontal_meeting (rank cols c)) (get k.horizontal_lines r)) below)) (ap (λ m. get m (Crossing r c)) h.0 ∙ get-empty spot_cmp (Crossing r c))
+    ∙ ap (λ met. pick (option_and_then (horizontal_meeting (rank cols c)) met) below) (ap (λ m. get m r) h.1 ∙ get-empty nat_cmp r)
+    ∙ ap (λ met. pick (option_and_then (vertical_meeting (rank rows r)) met) class) (ap (λ m. get m c) h.2 ∙ get-empty nat_cmp c))
 
 pub and_parts : (a b : Bool) → (a && b) ≡ true → (a ≡ true) × (b ≡ true)
 and_parts true b h = (refl, h)

@@ -1,7 +1,7 @@
 -- How a place is read, level by level.
-use Rattle.std.specs.Prelude.{ℕ, ◌-◌, Bool, ◌&&◌, ◌||◌, ◌==◌, nat_lt, is_some, Option, Some, None, option_and_then}
+use Rattle.std.specs.Prelude.{◌≡◌, ℕ, ◌-◌, Bool, ◌&&◌, ◌||◌, ◌==◌, nat_lt, is_some, Option, Some, None, option_and_then}
 use Rattle.std.specs.Ordering.{nat_cmp}
-use Rattle.std.specs.FinMap.{FinMap, get}
+use Rattle.std.specs.FinMap.{FinMap, get, empty}
 use Rattle.tabled_grid.specs.declared.lines.HorizontalLine.{HorizontalLine}
 use Rattle.tabled_grid.specs.declared.lines.VerticalLine.{VerticalLine}
 use Rattle.tabled_grid.specs.Counted.{number_at}
@@ -50,6 +50,10 @@ plain_crossing k rows cols r c =
     pick (get k.cells (Crossing r c)) (pick (option_and_then (horizontal_meeting (rank cols c)) (get k.horizontal_lines r))
     (pick (option_and_then (vertical_meeting (rank rows r)) (get k.vertical_lines c))
     (pick (class_value (crossings (rank rows r) (rank cols c)) k.class_record) k.default_value)))
+
+-- below the offsets nothing is kept but for classes, and by default
+abbrev pub HasClassAlone : {T : Type 0} → State T → Type 0
+HasClassAlone k = (k.cells ≡ empty) × (k.horizontal_lines ≡ empty) × (k.vertical_lines ≡ empty)
 
 -- whether a horizontal line is drawn by a custom line, or by what is kept on it; and a vertical one
 abbrev pub row_drawn : {T : Type 0} → FinMap nat_cmp (HorizontalLine T) → ℕ → ℕ → FinMap line_cmp ℕ → ℕ → ℕ → Bool

@@ -50,6 +50,14 @@ entries-table {X = X} {R = R} o [] h = nil_of_length (map.entries (map.empty {X 
 entries-table {R = R} o (e ∷ es) h =
     map.entries-insert o (table R es) e.0 e.1 ∙ ap (map.put R e.0 e.1) (entries-table o es h.1) ∙ put_first R e.0 e.1 es h.0
 
+-- no keys are in order, and no entries are those of the map with nothing in it
+pub none_ascend : {K : Type 0} (R : K → K → Ordering) → IsStrictlySortedBy R []
+unfolding IsStrictlySortedBy
+none_ascend R = record {}
+
+pub none_listed : {K X : Type 0} {R : K → K → Ordering} → IsTotalOrder R → map.entries (table {X = X} R []) ≡ []
+none_listed {R = R} o = entries-table o [] (none_ascend R)
+
 -- and a finite map is that of its entries
 pub table-entries : {K X : Type 0} {R : K → K → Ordering} → IsTotalOrder R → (m : map.FinMap R X) → IsStrictlySortedBy R (keys_of (map.entries m)) → table R (map.entries m) ≡ m
 table-entries o m h = map.same_entries_map _ _ (entries-table o (map.entries m) h)

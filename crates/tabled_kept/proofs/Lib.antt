@@ -1,3 +1,4 @@
+pub mod EmptyMaps
 pub mod SlotLemmas
 pub mod SameGets
 pub mod TableLemmas

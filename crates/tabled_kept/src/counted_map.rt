@@ -2,36 +2,32 @@
 
 ghost use Rattle.std.specs.Prelude.{◌≡◌, ◌↔◌, ◌<◌, ◌^◌, OnOk, OnErr, IfOk, None, option_copied, IsTrue};
 ghost use Rattle.std.specs.FinMap as map;
-ghost use Rattle.std.specs.BTreeMap.{insert_entry};
 ghost use Rattle.tabled_kept.specs.Table.{table};
 ghost use Rattle.tabled_kept.specs.Same.{same_map};
 ghost use Rattle.tabled_kept.specs.Probing.{IsCounted, IsRaised};
 
+use crate::entries::Entries;
 use crate::key::Key;
 use crate::probes::Probes;
-use crate::table::Table;
 use std::alloc::Global;
-use std::collections::BTreeMap;
 use std::marker::Model;
 use tabled_border::{Keep, OutOfMemory};
 
-/// A map with one way to read it, which is counted. A value stands in the slot of its key, if the key has one, and else in an
-/// ordered map; so a reading is one of the table or one of the ordered map. In contracts it is the list of its entries.
+/// A map with one way to read it, which is counted. Before anything is kept it is no larger than a reference, and takes no memory
+/// beside itself. In contracts it is the list of its entries.
 #[derive(Debug, Drop)]
 pub struct CountedMap<K: Key, V> {
-    pub(crate) dense: Table<V>,
-    pub(crate) others: BTreeMap<K, V>,
+    alloc: Global,
+    /// Its entries, once there were some.
+    pub(crate) entries: Option<Box<Entries<K, V>>>,
 }
 
 impl<K: Key, V> Model for CountedMap<K, V> {
-    ghost use Rattle.std.specs.Prelude.{List, length, ◌<◌, ◌^◌};
-    ghost use Rattle.tabled_kept.specs.Kept.{joined, Parted};
+    ghost use Rattle.std.specs.Prelude.{List, [], option_map, unwrap_or};
 
     ghost Value = { List (K × V) };
 
-    ghost view = { λ kept. joined K.key_at kept.dense kept.others.entries };
-
-    ghost invariant = { λ kept. Parted K.cmp K.slot_of K.key_at kept.dense kept.others.entries × (length kept.others.entries < 2 ^ 63) };
+    ghost view = { λ kept. unwrap_or (option_map (λ entries. entries.value) kept.entries) [] };
 }
 
 impl<K: Key, V> CountedMap<K, V> {
@@ -40,8 +36,8 @@ impl<K: Key, V> CountedMap<K, V> {
         ensures { table K.cmp result ≡ map.empty }
     {
         CountedMap {
-            dense: Table::new(alloc),
-            others: BTreeMap::new(alloc),
+            alloc,
+            entries: None,
         }
     }
 
@@ -51,18 +47,30 @@ impl<K: Key, V> CountedMap<K, V> {
         ensures counted { IsCounted probes.old probes.new }
         ensures raised { IsRaised 1 probes.old probes.new }
     {
-        probes.raise();
-        match key.slot() {
-            Some(slot) => self.dense.get(slot),
-            None => self.others.get(&key),
+        match &self.entries {
+            Some(entries) => entries.read(key, probes),
+            None => {
+                probes.raise();
+                None
+            }
         }
+    }
+
+    /// Whether nothing was ever kept since all of it was taken, so that there is nothing to look for.
+    pub fn is_unused(&self) -> bool
+        ensures { IsTrue result → (table K.cmp self.now ≡ map.empty) }
+    {
+        self.entries.is_none()
     }
 
     /// Whether nothing is kept.
     pub fn is_empty(&self) -> bool
         ensures { IsTrue result ↔ (table K.cmp self.now ≡ map.empty) }
     {
-        self.dense.is_empty() && self.others.is_empty()
+        match &self.entries {
+            Some(entries) => entries.is_empty(),
+            None => true,
+        }
     }
 
     /// Keeps a value under a key, and returns the one that was there. Only a new key can need memory; where
@@ -76,17 +84,26 @@ impl<K: Key, V> CountedMap<K, V> {
         ensures absent { OnErr result (map.get (table K.cmp self.old) key ≡ None) }
         ensures few { map.len (table K.cmp self.new) < 2 ^ 64 }
     {
-        if let Some(slot) = key.slot() {
-            let Ok(before) = self.dense.put(slot, value) else {
-                return Err(OutOfMemory);
-            };
-            return Ok(before);
+        match &mut self.entries {
+            Some(entries) => entries.insert(key, value),
+            None => self.insert_first(key, value),
         }
-        let Ok(before) = self.others.insert(key, value) else {
-            return Err(OutOfMemory);
-        };
-        // `len` gives the checker the bound 2^63 of the entries, which the map keeps to
-        let _ = self.others.len();
+    }
+
+    /// Keeps the first value.
+    fn insert_first(&mut self, key: K, value: V) -> Result<Option<V>, OutOfMemory>
+    where
+        V: Drop,
+        requires { table K.cmp self.old ≡ map.empty }
+        ensures before { IfOk result (λ before. before ≡ map.get (table K.cmp self.old) key) }
+        ensures ok { OnOk result (table K.cmp self.new ≡ map.insert (table K.cmp self.old) key value) }
+        ensures err { OnErr result (self.new ≡ self.old) }
+        ensures absent { map.get (table K.cmp self.old) key ≡ None }
+        ensures few { map.len (table K.cmp self.new) < 2 ^ 64 }
+    {
+        let mut entries = Entries::new(self.alloc);
+        let before = entries.insert(key, value)?;
+        self.entries = Some(Box::new(self.alloc, entries)?);
         Ok(before)
     }
 
@@ -96,11 +113,10 @@ impl<K: Key, V> CountedMap<K, V> {
         ensures removed { table K.cmp self.new ≡ map.remove (table K.cmp self.old) key }
         ensures few { map.len (table K.cmp self.new) < 2 ^ 64 }
     {
-        if let Some(slot) = key.slot() {
-            let before = self.dense.take(slot);
-            return before;
-        }
-        let before = self.others.remove(&key);
+        let Some(entries) = &mut self.entries else {
+            return None;
+        };
+        let before = entries.remove(key);
         before
     }
 
@@ -119,62 +135,30 @@ impl<K: Key, V> CountedMap<K, V> {
         V: PartialEq,
         ensures { result ≡ same_map V.eq (table K.cmp self.now) (table K.cmp other.now) }
     {
-        // `len` tells the checker that the keys are in their order
-        let _ = self.others.len();
-        let _ = other.others.len();
-        let dense = self.dense.is_same(&other.dense);
-        let others = self.others == other.others;
-        dense && others
+        match (&self.entries, &other.entries) {
+            (Some(entries), Some(others)) => entries.is_same(others),
+            (Some(entries), None) => entries.is_empty(),
+            (None, Some(others)) => others.is_empty(),
+            (None, None) => true,
+        }
     }
 
-    /// Takes everything. The room of the table stays.
+    /// Takes everything, and gives its memory back.
     pub fn clear(&mut self)
     where
         V: Drop,
         ensures { table K.cmp self.new ≡ map.empty }
     {
-        self.dense.clear();
-        self.others.clear();
+        self.entries = None;
     }
-}
-
-/// Copies of all entries of an ordered map, whose memory comes from `alloc`.
-fn copy_of<K: Key, V: Keep>(
-    entries: &BTreeMap<K, V>,
-    alloc: Global,
-) -> Result<BTreeMap<K, V>, OutOfMemory>
-    ensures { IfOk result (λ copy. copy.entries ≡ entries.now.entries) }
-{
-    let mut copy = BTreeMap::new(alloc);
-    for (key, value) in entries {
-        put_copy(&mut copy, *key, value, alloc)?;
-    }
-    Ok(copy)
-}
-
-/// Puts a copy of a value under a key.
-pub(crate) fn put_copy<K: Key, V: Keep>(
-    entries: &mut BTreeMap<K, V>,
-    key: K,
-    value: &V,
-    alloc: Global,
-) -> Result<(), OutOfMemory>
-    ensures { OnOk result (entries.new.entries ≡ insert_entry K.cmp entries.old.entries key value.now) }
-{
-    entries.insert(key, value.keep(alloc)?)?;
-    Ok(())
 }
 
 impl<K: Key, V: Keep> Keep for CountedMap<K, V> {
     fn keep(&self, alloc: Global) -> Result<Self, OutOfMemory> {
-        // one field more, or a list in place of a value, and this does not compile; a look at the entries also gives
-        // the checker their bound, which the copy keeps to
-        let CountedMap { dense, others } = self;
-        let dense: &Table<V> = dense;
-        let others: &BTreeMap<K, V> = others;
-        Ok(CountedMap {
-            dense: dense.keep(alloc)?,
-            others: copy_of(others, alloc)?,
-        })
+        let entries = match &self.entries {
+            Some(entries) => Some(Box::new(alloc, entries.keep(alloc)?)?),
+            None => None,
+        };
+        Ok(CountedMap { alloc, entries })
     }
 }

@@ -6,6 +6,7 @@
 
 mod copies;
 mod counted_map;
+mod entries;
 mod key;
 mod numbered;
 mod probes;

@@ -26,7 +26,7 @@ impl<T> Layers<T> {
     ghost use Rattle.tabled_grid.specs.Drawn.{Drawn};
     ghost use Rattle.tabled_grid.specs.State.{state_at, HasNoOffsets, HasNoCells};
     ghost use Rattle.tabled_grid.specs.Writes.{kept_at};
-    ghost use Rattle.tabled_grid.specs.Reading.{main_of, offset_of, plain_edge, plain_crossing, edge_shown};
+    ghost use Rattle.tabled_grid.specs.Reading.{pick, main_of, offset_of, plain_edge, plain_crossing, edge_shown, HasClassAlone};
 
     /// The class record.
     pub fn get_class(&self) -> &Borders<T>
@@ -136,7 +136,7 @@ impl<T> Layers<T> {
             Place::Vertical { row, col, at } => {
                 self.at_edge((LineOf::Vertical(col), cols), row, (at, size), probes)
             }
-            Place::Cross { row, col } => self.plain_crossing(row, col, rows, cols, probes),
+            Place::Cross { row, col } => self.plain_crossing(row, col, shape, probes),
         }
     }
 
@@ -165,7 +165,7 @@ impl<T> Layers<T> {
             Place::Vertical { row, col, .. } => {
                 self.plain_edge((LineOf::Vertical(col), cols), row, probes)
             }
-            Place::Cross { row, col } => self.plain_crossing(row, col, rows, cols, probes),
+            Place::Cross { row, col } => self.plain_crossing(row, col, shape, probes),
         }
     }
 
@@ -244,6 +244,38 @@ impl<T> Layers<T> {
         ensures value { option_copied result ≡ plain_edge self.now line.0 line.1 at }
         ensures probes { IsRaised 4 probes.old probes.new }
     {
+        if self.has_class_alone() {
+            return self.class_edge(line, probes);
+        }
+        self.edge_by_levels(line, at, probes)
+    }
+
+    /// Whether there is nothing to look for below the offsets but what the class record and the default have.
+    fn has_class_alone(&self) -> bool
+        ensures { IsTrue result → HasClassAlone self.now }
+    {
+        self.cells.is_unused()
+            && self.horizontal_lines.is_unused()
+            && self.vertical_lines.is_unused()
+    }
+
+    /// What the class record, or else the default, has for the edges of a line, of the lines 0 to `line.1` of its direction.
+    fn class_edge(&self, line: (LineOf, usize), probes: &mut Probes) -> Option<&T>
+        ensures value { option_copied result ≡ pick (class_value (edges (direction_of line.0) (rank line.1 (number line.0))) self.now.class_record) self.now.default_value }
+        ensures probes { IsRaised 2 probes.old probes.new }
+    {
+        let class = class_edges(&self.class_record, line.0, line.1, probes);
+        if class.is_some() {
+            return class;
+        }
+        read_default(&self.default_value, probes)
+    }
+
+    /// The same as `plain_edge`, looked for level by level.
+    fn edge_by_levels(&self, line: (LineOf, usize), at: usize, probes: &mut Probes) -> Option<&T>
+        ensures value { option_copied result ≡ plain_edge self.now line.0 line.1 at }
+        ensures probes { IsRaised 4 probes.old probes.new }
+    {
         let cell = self.cells.read(line.0.edge(at), probes);
         if cell.is_some() {
             return cell;
@@ -252,11 +284,7 @@ impl<T> Layers<T> {
         if main.is_some() {
             return main;
         }
-        let class = class_edges(&self.class_record, line.0, line.1, probes);
-        if class.is_some() {
-            return class;
-        }
-        read_default(&self.default_value, probes)
+        self.class_edge(line, probes)
     }
 
     /// What a custom line has for its edges: one reading.
@@ -276,21 +304,57 @@ impl<T> Layers<T> {
         }
     }
 
+    /// What a crossing shows in a table of `shape.0` rows and `shape.1` columns.
     fn plain_crossing(
         &self,
         row: usize,
         col: usize,
-        rows: usize,
-        cols: usize,
+        shape: (usize, usize),
         probes: &mut Probes,
     ) -> Option<&T>
-        ensures value { option_copied result ≡ plain_crossing self.now rows cols row col }
+        ensures value { option_copied result ≡ plain_crossing self.now shape.0 shape.1 row col }
+        ensures probes { IsRaised 5 probes.old probes.new }
+    {
+        if self.has_class_alone() {
+            return self.class_crossing(row, col, shape, probes);
+        }
+        self.crossing_by_levels(row, col, shape, probes)
+    }
+
+    /// What the class record, or else the default, has for a crossing.
+    fn class_crossing(
+        &self,
+        row: usize,
+        col: usize,
+        shape: (usize, usize),
+        probes: &mut Probes,
+    ) -> Option<&T>
+        ensures value { option_copied result ≡ pick (class_value (crossings (rank shape.0 row) (rank shape.1 col)) self.now.class_record) self.now.default_value }
+        ensures probes { IsRaised 2 probes.old probes.new }
+    {
+        let class = class_crossing(&self.class_record, row, col, shape, probes);
+        if class.is_some() {
+            return class;
+        }
+        read_default(&self.default_value, probes)
+    }
+
+    /// The same as `plain_crossing`, looked for level by level.
+    fn crossing_by_levels(
+        &self,
+        row: usize,
+        col: usize,
+        shape: (usize, usize),
+        probes: &mut Probes,
+    ) -> Option<&T>
+        ensures value { option_copied result ≡ plain_crossing self.now shape.0 shape.1 row col }
         ensures probes { IsRaised 5 probes.old probes.new }
     {
         let cell = self.cells.read(Spot::Crossing(row, col), probes);
         if cell.is_some() {
             return cell;
         }
+        let (rows, cols) = shape;
         let line = meeting_horizontal(&self.horizontal_lines, row, col, cols, probes);
         if line.is_some() {
             return line;
@@ -299,11 +363,7 @@ impl<T> Layers<T> {
         if line.is_some() {
             return line;
         }
-        let class = class_crossing(&self.class_record, row, col, (rows, cols), probes);
-        if class.is_some() {
-            return class;
-        }
-        read_default(&self.default_value, probes)
+        self.class_crossing(row, col, shape, probes)
     }
 
     /// Whether a line is drawn, of the lines 0 to `count` of its direction. At most six readings are

@@ -1,21 +1,29 @@
-use Rattle.std.proofs.Common.{sym, ap, ◌∙◌, ◌&&◌}
+use Rattle.std.proofs.Common.{sym, ◌∙◌}
 use Rattle.tabled_kept.specs.Table.{table}
 use Rattle.tabled_kept.specs.Same.{same_map}
-use Rattle.tabled_kept.proofs.Ascending.{same-table}
-use Rattle.tabled_kept.proofs.KeptLemmas.{same_parts}
+use Rattle.tabled_kept.proofs.EmptyMaps.{of_none, of_some}
+use Rattle.tabled_kept.proofs.SameGets.{nothing_alike, empty_beside, beside_empty}
 use Rattle.tabled_kept.proofs.counted_map.CountedMap.is_same.Goals as goal
 
-pub returns-then-dense : goal.returns-then-dense
-returns-then-dense g c =
-    let others = same_map g.V.PartialEq.eq (table g.K.Ord.cmp c.self.inside.others.entries) (table g.K.Ord.cmp c.other.inside.others.entries) in
-    c.eq-others.ensures ∙ same-table g.met.K.Ord.total g.K.PartialEq.eq g.V.PartialEq.eq g.met.K.Ord.matches_eq c.self.inside.others.entries c.other.inside.others.entries c.len.ensures.ordered c.len-2.ensures.ordered
-    ∙ ap (λ dense. dense && others) (sym c.if-dense.true ∙ c.is_same-dense.ensures)
-    ∙ same_parts g.met.K.Ord.total g.met.K.Key.exact g.met.K.Key.back g.V.PartialEq.eq c.self.inside.dense c.other.inside.dense c.self.inside.others.entries c.other.inside.others.entries c.self.invariant.0 c.other.invariant.0
-    ∙ (λ i. same_map g.V.PartialEq.eq (table g.K.Ord.cmp (c.self.view_is i)) (table g.K.Ord.cmp (c.other.view_is i)))
+pub returns-in-Some-None : goal.returns-in-Some-None
+returns-in-Some-None g c =
+    let arm = c.in-Some-None in
+    let there = of_some _ _ _ arm.entries c.self.view_is arm.is-0 ∙ sym c.deref-in-Some-None.ensures in
+    let missing = of_none _ _ _ c.other.view_is arm.is-1 in
+    empty_beside g.met.K.Ord.total g.met.K.Key.exact g.V.PartialEq.eq c.is_empty.result _ c.is_empty.ensures
+    ∙ (λ i. same_map g.V.PartialEq.eq (table g.K.Ord.cmp (sym there i)) (table g.K.Ord.cmp (sym missing i)))
 
-pub returns-else-dense : goal.returns-else-dense
-returns-else-dense g c =
-    let others = same_map g.V.PartialEq.eq (table g.K.Ord.cmp c.self.inside.others.entries) (table g.K.Ord.cmp c.other.inside.others.entries) in
-    c.if-dense.false ∙ ap (λ dense. dense && others) (sym c.if-dense.false ∙ c.is_same-dense.ensures)
-    ∙ same_parts g.met.K.Ord.total g.met.K.Key.exact g.met.K.Key.back g.V.PartialEq.eq c.self.inside.dense c.other.inside.dense c.self.inside.others.entries c.other.inside.others.entries c.self.invariant.0 c.other.invariant.0
-    ∙ (λ i. same_map g.V.PartialEq.eq (table g.K.Ord.cmp (c.self.view_is i)) (table g.K.Ord.cmp (c.other.view_is i)))
+pub returns-in-None-Some : goal.returns-in-None-Some
+returns-in-None-Some g c =
+    let arm = c.in-None-Some in
+    let there = of_some _ _ _ arm.others c.other.view_is arm.is-1 ∙ sym c.deref-in-None-Some.ensures in
+    let missing = of_none _ _ _ c.self.view_is arm.is-0 in
+    beside_empty g.met.K.Ord.total g.met.K.Key.exact g.V.PartialEq.eq c.is_empty-in-None-Some.result _ c.is_empty-in-None-Some.ensures
+    ∙ (λ i. same_map g.V.PartialEq.eq (table g.K.Ord.cmp (sym missing i)) (table g.K.Ord.cmp (sym there i)))
+
+pub returns-in-None-None : goal.returns-in-None-None
+returns-in-None-None g c =
+    let one = of_none _ _ _ c.self.view_is c.in-None-None.is-0 in
+    let other = of_none _ _ _ c.other.view_is c.in-None-None.is-1 in
+    nothing_alike g.met.K.Ord.total g.met.K.Key.exact g.V.PartialEq.eq
+    ∙ (λ i. same_map g.V.PartialEq.eq (table g.K.Ord.cmp (sym one i)) (table g.K.Ord.cmp (sym other i)))

@@ -1,22 +1,14 @@
-use Rattle.std.proofs.Common.{sym, ap, subst, ◌∙◌, ◌++◌}
-use Rattle.std.specs.List.Sorted.{IsStrictlySortedBy}
-use Rattle.std.specs.Map.{keys_of}
+use Rattle.std.proofs.Common.{sym, ap, ◌∙◌}
 use Rattle.std.specs.Ordering.{nat_cmp}
 use Rattle.std.specs.FinMap as map
-use Rattle.tabled_kept.specs.Slots.{numbered}
 use Rattle.tabled_kept.specs.Table.{table}
-use Rattle.tabled_kept.proofs.NumberedLemmas.{in_order, entries_in_order}
+use Rattle.std.specs.Cmp.{nat_cmp_total}
+use Rattle.tabled_kept.proofs.Ascending.{none_ascend, none_listed}
+use Rattle.tabled_kept.proofs.EmptyMaps.{of_none}
 use Rattle.tabled_kept.proofs.numbered.CountedMap+usize+V.iter.Goals as goal
 
-pub returns-clause-entries : goal.returns-clause-entries
-returns-clause-entries g c =
-    let kept = c.self.inside in
-    ap (λ others. numbered 0 c.first_row.result.now ++ others) c.iter.ensures.rest
-    ∙ entries_in_order c.first_row.result.now kept.dense kept.others.entries c.first_row.ensures c.self.invariant.0 c.iter.ensures.ordered
-    ∙ ap (λ entries. map.entries (table nat_cmp entries)) c.self.view_is
+pub returns-in_default-clause-entries : goal.returns-in_default-clause-entries
+returns-in_default-clause-entries g c = sym (ap (λ entries. map.entries (table nat_cmp entries)) (of_none _ _ _ c.self.view_is c.in_default.is) ∙ none_listed nat_cmp_total)
 
-pub returns-clause-rising : goal.returns-clause-rising
-returns-clause-rising g c =
-    let kept = c.self.inside in
-    subst (λ others. IsStrictlySortedBy nat_cmp (keys_of (numbered 0 c.first_row.result.now ++ others))) (sym c.iter.ensures.rest)
-    (in_order c.first_row.result.now kept.dense kept.others.entries c.first_row.ensures c.self.invariant.0 c.iter.ensures.ordered)
+pub returns-in_default-clause-rising : goal.returns-in_default-clause-rising
+returns-in_default-clause-rising g c = none_ascend nat_cmp

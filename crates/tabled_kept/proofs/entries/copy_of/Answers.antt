@@ -1,5 +1,5 @@
 use Rattle.tabled_kept.proofs.Ascending.{copied_further}
-use Rattle.tabled_kept.proofs.counted_map.copy_of.Goals as goal
+use Rattle.tabled_kept.proofs.entries.copy_of.Goals as goal
 
 pub loop-key-preserved : goal.loop-key-preserved
 loop-key-preserved g c =

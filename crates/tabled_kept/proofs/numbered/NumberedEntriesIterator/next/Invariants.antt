@@ -1,6 +1,6 @@
 use Rattle.std.proofs.Common.{◌≡◌, ◌+◌, ◌<◌, ◌^◌, ◌++◌, length}
 use Rattle.tabled_kept.specs.Slots.{numbered}
-use Rattle.tabled_kept.proofs.numbered.NumberedIterator.next.Given as goal
+use Rattle.tabled_kept.proofs.numbered.NumberedEntriesIterator.next.Given as goal
 
 -- only empty slots were passed over
 abbrev pub invariant-loop-slot : goal.invariant-loop-slot

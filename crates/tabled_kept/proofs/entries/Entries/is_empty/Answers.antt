@@ -1,7 +1,7 @@
 use Rattle.std.proofs.Common.{sym, ap, ◌∙◌}
 use Rattle.tabled_kept.specs.Table.{table}
 use Rattle.tabled_kept.proofs.KeptLemmas.{empty_whole, empty_dense, empty_others}
-use Rattle.tabled_kept.proofs.counted_map.CountedMap.is_empty.Goals as goal
+use Rattle.tabled_kept.proofs.entries.Entries.is_empty.Goals as goal
 
 pub returns-then-is_empty : goal.returns-then-is_empty
 returns-then-is_empty g c =

@@ -1,6 +1,6 @@
 use Rattle.std.proofs.Common.{arith}
 use Rattle.tabled_kept.proofs.KeptLemmas.{parted_none, empty_whole}
-use Rattle.tabled_kept.proofs.counted_map.CountedMap.new.Goals as goal
+use Rattle.tabled_kept.proofs.entries.Entries.new.Goals as goal
 
 pub invariant_of-result : goal.invariant_of-result
 invariant_of-result g c = (parted_none g.met.K.Ord.total g.met.K.Key.exact g.met.K.Key.back c.new.result c.new-2.result.entries c.new.ensures c.new-2.ensures.len, omega (arith, c.new-2.ensures.len))

@@ -3,7 +3,7 @@ use Rattle.tabled_kept.specs.Kept.{Parted}
 use Rattle.tabled_kept.proofs.KeptLemmas.{read_dense, read_others, put_in_slot, put_beside}
 use Rattle.tabled_kept.proofs.FewSlots.{few_kept}
 use Rattle.tabled_kept.proofs.Tables.{get-table, table-put, table_at, inserted}
-use Rattle.tabled_kept.proofs.counted_map.CountedMap.insert.Goals as goal
+use Rattle.tabled_kept.proofs.entries.Entries.insert.Goals as goal
 
 pub returns-in_default-put-clause-absent : goal.returns-in_default-put-clause-absent
 returns-in_default-put-clause-absent g c =

@@ -1,0 +1,161 @@
+//! The entries of a kept map: in a table where their keys have slots, and else in an ordered map.
+
+ghost use Rattle.std.specs.Prelude.{◌≡◌, ◌↔◌, ◌<◌, ◌^◌, OnOk, OnErr, IfOk, None, option_copied, IsTrue};
+ghost use Rattle.std.specs.FinMap as map;
+ghost use Rattle.std.specs.BTreeMap.{insert_entry};
+ghost use Rattle.tabled_kept.specs.Table.{table};
+ghost use Rattle.tabled_kept.specs.Same.{same_map};
+ghost use Rattle.tabled_kept.specs.Probing.{IsCounted, IsRaised};
+
+use crate::key::Key;
+use crate::probes::Probes;
+use crate::table::Table;
+use std::alloc::Global;
+use std::collections::BTreeMap;
+use std::marker::Model;
+use tabled_border::{Keep, OutOfMemory};
+
+/// The entries of a kept map. A value stands in the slot of its key, if the key has one, and else in an ordered map; so a reading
+/// is one of the table or one of the ordered map. In contracts it is the list of its entries.
+#[derive(Debug, Drop)]
+pub(crate) struct Entries<K: Key, V> {
+    pub(crate) dense: Table<V>,
+    pub(crate) others: BTreeMap<K, V>,
+}
+
+impl<K: Key, V> Model for Entries<K, V> {
+    ghost use Rattle.std.specs.Prelude.{List, length, ◌<◌, ◌^◌};
+    ghost use Rattle.tabled_kept.specs.Kept.{joined, Parted};
+
+    ghost Value = { List (K × V) };
+
+    ghost view = { λ kept. joined K.key_at kept.dense kept.others.entries };
+
+    ghost invariant = { λ kept. Parted K.cmp K.slot_of K.key_at kept.dense kept.others.entries × (length kept.others.entries < 2 ^ 63) };
+}
+
+impl<K: Key, V> Entries<K, V> {
+    /// No entries.
+    pub(crate) fn new(alloc: Global) -> Self
+        ensures { table K.cmp result ≡ map.empty }
+    {
+        Entries {
+            dense: Table::new(alloc),
+            others: BTreeMap::new(alloc),
+        }
+    }
+
+    /// What is kept under a key: one reading.
+    pub(crate) fn read(&self, key: K, probes: &mut Probes) -> Option<&V>
+        ensures value { option_copied result ≡ map.get (table K.cmp self.now) key }
+        ensures counted { IsCounted probes.old probes.new }
+        ensures raised { IsRaised 1 probes.old probes.new }
+    {
+        probes.raise();
+        match key.slot() {
+            Some(slot) => self.dense.get(slot),
+            None => self.others.get(&key),
+        }
+    }
+
+    /// Whether nothing is kept.
+    pub(crate) fn is_empty(&self) -> bool
+        ensures { IsTrue result ↔ (table K.cmp self.now ≡ map.empty) }
+    {
+        self.dense.is_empty() && self.others.is_empty()
+    }
+
+    /// Keeps a value under a key, and returns the one that was there. Only a new key can need memory; where
+    /// that is refused nothing changes.
+    pub(crate) fn insert(&mut self, key: K, value: V) -> Result<Option<V>, OutOfMemory>
+    where
+        V: Drop,
+        ensures before { IfOk result (λ before. before ≡ map.get (table K.cmp self.old) key) }
+        ensures ok { OnOk result (table K.cmp self.new ≡ map.insert (table K.cmp self.old) key value) }
+        ensures err { OnErr result (self.new ≡ self.old) }
+        ensures absent { OnErr result (map.get (table K.cmp self.old) key ≡ None) }
+        ensures few { map.len (table K.cmp self.new) < 2 ^ 64 }
+    {
+        if let Some(slot) = key.slot() {
+            let Ok(before) = self.dense.put(slot, value) else {
+                return Err(OutOfMemory);
+            };
+            return Ok(before);
+        }
+        let Ok(before) = self.others.insert(key, value) else {
+            return Err(OutOfMemory);
+        };
+        // `len` gives the checker the bound 2^63 of the entries, which the map keeps to
+        let _ = self.others.len();
+        Ok(before)
+    }
+
+    /// Takes what is kept under a key.
+    pub(crate) fn remove(&mut self, key: K) -> Option<V>
+        ensures before { result ≡ map.get (table K.cmp self.old) key }
+        ensures removed { table K.cmp self.new ≡ map.remove (table K.cmp self.old) key }
+        ensures few { map.len (table K.cmp self.new) < 2 ^ 64 }
+    {
+        if let Some(slot) = key.slot() {
+            let before = self.dense.take(slot);
+            return before;
+        }
+        let before = self.others.remove(&key);
+        before
+    }
+
+    /// Whether both are the same: the same keys, and equal values under each.
+    pub(crate) fn is_same(&self, other: &Self) -> bool
+    where
+        V: PartialEq,
+        ensures { result ≡ same_map V.eq (table K.cmp self.now) (table K.cmp other.now) }
+    {
+        // `len` tells the checker that the keys are in their order
+        let _ = self.others.len();
+        let _ = other.others.len();
+        let dense = self.dense.is_same(&other.dense);
+        let others = self.others == other.others;
+        dense && others
+    }
+}
+
+/// Copies of all entries of an ordered map, whose memory comes from `alloc`.
+fn copy_of<K: Key, V: Keep>(
+    entries: &BTreeMap<K, V>,
+    alloc: Global,
+) -> Result<BTreeMap<K, V>, OutOfMemory>
+    ensures { IfOk result (λ copy. copy.entries ≡ entries.now.entries) }
+{
+    let mut copy = BTreeMap::new(alloc);
+    for (key, value) in entries {
+        put_copy(&mut copy, *key, value, alloc)?;
+    }
+    Ok(copy)
+}
+
+/// Puts a copy of a value under a key.
+pub(crate) fn put_copy<K: Key, V: Keep>(
+    entries: &mut BTreeMap<K, V>,
+    key: K,
+    value: &V,
+    alloc: Global,
+) -> Result<(), OutOfMemory>
+    ensures { OnOk result (entries.new.entries ≡ insert_entry K.cmp entries.old.entries key value.now) }
+{
+    entries.insert(key, value.keep(alloc)?)?;
+    Ok(())
+}
+
+impl<K: Key, V: Keep> Keep for Entries<K, V> {
+    fn keep(&self, alloc: Global) -> Result<Self, OutOfMemory> {
+        // one field more, or a list in place of a value, and this does not compile; a look at the entries also gives
+        // the checker their bound, which the copy keeps to
+        let Entries { dense, others } = self;
+        let dense: &Table<V> = dense;
+        let others: &BTreeMap<K, V> = others;
+        Ok(Entries {
+            dense: dense.keep(alloc)?,
+            others: copy_of(others, alloc)?,
+        })
+    }
+}
