@@ -69,7 +69,7 @@ impl<T> Layers<T> {
         ensures err { OnErr result (self.new ≡ self.old) }
         ensures without_cells { filter (is_inside shape.0 shape.1) (cells_of entity shape.0 shape.1) ≡ [] → IsOk result }
     {
-        if !self.has_cells() {
+        if self.cells.is_unused() {
             return self.write_first_borders(entity.iter(shape.0, shape.1), shape, border);
         }
         let writes = border_writes(self.alloc, entity, shape, border)?;
