@@ -11,7 +11,7 @@ ghost use Rattle.tabled_config.specs.Picture.{edge_size, mark_at, marks, text_ma
 ghost use Rattle.tabled_config.specs.Known.{HasNoneAcross, IsAlike, AreKnown};
 ghost use Rattle.tabled_config.specs.LinePieces.{has_line, pieces_of, size_of, crossed_after, crossing_of, edge_of, crossing_places, edge_places, piece_places, all_places, lines_met};
 ghost use Rattle.tabled_config.specs.Marks.{mark_of, marks_of};
-ghost use Rattle.tabled_config.specs.Sinks.{Put};
+ghost use Rattle.tabled_config.specs.Sinks.{Put, text_gains};
 ghost use Rattle.tabled_config.specs.Texts.{Appends};
 
 use crate::line_pieces::{crossing_line, crossing_of, edge_of, has_line, pieces_of, size_of};
@@ -179,8 +179,27 @@ impl<'a, D: Dimension> MarkedLine<'a, '_, D> {
         if !self.is_crossed(n) {
             return Ok(());
         }
+        let shown = self.crossing_char(n, chars, probes);
+        self.put_drawn(sink, n, shown, probes)
+    }
+
+    /// Puts the mark of a crossing that shows this character, where the other line is drawn.
+    #[inline(always)]
+    fn put_drawn<S: Sink<'a>>(
+        &self,
+        sink: &mut S,
+        n: usize,
+        shown: Option<char>,
+        probes: &mut Probes,
+    ) -> Result<(), OutOfMemory>
+        requires drawn { crossed_after (all_writes self.now.cfg.now) self.now.shape self.now.line n ≡ true }
+        requires shown { shown ≡ plain_value (state_at self.now.cfg.now.characters) self.now.shape (crossing_of self.now.line n) }
+        ensures put { let view = viewed D.width_of D.height_of self.now in
+            Put S.puts result (map (mark_at view) (crossing_places view self.now.line n)) sink.old sink.new }
+        ensures probes { IsRaised 5 probes.old probes.new }
+    {
         let mark = Mark {
-            shown: self.crossing_char(n, chars, probes),
+            shown,
             color: self.plain_color(crossing_of(self.line, n), probes),
         };
         sink.put(Run { mark, count: 1 })
@@ -230,8 +249,30 @@ impl<'a, D: Dimension> MarkedLine<'a, '_, D> {
         if chars.have_offsets {
             return self.put_each_place(sink, n, size, probes);
         }
+        let shown = self.edge_char(n, chars, probes);
+        self.put_run(sink, n, size, shown, probes)
+    }
+
+    /// Puts the marks of an edge all of whose places show this character, as no offset is kept.
+    #[inline(always)]
+    fn put_run<S: Sink<'a>>(
+        &self,
+        sink: &mut S,
+        n: usize,
+        size: usize,
+        shown: Option<char>,
+        probes: &mut Probes,
+    ) -> Result<(), OutOfMemory>
+        requires size { size ≡ size_of (D.width_of self.now.dims.now) (D.height_of self.now.dims.now) self.now.line n }
+        requires shown { shown ≡ plain_value (state_at self.now.cfg.now.characters) self.now.shape (edge_of self.now.line n 0) }
+        requires no_offsets { HasNoOffsets (direction_of self.now.line) self.now.cfg.now.characters }
+        requires no_colored_offsets { self.now.with_colors ≡ true → HasNoOffsets (direction_of self.now.line) self.now.cfg.now.colors }
+        ensures put { let view = viewed D.width_of D.height_of self.now in
+            Put S.puts result (map (mark_at view) (edge_places view self.now.line n)) sink.old sink.new }
+        ensures probes { IsRaised 5 probes.old probes.new }
+    {
         let mark = Mark {
-            shown: self.edge_char(n, chars, probes),
+            shown,
             color: self.plain_color(edge_of(self.line, n, 0), probes),
         };
         sink.put(Run { mark, count: size })
@@ -279,6 +320,79 @@ impl<'a, D: Dimension> MarkedLine<'a, '_, D> {
             self.put_piece(sink, n, &mut chars, probes)?;
         }
         self.put_crossing(sink, count, &mut chars, probes)
+    }
+}
+
+/// Writes the characters of lines whose edges look alike, and whose crossings do between the first and the last one.
+impl<D: Dimension> MarkedLine<'_, '_, D> {
+    ghost use Rattle.tabled_config.specs.Viewed.{viewed};
+
+    /// The character of a crossing, or of an edge without its offsets.
+    fn shown(&self, place: Place) -> Option<char>
+        ensures { result ≡ plain_value (state_at self.now.cfg.now.characters) self.now.shape place }
+    {
+        self.cfg.plain_char_at(place, self.shape)
+    }
+
+    /// Writes a crossing that shows one character, if the other line is drawn, and the edge after it, which shows another.
+    #[inline(always)]
+    fn write_piece(
+        &self,
+        text: &mut String,
+        n: usize,
+        crossing: Option<char>,
+        edge: Option<char>,
+    ) -> Result<(), OutOfMemory>
+        requires within { n < pieces_of self.now.shape self.now.line }
+        requires plain { self.now.with_colors ≡ false }
+        requires no_offsets { HasNoOffsets (direction_of self.now.line) self.now.cfg.now.characters }
+        requires crossing { crossing ≡ plain_value (state_at self.now.cfg.now.characters) self.now.shape (crossing_of self.now.line n) }
+        requires edge { edge ≡ plain_value (state_at self.now.cfg.now.characters) self.now.shape (edge_of self.now.line n 0) }
+        ensures { let view = viewed D.width_of D.height_of self.now in
+            Put text_gains result (map (mark_at view) (piece_places view self.now.line n)) text.old text.new }
+    {
+        self.write_crossing(text, n, crossing)?;
+        let size = size_of(self.dims, self.line, n);
+        self.put_run(text, n, size, edge, &mut Probes::new())
+    }
+
+    /// Writes a crossing that shows this character, if the other line is drawn.
+    #[inline(always)]
+    fn write_crossing(
+        &self,
+        text: &mut String,
+        n: usize,
+        shown: Option<char>,
+    ) -> Result<(), OutOfMemory>
+        requires within { n ≤ pieces_of self.now.shape self.now.line }
+        requires shown { shown ≡ plain_value (state_at self.now.cfg.now.characters) self.now.shape (crossing_of self.now.line n) }
+        ensures { let view = viewed D.width_of D.height_of self.now in
+            Put text_gains result (map (mark_at view) (crossing_places view self.now.line n)) text.old text.new }
+    {
+        if !self.is_crossed(n) {
+            return Ok(());
+        }
+        self.put_drawn(text, n, shown, &mut Probes::new())
+    }
+
+    /// Writes the line, of which four characters are looked up.
+    fn write_alike(&self, text: &mut String) -> Result<(), OutOfMemory>
+        requires plain { self.now.with_colors ≡ false }
+        requires no_offsets { HasNoOffsets (direction_of self.now.line) self.now.cfg.now.characters }
+        requires alike { IsAlike self.now.cfg.now.characters self.now.line }
+        ensures { let view = viewed D.width_of D.height_of self.now in
+            Put text_gains result (map (mark_at view) (all_places view self.now.line)) text.old text.new }
+    {
+        let count = pieces_of(self.shape, self.line);
+        let edge = self.shown(edge_of(self.line, 0, 0));
+        let inner = self.shown(crossing_of(self.line, 1));
+        let mut crossing = self.shown(crossing_of(self.line, 0));
+        for n in 0..count {
+            self.write_piece(text, n, crossing, edge)?;
+            crossing = inner;
+        }
+        let last = self.shown(crossing_of(self.line, count));
+        self.write_crossing(text, count, last)
     }
 }
 
@@ -425,5 +539,8 @@ pub fn write_across<D: Dimension>(
         crossed,
         with_colors: false,
     };
+    if !marked.has_offsets() && marked.is_alike() {
+        return marked.write_alike(text);
+    }
     marked.put_all(text, &mut Probes::new())
 }
