@@ -418,7 +418,7 @@ pub fn drawn_across(
     ensures probes { IsRaised (6 * (pieces_of shape line + 1)) probes.old probes.new }
 {
     let count = pieces_of(shape, line);
-    let mut crossed = Vec::new(cfg.allocator());
+    let mut crossed = Vec::with_capacity(cfg.allocator(), count.saturating_add(1))?;
     for n in 0..count {
         crossed.push(cfg.draws(crossing_line(line, n), count, probes))?;
     }
