@@ -113,7 +113,10 @@ impl ANSIBuf {
     pub fn is_empty(&self) -> bool
         ensures { IsTrue result ↔ ((self.now.prefix ≡ []) × (self.now.suffix ≡ [])) }
     {
-        self.get_prefix().is_empty() && self.get_suffix().is_empty()
+        match &self.texts {
+            Some(texts) => texts.prefix.is_empty() && texts.suffix.is_empty(),
+            None => true,
+        }
     }
 }
 
