@@ -177,3 +177,19 @@ fn a_row_has_its_borders_cell_by_cell(rt: HostRuntime) -> Result<(), Fail> {
     assert!(rt; above == Border::new(None, lower, None, None, None, left, None, right));
     Ok(())
 }
+
+/// Whether borders written over a crossing that stood there leave the same as in a new store.
+fn are_written_over_another(alloc: Global) -> Result<bool, OutOfMemory> {
+    let (mut first, mut second) = (Layers::new(alloc), Layers::new(alloc));
+    second.set_cell(Place::Cross { row: 1, col: 1 }, '+')?;
+    first.set_entity_border(Entity::Global, (2, 2), &eight())?;
+    second.set_entity_border(Entity::Global, (2, 2), &eight())?;
+    Ok(first == second)
+}
+
+#[test]
+fn borders_are_written_over_what_stood_there(rt: HostRuntime) -> Result<(), Fail> {
+    let are_same = are_written_over_another(rt.alloc())?;
+    assert!(rt; are_same);
+    Ok(())
+}

@@ -53,6 +53,17 @@ fn frame() -> Border<char> {
     Border::full('t', 'b', 'l', 'r', '1', '2', '3', '4')
 }
 
+/// What becomes of a border around cells where nothing is kept at the cell level yet, with slots and without.
+fn write_the_first_borders(turn: &mut Turn) -> Result<Outcome, OutOfMemory> {
+    let mut store = Layers::new(turn.alloc());
+    store.insert_hline(2, HorizontalLine::new(Some('-'), None, None, None))?;
+    let copy = store.keep(turn.alloc())?;
+    turn.spend();
+    let returned = store.set_entity_border(Entity::Row(255), (256, 2), &frame());
+    let is_done = store.get_border(Position::new(255, 1), (256, 2)).bottom == Some(&'b');
+    Ok(Outcome::of(returned, is_done, store == copy))
+}
+
 /// Writes at places that have slots and at places that have none.
 fn writes(alloc: Global) -> Result<Vec<Write<char>>, OutOfMemory> {
     let mut list = Vec::new(alloc);
@@ -208,7 +219,7 @@ fn copy_table(turn: &mut Turn) -> Result<Outcome, OutOfMemory> {
 }
 
 /// The writes of cells and offsets.
-pub(crate) fn cells() -> [Named; 5] {
+pub(crate) fn cells() -> [Named; 6] {
     [
         (
             "Layers<T>::set_cell (a slot)",
@@ -241,6 +252,10 @@ pub(crate) fn cells() -> [Named; 5] {
                     |store| store.set_entity_border(Entity::Global, (2, 2), &frame()),
                 )
             },
+        ),
+        (
+            "Layers<T>::set_entity_border (the first cells)",
+            write_the_first_borders,
         ),
     ]
 }

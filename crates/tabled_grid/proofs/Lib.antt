@@ -21,6 +21,7 @@ pub mod BordersLemmas
 pub mod CellBorders
 pub mod PuttingBack
 pub mod EntityBorders
+pub mod FirstBorders
 pub mod Clearing
 pub mod WritingAnew
 pub mod WritesLemmas

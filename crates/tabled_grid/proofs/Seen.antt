@@ -1,5 +1,6 @@
 -- From a store's fields to what its contracts see.
-use Rattle.std.proofs.Common.{◌≡◌, Option, List, sym, ap, subst, Result, Ok, Err, IfOk, OnOk, OnErr}
+use Rattle.std.proofs.Common.{◌≡◌, false, Option, List, sym, ap, subst, Result, Ok, Err, IfOk, OnOk, OnErr}
+use Rattle.std.specs.Result.{is_err}
 use Rattle.std.specs.Ordering.{nat_cmp}
 use Rattle.std.specs.FinMap as map
 use Rattle.tabled_grid.specs.declared.borders.Borders.{Borders}
@@ -57,6 +58,11 @@ with_vertical_offsets k a b e = ap (λ x. record k { vertical_offsets = x }) e
 pub on_ok : {A E P Q : Type 0} (r : Result A E) → (P → Q) → OnOk r P → OnOk r Q
 on_ok (Ok x) f h = f h
 on_ok (Err e) f h = tt
+
+-- what a call promises where it succeeds, of one that did
+pub where_ok : {A E P : Type 0} (r : Result A E) → is_err r ≡ false → OnOk r P → P
+where_ok (Ok x) e h = h
+where_ok (Err refused) e h = absurd cc
 
 pub on_err : {A E P Q : Type 0} (r : Result A E) → (P → Q) → OnErr r P → OnErr r Q
 on_err (Ok x) f h = tt

@@ -50,7 +50,8 @@ fn add_borders<T: Keep>(
 
 impl<T> Layers<T> {
     ghost use Rattle.tabled_grid.specs.Event.{Changes};
-    ghost use Rattle.tabled_grid.specs.State.{state_at};
+    ghost use Rattle.tabled_grid.specs.State.{state_at, HasNoCells};
+    ghost use Rattle.tabled_grid.specs.Calls.{border_set};
 
     /// Writes what the border gives at the cell level of the sides and corners of each cell that the entity
     /// names in a table of `shape.0` rows and `shape.1` columns, row by row: for what two cells share the
@@ -68,8 +69,49 @@ impl<T> Layers<T> {
         ensures err { OnErr result (self.new ≡ self.old) }
         ensures without_cells { filter (is_inside shape.0 shape.1) (cells_of entity shape.0 shape.1) ≡ [] → IsOk result }
     {
+        if !self.has_cells() {
+            return self.write_first_borders(entity.iter(shape.0, shape.1), shape, border);
+        }
         let writes = border_writes(self.alloc, entity, shape, border)?;
         self.write_all(writes)
+    }
+
+    /// Writes a border around each of these cells that lies inside, where nothing is kept at the cell level yet: so a
+    /// refusal is taken back by an erasure of that level, and no list of writes is needed.
+    fn write_first_borders(
+        &mut self,
+        cells: EntityIterator,
+        shape: (usize, usize),
+        border: &Border<T>,
+    ) -> Result<(), OutOfMemory>
+    where
+        T: Keep,
+        requires { HasNoCells self.old }
+        ensures ok { OnOk result (Changes (borders_of shape border.now cells) (state_at self.old) (state_at self.new)) }
+        ensures err { OnErr result (self.new ≡ self.old) }
+        ensures without_cells { filter (is_inside shape.0 shape.1) cells ≡ [] → IsOk result }
+    {
+        for pos in cells {
+            if is_inside(pos, shape) {
+                let written = self.write_copy(pos, border);
+                if written.is_err() {
+                    self.erase_cells();
+                    return written;
+                }
+            }
+        }
+        Ok(())
+    }
+
+    /// Writes a copy of a border around a cell.
+    fn write_copy(&mut self, pos: Position, border: &Border<T>) -> Result<(), OutOfMemory>
+    where
+        T: Keep,
+        ensures ok { OnOk result (Changes (border_set pos border.now) (state_at self.old) (state_at self.new)) }
+        ensures err { OnErr result (self.new ≡ self.old) }
+    {
+        let copy = border.keep(self.alloc)?;
+        self.set_border(pos, copy)
     }
 }
 
