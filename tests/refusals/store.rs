@@ -59,8 +59,8 @@ fn write_the_first_borders(turn: &mut Turn) -> Result<Outcome, OutOfMemory> {
     store.insert_hline(2, HorizontalLine::new(Some('-'), None, None, None))?;
     let copy = store.keep(turn.alloc())?;
     turn.spend();
-    let returned = store.set_entity_border(Entity::Column(0), (258, 1), &frame());
-    let is_done = store.get_border(Position::new(257, 0), (258, 1)).bottom == Some(&'b');
+    let returned = store.set_entity_border(Entity::Row(255), (256, 2), &frame());
+    let is_done = store.get_border(Position::new(255, 1), (256, 2)).bottom == Some(&'b');
     Ok(Outcome::of(returned, is_done, store == copy))
 }
 

@@ -1,5 +1,5 @@
 -- The writes of borders, cell by cell.
-use Rattle.std.proofs.Common.{◌≡◌, ℕ, true, false, cond, IsTrue, is_some, Option, Some, None, List, [], ◌∷◌, ◌++◌, map, refl, ap, sym, ◌∙◌, Result, Ok, Err, IsOk, OnErr}
+use Rattle.std.proofs.Common.{◌≡◌, ℕ, Bool, true, false, cond, IsTrue, is_some, Option, Some, None, List, [], ◌∷◌, ◌++◌, map, refl, ap, sym, ◌∙◌, Result, Ok, Err, IsOk, OnErr}
 use Rattle.std.specs.Option.{option_map}
 use Rattle.std.proofs.lemmas.List.{append-nil}
 use Rattle.std.proofs.lemmas.List.Elements.{filter_map-append}
@@ -37,9 +37,13 @@ pub some_inside : (rows cols : ℕ) (pos : Position) (rest cells : List Position
 some_inside rows cols pos rest cells is inside none =
     let e : pos ∷ filter (is_inside rows cols) rest ≡ [] = sym (ap (λ b. cond b (pos ∷ filter (is_inside rows cols) rest) (filter (is_inside rows cols) rest)) inside) ∙ sym (ap (filter (is_inside rows cols)) is) ∙ none in cc
 
-pub none_after : (rows cols : ℕ) (pos : Position) (rest cells : List Position) → cells ≡ pos ∷ rest → is_inside rows cols pos ≡ false → filter (is_inside rows cols) cells ≡ [] → filter (is_inside rows cols) rest ≡ []
-none_after rows cols pos rest cells is outside none =
-    sym (ap (λ b. cond b (pos ∷ filter (is_inside rows cols) rest) (filter (is_inside rows cols) rest)) outside) ∙ sym (ap (filter (is_inside rows cols)) is) ∙ none
+-- where no cell lies inside, none of those after the first does
+pub none_inside_after : (rows cols : ℕ) (pos : Position) (rest cells : List Position) → cells ≡ pos ∷ rest → filter (is_inside rows cols) cells ≡ [] → filter (is_inside rows cols) rest ≡ []
+none_inside_after rows cols pos rest cells is none = at (is_inside rows cols pos) (sym (ap (filter (is_inside rows cols)) is) ∙ none)
+  where
+    at : (b : Bool) → cond b (pos ∷ filter (is_inside rows cols) rest) (filter (is_inside rows cols) rest) ≡ [] → filter (is_inside rows cols) rest ≡ []
+    at true h = absurd cc
+    at false h = h
 
 no_borders : {T : Type 0} (shape : ℕ × ℕ) (border : Border T) (cells : List Position) → filter (is_inside shape.0 shape.1) cells ≡ [] → borders_of shape border cells ≡ []
 unfolding borders_of

@@ -1,7 +1,7 @@
 -- Borders written where nothing is kept at the cell level, and taken back by an erasure of that level.
 use Rattle.std.proofs.Common.{◌≡◌, ℕ, ◌==◌, Bool, true, false, cond, ◌||◌, Option, Some, None, List, [], ◌∷◌, ◌++◌, refl, ap, sym, ◌∙◌}
 use Rattle.std.specs.Option.{option_map}
-use Rattle.std.specs.List.{zip, filter}
+use Rattle.std.specs.List.{zip}
 use Rattle.std.specs.FinMap as map
 use Rattle.tabled_border.specs.declared.border.Border.{Border}
 use Rattle.tabled_object.specs.declared.position.Position.{Position}
@@ -29,14 +29,6 @@ other_level (of_line l p) spot h = refl
 other_level (at_spot s) spot h = absurd cc
 other_level (at_offset d r c o) spot h = refl
 
--- where no cell lies inside, none of those after the first does
-pub none_inside_after : (rows cols : ℕ) (pos : Position) (rest cells : List Position) → cells ≡ pos ∷ rest → filter (is_inside rows cols) cells ≡ [] → filter (is_inside rows cols) rest ≡ []
-none_inside_after rows cols pos rest cells is none = at (is_inside rows cols pos) (sym (ap (filter (is_inside rows cols)) is) ∙ none)
-  where
-    at : (b : Bool) → cond b (pos ∷ filter (is_inside rows cols) rest) (filter (is_inside rows cols) rest) ≡ [] → filter (is_inside rows cols) rest ≡ []
-    at true h = absurd cc
-    at false h = h
-
 module _ {T : Type 0} where
   -- a border is written at the cell level alone
   places_uncovered : (ws : List (Option Place × Option T)) (q : Site) → (level q == 4) ≡ false → covered (places_set ws) q ≡ false
@@ -49,9 +41,6 @@ module _ {T : Type 0} where
   -- two stores that keep the same at all other levels
   abbrev pub IsSameBesideCells : State T → State T → Type 0
   IsSameBesideCells old new = (q : Site) → (level q == 4) ≡ false → state_at new q ≡ state_at old q
-
-  pub same_beside_cells : (store : State T) → IsSameBesideCells store store
-  same_beside_cells store q h = refl
 
   -- one border more
   pub same_beside_border : (pos : Position) (border : Border T) (old between new : State T) → IsSameBesideCells old between → Changes (border_set pos border) (state_at between) (state_at new) → IsSameBesideCells old new

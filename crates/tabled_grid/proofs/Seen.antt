@@ -59,7 +59,7 @@ pub on_ok : {A E P Q : Type 0} (r : Result A E) → (P → Q) → OnOk r P → O
 on_ok (Ok x) f h = f h
 on_ok (Err e) f h = tt
 
--- and where it was not refused
+-- what a call promises where it succeeds, of one that did
 pub where_ok : {A E P : Type 0} (r : Result A E) → is_err r ≡ false → OnOk r P → P
 where_ok (Ok x) e h = h
 where_ok (Err refused) e h = absurd cc

@@ -3,7 +3,8 @@ use Rattle.tabled_object.specs.Entities.{is_inside}
 use Rattle.tabled_grid.specs.Calls.{border_set, borders_of}
 use Rattle.tabled_grid.specs.Event.{erase, level_sites, Changes}
 use Rattle.tabled_grid.specs.State.{state_at}
-use Rattle.tabled_grid.proofs.FirstBorders.{none_inside_after, same_beside_border, borders_taken_back, border_then, outside_then, no_border_then}
+use Rattle.tabled_grid.proofs.EntityBorders.{none_inside_after}
+use Rattle.tabled_grid.proofs.FirstBorders.{same_beside_border, borders_taken_back, border_then, outside_then, no_border_then}
 use Rattle.tabled_grid.proofs.Seen.{on_err, where_ok}
 use Rattle.tabled_grid.proofs.layers.Layers.write_first_borders.Goals as goal
 

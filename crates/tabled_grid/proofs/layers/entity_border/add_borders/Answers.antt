@@ -2,7 +2,7 @@ use Rattle.std.proofs.Common.{◌++◌, ap, sym, ◌∙◌, append_assoc}
 use Rattle.std.proofs.lemmas.List.{append-nil}
 use Rattle.tabled_grid.specs.Calls.{border_set, borders_of}
 use Rattle.tabled_grid.specs.Writes.{writes_made}
-use Rattle.tabled_grid.proofs.EntityBorders.{eight_made, borders_inside, borders_outside, no_borders_left, some_inside, none_after}
+use Rattle.tabled_grid.proofs.EntityBorders.{eight_made, borders_inside, borders_outside, no_borders_left, some_inside, none_inside_after}
 use Rattle.tabled_grid.proofs.layers.entity_border.add_borders.Goals as goal
 
 pub returns-in_err-copy-clause-without_cells : goal.returns-in_err-copy-clause-without_cells
@@ -22,7 +22,7 @@ loop-pos-preserved-in-Continue-branch-2 g c =
           ∙ append_assoc (writes_made c.loop-pos.writes.items) (border_set c.in-Some.pos c.args.border.now) rest
           ∙ ap (λ es. writes_made c.loop-pos.writes.items ++ es) (sym (borders_inside c.args.shape.0 c.args.shape.1 c.args.border.now c.in-Some.pos c.next.new.self (sym c.is_inside.ensures ∙ c.if-is_inside.true)) ∙ ap (borders_of c.args.shape c.args.border.now) (sym c.in-Some.ensures.steps))
           ∙ c.loop-pos.invariant.2),
-      (λ none. absurd (some_inside c.args.shape.0 c.args.shape.1 c.in-Some.pos c.next.new.self c.loop-pos.pos-iterator c.in-Some.ensures.steps (sym c.is_inside.ensures ∙ c.if-is_inside.true) (c.loop-pos.invariant.3 none))),
+      (λ none. none_inside_after c.args.shape.0 c.args.shape.1 c.in-Some.pos c.next.new.self c.loop-pos.pos-iterator c.in-Some.ensures.steps (c.loop-pos.invariant.3 none)),
     )
 
 pub loop-pos-preserved : goal.loop-pos-preserved
@@ -31,7 +31,7 @@ loop-pos-preserved g c = (
   tt,
   (ap (λ es. writes_made c.loop-pos.writes.items ++ es) (sym (borders_outside c.args.shape.0 c.args.shape.1 c.args.border.now c.in-Some.pos c.next.new.self (sym c.is_inside.ensures ∙ c.if-is_inside.false)) ∙ ap (borders_of c.args.shape c.args.border.now) (sym c.in-Some.ensures.steps))
       ∙ c.loop-pos.invariant.2),
-  (λ none. none_after c.args.shape.0 c.args.shape.1 c.in-Some.pos c.next.new.self c.loop-pos.pos-iterator c.in-Some.ensures.steps (sym c.is_inside.ensures ∙ c.if-is_inside.false) (c.loop-pos.invariant.3 none)),
+  (λ none. none_inside_after c.args.shape.0 c.args.shape.1 c.in-Some.pos c.next.new.self c.loop-pos.pos-iterator c.in-Some.ensures.steps (c.loop-pos.invariant.3 none)),
 )
 
 pub returns-clause-ok : goal.returns-clause-ok
