@@ -1,3 +1,4 @@
 pub mod SpanLemmas
+pub mod CoveringLemmas
 pub mod LayoutLemmas
 pub mod SameLayout

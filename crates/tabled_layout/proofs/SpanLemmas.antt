@@ -92,11 +92,11 @@ AreSpans : List SpanEvent → Type 0
 AreSpans [] = Unit {0}
 AreSpans (e ∷ es) = (nat_lt e.1 2 ≡ false) × AreSpans es
 
-first_half : (a b : Bool) → T (a && b) → T a
+pub first_half : (a b : Bool) → T (a && b) → T a
 first_half true b h = tt
 first_half false b h = h
 
-second_half : (a b : Bool) → T (a && b) → T b
+pub second_half : (a b : Bool) → T (a && b) → T b
 second_half true b h = h
 second_half false b h = absurd h
 
@@ -113,7 +113,7 @@ none_below position (e ∷ es) h =
     ∙ none_below position es (second_half (is_lt (position_cmp position e.0)) (below_all position_cmp position es) h)
 
 -- what is found in the rest is found in the whole
-found_in_whole : (e : SpanEvent) (es : List SpanEvent) → T (map.is_sorted position_cmp (e ∷ es)) → (position : Position) (count : ℕ) → map.find position_cmp position es ≡ Some count → map.find position_cmp position (e ∷ es) ≡ Some count
+pub found_in_whole : (e : SpanEvent) (es : List SpanEvent) → T (map.is_sorted position_cmp (e ∷ es)) → (position : Position) (count : ℕ) → map.find position_cmp position es ≡ Some count → map.find position_cmp position (e ∷ es) ≡ Some count
 found_in_whole e es sorted position count found = by (eq_by_cmp position_cmp position e.0) refl
   where
     by : (here : Bool) → eq_by_cmp position_cmp position e.0 ≡ here → cond here (Some e.1) (map.find position_cmp position es) ≡ Some count

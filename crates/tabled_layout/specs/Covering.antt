@@ -1,5 +1,5 @@
 -- Which cells spans cover. A span covers the cells that it takes in beside its own.
-use Rattle.std.specs.Prelude.{Bool, ◌+◌, ◌==◌, ◌&&◌, nat_lt, unwrap_or}
+use Rattle.std.specs.Prelude.{ℕ, Bool, ◌+◌, ◌==◌, ◌&&◌, nat_lt, unwrap_or}
 use Rattle.std.specs.List.{list_any}
 use Rattle.std.specs.FinMap.{entries, get}
 use Rattle.tabled_object.specs.declared.position.Position.{Position}
@@ -26,3 +26,7 @@ within_its_rows rows position cell = within_rows (position, unwrap_or (get rows 
 -- the two spans of one position together cover the cells that stand both below it and at its right
 abbrev pub covered_by_both_spans : SpanMap → SpanMap → Position → Bool
 covered_by_both_spans columns rows cell = list_any (λ span. within_columns span cell && within_its_rows rows span.0 cell) (entries columns)
+
+-- the same of the positions of one row alone
+abbrev pub covered_from_row : SpanMap → SpanMap → ℕ → Position → Bool
+covered_from_row columns rows row cell = list_any (λ span. (row == span.0.row) && (within_columns span cell && within_its_rows rows span.0 cell)) (entries columns)

@@ -1,7 +1,9 @@
 -- The spans of one direction: over how many columns, or rows, a cell spans.
-use Rattle.std.specs.Prelude.{ℕ, Bool, ◌&&◌, ◌==◌, nat_lt, if◌then◌else◌, Option, Some, None, List, [], ◌∷◌, reverse, filter, option_and_then}
+use Rattle.std.specs.Prelude.{◌≡◌, ℕ, ◌+◌, ◌<◌, ◌≤◌, Bool, ◌&&◌, ◌==◌, nat_lt, if◌then◌else◌, Option, Some, None, List, [], ◌∷◌, reverse, filter, option_and_then}
 use Rattle.std.specs.List.{last_or}
-use Rattle.std.specs.FinMap.{FinMap, insert, remove, entries}
+use Rattle.std.specs.FinMap.{FinMap, get, insert, remove, entries}
+use Rattle.std.specs.BTreeMap.Range.{entries_between}
+use Rattle.std.specs.declared.ops.Bound.TheVariants.{Included, Excluded}
 use Rattle.std.specs.declared.cmp.Ordering.{Ordering}
 use Rattle.tabled_object.specs.declared.position.Position.{Position}
 use Rattle.tabled_object.specs.contracts.position.PositionOrd.TheImpl.{cmp-value}
@@ -42,3 +44,15 @@ if_several count = if nat_lt count 2 then None else Some count
 -- of the calls for a position the last one counts
 abbrev pub span_of : List SpanEvent → Position → Option ℕ
 span_of events position = option_and_then (λ event. if_several event.1) (last_or None (filter (λ event. same_position position event.0) events))
+
+-- no count is greater
+abbrev pub NoLonger : ℕ → SpanMap → Type 0
+NoLonger longest spans = (position : Position) (count : ℕ) → get spans position ≡ Some count → count ≤ longest
+
+-- only spans that begin at the first row, or column, or after it reach the given one
+abbrev pub ReachedFrom : ℕ → ℕ → SpanMap → Type 0
+ReachedFrom first given spans = (position : Position) (count : ℕ) → get spans position ≡ Some count → (start : ℕ) → given < start + count → first ≤ start
+
+-- the spans of one row from a column on, up to another column and without it
+abbrev pub spans_in_row : SpanMap → ℕ → ℕ → ℕ → List SpanEvent
+spans_in_row spans row first end = entries_between position_cmp (Included (record { row = row; col = first })) (Excluded (record { row = row; col = end })) (entries spans)

@@ -1,7 +1,7 @@
 //! Which cells spans cover.
 
 ghost use Rattle.std.specs.Prelude.{◌≡◌};
-ghost use Rattle.tabled_layout.specs.Covering.{within_columns, within_rows, within_its_rows, covered_by_column_span, covered_by_row_span, covered_by_both_spans};
+ghost use Rattle.tabled_layout.specs.Covering.{within_columns, within_rows, within_its_rows, covered_by_column_span, covered_by_row_span, covered_by_both_spans, covered_from_row};
 
 use crate::Spans;
 use tabled_object::Position;
@@ -25,13 +25,38 @@ impl Spans {
     pub fn cover_in_row(&self, cell: Position) -> bool
         ensures { result ≡ covered_by_column_span self.now cell }
     {
-        self.as_map().iter().any(|(position, count)| {
-            cell.row == position.row && is_within_columns(*position, *count, cell)
-        })
+        let first = self.first_reaching(cell.col);
+        let mut spans = self.in_row(cell.row, first, cell.col);
+        spans.any(|(position, count)| is_within_columns(*position, *count, cell))
     }
 
-    /// Whether, as spans of several rows, they cover a cell: it stands below one in its column.
+    /// Whether, as spans of several rows, they cover a cell: it stands below one in its column. Looks up the rows from
+    /// which one can reach it, or reads all spans, whichever are fewer.
     pub fn cover_in_column(&self, cell: Position) -> bool
+        ensures { result ≡ covered_by_row_span self.now cell }
+    {
+        let mut rows = self.first_reaching(cell.row)..cell.row;
+        if rows.len() < self.as_map().len() {
+            return rows.any(|row| self.reach_below(Position::new(row, cell.col), cell));
+        }
+        self.one_covers_in_column(cell)
+    }
+
+    /// Whether, as spans of several columns, they cover a cell together with spans of several rows: it stands below and
+    /// at the right of a position that has both, inside both. Looks into the rows from which one can reach it, or reads
+    /// all spans, whichever are fewer.
+    pub fn cover_with(&self, rows: &Spans, cell: Position) -> bool
+        ensures { result ≡ covered_by_both_spans self.now rows.now cell }
+    {
+        let mut above = rows.first_reaching(cell.row)..cell.row;
+        if above.len() < self.as_map().len() {
+            return above.any(|row| self.cover_from_row(rows, row, cell));
+        }
+        self.one_covers_with(rows, cell)
+    }
+
+    /// What `cover_in_column` answers, by reading all spans.
+    fn one_covers_in_column(&self, cell: Position) -> bool
         ensures { result ≡ covered_by_row_span self.now cell }
     {
         self.as_map().iter().any(|(position, count)| {
@@ -39,12 +64,21 @@ impl Spans {
         })
     }
 
-    /// Whether, as spans of several columns, they cover a cell together with spans of several rows: it stands below and
-    /// at the right of a position that has both, inside both.
-    pub fn cover_with(&self, rows: &Spans, cell: Position) -> bool
+    /// What `cover_with` answers, by reading all spans.
+    fn one_covers_with(&self, rows: &Spans, cell: Position) -> bool
         ensures { result ≡ covered_by_both_spans self.now rows.now cell }
     {
         self.as_map().iter().any(|(position, count)| {
+            is_within_columns(*position, *count, cell) && rows.reach_below(*position, cell)
+        })
+    }
+
+    /// What `cover_with` answers of the positions of one row alone.
+    fn cover_from_row(&self, rows: &Spans, row: usize, cell: Position) -> bool
+        ensures { result ≡ covered_from_row self.now rows.now row cell }
+    {
+        let first = self.first_reaching(cell.col);
+        self.in_row(row, first, cell.col).any(|(position, count)| {
             is_within_columns(*position, *count, cell) && rows.reach_below(*position, cell)
         })
     }

@@ -1,27 +1,40 @@
 //! Which cells span several columns, or several rows.
 
-ghost use Rattle.std.specs.Prelude.{◌≡◌, ◌<◌, ◌==◌, IsOk, OnOk, OnErr};
+ghost use Rattle.std.specs.Prelude.{◌≡◌, ◌<◌, ◌≤◌, ◌==◌, IsOk, OnOk, OnErr};
 ghost use Rattle.std.specs.FinMap as map;
 ghost use Rattle.std.specs.BTreeMap.{insert_entry};
 ghost use Rattle.tabled_grid.specs.Table.{table};
-ghost use Rattle.tabled_layout.specs.Spans.{position_cmp, after_span};
+ghost use Rattle.tabled_layout.specs.Spans.{position_cmp, after_span, ReachedFrom, spans_in_row};
 
 use std::alloc::Global;
-use std::collections::BTreeMap;
+use std::collections::{BTreeMap, btree_map};
+use std::fmt;
 use std::marker::Model;
 use tabled_border::{Keep, OutOfMemory};
 use tabled_object::Position;
 
 /// The spans of one direction: over how many columns, or rows, the cell at a position spans, where that is at least two.
-#[derive(Debug)]
 pub struct Spans {
     spans: BTreeMap<Position, usize>,
+
+    // no span has a greater count; it may be that of a span which is gone
+    longest: usize,
 }
 
 /// Written out, so that letting them go is one call.
 impl Drop for Spans {
     fn drop(self) {
-        let Spans { spans: _ } = self;
+        let Spans {
+            spans: _,
+            longest: _,
+        } = self;
+    }
+}
+
+/// Shows the spans alone, so that equal ones look alike.
+impl fmt::Debug for Spans {
+    fn fmt<W: fmt::Write>(&self, f: &mut fmt::Formatter<W>) -> fmt::Result {
+        f.debug_struct("Spans").field("spans", &self.spans).finish()
     }
 }
 
@@ -30,13 +43,15 @@ impl Model for Spans {
     ghost use Rattle.std.specs.Coded.{codes};
     ghost use Rattle.std.specs.FinMap as map;
     ghost use Rattle.tabled_grid.specs.Table.{table};
-    ghost use Rattle.tabled_layout.specs.Spans.{position_cmp};
+    ghost use Rattle.tabled_layout.specs.Spans.{position_cmp, NoLonger};
 
     ghost Value = { map.FinMap position_cmp ℕ };
 
     ghost coded = { Prim.hlevel (codes, map.code) };
 
     ghost view = { λ kept. table position_cmp kept.spans.entries };
+
+    ghost invariant = { λ kept. NoLonger kept.longest (table position_cmp kept.spans.entries) };
 }
 
 impl Spans {
@@ -46,6 +61,7 @@ impl Spans {
     {
         Spans {
             spans: BTreeMap::new(alloc),
+            longest: 0,
         }
     }
 
@@ -84,12 +100,35 @@ impl Spans {
         self.spans.is_empty()
     }
 
+    /// The first row, or column, from which a span can reach the given one.
+    pub(crate) fn first_reaching(&self, given: usize) -> usize
+        ensures at_most { result ≤ given }
+        ensures reached { ReachedFrom result given self.now }
+    {
+        given.saturating_sub(self.longest.saturating_sub(1))
+    }
+
+    /// The spans of one row from a column on, up to another column and without it, in the order of their columns.
+    pub(crate) fn in_row(
+        &self,
+        row: usize,
+        first: usize,
+        end: usize,
+    ) -> btree_map::Range<'_, Position, usize>
+        requires { first ≤ end }
+        ensures { result ≡ spans_in_row self.now row first end }
+    {
+        self.spans
+            .range(Position::new(row, first)..Position::new(row, end))
+    }
+
     /// Sets a span.
     fn insert(&mut self, position: Position, count: usize) -> Result<(), OutOfMemory>
         ensures ok { OnOk result (self.new ≡ map.insert self.old position count) }
         ensures err { OnErr result (self.new ≡ self.old) }
     {
         self.spans.insert(position, count)?;
+        self.longest = self.longest.max(count);
         Ok(())
     }
 
@@ -107,7 +146,10 @@ impl Keep for Spans {
         for (position, count) in &self.spans {
             put_copy(&mut spans, *position, *count)?;
         }
-        Ok(Spans { spans })
+        Ok(Spans {
+            spans,
+            longest: self.longest,
+        })
     }
 }
 

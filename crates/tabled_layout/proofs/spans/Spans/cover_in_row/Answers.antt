@@ -1,14 +1,13 @@
-use Rattle.std.proofs.Common.{rules, tests, Bool, ◌==◌, ◌&&◌, ap, ◌∙◌}
-use Rattle.std.specs.List.{list_any}
+use Rattle.std.proofs.Common.{rules, tests, Bool, ◌∙◌}
 use Rattle.std.proofs.lemmas.Iterator.Consumers.{YieldsList-from_rest}
 use Rattle.std.proofs.lemmas.Iterator.Search.{any_from_yields_List}
-use Rattle.tabled_layout.specs.Spans.{SpanEvent}
+use Rattle.tabled_layout.specs.Spans.{SpanEvent, spans_in_row}
 use Rattle.tabled_layout.specs.Covering.{within_columns}
-use Rattle.tabled_layout.proofs.SpanLemmas.{entries_are}
+use Rattle.tabled_layout.proofs.CoveringLemmas.{any_in_row}
 use Rattle.tabled_layout.proofs.spans.Spans.cover_in_row.Goals as goal
 
 pub returns : goal.returns
 returns c =
-    let test : SpanEvent → Bool = λ span. (c.args.cell.row == span.0.row) && within_columns span c.args.cell in
-    any_from_yields_List test _ _ _ c.any.ensures.ran (YieldsList-from_rest c.as_map.result.now.entries c.iter.ensures.rest) (λ x b q k. search (rules, tests))
-    ∙ ap (list_any test) (entries_are c.as_map.result.now.entries c.args.self.now c.iter.ensures.ordered c.as_map.ensures)
+    let found : SpanEvent → Bool = λ span. within_columns span c.args.cell in
+    any_from_yields_List found _ _ _ c.any.ensures.ran (YieldsList-from_rest (spans_in_row c.args.self.now c.args.cell.row c.first_reaching-first.result c.args.cell.col) c.in_row-spans.ensures) (λ x b q k. search (rules, tests))
+    ∙ any_in_row c.args.self.now c.args.cell.row c.first_reaching-first.result c.args.cell found c.first_reaching-first.ensures.reached (λ span h. h)

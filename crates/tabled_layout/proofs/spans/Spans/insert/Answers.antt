@@ -1,7 +1,10 @@
-use Rattle.std.proofs.Common.{ap, ◌∙◌}
+use Rattle.std.proofs.Common.{arith, ap, sym, subst, ◌∙◌}
 use Rattle.std.specs.FinMap as map
 use Rattle.tabled_object.specs.contracts.position.PositionOrd.TheImpl.Laws.{total-law}
 use Rattle.tabled_grid.proofs.Tables.{table-put}
+use Rattle.tabled_grid.specs.Table.{table}
+use Rattle.tabled_layout.specs.Spans.{position_cmp, NoLonger}
+use Rattle.tabled_layout.proofs.CoveringLemmas.{longer_by_one}
 use Rattle.tabled_layout.proofs.SpanLemmas.{positions_apart}
 use Rattle.tabled_layout.proofs.spans.Spans.insert.Goals as goal
 
@@ -9,3 +12,9 @@ pub returns-clause-ok : goal.returns-clause-ok
 returns-clause-ok c =
     table-put total-law positions_apart c.self.inside.spans.entries c.insert.new.self.entries c.args.position c.args.count c.in_ok-insert.ensures.updates.0
     ∙ ap (λ m. map.insert m c.args.position c.args.count) c.self.view_is
+
+pub invariant_of-self-2 : goal.invariant_of-self-2
+invariant_of-self-2 c =
+    let greatest = c.max-self-inside.ensures in
+    subst (NoLonger c.max-self-inside.result) (sym (table-put total-law positions_apart c.self.inside.spans.entries c.insert.new.self.entries c.args.position c.args.count c.in_ok-insert.ensures.updates.0))
+    (longer_by_one c.self.inside.longest c.max-self-inside.result (table position_cmp c.self.inside.spans.entries) c.args.position c.args.count (omega (arith, greatest)) (omega (arith, greatest)) c.self.invariant)
