@@ -108,14 +108,12 @@ module _ (cfg : Configuration) (shape : ℕ × ℕ) (first inner last : Option �
       is_inner ∙ inner_sides cfg.characters shape 0 1 c alike.no_cells none (omega arith) (omega (arith, some, less)) some less
 
   pub beside_by_rank : (widths heights : ℕ → ℕ) (with_colors : Bool) → with_colors ≡ false → 0 < shape.0
-      → IsBesideRows (colored_if with_colors (look (all_writes cfg) shape widths heights)) (Beside.ByRank first inner last)
+      → IsBesideRows (colored_if with_colors (look (all_writes cfg) shape widths heights)) (Beside.ByRank (record { first = first; inner = inner; last = last }))
   beside_by_rank widths heights with_colors plain some = record {
     each = λ marks same. absurd cc;
-    by_rank = λ a b d same r k c in_row in_line in_cols.
-        let one : a ≡ first = cc in
-        let two : b ≡ inner = cc in
-        let three : d ≡ last = cc in
-        (λ i. (shown_by_rank (one i) (two i) (three i) shape.1 c, None))
+    by_rank = λ ranked same r k c in_row in_line in_cols.
+        let alone : ranked ≡ record { first = first; inner = inner; last = last } = cc in
+        (λ i. (shown_by_rank (alone i).first (alone i).inner (alone i).last shape.1 c, None))
         ∙ side_marks_alike cfg shape widths heights with_colors r 0 c k (shown_by_rank first inner last shape.1 c) None alike in_row some in_line
         (by_number (c == 0) (c == shape.1) c refl refl in_cols) (sym (ap (λ b. if b then plain_value (state_at cfg.colors) shape (Place.Vertical 0 c 0) else None) plain));
   }

@@ -12,6 +12,7 @@ use Rattle.tabled_config.specs.Marks.{mark_of}
 use Rattle.tabled_config.specs.Picture.{Look, Shown, look, mark_at, marks_along}
 use Rattle.tabled_config.specs.Viewed.{colored_if}
 use Rattle.tabled_painting.specs.declared.frame.Beside.{Beside}
+use Rattle.tabled_painting.specs.declared.frame.Ranked.{Ranked}
 use Rattle.tabled_painting.specs.declared.stretch.Stretch.{Stretch}
 use Rattle.tabled_painting.specs.Painted.{Painted, paint}
 use Rattle.tabled_painting.specs.Alike.{IsPlainLine}
@@ -45,5 +46,5 @@ shown_by_rank first inner last count c = if c == 0 then first else (if c == coun
 -- the same of what the code has, one by one or by rank and without colors
 pub record IsBesideRows (view : Look) (beside : Beside) : Type 0 where
   pub each : (marks : Vec Mark _) → beside ≡ Beside.Each marks → AreBesideRows view marks.items
-  pub by_rank : (first inner last : Option ℕ) → beside ≡ Beside.ByRank first inner last → (r k c : ℕ) → r < view.shape.0 → k < view.heights r → c ≤ view.shape.1
-      → ◌≡◌ {A = Shown} (shown_by_rank first inner last view.shape.1 c, None) (mark_at view (Place.Vertical r c k))
+  pub by_rank : (ranked : Ranked) → beside ≡ Beside.ByRank ranked → (r k c : ℕ) → r < view.shape.0 → k < view.heights r → c ≤ view.shape.1
+      → ◌≡◌ {A = Shown} (shown_by_rank ranked.first ranked.inner ranked.last view.shape.1 c, None) (mark_at view (Place.Vertical r c k))

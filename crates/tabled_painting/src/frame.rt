@@ -13,7 +13,7 @@ ghost use Rattle.tabled_config.specs.Known.{HasNoneAcross};
 ghost use Rattle.tabled_painting.specs.Alike.{SidesAlike};
 ghost use Rattle.tabled_config.specs.LinePieces.{pieces_of, crossed_after};
 ghost use Rattle.tabled_config.specs.Marks.{mark_of};
-ghost use Rattle.tabled_config.specs.Picture.{edge_size, mark_at, marks_along};
+ghost use Rattle.tabled_config.specs.Picture.{Shown, edge_size, mark_at, marks_along};
 ghost use Rattle.tabled_cells.specs.Trimmed.{lines_shown};
 ghost use Rattle.tabled_config.specs.Pieces.{lent};
 ghost use Rattle.tabled_config.specs.Texts.{texts};
@@ -49,12 +49,31 @@ const LINE_BYTES: usize = 3;
 enum Beside<'a> {
     /// Each of them by itself.
     Each(Vec<Mark<'a>>),
-    /// The first one, those between, and the last one, all without colors.
-    ByRank {
-        first: Option<char>,
-        inner: Option<char>,
-        last: Option<char>,
-    },
+    /// All by their ranks, without colors.
+    ByRank(Ranked),
+}
+
+/// What the first one of several lines shows, those between, and the last one.
+#[derive(Clone, Copy, Debug)]
+struct Ranked {
+    first: Option<char>,
+    inner: Option<char>,
+    last: Option<char>,
+}
+
+impl Ranked {
+    /// What line `line` shows of the lines 0 to `count`.
+    fn shown(self, count: usize, line: usize) -> Option<char>
+        ensures { result ≡ shown_by_rank self.first self.inner self.last count line }
+    {
+        if line == 0 {
+            self.first
+        } else if line == count {
+            self.last
+        } else {
+            self.inner
+        }
+    }
 }
 
 /// How a table that has places is framed: its configuration and its sizes, which of its vertical lines are drawn, and whether its
@@ -198,11 +217,35 @@ impl<'a, 'b> Frame<'a, 'b> {
     {
         match beside {
             Beside::Each(marks) => marks[col],
-            Beside::ByRank { first, inner, last } => Mark {
-                shown: by_rank(*first, *inner, *last, self.shape.1, col),
+            Beside::ByRank(ranked) => Mark {
+                shown: ranked.shown(self.shape.1, col),
                 color: None,
             },
         }
+    }
+
+    /// What the vertical lines show by their ranks, where that was looked up.
+    fn by_rank(&self, beside: &Beside<'a>) -> Option<Ranked>
+        requires { IsBesideRows (viewed self.now) beside.now }
+        ensures { ForSome result (λ ranked. (r k c : ℕ) → r < self.now.shape.0 → k < slice_index self.now.sizes.now.heights.items r → c ≤ self.now.shape.1
+            → ◌≡◌ {A = Shown} (shown_by_rank ranked.first ranked.inner ranked.last self.now.shape.1 c, None) (mark_at (viewed self.now) (Spot.Vertical r c k))) }
+    {
+        match beside {
+            Beside::Each(_) => None,
+            Beside::ByRank(ranked) => Some(*ranked),
+        }
+    }
+
+    /// The same for the first line of text of a row, if it has one.
+    fn ranked_beside(&self, row: usize) -> Option<Ranked>
+        ensures { ForSome result (λ ranked. (c : ℕ) → c ≤ self.now.shape.1
+            → ◌≡◌ {A = Shown} (shown_by_rank ranked.first ranked.inner ranked.last self.now.shape.1 c, None) (mark_at (viewed self.now) (Spot.Vertical row c 0))) }
+    {
+        let beside = self.beside.as_ref()?;
+        if row < self.shape.0 && 0 < self.sizes.get_height(row) {
+            return self.by_rank(beside);
+        }
+        None
     }
 
     /// What each vertical line shows beside the rows, if that is the same beside each line of text.
@@ -246,11 +289,11 @@ impl<'a, 'b> Frame<'a, 'b> {
         requires plain { self.now.with_colors ≡ false }
         ensures { IsBesideRows (viewed self.now) result }
     {
-        Beside::ByRank {
+        Beside::ByRank(Ranked {
             first: self.shown_beside(0),
             inner: self.shown_beside(1),
             last: self.shown_beside(self.shape.1),
-        }
+        })
     }
 
     /// The character of a vertical line beside the first row.
@@ -356,6 +399,48 @@ impl<'a, 'b> Frame<'a, 'b> {
         Ok(())
     }
 
+    /// Paints the place of a vertical line at the first line of text of a row, which shows this character, if the line is drawn.
+    #[inline(always)]
+    fn paint_shown(
+        &self,
+        painter: &mut Painter<'a>,
+        row: usize,
+        col: usize,
+        shown: Option<char>,
+    ) -> Result<(), OutOfMemory>
+        requires col { col ≤ self.now.shape.1 }
+        requires shown { ◌≡◌ {A = Shown} (shown, None) (mark_at (viewed self.now) (Spot.Vertical row col 0)) }
+        ensures { OnOk result (Paints (painted_side (viewed self.now) row 0 col) painter.old painter.new) }
+    {
+        if !self.has_side(col) {
+            return Ok(());
+        }
+        painter.push_times(None, 1, shown.unwrap_or(' '))?;
+        Ok(())
+    }
+
+    /// Paints the first line of text of a row beside which the first, the inner and the last vertical lines show these characters.
+    fn paint_ranked(
+        &self,
+        painter: &mut Painter<'a>,
+        row: usize,
+        texts: &'a [String],
+        room: &mut Vec<&'a str>,
+        ranked: Ranked,
+    ) -> Result<(), OutOfMemory>
+        requires count { length texts.now ≡ self.now.shape.1 }
+        requires ranked { (col : ℕ) → col ≤ self.now.shape.1 → ◌≡◌ {A = Shown} (shown_by_rank ranked.first ranked.inner ranked.last self.now.shape.1 col, None) (mark_at (viewed self.now) (Spot.Vertical row col 0)) }
+        ensures { OnOk result (Paints (painted_between (viewed self.now) row 0 (λ col. painted_cell self.now.cfg.now.spanned.settings.cells self.now.cfg.now.cell_colors
+            (slice_index self.now.sizes.now.widths.items col) (slice_index self.now.sizes.now.heights.items row) (slice_index_or (map string_bytes texts.now) col []) row col 0)) painter.old painter.new) }
+    {
+        let (_, cols) = self.shape;
+        for (col, text) in texts.iter().enumerate() {
+            self.paint_shown(painter, row, col, ranked.shown(cols, col))?;
+            self.paint_cell(painter, Position::new(row, col), text.as_str(), room)?;
+        }
+        self.paint_shown(painter, row, texts.len(), ranked.shown(cols, texts.len()))
+    }
+
     /// Paints the first line of text of a row.
     fn paint_first(
         &self,
@@ -368,6 +453,9 @@ impl<'a, 'b> Frame<'a, 'b> {
         ensures { OnOk result (Paints (painted_between (viewed self.now) row 0 (λ col. painted_cell self.now.cfg.now.spanned.settings.cells self.now.cfg.now.cell_colors
             (slice_index self.now.sizes.now.widths.items col) (slice_index self.now.sizes.now.heights.items row) (slice_index_or (map string_bytes texts.now) col []) row col 0)) painter.old painter.new) }
     {
+        if let Some(ranked) = self.ranked_beside(row) {
+            return self.paint_ranked(painter, row, texts, room, ranked);
+        }
         for (col, text) in texts.iter().enumerate() {
             self.paint_side(painter, row, col, 0)?;
             self.paint_cell(painter, Position::new(row, col), text.as_str(), room)?;
@@ -472,7 +560,7 @@ impl<'a, 'b> Frame<'a, 'b> {
     /// How many bytes the character of a vertical line takes, as far as that is known.
     fn side_bytes(&self) -> usize {
         match &self.beside {
-            Some(Beside::ByRank { inner, .. }) => inner.unwrap_or(' ').len_utf8(),
+            Some(Beside::ByRank(ranked)) => ranked.inner.unwrap_or(' ').len_utf8(),
             _ => 1,
         }
     }
@@ -630,25 +718,6 @@ impl<'a, 'b> Frame<'a, 'b> {
             self.paint_row(page, row, texts, &mut room)?;
         }
         self.paint_line(page, rows.len())
-    }
-}
-
-/// What line `line` shows of the lines 0 to `count`: what the first one does, or those between, or the last one.
-fn by_rank(
-    first: Option<char>,
-    inner: Option<char>,
-    last: Option<char>,
-    count: usize,
-    line: usize,
-) -> Option<char>
-    ensures { result ≡ shown_by_rank first inner last count line }
-{
-    if line == 0 {
-        first
-    } else if line == count {
-        last
-    } else {
-        inner
     }
 }
 
