@@ -48,17 +48,27 @@ pub trait AnsiText {
 /// A color that owns its texts.
 ///
 /// Two colors are equal where their texts are. Colors are ordered by prefix, then by suffix.
-#[derive(Debug, Drop)]
+#[derive(Drop)]
 pub struct ANSIBuf {
-    /// Its texts, or none where both are empty: most places that can have a color have none, and each of them is as large as this.
+    /// Its texts, or none where both are empty.
     texts: Option<Box<OwnedTexts>>,
 }
 
 /// The two texts of a color.
-#[derive(Debug, Drop)]
+#[derive(Drop)]
 struct OwnedTexts {
     prefix: String,
     suffix: String,
+}
+
+/// Shows the two texts.
+impl fmt::Debug for ANSIBuf {
+    fn fmt<W: fmt::Write>(&self, f: &mut fmt::Formatter<W>) -> fmt::Result {
+        f.debug_struct("ANSIBuf")
+            .field("prefix", &self.get_prefix())
+            .field("suffix", &self.get_suffix())
+            .finish()
+    }
 }
 
 impl Model for ANSIBuf {

@@ -13,12 +13,12 @@ use std::alloc::Global;
 use std::marker::Model;
 use tabled_border::{Keep, OutOfMemory};
 
-/// A map with one way to read it, which is counted. Before anything is kept it is no larger than a reference, and takes no memory
-/// beside itself. In contracts it is the list of its entries.
+/// A map with one way to read it, which is counted. Until something is kept it takes no memory beside itself. In contracts it is the
+/// list of its entries.
 #[derive(Debug, Drop)]
 pub struct CountedMap<K: Key, V> {
     alloc: Global,
-    /// Its entries, once there were some.
+    /// Its entries, once something was kept.
     pub(crate) entries: Option<Box<Entries<K, V>>>,
 }
 
@@ -56,7 +56,7 @@ impl<K: Key, V> CountedMap<K, V> {
         }
     }
 
-    /// Whether nothing was ever kept since all of it was taken, so that there is nothing to look for.
+    /// Whether nothing was kept since the map was made or cleared, so that there is nothing to look for. That is known at once.
     pub fn is_unused(&self) -> bool
         ensures { IsTrue result → (table K.cmp self.now ≡ map.empty) }
     {
@@ -90,7 +90,7 @@ impl<K: Key, V> CountedMap<K, V> {
         }
     }
 
-    /// Keeps the first value.
+    /// Keeps the first value of a map that has none.
     fn insert_first(&mut self, key: K, value: V) -> Result<Option<V>, OutOfMemory>
     where
         V: Drop,
