@@ -27,6 +27,20 @@ fn a_color_lends_its_texts(rt: HostRuntime) -> Result<(), Fail> {
 }
 
 #[test]
+fn a_color_is_shown_by_its_texts(rt: HostRuntime) -> Result<(), Fail> {
+    let red = ANSIBuf::new(rt.alloc(), "<", "")?;
+    let none = ANSIBuf::new(rt.alloc(), "", "")?;
+    let texts = format!(in rt.alloc(); "{red:?} {none:?}")?;
+    let are_shown =
+        texts.as_str() == r#"ANSIBuf { prefix: "<", suffix: "" } ANSIBuf { prefix: "", suffix: "" }"#;
+    drop(red);
+    drop(none);
+    drop(texts);
+    assert!(rt; are_shown);
+    Ok(())
+}
+
+#[test]
 fn a_lent_color_lends_its_texts_on(rt: HostRuntime) {
     let red = ANSIStr::new(RED, PLAIN);
     assert!(rt; red.get_prefix() == RED && red.get_suffix() == PLAIN);
