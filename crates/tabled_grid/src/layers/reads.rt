@@ -240,6 +240,7 @@ impl<T> Layers<T> {
     }
 
     /// What the edge of a line, of the lines 0 to `line.1` of its direction, shows without its offsets.
+    #[inline(always)]
     fn plain_edge(&self, line: (LineOf, usize), at: usize, probes: &mut Probes) -> Option<&T>
         ensures value { option_copied result ≡ plain_edge self.now line.0 line.1 at }
         ensures probes { IsRaised 4 probes.old probes.new }
@@ -260,6 +261,7 @@ impl<T> Layers<T> {
     }
 
     /// What the class record, or else the default, has for the edges of a line, of the lines 0 to `line.1` of its direction.
+    #[inline(always)]
     fn class_edge(&self, line: (LineOf, usize), probes: &mut Probes) -> Option<&T>
         ensures value { option_copied result ≡ pick (class_value (edges (direction_of line.0) (rank line.1 (number line.0))) self.now.class_record) self.now.default_value }
         ensures probes { IsRaised 2 probes.old probes.new }
@@ -305,6 +307,7 @@ impl<T> Layers<T> {
     }
 
     /// What a crossing shows in a table of `shape.0` rows and `shape.1` columns.
+    #[inline(always)]
     fn plain_crossing(
         &self,
         row: usize,
@@ -322,6 +325,7 @@ impl<T> Layers<T> {
     }
 
     /// What the class record, or else the default, has for a crossing.
+    #[inline(always)]
     fn class_crossing(
         &self,
         row: usize,
