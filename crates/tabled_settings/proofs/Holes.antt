@@ -1,8 +1,8 @@
 -- How many holes slots have, told by how many places are noted.
-use Rattle.std.proofs.Common.{◌≡◌, ℕ, suc, ◌+◌, ◌*◌, ◌/◌, ◌≤◌, Bool, true, ◌||◌, Option, Some, None, List, [], ◌∷◌, length, filter, is_some, IsSome, refl, sym, ap, ◌∙◌, subst, arith}
-use Rattle.std.specs.List.{list_any, IsDistinct}
+use Rattle.std.proofs.Common.{◌≡◌, ℕ, suc, ◌/◌, ◌≤◌, Bool, true, ◌||◌, Option, Some, None, List, [], ◌∷◌, length, filter, is_some, IsSome, refl, sym, ap, ◌∙◌, subst, arith}
+use Rattle.std.specs.List.{list_any}
 use Rattle.std.specs.Map.{keys_of, lookup}
-use Rattle.std.specs.BTreeMap.{BTreeMap, IsOrdered, btree_map_len, keys, get}
+use Rattle.std.specs.BTreeMap.{BTreeMap, IsOrdered, keys}
 use Rattle.std.specs.Ordering.{eq_by_cmp}
 use Rattle.std.specs.Cmp.{eq_by_cmp_equiv}
 use Rattle.std.proofs.lemmas.Map.Keys.{IsDistinct-from_sorted}
@@ -13,7 +13,7 @@ use Rattle.tabled_object.specs.declared.entity.Entity.{Entity}
 use Rattle.tabled_object.specs.contracts.entity.EntityOrd.TheImpl.Laws.{total-law}
 use Rattle.tabled_settings.specs.Setting.{same_entity}
 use Rattle.tabled_settings.specs.SameLaws.{is_same_entity}
-use Rattle.tabled_settings.specs.Slots.{standing, place, entity_cmp, HasPlaces, HasFewHoles}
+use Rattle.tabled_settings.specs.Slots.{standing, entity_cmp, HasPlaces, HasFewHoles}
 use Rattle.tabled_settings.proofs.Placing.{is_placed}
 
 module _ {V : Type 0} (places : BTreeMap Entity ℕ) (slots : List (Option (Entity × V))) (has : HasPlaces places slots) where

@@ -5,7 +5,7 @@ ghost use Rattle.std.specs.Prelude.{◌≡◌, ◌↔◌, [], IsTrue, IsOk, OnOk
 mod both;
 mod lists;
 
-use crate::last_events::LastEvents;
+use crate::events_since::EventsSince;
 use std::alloc::Global;
 use std::marker::Model;
 use tabled_border::{Keep, OutOfMemory};
@@ -20,7 +20,7 @@ pub struct EntityMap<T> {
     default: T,
     /// What was written last for all cells, if it was not removed.
     global: Option<T>,
-    since: LastEvents<T>,
+    since: EventsSince<T>,
 }
 
 impl<T> Model for EntityMap<T> {
@@ -46,7 +46,7 @@ impl<T> EntityMap<T> {
         EntityMap {
             default,
             global: None,
-            since: LastEvents::new(alloc),
+            since: EventsSince::new(alloc),
         }
     }
 

@@ -59,16 +59,6 @@ impl<T> LastEvents<T> {
         self.places.is_empty()
     }
 
-    /// Takes all events away.
-    pub(crate) fn clear(&mut self)
-    where
-        T: Drop,
-        ensures { self.new ≡ [] }
-    {
-        self.slots.clear();
-        self.places.clear();
-    }
-
     /// Adds an event, in place of an earlier one of that entity. Where memory is refused nothing changes.
     pub(crate) fn put(&mut self, entity: Entity, value: Option<T>) -> Result<(), OutOfMemory>
     where

@@ -7,6 +7,7 @@
 mod alignment;
 mod cell_settings;
 mod entity_map;
+mod events_since;
 mod last_events;
 mod places;
 mod sides;
