@@ -27,3 +27,4 @@ pub mod WritingAnew
 pub mod WritesLemmas
 pub mod SixLines
 pub mod Leaving
+pub mod ClassAlone

@@ -17,3 +17,4 @@ pub mod Same
 pub mod SameLaws
 pub mod CellBorder
 pub mod Writes
+pub mod ClassAlone

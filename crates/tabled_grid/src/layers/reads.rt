@@ -1,6 +1,6 @@
 //! How a store is read.
 
-ghost use Rattle.std.specs.Prelude.{◌≡◌, ◌↔◌, ◌<◌, IsTrue, IsFalse, ℕ, IfOk, is_some, option_copied, option_and_then};
+ghost use Rattle.std.specs.Prelude.{◌≡◌, ◌↔◌, ◌<◌, IsTrue, IsFalse, ℕ, IfOk, IfSome, OnSome, is_some, option_copied, option_and_then};
 ghost use Rattle.std.specs.Ordering.{nat_cmp};
 ghost use Rattle.std.specs.FinMap as map;
 ghost use Rattle.tabled_grid.specs.Table.{table};
@@ -27,6 +27,7 @@ impl<T> Layers<T> {
     ghost use Rattle.tabled_grid.specs.State.{state_at, HasNoOffsets, HasNoCells};
     ghost use Rattle.tabled_grid.specs.Writes.{kept_at};
     ghost use Rattle.tabled_grid.specs.Reading.{pick, main_of, offset_of, plain_edge, plain_crossing, edge_shown, HasClassAlone};
+    ghost use Rattle.tabled_grid.specs.ClassAlone.{ShowsClasses};
 
     /// The class record.
     pub fn get_class(&self) -> &Borders<T>
@@ -167,6 +168,19 @@ impl<T> Layers<T> {
             }
             Place::Cross { row, col } => self.plain_crossing(row, col, shape, probes),
         }
+    }
+
+    /// The class record, where nothing else is looked at below the offsets: neither a custom line nor the edges and the crossings
+    /// of cells, and no default. Each edge and each crossing then shows what the record has for its class, so what many places
+    /// show can be read off it at once.
+    pub fn class_alone(&self) -> Option<&Borders<T>>
+        ensures class { IfSome result (λ class. class.now ≡ self.now.class_record) }
+        ensures shown { OnSome result (ShowsClasses self.now) }
+    {
+        if self.has_class_alone() && self.default_value.is_none() {
+            return Some(&self.class_record);
+        }
+        None
     }
 
     /// Whether something is kept at an offset of an edge of a horizontal line, from its start or its end.
