@@ -1,15 +1,16 @@
 //! What is asked of edges as wholes and of all cells, besides single places.
 
-ghost use Rattle.std.specs.Prelude.{◌≡◌, ◌↔◌, ◌||◌, IsFalse, IsTrue, is_some, option_copied};
+ghost use Rattle.std.specs.Prelude.{◌≡◌, ◌↔◌, ◌||◌, IsFalse, IsTrue, IfSome, OnSome, is_some, option_copied};
 ghost use Rattle.std.specs.FinMap as map;
 ghost use Rattle.tabled_grid.specs.Probing.{IsRaised};
+ghost use Rattle.tabled_grid.specs.ClassAlone.{ShowsClasses};
 ghost use Rattle.tabled_grid.specs.Reading.{direction_of};
 ghost use Rattle.tabled_grid.specs.Value.{plain_value};
 ghost use Rattle.tabled_grid.specs.State.{state_at, HasNoOffsets, HasNoCells};
 ghost use Rattle.tabled_configuration.specs.AlikeCells.{AreAlike};
 
 use super::SpannedConfig;
-use tabled_grid::{ANSIBuf, LineOf, Place, Probes};
+use tabled_grid::{ANSIBuf, Borders, LineOf, Place, Probes};
 
 impl SpannedConfig {
     /// The character of an edge or a crossing without its offset characters. `at` of an edge is not read.
@@ -44,6 +45,16 @@ impl SpannedConfig {
         ensures probes { IsRaised 5 probes.old probes.new }
     {
         self.colors.read_plain(place, shape, probes)
+    }
+
+    /// The class record of the characters, where nothing else is looked at below the offset characters: each edge and each
+    /// crossing then shows what the record has for its class.
+    #[inline(always)]
+    pub fn class_alone(&self) -> Option<&Borders<char>>
+        ensures class { IfSome result (λ class. class.now ≡ self.now.characters.class_record) }
+        ensures shown { OnSome result (ShowsClasses self.now.characters) }
+    {
+        self.characters.class_alone()
     }
 
     /// Whether an offset character is kept for some line of the direction of this one.
