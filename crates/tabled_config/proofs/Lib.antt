@@ -7,3 +7,4 @@ pub mod KnownLemmas
 pub mod TextLemmas
 pub mod PieceLemmas
 pub mod TimesLemmas
+pub mod LookedLemmas

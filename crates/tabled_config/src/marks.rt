@@ -17,7 +17,7 @@ ghost use Rattle.tabled_config.specs.Texts.{Appends};
 use crate::line_pieces::{crossing_line, crossing_of, edge_of, has_line, pieces_of, size_of};
 use crate::sink::Sink;
 use crate::{Mark, Run, SpannedConfig};
-use tabled_grid::{ANSIBuf, Dimension, LineOf, OutOfMemory, Place, Probes};
+use tabled_grid::{ANSIBuf, Dimension, HorizontalLine, LineOf, OutOfMemory, Place, Probes, Rank};
 
 /// What was looked up of the characters of a line.
 #[derive(Drop)]
@@ -334,6 +334,29 @@ impl<D: Dimension> MarkedLine<'_, '_, D> {
         self.cfg.plain_char_at(place, self.shape)
     }
 
+    /// What the line shows, as a custom line would have it: its edges, and its first crossing, those between, and its last one.
+    /// Where the class record alone decides that, it is read off there.
+    #[inline(always)]
+    fn looks(&self) -> HorizontalLine<char>
+        ensures main { result.main ≡ plain_value (state_at self.now.cfg.now.characters) self.now.shape (edge_of self.now.line 0 0) }
+        ensures left { result.left ≡ plain_value (state_at self.now.cfg.now.characters) self.now.shape (crossing_of self.now.line 0) }
+        ensures intersection { 1 < pieces_of self.now.shape self.now.line → result.intersection ≡ plain_value (state_at self.now.cfg.now.characters) self.now.shape (crossing_of self.now.line 1) }
+        ensures right { result.right ≡ plain_value (state_at self.now.cfg.now.characters) self.now.shape (crossing_of self.now.line (pieces_of self.now.shape self.now.line)) }
+    {
+        if let LineOf::Horizontal(row) = self.line
+            && let Some(class) = self.cfg.class_alone()
+        {
+            return class.horizontal_line(Rank::of(row, self.shape.0));
+        }
+        let count = pieces_of(self.shape, self.line);
+        HorizontalLine {
+            main: self.shown(edge_of(self.line, 0, 0)),
+            intersection: self.shown(crossing_of(self.line, 1)),
+            left: self.shown(crossing_of(self.line, 0)),
+            right: self.shown(crossing_of(self.line, count)),
+        }
+    }
+
     /// Writes a crossing that shows one character, if the other line is drawn, and the edge after it, which shows another.
     #[inline(always)]
     fn write_piece(
@@ -375,7 +398,7 @@ impl<D: Dimension> MarkedLine<'_, '_, D> {
         self.put_drawn(text, n, shown, &mut Probes::new())
     }
 
-    /// Writes the line, of which four characters are looked up.
+    /// Writes the line, of whose characters only those of its looks are looked up.
     fn write_alike(&self, text: &mut String) -> Result<(), OutOfMemory>
         requires plain { self.now.with_colors ≡ false }
         requires no_offsets { HasNoOffsets (direction_of self.now.line) self.now.cfg.now.characters }
@@ -384,15 +407,13 @@ impl<D: Dimension> MarkedLine<'_, '_, D> {
             Put text_gains result (map (mark_at view) (all_places view self.now.line)) text.old text.new }
     {
         let count = pieces_of(self.shape, self.line);
-        let edge = self.shown(edge_of(self.line, 0, 0));
-        let inner = self.shown(crossing_of(self.line, 1));
-        let mut crossing = self.shown(crossing_of(self.line, 0));
+        let looks = self.looks();
+        let mut crossing = looks.left;
         for n in 0..count {
-            self.write_piece(text, n, crossing, edge)?;
-            crossing = inner;
+            self.write_piece(text, n, crossing, looks.main)?;
+            crossing = looks.intersection;
         }
-        let last = self.shown(crossing_of(self.line, count));
-        self.write_crossing(text, count, last)
+        self.write_crossing(text, count, looks.right)
     }
 }
 

@@ -1,7 +1,5 @@
 -- One piece more, and the last crossing.
-use Rattle.std.proofs.Common.{◌≡◌, ◌+◌, ◌++◌, map, ap, sym, subst, ◌∙◌, arith}
-use Rattle.tabled_grid.specs.State.{state_at}
-use Rattle.tabled_grid.specs.Value.{plain_value}
+use Rattle.std.proofs.Common.{◌≡◌, ◌+◌, ◌++◌, map, sym, subst, ◌∙◌, arith}
 use Rattle.tabled_config.specs.Picture.{Look, mark_at}
 use Rattle.tabled_config.specs.LinePieces.{pieces_of, crossing_places, piece_places, places_before, all_places}
 use Rattle.tabled_config.specs.Sinks.{text_gains, text_none, text_both}
@@ -14,17 +12,16 @@ use Rattle.tabled_config.proofs.marks.MarkedLine.write_alike.Goals as goal
 pub loop-n-init : goal.loop-n-init
 loop-n-init g c =
     let view : Look = viewed g.D.Dimension.width_of g.D.Dimension.height_of c.args.self.now in
-    let cfg = c.args.self.now.cfg.now in
     record {
       written = subst (λ marks. text_gains marks c.args.text.now c.args.text.now) (sym (no_marks_before view c.args.self.now.line)) (text_none c.args.text.now);
-      next = λ within. c.shown-crossing.ensures ∙ ap (plain_value (state_at cfg.characters) c.args.self.now.shape) c.crossing_of-2.ensures;
+      next = λ within. c.looks-looks.ensures.left;
     }
 
 pub write_piece-requires-clause-edge : goal.write_piece-requires-clause-edge
 write_piece-requires-clause-edge g c =
     let self = c.args.self.now in
     let counted = c.pieces_of-count.ensures in
-    c.shown-edge.ensures ∙ ap (plain_value (state_at self.cfg.now.characters) self.shape) c.edge_of.ensures
+    c.looks-looks.ensures.main
     ∙ edges_same self.cfg.now.characters self.shape self.line 0 c.loop-n.n c.requires.alike.0 (omega (arith, counted)) (omega (arith, counted))
 
 pub returns-in_err-write_piece : goal.returns-in_err-write_piece
@@ -43,7 +40,7 @@ loop-n-preserved g c =
           puts_more text_gains text_both (map (mark_at view) (places_before view self.line n)) (map (mark_at view) (piece_places view self.line n)) (map (mark_at view) (places_before view self.line (n + 1)))
           c.args.text.now c.loop-n.text c.write_piece.new.text (marks_more view self.line n) c.loop-n.invariant.written c.in_ok-write_piece.ensures;
       next = λ within.
-          c.shown-inner.ensures ∙ ap (plain_value (state_at self.cfg.now.characters) self.shape) c.crossing_of.ensures
+          c.looks-looks.ensures.intersection (omega (arith, within))
           ∙ crossings_same self.cfg.now.characters self.shape self.line 1 (n + 1) c.requires.alike (omega (arith)) (omega (arith, within)) (omega (arith)) within;
     }
 
