@@ -398,7 +398,7 @@ impl<D: Dimension> MarkedLine<'_, '_, D> {
         self.put_drawn(text, n, shown, &mut Probes::new())
     }
 
-    /// Writes the line, of whose characters only those of its looks are looked up.
+    /// Writes the line. What it shows is looked up once.
     fn write_alike(&self, text: &mut String) -> Result<(), OutOfMemory>
         requires plain { self.now.with_colors ≡ false }
         requires no_offsets { HasNoOffsets (direction_of self.now.line) self.now.cfg.now.characters }
