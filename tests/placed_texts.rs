@@ -10,7 +10,7 @@ use tabled::{TableError, TextTable};
 use tabled_cells::{
     Placement, aligned, free_above, line_parts, lines_shown, placed_text, widest,
 };
-use tabled_config::{SpannedConfig, push_times};
+use tabled_config::{SpannedConfig, push_spaces_before, push_times};
 use tabled_grid::{Entity, Position};
 use tabled_settings::{AlignmentHorizontal, AlignmentVertical};
 
@@ -174,5 +174,34 @@ fn a_cell_is_taken_apart(rt: HostRuntime) -> Result<(), Fail> {
     push_times(&mut text, parts.after, parts.fill)?;
     assert_eq!(rt; text.as_str(), "...");
     assert_eq!(rt; free_above(AlignmentVertical::Bottom, 3), 3);
+    Ok(())
+}
+
+#[test]
+fn spaces_stand_before_a_character(rt: HostRuntime) -> Result<(), Fail> {
+    let few = [
+        (0, '│', "a│"),
+        (1, '|', "a |"),
+        (2, '║', "a  ║"),
+        (3, ':', "a   :"),
+        (4, '#', "a    #"),
+        (5, '漢', "a     漢"),
+    ];
+    for (count, character, whole) in few {
+        let mut text = String::from_str(rt.alloc(), "a")?;
+        push_spaces_before(&mut text, count, character)?;
+        assert_eq!(rt; text.as_str(), whole);
+    }
+    for character in ['│', '|', '║', ':', '#', '漢'] {
+        for count in [63, 64, 65, 200] {
+            let mut text = String::from_str(rt.alloc(), "a")?;
+            push_spaces_before(&mut text, count, character)?;
+            let spaces = text.as_str().chars().filter(|c| *c == ' ').count();
+            assert_eq!(rt; spaces, count);
+            assert!(rt; text.as_str().starts_with("a "));
+            assert!(rt; text.as_str().ends_with(character));
+            assert_eq!(rt; text.len(), 1 + count + character.len_utf8());
+        }
+    }
     Ok(())
 }

@@ -2,7 +2,7 @@
 
 use crate::turn::{Named, Outcome, Turn};
 use tabled_cells::{Placement, line_parts, lines_shown, placed_text};
-use tabled_config::{SpannedConfig, push_times};
+use tabled_config::{SpannedConfig, push_spaces_before, push_times};
 use tabled_grid::{Entity, OutOfMemory, Position};
 use tabled_settings::AlignmentHorizontal;
 
@@ -50,12 +50,21 @@ fn write(turn: &mut Turn) -> Result<Outcome, OutOfMemory> {
     Ok(Outcome::of(written, text.as_str() == "before:...", text.as_str().starts_with("before:")))
 }
 
+/// What becomes of spaces before a character. Where these are refused some of the spaces may have been written.
+fn write_spaces(turn: &mut Turn) -> Result<Outcome, OutOfMemory> {
+    let mut text = String::from_str(turn.alloc(), "before:")?;
+    turn.spend();
+    let written = push_spaces_before(&mut text, 3, '│');
+    Ok(Outcome::of(written, text.as_str() == "before:   │", text.as_str().starts_with("before:")))
+}
+
 /// Each of them.
-pub(crate) fn calls() -> [Named; 4] {
+pub(crate) fn calls() -> [Named; 5] {
     [
         ("placed_text", place),
         ("lines_shown", cut),
         ("line_parts", part),
         ("push_times", write),
+        ("push_spaces_before", write_spaces),
     ]
 }

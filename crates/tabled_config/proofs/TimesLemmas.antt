@@ -4,8 +4,8 @@ use Rattle.std.specs.Str.{IsAscii, IsUtf8, IsCharBoundary, all_scalars}
 use Rattle.std.specs.Char.{IsScalar}
 use Rattle.std.specs.List.{slice_range}
 use Rattle.std.specs.String.Boundary.{IsSplitPoint}
-use Rattle.std.proofs.lemmas.List.{append-nil, append_assoc, replicate-append-replicate, take_all, drop_at, take_at}
-use Rattle.std.proofs.lemmas.Str.{encodes-append, encodes-IsAscii, IsCharBoundary-at_seam}
+use Rattle.std.proofs.lemmas.List.{append-nil, append_assoc, length-replicate, replicate-append-replicate, take_all, drop_at, take_at}
+use Rattle.std.proofs.lemmas.Str.{encodes-append, encodes-IsAscii, IsCharBoundary-at_seam, IsUtf8-append, IsUtf8-encode}
 use Rattle.std.proofs.lemmas.Str.Ascii.{IsAscii-nil, IsAscii-cons}
 use Rattle.std.proofs.Math.Nat.{zero-mul, suc-mul}
 use Rattle.tabled_config.specs.Texts.{times}
@@ -134,6 +134,29 @@ module _ (piece : List ℕ) (count character size : ℕ) (is : piece ≡ times 6
   part_of =
       let whole : count * size - 0 ≡ length (times count character) = omega (arith, at_seam) in
       ap (λ k. take k piece) whole ∙ ap (take (length (times count character))) in_parts ∙ take_at (times count character) (times (64 - count) character) (length (times count character)) refl
+
+-- the last spaces of a text of spaces and of what it ends with
+module _ (piece : List ℕ) (count character : ℕ) (is : piece ≡ times 64 32 ++ encode_utf8 character) (within : count ≤ 64) where
+  abbrev end : List ℕ
+  end = times count 32 ++ encode_utf8 character
+
+  before_end : piece ≡ times (64 - count) 32 ++ end
+  before_end =
+      let all : 64 ≡ (64 - count) + count = omega (arith, within) in
+      is ∙ ap (λ n. times n 32 ++ encode_utf8 character) all ∙ ap (λ bs. bs ++ encode_utf8 character) (times_both (64 - count) count 32)
+      ∙ append_assoc (times (64 - count) 32) (times count 32) (encode_utf8 character)
+
+  before_long : length (times (64 - count) 32) ≡ 64 - count
+  before_long = ap length (times_spaces (64 - count)) ∙ length-replicate (64 - count) 32
+
+  pub end_split : IsScalar character → IsCharBoundary piece (64 - count)
+  end_split scalar =
+      let space : IsScalar 32 = search rules in
+      subst (IsCharBoundary piece) before_long
+      (IsCharBoundary-at_seam piece (times (64 - count) 32) end before_end (IsUtf8-append (times count 32) (encode_utf8 character) (IsUtf8-times count 32 space) (IsUtf8-encode character scalar)))
+
+  pub end_of : drop (64 - count) piece ≡ end
+  end_of = ap (drop (64 - count)) before_end ∙ drop_at (times (64 - count) 32) end (64 - count) before_long
 
 -- of a call that was refused: some were written
 pub written_some : {T E : Type 0} (r : Result T E) (P : ℕ → Type 0) (n : ℕ) → P n → OnErr r ((some : ℕ) × P some)

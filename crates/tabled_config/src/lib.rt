@@ -21,7 +21,7 @@ pub use mark::{Mark, Run};
 pub use marks::{drawn_across, has_none_across, line_marks, line_runs, runs_across, write_across};
 pub use print::{print_plain, print_rows};
 pub use print_error::PrintError;
-pub use repeat::push_times;
+pub use repeat::{push_spaces_before, push_times};
 pub use seen::{Seen, headline};
 pub use tabled_configuration::{
     BorderEvent, CellOption, ColorMap, ColoredConfig, Colors, CompactConfig,

@@ -1,6 +1,7 @@
 //! Writes a character many times.
 
 ghost use Rattle.std.specs.Prelude.{◌≡◌, ◌<◌, ◌≤◌, ◌++◌, ℕ, IfSome, OnErr, OnOk, string_bytes};
+ghost use Rattle.std.specs.Char.{encode_utf8};
 ghost use Rattle.tabled_config.specs.Texts.{times};
 
 use std::alloc::AllocError;
@@ -15,6 +16,15 @@ const HYPHENS: &str = "---------------------------------------------------------
 const LINES: &str = "────────────────────────────────────────────────────────────────";
 
 const DOUBLE_LINES: &str = "════════════════════════════════════════════════════════════════";
+
+const BEFORE_BAR: &str = "                                                                |";
+
+const BEFORE_LINE: &str = "                                                                │";
+
+const BEFORE_DOUBLE_LINE: &str =
+    "                                                                ║";
+
+const BEFORE_COLON: &str = "                                                                :";
 
 /// How many characters of ASCII, which are a byte each, are written one by one before what was written is copied.
 const FEW: usize = 16;
@@ -126,4 +136,57 @@ pub fn push_times(text: &mut String, count: usize, character: char) -> Result<()
         return Ok(());
     }
     push_many(text, count, character)
+}
+
+/// A text of `PIECE` spaces and then a character: of those that the vertical lines of tables are mostly drawn with.
+fn spaces_before(character: char) -> Option<&'static str>
+    ensures { IfSome result (λ piece. piece.now ≡ times 64 32 ++ encode_utf8 character) }
+{
+    match character {
+        '|' => Some(BEFORE_BAR),
+        '│' => Some(BEFORE_LINE),
+        '║' => Some(BEFORE_DOUBLE_LINE),
+        ':' => Some(BEFORE_COLON),
+        _ => None,
+    }
+}
+
+/// Writes the last so many spaces of a text that has spaces and then a character, and that character.
+fn push_end(text: &mut String, piece: &str, count: usize, character: char) -> Result<(), AllocError>
+    requires within { count ≤ 64 }
+    requires piece { piece.now ≡ times 64 32 ++ encode_utf8 character }
+    ensures ok { OnOk result (string_bytes text.new ≡ string_bytes text.old ++ times count 32 ++ encode_utf8 character) }
+    ensures err { OnErr result (string_bytes text.new ≡ string_bytes text.old) }
+{
+    text.push_str(&piece[PIECE - count..])?;
+    Ok(())
+}
+
+/// Writes so many spaces, and then a character, each by itself.
+fn push_in_turn(text: &mut String, count: usize, character: char) -> Result<(), AllocError>
+    ensures ok { OnOk result (string_bytes text.new ≡ string_bytes text.old ++ times count 32 ++ encode_utf8 character) }
+    ensures err { OnErr result ((some : ℕ) × (string_bytes text.new ≡ string_bytes text.old ++ times some 32)) }
+{
+    push_times(text, count, ' ')?;
+    text.push(character)?;
+    Ok(())
+}
+
+/// Writes so many spaces and then a character. Where memory is refused some of the spaces may have been written, and the
+/// character was not.
+pub fn push_spaces_before(
+    text: &mut String,
+    count: usize,
+    character: char,
+) -> Result<(), AllocError>
+    ensures ok { OnOk result (string_bytes text.new ≡ string_bytes text.old ++ times count 32 ++ encode_utf8 character) }
+    ensures err { OnErr result ((some : ℕ) × (string_bytes text.new ≡ string_bytes text.old ++ times some 32)) }
+{
+    if count <= PIECE
+        && let Some(piece) = spaces_before(character)
+    {
+        push_end(text, piece, count, character)?;
+        return Ok(());
+    }
+    push_in_turn(text, count, character)
 }
