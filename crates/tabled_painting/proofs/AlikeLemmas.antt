@@ -1,9 +1,10 @@
 -- Places that look alike, since nothing is kept for one of them alone.
-use Rattle.std.proofs.Common.{◌≡◌, ℕ, ◌-◌, ◌≤◌, ◌<◌, Bool, true, false, ◌&&◌, ◌||◌, is_some, nat_le, nat_lt, if◌then◌else◌, Option, Some, None, option_map, option_and_then, List, [], ◌∷◌, ◌++◌, map, length, refl, sym, ap, ◌∙◌, arith, encode_utf8}
+use Rattle.std.proofs.Common.{◌≡◌, ℕ, ◌-◌, ◌≤◌, ◌<◌, ◌==◌, Bool, true, false, ◌&&◌, ◌||◌, eq-eqb, is_some, nat_le, nat_lt, if◌then◌else◌, Option, Some, None, option_map, option_and_then, List, [], ◌∷◌, ◌++◌, map, length, refl, sym, ap, ◌∙◌, arith, encode_utf8}
 use Rattle.std.specs.List.{flat_map}
 use Rattle.std.specs.FinMap.{empty, get}
 use Rattle.std.specs.Ordering.{nat_cmp}
-use Rattle.std.proofs.lemmas.Bool.{le-leb}
+use Rattle.std.proofs.lemmas.Bool.{le-leb, lt-ltb}
+use Rattle.std.proofs.lemmas.Bool.Decides.{nat_tests}
 use Rattle.std.proofs.lemmas.List.{append-nil, map-append, length-map}
 use Rattle.tabled_border.specs.Texts.{Texts}
 use Rattle.tabled_grid.specs.declared.place.Place.{Place}
@@ -16,7 +17,9 @@ use Rattle.tabled_grid.specs.declared.site.Class.{Class}
 use Rattle.tabled_grid.specs.declared.site.Class.TheVariants.{Edges as edges, Crossings as crossings}
 use Rattle.tabled_grid.specs.declared.site.Part.TheVariants.{Edges as main_edges, Crossings as meeting}
 use Rattle.tabled_grid.specs.declared.site.Site.TheVariants.{Default as the_default, Class as of_class}
-use Rattle.tabled_grid.specs.Site.{rank}
+use Rattle.tabled_grid.specs.ClassAlone.{ShowsClasses}
+use Rattle.tabled_grid.specs.declared.place.Rank.{Rank}
+use Rattle.tabled_grid.specs.Site.{rank, class_value}
 use Rattle.tabled_grid.specs.Value.{has_spot, inside, sign_or, value, plain_value}
 use Rattle.tabled_grid.specs.State.{State, state_at, edge_place, horizontal_part, vertical_part, HasNoCells, HasNoOffsets}
 use Rattle.tabled_grid.specs.Keys.{spot_cmp, edge_place_cmp}
@@ -27,14 +30,13 @@ use Rattle.tabled_config.specs.LinePieces.{edge_of, crossing_places, edge_places
 use Rattle.tabled_config.specs.Along.{along}
 use Rattle.tabled_config.specs.Picture.{Look, Shown, look, character, edge_size, mark_at, marks_along, text_marked, text_shown}
 use Rattle.tabled_config.specs.Viewed.{colored_if}
-use Rattle.tabled_painting.specs.Painted.{paint}
+use Rattle.tabled_painting.specs.Painted.{Painted, paint}
 use Rattle.tabled_config.proofs.KnownLemmas.{absent, between, edges_same}
 use Rattle.tabled_config.proofs.LookLemmas.{own_shown, own_color, plain_edge}
 use Rattle.tabled_config.proofs.LineLemmas.{along_pieces, horizontal_there}
 use Rattle.tabled_painting.specs.Alike.{LinesAlike, SidesAlike, IsPlainLine}
 use Rattle.tabled_painting.specs.PaintedTable.{painted_marks}
-use Rattle.tabled_painting.specs.Repeated.{stretches_painted, IsBetweenRows}
-use Rattle.tabled_painting.specs.declared.stretch.Stretch.{Stretch}
+use Rattle.tabled_painting.specs.Repeated.{IsBetweenRows}
 use Rattle.tabled_painting.proofs.FrameLemmas.{flat_map_same}
 
 -- a line that is no custom one, neither of characters nor of colors
@@ -121,6 +123,31 @@ module _ {T : Type 0} (state : State T) (shape : ℕ × ℕ) where
       side_by_class r c cells none
       ∙ (λ i. if nat_lt 0 shape.1 && nat_lt r shape.0 && within i then by_class (edges Vertical (ranked i)) else None)
       ∙ sym (side_by_class r d cells none)
+
+-- ---- what vertical lines show by their ranks, where the class record alone decides that
+
+last_rank : (n : ℕ) → 0 < n → rank n n ≡ Rank.Last
+last_rank n some = λ i. if not_zero i then Rank.First else (if eq-eqb n n refl i then Rank.Last else Rank.Inner)
+  where
+    not_zero : (n == 0) ≡ false
+    not_zero = grind (arith, nat_tests)
+
+module _ {T : Type 0} (state : State T) (shows : ShowsClasses state) (shape : ℕ × ℕ) (rows : 0 < shape.0) (cols : 0 < shape.1) where
+  side_there : (c : ℕ) → c ≤ shape.1 → has_spot shape (Place.Vertical 0 c 0) ≡ true
+  side_there c within = λ i. lt-ltb 0 shape.1 cols i && lt-ltb 0 shape.0 rows i && le-leb c shape.1 within i
+
+  pub first_side : state.class_record.left ≡ plain_value (state_at state) shape (Place.Vertical 0 0 0)
+  first_side = sym (shows shape (Place.Vertical 0 0 0) (side_there 0 (omega arith)))
+
+  pub inner_side : 1 < shape.1 → state.class_record.vertical ≡ plain_value (state_at state) shape (Place.Vertical 0 1 0)
+  inner_side some =
+      sym (shows shape (Place.Vertical 0 1 0) (side_there 1 (omega (arith, some)))
+      ∙ ap (λ rank. class_value (edges Vertical rank) state.class_record) (between shape.1 1 (omega arith) some))
+
+  pub last_side : state.class_record.right ≡ plain_value (state_at state) shape (Place.Vertical 0 shape.1 0)
+  last_side =
+      sym (shows shape (Place.Vertical 0 shape.1 0) (side_there shape.1 (omega arith))
+      ∙ ap (λ rank. class_value (edges Vertical rank) state.class_record) (last_rank shape.1 cols))
 
 -- ---- how a table looks
 
@@ -249,11 +276,11 @@ without_colors view line = by_place (along view.horizontal view.vertical view.sh
 
 -- ---- what repeats down a table
 
--- the stretches of one line between two rows are those of all
-pub all_between : (cfg : Configuration) (shape : ℕ × ℕ) (widths heights : ℕ → ℕ) (with_colors : Bool) (s : ℕ) (stretches : List Stretch) → is_empty shape ≡ false → LinesAlike cfg → 0 < s → s < shape.0 → IsPlainLine cfg s
-    → stretches_painted stretches ≡ painted_marks (marks_along (colored_if with_colors (look (all_writes cfg) shape widths heights)) (LineOf.Horizontal s))
-    → IsBetweenRows (colored_if with_colors (look (all_writes cfg) shape widths heights)) cfg stretches
-all_between cfg shape widths heights with_colors s stretches any alike some within plain_s is r above below plain_r =
+-- one line between two rows is painted as all are
+pub all_between : (cfg : Configuration) (shape : ℕ × ℕ) (widths heights : ℕ → ℕ) (with_colors : Bool) (s : ℕ) (line : Painted) → is_empty shape ≡ false → LinesAlike cfg → 0 < s → s < shape.0 → IsPlainLine cfg s
+    → line ≡ painted_marks (marks_along (colored_if with_colors (look (all_writes cfg) shape widths heights)) (LineOf.Horizontal s))
+    → IsBetweenRows (colored_if with_colors (look (all_writes cfg) shape widths heights)) cfg line
+all_between cfg shape widths heights with_colors s line any alike some within plain_s is r above below plain_r =
     let view : Look = look (all_writes cfg) shape widths heights in
     is ∙ ap painted_marks (kept_marks with_colors view (LineOf.Horizontal s)
     ∙ ap (map (kept_if with_colors)) (marks_alike cfg shape widths heights s r (omega arith) (omega arith) (between shape.0 s some within ∙ sym (between shape.0 r above below)) alike plain_s plain_r any)

@@ -1,7 +1,7 @@
 -- Sides, marks, rows and lines of a painted table, part by part.
-use Rattle.std.proofs.Common.{◌≡◌, ℕ, ◌+◌, ◌<◌, ◌≤◌, zero, suc, true, false, List, [], ◌∷◌, ◌++◌, map, length, take, get_or, refl, sym, ap, subst, ◌∙◌, arith, encode_utf8, Result, Ok, Err, OnOk, String, Vec, string_bytes}
+use Rattle.std.proofs.Common.{◌≡◌, ℕ, ◌+◌, ◌<◌, ◌≤◌, ◌==◌, ◌||◌, zero, suc, Bool, true, false, List, [], ◌∷◌, ◌++◌, map, length, take, get_or, refl, sym, ap, subst, ◌∙◌, arith, encode_utf8, Result, Ok, Err, OnOk, String, Vec, string_bytes}
 use Rattle.std.specs.List.{flat_map}
-use Rattle.std.proofs.lemmas.List.{append-nil, map-append, take_more, take_all, length-append, length-map, get_or-map}
+use Rattle.std.proofs.lemmas.List.{append-nil, append_assoc, map-append, take_more, take_all, length-append, length-map, get_or-map}
 use Rattle.std.proofs.lemmas.List.Concat.{flat_map-append}
 use Rattle.std.proofs.lemmas.List.FromFn.{map-range_with_len_more, length-map-range_with_len, get_or-map-range_with_len}
 use Rattle.tabled_object.specs.Entities.{below}
@@ -61,6 +61,19 @@ pub pair_more : (side cell : ℕ → Painted) (n : ℕ) (line : Painted) (old fi
     → Paints (side n) first second → Paints line second new → Paints (flat_map (λ c. side c ++ cell c) (below (n + 1))) old new
 pair_more side cell n line old first second new is p q r =
     parts_more (λ c. side c ++ cell c) n old first new p (paints_both (side n) (cell n) first second new q (subst (λ l. Paints l second new) is r))
+
+-- a cell and the side after it, behind the parts so far and the side before it
+pub cell_then_side : (side cell : ℕ → Painted) (n : ℕ) (line after : Painted) (old middle new : Painter) → line ≡ cell n → after ≡ side (n + 1)
+    → Paints (flat_map (λ c. side c ++ cell c) (below n) ++ side n) old middle → Paints (line ++ after) middle new
+    → Paints (flat_map (λ c. side c ++ cell c) (below (n + 1)) ++ side (n + 1)) old new
+cell_then_side side cell n line after old middle new is ends p q =
+    let part : ℕ → Painted = λ c. side c ++ cell c in
+    let front : Painted = flat_map part (below n) in
+    let whole : (front ++ side n) ++ (line ++ after) ≡ flat_map part (below (n + 1)) ++ side (n + 1) =
+    (λ i. (front ++ side n) ++ (is i ++ ends i))
+    ∙ sym (append_assoc (front ++ side n) (cell n) (side (n + 1)))
+    ∙ ap (λ l. l ++ side (n + 1)) (append_assoc front (side n) (cell n) ∙ sym (flat_map_below part n)) in
+    subst (λ l. Paints l old new) whole (paints_both (front ++ side n) (line ++ after) old middle new p q)
 
 -- the last part, whether it was painted or not
 pub last_part : {T E : Type 0} (r : Result T E) (xs ys whole : Painted) (old middle new : Painter) → whole ≡ xs ++ ys → Paints xs old middle → OnOk r (Paints ys middle new) → OnOk r (Paints whole old new)
@@ -136,6 +149,15 @@ cells_by_texts cell shown lines count number made counted =
 pub some_rows : (rows cols : ℕ) → is_empty (rows, cols) ≡ false → 0 < rows
 some_rows zero cols any = absurd (let no : true ≡ false = any in cc)
 some_rows (suc rows) cols any = omega arith
+
+-- and columns
+pub some_cols : (rows cols : ℕ) → is_empty (rows, cols) ≡ false → 0 < cols
+some_cols rows zero any = absurd (let no : true ≡ false = sym (either_way (rows == 0)) ∙ any in cc)
+  where
+    either_way : (b : Bool) → b || true ≡ true
+    either_way true = refl
+    either_way false = refl
+some_cols rows (suc cols) any = omega arith
 
 -- as many are listed as there are vertical lines
 pub sides_count : {A : Type 0} (xs : List A) (f : ℕ → A) (n : ℕ) → xs ≡ map f (below n) → length xs ≡ n

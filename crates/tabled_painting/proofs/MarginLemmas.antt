@@ -34,7 +34,7 @@ either : {X : Type 0} (b : Bool) (x : X) → (if b then x else x) ≡ x
 either true x = refl
 either false x = refl
 
-nothing_at : (side : Side) (extent n : ℕ) → side_at side extent n 0 ≡ []
+pub nothing_at : (side : Side) (extent n : ℕ) → side_at side extent n 0 ≡ []
 unfolding side_at
 nothing_at side extent n = either (is_left_out side.offset extent n) []
 

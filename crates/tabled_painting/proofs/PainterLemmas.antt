@@ -9,7 +9,7 @@ use Rattle.std.specs.List.{flat_map}
 use Rattle.tabled_object.specs.Entities.{below}
 use Rattle.tabled_configuration.proofs.Below.{flat_map_below}
 use Rattle.tabled_painting.specs.Pages.{written}
-use Rattle.tabled_painting.specs.BareCells.{at_left}
+use Rattle.tabled_painting.specs.BareCells.{at_left, side_text}
 use Rattle.tabled_painting.specs.declared.painter.Painter.{Painter}
 use Rattle.tabled_painting.specs.Painted.{Painted, paint, plain, colored_if}
 use Rattle.tabled_painting.specs.InColor.{same_color, prefix_of, suffix_of, between, colored, last_color, color_if, Paints}
@@ -151,13 +151,20 @@ paints_uncolored bytes old new none wrote kept still =
     }
 
 -- the parts of a text at the left of a column
-pub at_left_written : (start first second end text : List ℕ) (width free : ℕ) → free ≡ width - 2 - length text → first ≡ start ++ encode_utf8 32 → second ≡ first ++ text
-    → end ≡ second ++ times (free + 1) 32 → end ≡ start ++ at_left width text
-at_left_written start first second end text width free is space wrote spaces =
-    spaces ∙ ap (λ n. second ++ times (n + 1) 32) is
+left_written : (start first second text : List ℕ) (width free : ℕ) → free ≡ width - 2 - length text → first ≡ start ++ encode_utf8 32 → second ≡ first ++ text
+    → second ++ times (free + 1) 32 ≡ start ++ at_left width text
+left_written start first second text width free is space wrote =
+    ap (λ n. second ++ times (n + 1) 32) is
     ∙ ap (λ bs. bs ++ times ((width - 2 - length text) + 1) 32) (wrote ∙ ap (λ bs. bs ++ text) (space ∙ ap (λ bs. start ++ bs) (encode_ascii 32 (lit< tt))))
     ∙ append_assoc (start ++ 32 ∷ []) text (times ((width - 2 - length text) + 1) 32)
     ∙ append_assoc start (32 ∷ []) (text ++ times ((width - 2 - length text) + 1) 32)
+
+-- and what stands after it
+pub at_left_written : (start first second end text : List ℕ) (side : Option ℕ) (width free : ℕ) → free ≡ width - 2 - length text → first ≡ start ++ encode_utf8 32 → second ≡ first ++ text
+    → end ≡ second ++ times (free + 1) 32 ++ side_text side → end ≡ start ++ (at_left width text ++ side_text side)
+at_left_written start first second end text side width free is space wrote spaces =
+    spaces ∙ ap (λ bs. bs ++ side_text side) (left_written start first second text width free is space wrote)
+    ∙ append_assoc start (at_left width text) (side_text side)
 
 -- a text that is said not to be empty
 pub some_bytes : (bytes : List ℕ) (empty : Bool) → empty ≡ false → empty ≡ (length bytes == 0) → bytes ≡ [] → ⊥

@@ -92,7 +92,7 @@ all_beside cfg shape widths heights with_colors marks alike some made =
 
 -- the first vertical line, one between, and the last one show beside the first row what all do, where none is a custom one
 module _ (cfg : Configuration) (shape : ℕ × ℕ) (first inner last : Option ℕ) (alike : SidesAlike cfg) (none : HasNoneAcross cfg.characters (LineOf.Horizontal 0))
-    (is_first : first ≡ plain_value (state_at cfg.characters) shape (Place.Vertical 0 0 0)) (is_inner : inner ≡ plain_value (state_at cfg.characters) shape (Place.Vertical 0 1 0))
+    (is_first : first ≡ plain_value (state_at cfg.characters) shape (Place.Vertical 0 0 0)) (is_inner : 1 < shape.1 → inner ≡ plain_value (state_at cfg.characters) shape (Place.Vertical 0 1 0))
     (is_last : last ≡ plain_value (state_at cfg.characters) shape (Place.Vertical 0 shape.1 0)) where
   by_number : (at_first at_last : Bool) (c : ℕ) → (c == 0) ≡ at_first → (c == shape.1) ≡ at_last → c ≤ shape.1
       → (if at_first then first else (if at_last then last else inner)) ≡ plain_value (state_at cfg.characters) shape (Place.Vertical 0 c 0)
@@ -105,7 +105,7 @@ module _ (cfg : Configuration) (shape : ℕ × ℕ) (first inner last : Option �
   by_number false false c is_zero ends within =
       let some : 0 < c = grind (arith, nat_tests) in
       let less : c < shape.1 = grind (arith, nat_tests) in
-      is_inner ∙ inner_sides cfg.characters shape 0 1 c alike.no_cells none (omega arith) (omega (arith, some, less)) some less
+      is_inner (omega (arith, some, less)) ∙ inner_sides cfg.characters shape 0 1 c alike.no_cells none (omega arith) (omega (arith, some, less)) some less
 
   pub beside_by_rank : (widths heights : ℕ → ℕ) (with_colors : Bool) → with_colors ≡ false → 0 < shape.0
       → IsBesideRows (colored_if with_colors (look (all_writes cfg) shape widths heights)) (Beside.ByRank (record { first = first; inner = inner; last = last }))

@@ -13,6 +13,7 @@ use Rattle.tabled_config.specs.Picture.{Look, Shown, look, mark_at, marks_along}
 use Rattle.tabled_config.specs.Viewed.{colored_if}
 use Rattle.tabled_painting.specs.declared.frame.Beside.{Beside}
 use Rattle.tabled_painting.specs.declared.frame.Ranked.{Ranked}
+use Rattle.tabled_painting.specs.declared.stretch.RepeatedLine.{RepeatedLine}
 use Rattle.tabled_painting.specs.declared.stretch.Stretch.{Stretch}
 use Rattle.tabled_painting.specs.Painted.{Painted, paint}
 use Rattle.tabled_painting.specs.Alike.{IsPlainLine}
@@ -29,10 +30,15 @@ stretch_painted stretch = paint (option_copied stretch.color) (string_bytes stre
 abbrev pub stretches_painted : List Stretch → Painted
 stretches_painted stretches = flat_map stretch_painted stretches
 
--- they are what each horizontal line between two rows shows that is no custom one
-abbrev pub IsBetweenRows : Look → Configuration → List Stretch → Type 0
-IsBetweenRows view cfg stretches =
-    (r : ℕ) → 0 < r → r < view.shape.0 → IsPlainLine cfg r → stretches_painted stretches ≡ painted_marks (marks_along view (LineOf.Horizontal r))
+-- a line, as the code has it, painted
+abbrev pub line_painted : RepeatedLine → Painted
+line_painted (RepeatedLine.Plain text) = paint None (string_bytes text)
+line_painted (RepeatedLine.Colored stretches) = stretches_painted stretches.items
+
+-- this is what each horizontal line between two rows shows that is no custom one
+abbrev pub IsBetweenRows : Look → Configuration → Painted → Type 0
+IsBetweenRows view cfg line =
+    (r : ℕ) → 0 < r → r < view.shape.0 → IsPlainLine cfg r → line ≡ painted_marks (marks_along view (LineOf.Horizontal r))
 
 -- what each vertical line shows beside a line of text, whichever that is
 pub record AreBesideRows (view : Look) (marks : List Mark) : Type 0 where

@@ -1,6 +1,6 @@
 //! Paints a table line by line.
 
-ghost use Rattle.std.specs.Prelude.{◌≡◌, ◌+◌, ◌<◌, ◌≤◌, [], true, false, if◌then◌else◌, None, OnOk, IfOk, ℕ, length, map, option_copied, string_bytes, slice_index, slice_index_or};
+ghost use Rattle.std.specs.Prelude.{◌≡◌, ◌+◌, ◌++◌, ◌<◌, ◌≤◌, [], true, false, if◌then◌else◌, None, OnOk, IfOk, ℕ, length, map, option_copied, string_bytes, slice_index, slice_index_or};
 ghost use Rattle.std.specs.Option.{ForSome};
 ghost use Rattle.std.specs.List.{All};
 ghost use Rattle.tabled_grid.specs.declared.place.LineOf.{LineOf as Line};
@@ -20,14 +20,14 @@ ghost use Rattle.tabled_config.specs.Texts.{texts};
 ghost use Rattle.tabled_painting.specs.InColor.{Paints};
 ghost use Rattle.tabled_painting.specs.Painted.{paint};
 ghost use Rattle.tabled_painting.specs.Pages.{PaintsLines};
-ghost use Rattle.tabled_painting.specs.BareCells.{AreBare};
-ghost use Rattle.tabled_painting.specs.Repeated.{IsBetweenRows, AreBesideRows, IsBesideRows, shown_by_rank, looks_of};
+ghost use Rattle.tabled_painting.specs.BareCells.{AreBare, side_text};
+ghost use Rattle.tabled_painting.specs.Repeated.{IsBetweenRows, AreBesideRows, IsBesideRows, line_painted, shown_by_rank, looks_of};
 
 use crate::alike::{first_plain_line, has_alike_lines, has_alike_sides};
 use crate::bare_cells::has_bare_cells;
 use crate::cell_lines::CellLines;
 use crate::page::Page;
-use crate::stretch::{Stretch, paint_stretches, put_run};
+use crate::stretch::{RepeatedLine, Stretch, put_run};
 use crate::{CellColors, Painter};
 use std::alloc::{AllocError, Global};
 use tabled_border::ANSIBuf;
@@ -88,13 +88,13 @@ pub(crate) struct Frame<'a, 'b> {
     /// Whether nothing is set for cells.
     bare_cells: bool,
     /// What a horizontal line between two rows shows, where all of them but custom ones look alike.
-    between: Option<Vec<Stretch<'a>>>,
+    between: Option<RepeatedLine<'a>>,
     /// What each vertical line shows, where it looks alike beside all lines of text.
     beside: Option<Beside<'a>>,
     ghost has_places: { is_empty shape ≡ false },
     ghost sides_drawn: { sides.now ≡ map (λ n. crossed_after (all_writes cfg.now.spanned) shape (Line.Horizontal 0) n) (below (pieces_of shape (Line.Horizontal 0) + 1)) },
     ghost are_bare: { bare_cells ≡ true → AreBare cfg.now.spanned.settings.cells cfg.now.cell_colors },
-    ghost is_between: { ForSome between (λ found. IsBetweenRows (looks_of with_colors cfg.now shape sizes.now) cfg.now.spanned found.items) },
+    ghost is_between: { ForSome between (λ found. IsBetweenRows (looks_of with_colors cfg.now shape sizes.now) cfg.now.spanned (line_painted found)) },
     ghost are_beside: { ForSome beside (λ found. IsBesideRows (looks_of with_colors cfg.now shape sizes.now) found) },
 }
 
@@ -282,18 +282,35 @@ impl<'a, 'b> Frame<'a, 'b> {
         Ok(marks)
     }
 
-    /// What the first, the inner and the last vertical lines show beside the first row, where no color is wanted.
+    /// What vertical lines show by their ranks beside all rows, where no color is wanted.
     fn beside_by_rank(&self) -> Beside<'a>
         requires alike { SidesAlike self.now.cfg.now.spanned }
         requires none_across { HasNoneAcross self.now.cfg.now.spanned.characters (Line.Horizontal 0) }
         requires plain { self.now.with_colors ≡ false }
         ensures { IsBesideRows (viewed self.now) result }
     {
-        Beside::ByRank(Ranked {
+        Beside::ByRank(self.ranked())
+    }
+
+    /// What the first, the inner and the last vertical lines show beside the first row. Where the class record alone decides that, it is
+    /// read off there.
+    fn ranked(&self) -> Ranked
+        ensures first { result.first ≡ plain_value (state_at self.now.cfg.now.spanned.characters) self.now.shape (Spot.Vertical 0 0 0) }
+        ensures inner { 1 < self.now.shape.1 → result.inner ≡ plain_value (state_at self.now.cfg.now.spanned.characters) self.now.shape (Spot.Vertical 0 1 0) }
+        ensures last { result.last ≡ plain_value (state_at self.now.cfg.now.spanned.characters) self.now.shape (Spot.Vertical 0 self.now.shape.1 0) }
+    {
+        if let Some(class) = self.cfg.config().class_alone() {
+            return Ranked {
+                first: class.left,
+                inner: class.vertical,
+                last: class.right,
+            };
+        }
+        Ranked {
             first: self.shown_beside(0),
             inner: self.shown_beside(1),
             last: self.shown_beside(self.shape.1),
-        })
+        }
     }
 
     /// The character of a vertical line beside the first row.
@@ -389,34 +406,45 @@ impl<'a, 'b> Frame<'a, 'b> {
         ensures { OnOk result (Paints (painted_cell self.now.cfg.now.spanned.settings.cells self.now.cfg.now.cell_colors (slice_index self.now.sizes.now.widths.items position.col)
             (slice_index self.now.sizes.now.heights.items position.row) text.now position.row position.col 0) painter.old painter.new) }
     {
-        if self.bare_cells && is_printable(text) {
-            painter.push_at_left(self.sizes.get_width(position.col), text)?;
-            return Ok(());
-        }
         let how = Placement::of(self.cfg.config(), position);
         let lines = lines_shown(room, &how, text)?;
         self.cell(position, how, lines).paint_line(painter, 0)?;
         Ok(())
     }
 
-    /// Paints the place of a vertical line at the first line of text of a row, which shows this character, if the line is drawn.
+    /// Paints the first line of a cell, and then the character of a vertical line without color, if there is one.
     #[inline(always)]
-    fn paint_shown(
+    fn paint_cell_before(
         &self,
         painter: &mut Painter<'a>,
-        row: usize,
-        col: usize,
-        shown: Option<char>,
+        position: Position,
+        text: &'a str,
+        room: &mut Vec<&'a str>,
+        side: Option<char>,
     ) -> Result<(), OutOfMemory>
-        requires col { col ≤ self.now.shape.1 }
-        requires shown { ◌≡◌ {A = Shown} (shown, None) (mark_at (viewed self.now) (Spot.Vertical row col 0)) }
-        ensures { OnOk result (Paints (painted_side (viewed self.now) row 0 col) painter.old painter.new) }
+        ensures { OnOk result (Paints (painted_cell self.now.cfg.now.spanned.settings.cells self.now.cfg.now.cell_colors (slice_index self.now.sizes.now.widths.items position.col)
+            (slice_index self.now.sizes.now.heights.items position.row) text.now position.row position.col 0 ++ paint None (side_text side)) painter.old painter.new) }
     {
-        if !self.has_side(col) {
+        if self.bare_cells && is_printable(text) {
+            painter.push_at_left(self.sizes.get_width(position.col), text, side)?;
             return Ok(());
         }
-        painter.push_times(None, 1, shown.unwrap_or(' '))?;
+        self.paint_cell(painter, position, text, room)?;
+        painter.push_side(side)?;
         Ok(())
+    }
+
+    /// The character of a vertical line at the first line of text of a row, which shows this one or none, if the line is drawn.
+    #[inline(always)]
+    fn side_shown(&self, row: usize, col: usize, shown: Option<char>) -> Option<char>
+        requires col { col ≤ self.now.shape.1 }
+        requires shown { ◌≡◌ {A = Shown} (shown, None) (mark_at (viewed self.now) (Spot.Vertical row col 0)) }
+        ensures { paint None (side_text result) ≡ painted_side (viewed self.now) row 0 col }
+    {
+        if !self.has_side(col) {
+            return None;
+        }
+        Some(shown.unwrap_or(' '))
     }
 
     /// Paints the first line of text of a row beside which the first, the inner and the last vertical lines show these characters.
@@ -434,11 +462,12 @@ impl<'a, 'b> Frame<'a, 'b> {
             (slice_index self.now.sizes.now.widths.items col) (slice_index self.now.sizes.now.heights.items row) (slice_index_or (map string_bytes texts.now) col []) row col 0)) painter.old painter.new) }
     {
         let (_, cols) = self.shape;
+        painter.push_side(self.side_shown(row, 0, ranked.shown(cols, 0)))?;
         for (col, text) in texts.iter().enumerate() {
-            self.paint_shown(painter, row, col, ranked.shown(cols, col))?;
-            self.paint_cell(painter, Position::new(row, col), text.as_str(), room)?;
+            let side = self.side_shown(row, col + 1, ranked.shown(cols, col + 1));
+            self.paint_cell_before(painter, Position::new(row, col), text.as_str(), room, side)?;
         }
-        self.paint_shown(painter, row, texts.len(), ranked.shown(cols, texts.len()))
+        Ok(())
     }
 
     /// Paints the first line of text of a row.
@@ -458,7 +487,7 @@ impl<'a, 'b> Frame<'a, 'b> {
         }
         for (col, text) in texts.iter().enumerate() {
             self.paint_side(painter, row, col, 0)?;
-            self.paint_cell(painter, Position::new(row, col), text.as_str(), room)?;
+            self.paint_cell_before(painter, Position::new(row, col), text.as_str(), room, None)?;
         }
         self.paint_side(painter, row, texts.len(), 0)
     }
@@ -511,25 +540,20 @@ impl<'a, 'b> Frame<'a, 'b> {
         Ok(stretches)
     }
 
-    /// A horizontal line, which is not past the last one, as stretches of one color each.
-    fn stretches(&self, row: usize) -> Result<Vec<Stretch<'a>>, OutOfMemory>
+    /// A horizontal line, which is not past the last one, to be painted several times.
+    fn repeated_line(&self, row: usize) -> Result<RepeatedLine<'a>, OutOfMemory>
         requires { row ≤ self.now.shape.0 }
-        ensures { IfOk result (λ found. stretches_painted found.items ≡ painted_marks (marks_along (viewed self.now) (Line.Horizontal row))) }
+        ensures { IfOk result (λ found. line_painted found ≡ painted_marks (marks_along (viewed self.now) (Line.Horizontal row))) }
     {
         if self.with_colors {
-            return self.colored_stretches(row);
+            return Ok(RepeatedLine::Colored(self.colored_stretches(row)?));
         }
-        let mut stretches = Vec::new(self.cfg.config().allocator());
-        stretches.push(Stretch {
-            color: None,
-            text: self.characters(row)?,
-        })?;
-        Ok(stretches)
+        Ok(RepeatedLine::Plain(self.characters(row)?))
     }
 
     /// A horizontal line between two rows that is drawn and no custom one, if there is one and all of these look alike.
-    fn between_rows(&self) -> Result<Option<Vec<Stretch<'a>>>, OutOfMemory>
-        ensures { IfOk result (λ found. ForSome found (λ stretches. IsBetweenRows (viewed self.now) self.now.cfg.now.spanned stretches.items)) }
+    fn between_rows(&self) -> Result<Option<RepeatedLine<'a>>, OutOfMemory>
+        ensures { IfOk result (λ found. ForSome found (λ line. IsBetweenRows (viewed self.now) self.now.cfg.now.spanned (line_painted line))) }
     {
         let cfg = self.cfg.config();
         if self.shape.0 < MANY_LINES || !has_alike_lines(cfg) {
@@ -537,7 +561,7 @@ impl<'a, 'b> Frame<'a, 'b> {
         }
         let (rows, _) = self.shape;
         match first_plain_line(cfg, rows) {
-            Some(row) if cfg.has_horizontal(row, rows) => Ok(Some(self.stretches(row)?)),
+            Some(row) if cfg.has_horizontal(row, rows) => Ok(Some(self.repeated_line(row)?)),
             _ => Ok(None),
         }
     }
@@ -573,10 +597,10 @@ impl<'a, 'b> Frame<'a, 'b> {
         for row in 0..rows {
             high = high.saturating_add(self.sizes.get_height(row));
         }
-        let mut between = 0usize;
-        for stretch in self.between.as_deref().unwrap_or(&[]) {
-            between = between.saturating_add(stretch.text.len());
-        }
+        let between = match &self.between {
+            Some(line) => line.bytes().saturating_add(1),
+            None => 0,
+        };
         let texts = self.line_bytes(self.side_bytes(), 1).saturating_mul(high);
         texts.saturating_add(between.saturating_mul(rows.saturating_add(1)))
     }
@@ -586,9 +610,9 @@ impl<'a, 'b> Frame<'a, 'b> {
         requires { row ≤ self.now.shape.0 }
         ensures { OnOk result (Paints (painted_marks (marks_along (viewed self.now) (Line.Horizontal row))) painter.old painter.new) }
     {
-        if let Some(stretches) = &self.between {
+        if let Some(line) = &self.between {
             if 0 < row && row < self.shape.0 && !self.cfg.config().has_custom_line(row) {
-                paint_stretches(painter, stretches)?;
+                line.paint(painter)?;
                 return Ok(());
             }
         }
@@ -729,10 +753,10 @@ fn repeated<'a>(
     shape: (usize, usize),
     sides: &[bool],
     with_colors: bool,
-) -> Result<(Option<Vec<Stretch<'a>>>, Option<Beside<'a>>), OutOfMemory>
+) -> Result<(Option<RepeatedLine<'a>>, Option<Beside<'a>>), OutOfMemory>
     requires places { is_empty shape ≡ false }
     requires sides { sides.now ≡ map (λ n. crossed_after (all_writes cfg.now.spanned) shape (Line.Horizontal 0) n) (below (pieces_of shape (Line.Horizontal 0) + 1)) }
-    ensures between { IfOk result (λ found. ForSome found.0 (λ stretches. IsBetweenRows (looks_of with_colors cfg.now shape sizes.now) cfg.now.spanned stretches.items)) }
+    ensures between { IfOk result (λ found. ForSome found.0 (λ line. IsBetweenRows (looks_of with_colors cfg.now shape sizes.now) cfg.now.spanned (line_painted line))) }
     ensures beside { IfOk result (λ found. ForSome found.1 (λ beside. IsBesideRows (looks_of with_colors cfg.now shape sizes.now) beside)) }
 {
     let frame = Frame {

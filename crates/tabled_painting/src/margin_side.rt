@@ -87,6 +87,9 @@ impl<'a> MarginSide<'a> {
         requires { option_copied painter.old.color ≡ None }
         ensures { OnOk result (PaintsWhole (replicate self.now.size (strip (side_of self.now) long)) painter.old painter.new) }
     {
+        if self.size == 0 {
+            return Ok(());
+        }
         painter.reserve(long.saturating_add(1).saturating_mul(self.size))?;
         for _ in 0..self.size {
             self.paint_strip(painter, long)?;

@@ -28,8 +28,26 @@ impl<'a> Page<'a> {
         ensures number { self.new.number ≡ self.old.number }
         ensures same { SamePage self.old self.new }
     {
+        if self.left.size == 0 {
+            return Ok(());
+        }
         let left = self.left;
         left.paint_at(&mut self.painter, self.high, self.number, left.size)?;
+        Ok(())
+    }
+
+    /// Paints the right side of a line.
+    #[inline(always)]
+    fn paint_right(&mut self) -> Result<(), OutOfMemory>
+        ensures painted { OnOk result (Paints (side_at (side_of self.old.right) self.old.high self.old.number self.old.right.size) self.old.painter self.new.painter) }
+        ensures number { self.new.number ≡ self.old.number }
+        ensures same { SamePage self.old self.new }
+    {
+        if self.right.size == 0 {
+            return Ok(());
+        }
+        let right = self.right;
+        right.paint_at(&mut self.painter, self.high, self.number, right.size)?;
         Ok(())
     }
 
@@ -42,8 +60,7 @@ impl<'a> Page<'a> {
         ensures number { OnOk result (self.new.number ≡ self.old.number + 1) }
         ensures same { SamePage self.old self.new }
     {
-        let right = self.right;
-        right.paint_at(&mut self.painter, self.high, self.number, right.size)?;
+        self.paint_right()?;
         self.painter.end_line()?;
         self.number = self.number.checked_add(1).ok_or(OutOfMemory)?;
         Ok(())

@@ -6,13 +6,13 @@ ghost use Rattle.tabled_configuration.specs.Configuration.{all_writes};
 ghost use Rattle.tabled_config.specs.LinePieces.{has_line, pieces_of, crossed_after};
 ghost use Rattle.tabled_config.specs.Picture.{marks, text_marked};
 ghost use Rattle.tabled_cells.specs.Placed.{times};
-ghost use Rattle.tabled_painting.specs.BareCells.{at_left};
+ghost use Rattle.tabled_painting.specs.BareCells.{at_left, side_text};
 ghost use Rattle.tabled_painting.specs.Painted.{paint};
 ghost use Rattle.tabled_painting.specs.InColor.{Paints, between, prefix_of, suffix_of, color_if};
 
 use std::alloc::{AllocError, Global};
 use tabled_border::ANSIBuf;
-use tabled_config::{SpannedConfig, push_times, write_across};
+use tabled_config::{SpannedConfig, push_spaces_before, push_times, write_across};
 use tabled_grid::{FixedDimension, LineOf, OutOfMemory};
 
 /// A text that painted lines are written into, one after another, and the color of what was written last.
@@ -111,6 +111,19 @@ impl<'a> Painter<'a> {
         self.change_color(wanted)
     }
 
+    /// Ends the color of what was written last, if it has one.
+    #[tactic(auto, unfolding(crate::specs::InColor::between))]
+    fn end_last(&mut self) -> Result<(), AllocError>
+        ensures text { OnOk result (string_bytes self.new.text ≡ string_bytes self.old.text ++ between (option_copied self.old.color) None) }
+        ensures color { OnOk result (option_copied self.new.color ≡ None) }
+        ensures same_colors { self.new.with_colors ≡ self.old.with_colors }
+    {
+        if self.color.is_none() {
+            return Ok(());
+        }
+        self.change_color(None)
+    }
+
     /// Writes a text in a color.
     pub(crate) fn push_str(
         &mut self,
@@ -145,16 +158,45 @@ impl<'a> Painter<'a> {
     }
 
     /// Writes a text at the left of a column between spaces without color: one before it, and after it as many as the column has
-    /// room for, but at least one. The text takes as many terminal columns as it has bytes.
-    pub(crate) fn push_at_left(&mut self, width: usize, text: &str) -> Result<(), AllocError>
-        ensures { OnOk result (Paints (paint None (at_left width text.now)) self.old self.new) }
+    /// room for, but at least one; and then the character of a vertical line, if there is one. The text takes as many terminal
+    /// columns as it has bytes.
+    pub(crate) fn push_at_left(
+        &mut self,
+        width: usize,
+        text: &str,
+        side: Option<char>,
+    ) -> Result<(), AllocError>
+        ensures { OnOk result (Paints (paint None (at_left width text.now ++ side_text side)) self.old self.new) }
     {
         let free = width.saturating_sub(2).saturating_sub(text.len());
         self.begin(None)?;
         self.text.push(' ')?;
         self.text.push_str(text)?;
-        push_times(&mut self.text, free + 1, ' ')?;
+        self.push_spaces(free + 1, side)?;
         Ok(())
+    }
+
+    /// Writes so many spaces, and then a character, if there is one.
+    #[inline(always)]
+    fn push_spaces(&mut self, count: usize, side: Option<char>) -> Result<(), AllocError>
+        ensures text { OnOk result (string_bytes self.new.text ≡ string_bytes self.old.text ++ times count 32 ++ side_text side) }
+        ensures color { self.new.color ≡ self.old.color }
+        ensures same_colors { self.new.with_colors ≡ self.old.with_colors }
+    {
+        match side {
+            Some(character) => push_spaces_before(&mut self.text, count, character),
+            None => push_times(&mut self.text, count, ' '),
+        }
+    }
+
+    /// Writes the character of a vertical line without color, if there is one.
+    pub(crate) fn push_side(&mut self, side: Option<char>) -> Result<(), AllocError>
+        ensures { OnOk result (Paints (paint None (side_text side)) self.old self.new) }
+    {
+        match side {
+            Some(character) => self.push_times(None, 1, character),
+            None => Ok(()),
+        }
     }
 
     /// Whether what was written last has a color.
@@ -188,7 +230,7 @@ impl<'a> Painter<'a> {
         ensures color { OnOk result (option_copied self.new.color ≡ None) }
         ensures same_colors { self.new.with_colors ≡ self.old.with_colors }
     {
-        self.change_color(None)?;
+        self.end_last()?;
         self.text.push('\n')?;
         Ok(())
     }

@@ -4,7 +4,7 @@ ghost use Rattle.std.specs.Prelude.{◌≡◌, ◌++◌, IfOk, OnOk, option_copi
 ghost use Rattle.tabled_config.specs.Marks.{run_marks};
 ghost use Rattle.tabled_painting.specs.InColor.{Paints};
 ghost use Rattle.tabled_painting.specs.PaintedTable.{painted_marks};
-ghost use Rattle.tabled_painting.specs.Repeated.{stretch_painted, stretches_painted};
+ghost use Rattle.tabled_painting.specs.Repeated.{stretch_painted, stretches_painted, line_painted};
 
 use crate::Painter;
 use std::alloc::{AllocError, Global};
@@ -16,6 +16,44 @@ use tabled_config::{Run, push_times};
 pub(crate) struct Stretch<'a> {
     pub(crate) color: Option<&'a ANSIBuf>,
     pub(crate) text: String,
+}
+
+/// A line that is painted several times.
+#[derive(Debug, Drop)]
+pub(crate) enum RepeatedLine<'a> {
+    /// Its characters, where no colors are wanted.
+    Plain(String),
+    /// Its stretches of one color each.
+    Colored(Vec<Stretch<'a>>),
+}
+
+impl<'a> RepeatedLine<'a> {
+    /// Paints the line.
+    pub(crate) fn paint(&self, painter: &mut Painter<'a>) -> Result<(), AllocError>
+        ensures { OnOk result (Paints (line_painted self.now) painter.old painter.new) }
+    {
+        match self {
+            RepeatedLine::Plain(text) => painter.push_str(None, text.as_str()),
+            RepeatedLine::Colored(stretches) => paint_stretches(painter, stretches),
+        }
+    }
+
+    /// How many bytes its characters take. A number that is too large is the largest there is.
+    pub(crate) fn bytes(&self) -> usize {
+        match self {
+            RepeatedLine::Plain(text) => text.len(),
+            RepeatedLine::Colored(stretches) => bytes_of(stretches),
+        }
+    }
+}
+
+/// How many bytes the characters of stretches take. A number that is too large is the largest there is.
+fn bytes_of(stretches: &[Stretch]) -> usize {
+    let mut bytes = 0usize;
+    for stretch in stretches {
+        bytes = bytes.saturating_add(stretch.text.len());
+    }
+    bytes
 }
 
 /// A stretch to which a run of its color can be put: the last one, where it has that color, and else one without text.
@@ -54,7 +92,7 @@ pub(crate) fn put_run<'a>(
 }
 
 /// Paints stretches in their order.
-pub(crate) fn paint_stretches<'a>(
+fn paint_stretches<'a>(
     painter: &mut Painter<'a>,
     stretches: &[Stretch<'a>],
 ) -> Result<(), AllocError>

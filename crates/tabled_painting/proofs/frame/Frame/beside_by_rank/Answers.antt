@@ -7,5 +7,6 @@ use Rattle.tabled_painting.proofs.frame.Frame.beside_by_rank.Goals as goal
 pub returns : goal.returns
 returns c =
     let frame = c.args.self.now in
-    beside_by_rank frame.cfg.now.spanned frame.shape c.shown_beside.result c.shown_beside-2.result c.shown_beside-3.result c.requires.alike c.requires.none_across c.shown_beside.ensures c.shown_beside-2.ensures c.shown_beside-3.ensures
+    let ranked = c.ranked.result in
+    beside_by_rank frame.cfg.now.spanned frame.shape ranked.first ranked.inner ranked.last c.requires.alike c.requires.none_across c.ranked.ensures.first c.ranked.ensures.inner c.ranked.ensures.last
     (slice_index frame.sizes.now.widths.items) (slice_index frame.sizes.now.heights.items) frame.with_colors c.requires.plain (some_rows frame.shape.0 frame.shape.1 frame.has_places)

@@ -1,6 +1,7 @@
 -- A side and a cell more, and the last side.
 use Rattle.std.proofs.Common.{ℕ, ◌≡◌, ◌++◌, [], map, slice_index, slice_index_or, string_bytes, sym, ◌∙◌, arith}
 use Rattle.std.specs.List.{flat_map}
+use Rattle.std.proofs.lemmas.List.{append-nil}
 use Rattle.tabled_object.specs.Entities.{below}
 use Rattle.tabled_painting.specs.Painted.{Painted}
 use Rattle.tabled_painting.specs.PaintedTable.{painted_cell, painted_side}
@@ -17,7 +18,7 @@ loop-col-preserved c =
     let height : ℕ → ℕ = slice_index frame.sizes.now.heights.items in
     let text = c.as_str.ensures.value ∙ shown_at string_bytes c.args.texts.now c.loop-col.col c.index-texts-col.result [] c.loop-col-test.true c.index-texts-col.is in
     pair_more (painted_side (viewed frame) c.args.row 0) (λ n. painted_cell settings colors (width n) (height c.args.row) (slice_index_or (map string_bytes c.args.texts.now) n []) c.args.row n 0) c.loop-col.col _ _ _ _ _
-    ((λ i. painted_cell settings colors (width (c.new.ensures.col i)) (height (c.new.ensures.row i)) (text i) (c.new.ensures.row i) (c.new.ensures.col i) 0)) c.loop-col.invariant c.in_ok-paint_side.ensures c.in_ok-paint_cell.ensures
+    (append-nil _ ∙ (λ i. painted_cell settings colors (width (c.new.ensures.col i)) (height (c.new.ensures.row i)) (text i) (c.new.ensures.row i) (c.new.ensures.col i) 0)) c.loop-col.invariant c.in_ok-paint_side.ensures c.in_ok-paint_cell_before.ensures
 
 pub returns : goal.returns
 returns c =

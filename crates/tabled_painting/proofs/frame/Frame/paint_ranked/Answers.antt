@@ -1,12 +1,16 @@
--- A side and a cell more, and the last side.
-use Rattle.std.proofs.Common.{ℕ, ◌≡◌, ◌++◌, [], map, slice_index, slice_index_or, string_bytes, sym, ◌∙◌, arith}
+-- The first side, and then a cell and the side after it.
+use Rattle.std.proofs.Common.{ℕ, ◌≡◌, ◌++◌, [], map, slice_index, slice_index_or, string_bytes, subst, ◌∙◌, arith}
 use Rattle.std.specs.List.{flat_map}
 use Rattle.tabled_object.specs.Entities.{below}
+use Rattle.tabled_painting.specs.InColor.{Paints}
 use Rattle.tabled_painting.specs.Painted.{Painted}
 use Rattle.tabled_painting.specs.PaintedTable.{painted_cell, painted_side}
 use Rattle.tabled_painting.specs.Viewed.{viewed}
-use Rattle.tabled_painting.proofs.FrameLemmas.{pair_more, last_part, shown_at}
+use Rattle.tabled_painting.proofs.FrameLemmas.{cell_then_side, shown_at}
 use Rattle.tabled_painting.proofs.frame.Frame.paint_ranked.Goals as goal
+
+pub loop-col-init : goal.loop-col-init
+loop-col-init c = subst (λ line. Paints line c.args.painter.now c.push_side.new.self) c.side_shown.ensures c.in_ok-push_side.ensures
 
 pub loop-col-preserved : goal.loop-col-preserved
 loop-col-preserved c =
@@ -16,8 +20,9 @@ loop-col-preserved c =
     let width : ℕ → ℕ = slice_index frame.sizes.now.widths.items in
     let height : ℕ → ℕ = slice_index frame.sizes.now.heights.items in
     let text = c.as_str.ensures.value ∙ shown_at string_bytes c.args.texts.now c.loop-col.col c.index-texts-col.result [] c.loop-col-test.true c.index-texts-col.is in
-    pair_more (painted_side (viewed frame) c.args.row 0) (λ n. painted_cell settings colors (width n) (height c.args.row) (slice_index_or (map string_bytes c.args.texts.now) n []) c.args.row n 0) c.loop-col.col _ _ _ _ _
-    ((λ i. painted_cell settings colors (width (c.new.ensures.col i)) (height (c.new.ensures.row i)) (text i) (c.new.ensures.row i) (c.new.ensures.col i) 0)) c.loop-col.invariant c.in_ok-paint_shown.ensures c.in_ok-paint_cell.ensures
+    cell_then_side (painted_side (viewed frame) c.args.row 0) (λ n. painted_cell settings colors (width n) (height c.args.row) (slice_index_or (map string_bytes c.args.texts.now) n []) c.args.row n 0) c.loop-col.col _ _ _ _ _
+    (λ i. painted_cell settings colors (width (c.new.ensures.col i)) (height (c.new.ensures.row i)) (text i) (c.new.ensures.row i) (c.new.ensures.col i) 0) c.side_shown-side.ensures
+    c.loop-col.invariant c.in_ok-paint_cell_before.ensures
 
 pub returns : goal.returns
 returns c =
@@ -26,6 +31,4 @@ returns c =
     let cell : ℕ → Painted = λ n. painted_cell frame.cfg.now.spanned.settings.cells frame.cfg.now.cell_colors (slice_index frame.sizes.now.widths.items n) (slice_index frame.sizes.now.heights.items c.args.row)
     (slice_index_or (map string_bytes c.args.texts.now) n []) c.args.row n 0 in
     let all : c.loop-col.col ≡ view.shape.1 = (let counted = c.requires.count in omega (arith, c.loop-col-test.false, c.loop-col.auto.col-end, counted)) in
-    last_part c.paint_shown-2.result _ _ _ _ _ _
-    (sym (λ i. flat_map (λ n. painted_side view c.args.row 0 n ++ cell n) (below (all i)) ++ painted_side view c.args.row 0 (c.requires.count i)))
-    c.loop-col.invariant c.paint_shown-2.ensures
+    subst (λ n. Paints (flat_map (λ n. painted_side view c.args.row 0 n ++ cell n) (below n) ++ painted_side view c.args.row 0 n) c.args.painter.now c.loop-col.painter) all c.loop-col.invariant
