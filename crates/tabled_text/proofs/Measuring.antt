@@ -7,7 +7,7 @@ use Rattle.std.proofs.lemmas.Bool.{ltb-true, ltb-false, lt-ltb, le-ltb}
 use Rattle.std.proofs.lemmas.Str.{chars-nil}
 use Rattle.unicode_width.specs.Width.{str_width}
 use Rattle.tabled_config.specs.Texts.{texts}
-use Rattle.tabled_text.specs.Sizes.{cell, column_count, column_width, column_widths, first_unequal, width_asked}
+use Rattle.tabled_text.specs.Sizes.{cell, column_count, column_width, column_widths, first_unequal, height_asked, row_height, width_asked}
 use Rattle.tabled_cells.specs.Placed.{greatest}
 
 -- one more number
@@ -97,3 +97,19 @@ module _ {Z W : Type 0} (columns : ℕ) where
   first_found start (row ∷ rows) =
       step start row rows _ refl (first_found (start + 1) rows)
       ∙ ap (λ n. if n == columns then first_unequal columns (start + 1) (texts rows) else Some start) (sym (length-map row.items string_bytes))
+
+-- ---- cells of one line each
+
+ones : (row : List (List ℕ)) → ((col : ℕ) → col < length row → height_asked (cell row col) ≡ 1) → fold max 1 (map height_asked row) ≡ 1
+ones [] each = refl
+ones (text ∷ row) each =
+    ap (λ n. fold max (max 1 n) (map height_asked row)) (each 0 (omega arith))
+    ∙ ones row (λ col within. each (suc col) (omega (arith, within)))
+
+-- a row that has some is one line high
+pub one_high : (row : List (List ℕ)) → 0 < length row → ((col : ℕ) → col < length row → height_asked (cell row col) ≡ 1) → 1 ≡ row_height row
+unfolding row_height
+one_high [] some each = absurd (omega (arith, some))
+one_high (text ∷ row) some each =
+    sym (ap (λ n. fold max (max 0 n) (map height_asked row)) (each 0 (omega arith))
+    ∙ ones row (λ col within. each (suc col) (omega (arith, within))))

@@ -1,12 +1,12 @@
 //! How large the cells of a table are.
 
-ghost use Rattle.std.specs.Prelude.{◌≡◌, max, map, slice_index, EachIndex, IfOk, OnOk, replicate, string_bytes};
+ghost use Rattle.std.specs.Prelude.{◌≡◌, ◌+◌, ◌<◌, ℕ, true, max, map, slice_index, EachIndex, IfOk, OnOk, replicate, string_bytes};
 ghost use Rattle.tabled_config.specs.Texts.{texts, pieces, width_of_text};
 ghost use Rattle.tabled_text.specs.Sizes.{cell, greatest, column_count, unequal_row, width_asked, height_asked, column_widths, row_height, row_heights};
 
 use std::alloc::{AllocError, Global};
 use tabled_cells::{is_printable, width_of};
-use tabled_grid::OutOfMemory;
+use tabled_grid::{FixedDimension, OutOfMemory};
 
 /// How many cells the first row has.
 pub(crate) fn column_count(rows: &[Vec<String>]) -> usize
@@ -30,43 +30,73 @@ pub(crate) fn unequal_row(rows: &[Vec<String>]) -> Option<usize>
 fn widest_line(text: &str) -> usize
     ensures { result ≡ greatest (map width_of_text (pieces text.now)) }
 {
-    if is_printable(text) {
-        return text.len();
-    }
     text.split('\n')
         .map(|line| width_of(line))
         .max()
         .unwrap_or(0)
 }
 
-/// How many terminal columns a text asks for: those of its widest line, and two for spaces around it. Refused where no
-/// number says it.
-#[tactic(auto, unfolding(crate::specs::Sizes::width_asked))]
-fn width_asked(text: &str) -> Result<usize, OutOfMemory>
-    ensures { IfOk result (λ width. width ≡ width_asked text.now) }
+/// So many terminal columns, and two for spaces around them. Refused where no number says it.
+fn with_spaces(columns: usize) -> Result<usize, OutOfMemory>
+    ensures { IfOk result (λ width. width ≡ columns + 2) }
 {
-    widest_line(text).checked_add(2).ok_or(OutOfMemory)
+    columns.checked_add(2).ok_or(OutOfMemory)
 }
 
-/// How many terminal columns the cell of a row in a column asks for.
-fn width_at(row: &[String], col: usize) -> Result<usize, OutOfMemory>
-    ensures { IfOk result (λ width. width ≡ width_asked (cell (map string_bytes row.now) col)) }
+/// What is measured of a text at once.
+#[derive(Clone, Copy, Debug)]
+struct CellSize {
+    /// How many terminal columns it asks for: those of its widest line, and two for spaces around it.
+    width: usize,
+    /// Whether it is known to be one line.
+    is_line: bool,
+}
+
+/// Measures a text: one of printable characters by its length. Refused where no number says how wide it is.
+#[tactic(auto, unfolding(crate::specs::Sizes::width_asked))]
+fn measure(text: &str) -> Result<CellSize, OutOfMemory>
+    ensures width { IfOk result (λ found. found.width ≡ width_asked text.now) }
+    ensures line { IfOk result (λ found. found.is_line ≡ true → height_asked text.now ≡ 1) }
+{
+    if is_printable(text) {
+        return Ok(CellSize {
+            width: with_spaces(text.len())?,
+            is_line: true,
+        });
+    }
+    Ok(CellSize {
+        width: with_spaces(widest_line(text))?,
+        is_line: false,
+    })
+}
+
+/// Measures the cell of a row in a column.
+fn measure_at(row: &[String], col: usize) -> Result<CellSize, OutOfMemory>
+    ensures width { IfOk result (λ found. found.width ≡ width_asked (cell (map string_bytes row.now) col)) }
+    ensures line { IfOk result (λ found. found.is_line ≡ true → height_asked (cell (map string_bytes row.now) col) ≡ 1) }
 {
     if col < row.len() {
-        width_asked(row[col].as_str())
+        measure(row[col].as_str())
     } else {
-        Ok(2)
+        Ok(CellSize {
+            width: 2,
+            is_line: false,
+        })
     }
 }
 
-/// Makes each column wide enough for a row's cell in it.
-fn widen(widths: &mut [usize], row: &[String]) -> Result<(), OutOfMemory>
-    ensures { OnOk result (EachIndex widths.new (λ col. slice_index widths.new col ≡ max (slice_index widths.old col) (width_asked (cell (map string_bytes row.now) col)))) }
+/// Makes each column wide enough for a row's cell in it. Returns whether each of these cells is known to be one line.
+fn widen(widths: &mut [usize], row: &[String]) -> Result<bool, OutOfMemory>
+    ensures widths { OnOk result (EachIndex widths.new (λ col. slice_index widths.new col ≡ max (slice_index widths.old col) (width_asked (cell (map string_bytes row.now) col)))) }
+    ensures lines { IfOk result (λ are_lines. are_lines ≡ true → EachIndex widths.new (λ col. height_asked (cell (map string_bytes row.now) col) ≡ 1)) }
 {
+    let mut are_lines = true;
     for (col, width) in widths.iter_mut().enumerate() {
-        *width = (*width).max(width_at(row, col)?);
+        let found = measure_at(row, col)?;
+        *width = (*width).max(found.width);
+        are_lines &= found.is_line;
     }
-    Ok(())
+    Ok(are_lines)
 }
 
 /// A zero for each column.
@@ -75,17 +105,6 @@ fn no_widths(alloc: Global, rows: &[Vec<String>]) -> Result<Vec<usize>, AllocErr
 {
     let columns = column_count(rows);
     vec![in alloc; 0usize; columns]
-}
-
-/// How wide each column is.
-pub(crate) fn column_widths(alloc: Global, rows: &[Vec<String>]) -> Result<Vec<usize>, OutOfMemory>
-    ensures { IfOk result (λ widths. widths.items ≡ column_widths (texts rows.now)) }
-{
-    let mut widths = no_widths(alloc, rows)?;
-    for row in rows {
-        widen(&mut widths, row)?;
-    }
-    Ok(widths)
 }
 
 /// How many lines a text asks for.
@@ -109,13 +128,29 @@ fn row_height(row: &[String]) -> usize
         .unwrap_or(0)
 }
 
-/// How high each row is.
-pub(crate) fn row_heights(alloc: Global, rows: &[Vec<String>]) -> Result<Vec<usize>, AllocError>
-    ensures { IfOk result (λ heights. heights.items ≡ row_heights (texts rows.now)) }
+/// How high a row is, of which it is said whether so many of its cells are known to be one line each.
+fn height_of(row: &[String], count: usize, are_lines: bool) -> usize
+    requires { are_lines ≡ true → (col : ℕ) → col < count → height_asked (cell (map string_bytes row.now) col) ≡ 1 }
+    ensures { result ≡ row_height (map string_bytes row.now) }
 {
+    let cells = row.len();
+    if are_lines && 0 < cells && cells <= count {
+        1
+    } else {
+        row_height(row)
+    }
+}
+
+/// How wide each column is, and how high each row.
+pub(crate) fn sizes_of(alloc: Global, rows: &[Vec<String>]) -> Result<FixedDimension, OutOfMemory>
+    ensures widths { IfOk result (λ sizes. sizes.widths.items ≡ column_widths (texts rows.now)) }
+    ensures heights { IfOk result (λ sizes. sizes.heights.items ≡ row_heights (texts rows.now)) }
+{
+    let mut widths = no_widths(alloc, rows)?;
     let mut heights = Vec::with_capacity(alloc, rows.len())?;
     for row in rows {
-        heights.push(row_height(row))?;
+        let are_lines = widen(&mut widths, row)?;
+        heights.push(height_of(row, widths.len(), are_lines))?;
     }
-    Ok(heights)
+    Ok(FixedDimension::new(widths, heights))
 }

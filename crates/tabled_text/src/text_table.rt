@@ -10,7 +10,7 @@ ghost use Rattle.tabled_text.specs.Sizes.{column_widths, row_heights};
 ghost use Rattle.tabled_text.specs.TextTable.{lent_rows};
 
 use crate::TableError;
-use crate::measure::{column_count, column_widths, row_heights, unequal_row};
+use crate::measure::{column_count, sizes_of, unequal_row};
 use std::alloc::{AllocError, Global};
 use std::marker::Model;
 use std::{fmt, io};
@@ -37,7 +37,7 @@ pub struct TextTable {
     cells: Vec<Vec<String>>,
     shape: Shape,
     sizes: FixedDimension,
-    config: Box<ColoredConfig>,
+    config: ColoredConfig,
 }
 
 /// Written out, so that dropping a table is one call wherever its life ends.
@@ -65,7 +65,7 @@ impl Model for TextTable {
 
     ghost coded = { drawing_code };
 
-    ghost view = { λ table. record { texts = texts table.cells.items; sizes = table.sizes; config = table.config.value } };
+    ghost view = { λ table. record { texts = texts table.cells.items; sizes = table.sizes; config = table.config } };
 
     ghost invariant = { λ table.
         (unequal_row (texts table.cells.items) ≡ None)
@@ -130,17 +130,16 @@ impl TextTable {
         ensures texts { IfOk result (λ table. table.texts ≡ texts rows.items) }
         ensures config { IfOk result (λ table. Shows [] table.config) }
     {
-        let sizes = measured(alloc, &rows)?;
+        let sizes = sizes_of(alloc, &rows)?;
         let shape = Shape {
             rows: rows.len(),
             cols: column_count(&rows),
         };
-        let config = ColoredConfig::new(SpannedConfig::new(alloc));
         Ok(TextTable {
             cells: rows,
             shape,
             sizes,
-            config: Box::new(alloc, config)?,
+            config: ColoredConfig::new(SpannedConfig::new(alloc)),
         })
     }
 
@@ -204,7 +203,7 @@ impl TextTable {
         ensures sizes { self.new.sizes ≡ self.old.sizes }
         ensures err { OnErr result (self.new ≡ self.old) }
     {
-        option.change(&mut self.shape, &mut *self.config, &mut self.sizes)
+        option.change(&mut self.shape, &mut self.config, &mut self.sizes)
     }
 
     /// Applies an option to the cells of each entity that an object lists, in turn. Where memory is refused the option may have
@@ -221,7 +220,7 @@ impl TextTable {
         ensures sizes { self.new.sizes ≡ self.old.sizes }
     {
         let alloc = self.config().config().allocator();
-        modify(alloc, &mut self.shape, &mut *self.config, object, option)
+        modify(alloc, &mut self.shape, &mut self.config, object, option)
     }
 
     /// The configuration that options change.
@@ -236,7 +235,7 @@ impl TextTable {
         ensures* writes_back { sem 𝓛 (Lends the_row config_row self.entry result (λ config. record self.old { config = config })) }
         ensures value { result.now ≡ self.old.config }
     {
-        &mut *self.config
+        &mut self.config
     }
 
     /// How many rows and columns the table has.
@@ -412,14 +411,4 @@ fn copied_row(alloc: Global, row: &[&str]) -> Result<Vec<String>, AllocError>
         copies.push(String::from_str(alloc, text)?)?;
     }
     Ok(copies)
-}
-
-/// How large the columns and rows are.
-fn measured(alloc: Global, rows: &[Vec<String>]) -> Result<FixedDimension, OutOfMemory>
-    ensures widths { IfOk result (λ sizes. sizes.widths.items ≡ column_widths (texts rows.now)) }
-    ensures heights { IfOk result (λ sizes. sizes.heights.items ≡ row_heights (texts rows.now)) }
-{
-    let widths = column_widths(alloc, rows)?;
-    let heights = row_heights(alloc, rows)?;
-    Ok(FixedDimension::new(widths, heights))
 }

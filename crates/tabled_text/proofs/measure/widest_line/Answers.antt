@@ -1,19 +1,12 @@
--- A text of printable characters is as wide as it is long; else the widest line is found by a walk over the lines.
-use Rattle.std.proofs.Common.{rules, tests, map, unwrap_or, ap, sym, ◌∙◌, lit<, arith}
+-- The widest line is found by a walk over the lines.
+use Rattle.std.proofs.Common.{rules, tests, map, unwrap_or, ap, sym, ◌∙◌, lit<}
 use Rattle.std.proofs.lemmas.Iterator.{YieldsList-from_map}
 use Rattle.std.proofs.lemmas.Iterator.Adapters.{option_map_id}
 use Rattle.std.proofs.lemmas.Iterator.Consumers.{max_from_yields_List}
 use Rattle.std.proofs.lemmas.Iterator.Splits.{YieldsList-from_str_split}
 use Rattle.tabled_config.specs.Texts.{pieces, width_of_text}
-use Rattle.tabled_cells.specs.Placed.{greatest}
 use Rattle.tabled_cells.proofs.Measuring.{greatest_found}
-use Rattle.tabled_cells.proofs.Printing.{one_piece, printable_width}
 use Rattle.tabled_text.proofs.measure.widest_line.Goals as goal
-
-pub returns-then-is_printable : goal.returns-then-is_printable
-returns-then-is_printable c =
-    let printable = sym c.is_printable.ensures ∙ c.if-is_printable.true in
-    sym (ap (λ lines. greatest (map width_of_text lines)) (one_piece c.args.text.now printable) ∙ omega (arith, printable_width c.args.text.now printable))
 
 pub returns : goal.returns
 returns c =

@@ -1,12 +1,13 @@
--- The widths that the rows so far ask for.
-use Rattle.std.proofs.Common.{◌≡◌, ℕ, ◌<◌, length, get_or}
+-- The widths that the rows so far ask for, and their heights.
+use Rattle.std.proofs.Common.{◌≡◌, ℕ, ◌<◌, length, get_or, map, take}
 use Rattle.tabled_config.specs.Texts.{texts}
-use Rattle.tabled_text.specs.Sizes.{column_count}
+use Rattle.tabled_text.specs.Sizes.{column_count, row_height}
 use Rattle.tabled_text.proofs.Measuring.{widened}
-use Rattle.tabled_text.proofs.measure.column_widths.Given as goal
+use Rattle.tabled_text.proofs.measure.sizes_of.Given as goal
 
 abbrev pub invariant-loop-row : goal.invariant-loop-row
 invariant-loop-row l = record {
   count : length l.widths.items ≡ column_count (texts l.rows);
   widths : (col : ℕ) → col < length l.widths.items → get_or l.widths.items col 0 ≡ widened l.rows l.row-index col;
+  heights : l.heights.items ≡ map row_height (take l.row-index (texts l.rows));
 }

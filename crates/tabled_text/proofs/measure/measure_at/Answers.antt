@@ -1,0 +1,7 @@
+-- The cell asks, or there is none.
+use Rattle.std.proofs.Common.{arith}
+use Rattle.tabled_text.proofs.Measuring.{nothing_asked}
+use Rattle.tabled_text.proofs.measure.measure_at.Goals as goal
+
+pub returns-else-col-row-clause-width : goal.returns-else-col-row-clause-width
+returns-else-col-row-clause-width c = nothing_asked c.args.row.now c.args.col (omega arith)
