@@ -151,6 +151,7 @@ impl<'a, D: Dimension> MarkedLine<'a, '_, D> {
     }
 
     /// Whether a place of an edge may show something else than its edge.
+    #[inline(always)]
     fn has_offsets(&self) -> bool
         ensures characters { IsFalse result → HasNoOffsets (direction_of self.now.line) self.now.cfg.now.characters }
         ensures colors { IsFalse result → self.now.with_colors ≡ true → HasNoOffsets (direction_of self.now.line) self.now.cfg.now.colors }

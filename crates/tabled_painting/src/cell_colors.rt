@@ -22,6 +22,7 @@ impl<'a> CellColors<'a> {
     ghost use Rattle.tabled_painting.specs.CellLines.{coloring_at, coloring_of};
 
     /// The colors that are set for a cell.
+    #[inline(always)]
     #[tactic(auto, unfolding(crate::specs::CellLines::coloring_at))]
     pub(crate) fn of(cfg: &'a ColoredConfig, position: Position) -> Self
         ensures { coloring_of result ≡ coloring_at cfg.now.spanned.settings.cells cfg.now.cell_colors position.row position.col }

@@ -51,7 +51,6 @@ impl<'a> MarginSide<'a> {
 
     /// Paints so many characters of the side at number `n` of its extent.
     #[tactic(auto, unfolding(crate::specs::Margin::side_at))]
-    #[inline(always)]
     pub(crate) fn paint_at(
         &self,
         painter: &mut Painter<'a>,

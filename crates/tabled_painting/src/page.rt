@@ -23,6 +23,7 @@ pub(crate) struct Page<'a> {
 
 impl<'a> Page<'a> {
     /// Paints the left side of the next line.
+    #[inline(always)]
     pub(crate) fn begin_line(&mut self) -> Result<(), OutOfMemory>
         ensures painted { OnOk result (Paints (side_at (side_of self.old.left) self.old.high self.old.number self.old.left.size) self.old.painter self.new.painter) }
         ensures number { self.new.number ≡ self.old.number }

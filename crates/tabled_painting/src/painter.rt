@@ -160,6 +160,7 @@ impl<'a> Painter<'a> {
     /// Writes a text at the left of a column between spaces without color: one before it, and after it as many as the column has
     /// room for, but at least one; and then the character of a vertical line, if there is one. The text takes as many terminal
     /// columns as it has bytes.
+    #[inline(always)]
     pub(crate) fn push_at_left(
         &mut self,
         width: usize,
@@ -190,6 +191,7 @@ impl<'a> Painter<'a> {
     }
 
     /// Writes the character of a vertical line without color, if there is one.
+    #[inline(always)]
     pub(crate) fn push_side(&mut self, side: Option<char>) -> Result<(), AllocError>
         ensures { OnOk result (Paints (paint None (side_text side)) self.old self.new) }
     {
@@ -225,6 +227,7 @@ impl<'a> Painter<'a> {
     }
 
     /// Ends a line, and its last color.
+    #[inline(always)]
     pub(crate) fn end_line(&mut self) -> Result<(), AllocError>
         ensures text { OnOk result (string_bytes self.new.text ≡ string_bytes self.old.text ++ suffix_of (option_copied self.old.color) ++ 10 ∷ []) }
         ensures color { OnOk result (option_copied self.new.color ≡ None) }

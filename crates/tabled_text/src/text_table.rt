@@ -3,6 +3,7 @@
 ghost use Rattle.std.specs.Prelude.{◌≡◌, [], length, map, string_bytes, slice_index_or, IfOk, IfErr, OnOk};
 ghost use Rattle.std.specs.Io.KnownBytes.{Appends};
 ghost use Rattle.tabled_text.specs.declared.table_error.TableError.{TableError as Refusal};
+ghost use Rattle.tabled_config.specs.Colored.{Shows};
 ghost use Rattle.tabled_config.specs.Pieces.{lent};
 ghost use Rattle.tabled_config.specs.Texts.{texts};
 ghost use Rattle.tabled_text.specs.Refusal.{unequal as refusal_of};
@@ -37,7 +38,7 @@ pub struct TextTable {
     cells: Vec<Vec<String>>,
     shape: Shape,
     sizes: FixedDimension,
-    config: ColoredConfig,
+    config: Box<ColoredConfig>,
 }
 
 /// Written out, so that dropping a table is one call wherever its life ends.
@@ -65,7 +66,7 @@ impl Model for TextTable {
 
     ghost coded = { drawing_code };
 
-    ghost view = { λ table. record { texts = texts table.cells.items; sizes = table.sizes; config = table.config } };
+    ghost view = { λ table. record { texts = texts table.cells.items; sizes = table.sizes; config = table.config.value } };
 
     ghost invariant = { λ table.
         (unequal_row (texts table.cells.items) ≡ None)
@@ -139,7 +140,7 @@ impl TextTable {
             cells: rows,
             shape,
             sizes,
-            config: ColoredConfig::new(SpannedConfig::new(alloc)),
+            config: unset_config(alloc)?,
         })
     }
 
@@ -203,7 +204,7 @@ impl TextTable {
         ensures sizes { self.new.sizes ≡ self.old.sizes }
         ensures err { OnErr result (self.new ≡ self.old) }
     {
-        option.change(&mut self.shape, &mut self.config, &mut self.sizes)
+        option.change(&mut self.shape, &mut *self.config, &mut self.sizes)
     }
 
     /// Applies an option to the cells of each entity that an object lists, in turn. Where memory is refused the option may have
@@ -220,7 +221,7 @@ impl TextTable {
         ensures sizes { self.new.sizes ≡ self.old.sizes }
     {
         let alloc = self.config().config().allocator();
-        modify(alloc, &mut self.shape, &mut self.config, object, option)
+        modify(alloc, &mut self.shape, &mut *self.config, object, option)
     }
 
     /// The configuration that options change.
@@ -235,7 +236,7 @@ impl TextTable {
         ensures* writes_back { sem 𝓛 (Lends the_row config_row self.entry result (λ config. record self.old { config = config })) }
         ensures value { result.now ≡ self.old.config }
     {
-        &mut self.config
+        &mut *self.config
     }
 
     /// How many rows and columns the table has.
@@ -356,6 +357,17 @@ impl TextTable {
         ensures { texts result.now ≡ self.now.texts }
     {
         self.cells.as_slice()
+    }
+}
+
+/// A configuration in which nothing is set.
+fn unset_config(alloc: Global) -> Result<Box<ColoredConfig>, OutOfMemory>
+    ensures { IfOk result (λ config. Shows [] config.value) }
+{
+    // matched, since `?` would move what a refusal hands back, the configuration
+    match Box::new(alloc, ColoredConfig::new(SpannedConfig::new(alloc))) {
+        Ok(config) => Ok(config),
+        Err(_) => Err(OutOfMemory),
     }
 }
 

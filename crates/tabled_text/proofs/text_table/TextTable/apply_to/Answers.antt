@@ -13,11 +13,15 @@ returns-clause-config g c =
     subst (λ table. OnOk c.modify.result ((made : List ConfigEvent) × MakesInTurn Changes (map (g.P.CellOption.makes c.args.option.now (shape_of table.texts))
     (g.O.Object.listing c.args.object.now (length table.texts) (column_count table.texts))) made table.config c.modify.new.cfg)) c.self.view_is
     (subst (λ shape. OnOk c.modify.result ((made : List ConfigEvent) × MakesInTurn Changes (map (g.P.CellOption.makes c.args.option.now shape)
-    (g.O.Object.listing c.args.object.now shape.rows shape.cols)) made c.self.inside.config c.modify.new.cfg)) c.self.invariant.1 c.modify.ensures.ok)
+    (g.O.Object.listing c.args.object.now shape.rows shape.cols)) made c.self.inside.config.value c.modify.new.cfg)) c.self.invariant.1
+    (subst (λ config. OnOk c.modify.result ((made : List ConfigEvent) × MakesInTurn Changes (map (g.P.CellOption.makes c.args.option.now c.self.inside.shape)
+    (g.O.Object.listing c.args.object.now c.self.inside.shape.rows c.self.inside.shape.cols)) made config c.modify.new.cfg)) c.deref_mut.ensures.value c.modify.ensures.ok))
 
 pub returns-clause-err : goal.returns-clause-err
 returns-clause-err g c =
     subst (λ table. OnErr c.modify.result ((count : ℕ) × (made : List ConfigEvent) × MakesInTurn Changes (map (g.P.CellOption.makes c.args.option.now (shape_of table.texts))
     (take count (g.O.Object.listing c.args.object.now (length table.texts) (column_count table.texts)))) made table.config c.modify.new.cfg)) c.self.view_is
     (subst (λ shape. OnErr c.modify.result ((count : ℕ) × (made : List ConfigEvent) × MakesInTurn Changes (map (g.P.CellOption.makes c.args.option.now shape)
-    (take count (g.O.Object.listing c.args.object.now shape.rows shape.cols))) made c.self.inside.config c.modify.new.cfg)) c.self.invariant.1 c.modify.ensures.err)
+    (take count (g.O.Object.listing c.args.object.now shape.rows shape.cols))) made c.self.inside.config.value c.modify.new.cfg)) c.self.invariant.1
+    (subst (λ config. OnErr c.modify.result ((count : ℕ) × (made : List ConfigEvent) × MakesInTurn Changes (map (g.P.CellOption.makes c.args.option.now c.self.inside.shape)
+    (take count (g.O.Object.listing c.args.object.now c.self.inside.shape.rows c.self.inside.shape.cols))) made config c.modify.new.cfg)) c.deref_mut.ensures.value c.modify.ensures.err))
