@@ -1,40 +1,8 @@
-//! Slots, tables of slots and kept maps by themselves, where there is memory.
+//! Kept maps by themselves, where there is memory, and the one value that is always there.
 
 use std::test::Fail;
 use tabled_grid::{Keep, OutOfMemory, Probes};
-use tabled_kept::{CountedMap, Slot, Slots, Table};
-
-/// The last slot that a crossing has.
-const LAST: Slot = Slot { row: 255, col: 767 };
-
-#[test]
-fn slots_are_filled_copied_and_emptied(rt: HostRuntime) -> Result<(), Fail> {
-    let mut slots = Slots::new(rt.alloc());
-    let first = slots.put(3, 'a')?;
-    let second = slots.put(3, 'b')?;
-    let copy = slots.keep(rt.alloc())?;
-    let taken = slots.take(3);
-    assert_eq!(rt; (first, second, taken), (None, Some('a'), Some('b')));
-    assert_eq!(rt; (slots.get(3), slots.get(4), copy.get(3)), (None, None, Some(&'b')));
-    assert!(rt; slots.is_empty() && !copy.is_empty());
-    assert_eq!(rt; slots.as_slice().len(), 4);
-    Ok(())
-}
-
-#[test]
-fn tables_are_filled_copied_and_emptied(rt: HostRuntime) -> Result<(), Fail> {
-    let mut table = Table::new(rt.alloc());
-    let first = table.put(LAST, 'a')?;
-    let second = table.put(LAST, 'b')?;
-    let copy = table.keep(rt.alloc())?;
-    let above = table.get(Slot { row: 254, col: 767 }).copied();
-    table.clear();
-    assert_eq!(rt; (first, second, above), (None, Some('a'), None));
-    assert_eq!(rt; (table.get(LAST), copy.get(LAST)), (None, Some(&'b')));
-    assert!(rt; table.is_empty() && table.is_same(&Table::new(rt.alloc())));
-    assert!(rt; !copy.is_same(&table));
-    Ok(())
-}
+use tabled_kept::{CountedMap, One};
 
 /// A map of a number on each side of the last one that has a slot, and of one far beyond.
 fn fill(kept: &mut CountedMap<usize, char>) -> Result<(), OutOfMemory> {
@@ -72,8 +40,34 @@ fn one_reading_finds_a_value_wherever_it_stands(rt: HostRuntime) -> Result<(), F
     }
     let taken = (kept.remove(255), kept.remove(256), kept.remove(257));
     assert_eq!(rt; taken, (Some('b'), Some('c'), None));
-    assert!(rt; !kept.is_empty());
+    let probes = &mut Probes::new();
+    assert!(rt; !kept.is_empty(probes));
     kept.clear();
-    assert!(rt; kept.is_empty());
+    assert!(rt; kept.is_empty(probes));
+    assert_eq!(rt; probes.count(), 2);
+    Ok(())
+}
+
+#[test]
+fn a_map_that_was_cleared_keeps_what_is_put_again(rt: HostRuntime) -> Result<(), Fail> {
+    let mut kept = CountedMap::new(rt.alloc());
+    fill(&mut kept)?;
+    kept.clear();
+    let again = (kept.insert(255, 'x')?, kept.insert(255, 'y')?);
+    let probes = &mut Probes::new();
+    assert_eq!(rt; again, (None, Some('x')));
+    assert_eq!(rt; kept.read(255, probes), Some(&'y'));
+    assert_eq!(rt; (kept.read(0, probes), kept.read(usize::MAX, probes)), (None, None));
+    assert_eq!(rt; (kept.remove(255), kept.remove(255)), (Some('y'), None));
+    assert!(rt; kept.is_empty(probes));
+    Ok(())
+}
+
+#[test]
+fn a_value_that_is_always_there_is_read_replaced_and_copied(rt: HostRuntime) -> Result<(), Fail> {
+    let (mut one, probes) = (One::new('a'), &mut Probes::new());
+    let copy = one.keep(rt.alloc())?;
+    assert_eq!(rt; (one.replace('b'), *one.read(probes), *copy.get()), ('a', 'b', 'a'));
+    assert_eq!(rt; probes.count(), 1);
     Ok(())
 }

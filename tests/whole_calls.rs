@@ -151,7 +151,7 @@ fn a_line_is_walked_by_the_lines_that_it_meets(rt: HostRuntime) -> Result<(), Fa
     let expected = [('+', 1), ('-', 3), ('+', 1), ('-', 3), ('+', 1)];
     assert!(rt; are_runs(&runs, &expected));
     let mut text = String::from_str(alloc, "line ")?;
-    write_across(&mut text, &cfg, &dims, (2, 2), line, &crossed)?;
+    write_across(&mut text, &cfg, &dims, (2, 2), line, &crossed, probes)?;
     assert_eq!(rt; text.as_str(), "line +---+---+");
     Ok(())
 }

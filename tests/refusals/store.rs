@@ -7,7 +7,7 @@ use tabled_grid::{
     ANSIBuf, Border, Entity, HorizontalLine, Keep, Layers, Offset, OutOfMemory, Place, Position,
     Probes, Target, VerticalLine, Write, border_writes,
 };
-use tabled_kept::{CountedMap, Slot, Slots, Table};
+use tabled_kept::{CountedMap, One};
 
 /// A store with a cell, an offset and a line of each direction.
 fn begun(alloc: Global) -> Result<Layers<char>, OutOfMemory> {
@@ -177,49 +177,39 @@ fn list_map(turn: &mut Turn) -> Result<Outcome, OutOfMemory> {
     Ok(Outcome::of_value(map.copy(turn.alloc()).map(|copy| copy.len() == 2)))
 }
 
-/// What becomes of a slot that is filled.
-fn fill_a_slot(turn: &mut Turn) -> Result<Outcome, OutOfMemory> {
-    let mut slots = Slots::new(turn.alloc());
-    slots.put(3, 'a')?;
-    let copy = slots.keep(turn.alloc())?;
+/// What becomes of a number that has a slot, and was kept before the map was cleared: it needs no memory.
+fn keep_a_number_again(turn: &mut Turn) -> Result<Outcome, OutOfMemory> {
+    let mut map = CountedMap::new(turn.alloc());
+    map.insert(200, 'a')?;
+    map.clear();
     turn.spend();
-    let returned = slots.put(40, 'b');
-    Ok(Outcome::of(returned, !slots.is_same(&copy), slots.is_same(&copy)))
+    let is_kept = map.insert(200, 'x').is_ok();
+    let is_done = is_kept && map.read(200, &mut Probes::new()) == Some(&'x');
+    Ok(if is_done { Outcome::Done } else { Outcome::NotDone })
 }
 
-/// What becomes of a copy of slots.
-fn copy_slots(turn: &mut Turn) -> Result<Outcome, OutOfMemory> {
-    let mut slots = Slots::new(turn.alloc());
-    slots.put(3, 'a')?;
+/// What becomes of a cell that was written before its level was erased, and of one left of it: neither needs memory.
+fn write_a_cell_again(turn: &mut Turn) -> Result<Outcome, OutOfMemory> {
+    let mut store = Layers::new(turn.alloc());
+    store.set_cell(Place::Cross { row: 7, col: 7 }, 'a')?;
+    store.erase_cells();
     turn.spend();
-    Ok(Outcome::of_value(slots.keep(turn.alloc()).map(|copy| copy.is_same(&slots))))
+    let again = store.set_cell(Place::Cross { row: 7, col: 7 }, 'x').is_ok();
+    let beside = store.set_cell(Place::Cross { row: 7, col: 2 }, 'y').is_ok();
+    let border = store.get_border(Position::new(7, 7), (9, 9));
+    let is_done = again && beside && border.left_top_corner == Some(&'x');
+    Ok(if is_done { Outcome::Done } else { Outcome::NotDone })
 }
 
-/// A table with one slot that is filled.
-fn table(alloc: Global) -> Result<Table<char>, OutOfMemory> {
-    let mut table = Table::new(alloc);
-    table.put(Slot { row: 1, col: 3 }, 'a')?;
-    Ok(table)
-}
-
-/// What becomes of a slot of a table that is filled.
-fn fill_a_table(turn: &mut Turn) -> Result<Outcome, OutOfMemory> {
-    let mut table = table(turn.alloc())?;
-    let copy = table.keep(turn.alloc())?;
+/// What becomes of a copy of one value.
+fn copy_one(turn: &mut Turn) -> Result<Outcome, OutOfMemory> {
+    let one = One::<_, Probes>::new(owned(turn.alloc())?);
     turn.spend();
-    let returned = table.put(Slot { row: 255, col: 767 }, 'b');
-    Ok(Outcome::of(returned, !table.is_same(&copy), table.is_same(&copy)))
-}
-
-/// What becomes of a copy of a table.
-fn copy_table(turn: &mut Turn) -> Result<Outcome, OutOfMemory> {
-    let table = table(turn.alloc())?;
-    turn.spend();
-    Ok(Outcome::of_value(table.keep(turn.alloc()).map(|copy| copy.is_same(&table))))
+    Ok(Outcome::of_value(one.keep(turn.alloc()).map(|copy| copy.get() == one.get())))
 }
 
 /// The writes of cells and offsets.
-pub(crate) fn cells() -> [Named; 6] {
+pub(crate) fn cells() -> [Named; 7] {
     [
         (
             "Layers<T>::set_cell (a slot)",
@@ -238,6 +228,10 @@ pub(crate) fn cells() -> [Named; 6] {
                     |store| store.set_cell(Place::Cross { row: 256, col: 9 }, 'x'),
                 )
             },
+        ),
+        (
+            "Layers<T>::set_cell (after an erasure)",
+            write_a_cell_again,
         ),
         ("Layers<T>::set_offset", write_the_first_offset),
         (
@@ -310,8 +304,8 @@ pub(crate) fn lists() -> [Named; 6] {
     ]
 }
 
-/// Kept maps, slots and tables of slots.
-pub(crate) fn maps() -> [Named; 8] {
+/// Kept maps, and one kept value.
+pub(crate) fn maps() -> [Named; 6] {
     [
         (
             "CountedMap<K, V>::insert (a slot)",
@@ -323,9 +317,10 @@ pub(crate) fn maps() -> [Named; 8] {
         ),
         ("<CountedMap<K, V> as Keep>::keep", copy_map),
         ("CountedMap<usize, V>::copy", list_map),
-        ("Slots<V>::put", fill_a_slot),
-        ("<Slots<V> as Keep>::keep", copy_slots),
-        ("Table<V>::put", fill_a_table),
-        ("<Table<V> as Keep>::keep", copy_table),
+        (
+            "CountedMap<K, V>::insert (after an erasure)",
+            keep_a_number_again,
+        ),
+        ("<One<V> as Keep>::keep", copy_one),
     ]
 }

@@ -2,9 +2,10 @@
 //! store. The Rust crate has none of these.
 
 pub use tabled_config::{
-    BorderEvent, Configured, Mark, Run, Seen, headline, line_marks, line_runs,
+    BorderEvent, Configured, Mark, Run, Seen, character_seen, color_seen, headline, line_marks,
+    line_runs, line_seen,
 };
 pub use tabled_grid::{
-    Event, HorizontalLines, Layers, LineOf, Place, Probes, Region, Site, Target, VerticalLines,
-    Written,
+    Event, HorizontalLines, Layers, LineOf, Meter, Place, Probes, Region, Site, Target,
+    VerticalLines, Written,
 };

@@ -12,6 +12,7 @@ ghost use Rattle.tabled_grid.specs.declared.place.Place.{Place as Spot};
 ghost use Rattle.tabled_grid.specs.Drawn.{Drawn, drawn};
 ghost use Rattle.tabled_grid.specs.Event as grid;
 ghost use Rattle.tabled_grid.specs.Event.{replay};
+ghost use Rattle.tabled_grid.specs.Probing.{IsRaised};
 ghost use Rattle.tabled_grid.specs.State.{state_at};
 ghost use Rattle.tabled_grid.specs.Value.{value};
 ghost use Rattle.tabled_configuration.specs.CellColors.{changed, colors_after, given, no_color};
@@ -24,8 +25,11 @@ ghost use Rattle.tabled_config.specs.Picture.{edge_size, look, printed};
 ghost use Rattle.tabled_config.specs.Refusal.{has_no_spans, table_faults};
 ghost use Rattle.tabled_config.specs.Texts.{Table, texts};
 
-use tabled_config::{ColoredConfig, Configured, PrintError, Seen, SpannedConfig};
-use tabled_grid::{Dimension, LineOf, Place};
+use tabled_config::{
+    ColoredConfig, Configured, PrintError, Seen, SpannedConfig, character_seen, color_seen,
+    line_seen,
+};
+use tabled_grid::{ANSIBuf, Dimension, LineOf, Meter, Place};
 
 /// The headline. After any list of options on a table of one shape, each edge place and crossing has, found by at most six
 /// readings, the character and the color of the latest write, not erased since, of the highest level there; a line is drawn
@@ -54,6 +58,51 @@ pub fn headline<'a, D: Dimension>(
     ensures unchanged { OnErr result.printed (string_bytes out.new ≡ string_bytes out.old) }
 {
     tabled_config::headline(cfg, dims, shape, cells, place, line, out)
+}
+
+/// The character of a place after any list of options, found by at most six readings, whatever the type of the meter that counts
+/// them: so none of them can go uncounted.
+pub fn character_after_any_list<M: Meter>(
+    cfg: &SpannedConfig<M>,
+    place: Place,
+    shape: (usize, usize),
+    size: usize,
+    probes: &mut M,
+) -> Option<char>
+    ensures character { (options : List (Colored → List ConfigEvent)) (events : List ConfigEvent) (colored : Colored) → HaveMade options events colored → cfg.now ≡ colored.spanned
+        → result ≡ value (replay (characters_of events)) shape size place }
+    ensures six_readings { IsRaised 6 (M.made probes.old) (M.made probes.new) }
+{
+    character_seen(cfg, place, shape, size, probes)
+}
+
+/// The color of a place after any list of options, likewise.
+pub fn color_after_any_list<'a, M: Meter>(
+    cfg: &'a SpannedConfig<M>,
+    place: Place,
+    shape: (usize, usize),
+    size: usize,
+    probes: &mut M,
+) -> Option<&'a ANSIBuf>
+    ensures color { (options : List (Colored → List ConfigEvent)) (events : List ConfigEvent) (colored : Colored) → HaveMade options events colored → cfg.now ≡ colored.spanned
+        → option_copied result ≡ value (replay (colors_of events)) shape size place }
+    ensures six_readings { IsRaised 6 (M.made probes.old) (M.made probes.new) }
+{
+    color_seen(cfg, place, shape, size, probes)
+}
+
+/// Whether a line is drawn after any list of options, likewise.
+pub fn line_after_any_list<M: Meter>(
+    cfg: &SpannedConfig<M>,
+    line: LineOf,
+    count: usize,
+    probes: &mut M,
+) -> bool
+    ensures drawn { (options : List (Colored → List ConfigEvent)) (events : List ConfigEvent) (colored : Colored) → HaveMade options events colored → cfg.now ≡ colored.spanned
+        → result ≡ drawn (characters_of events) count line }
+    ensures six_readings { IsRaised 6 (M.made probes.old) (M.made probes.new) }
+{
+    line_seen(cfg, line, count, probes)
 }
 
 /// How a table looks after a list of events is how it looks after the writes of all that is kept, wherever the events are shown:

@@ -1,4 +1,5 @@
-//! What one place shows.
+//! What one place shows, and whether a line is drawn. Each look-up is promised for every type of meters, so that none of its
+//! readings can go uncounted: where it were written for one type of them alone, it would not be proved here.
 
 ghost use Rattle.std.specs.Prelude.{◌≡◌, ◌↔◌, ℕ, [], ◌∷◌, map, IsTrue, option_copied};
 ghost use Rattle.tabled_grid.specs.declared.place.Place.{Place as At};
@@ -9,41 +10,46 @@ ghost use Rattle.tabled_grid.specs.State.{state_at};
 ghost use Rattle.tabled_grid.specs.Value.{sites, value};
 
 use tabled_config::SpannedConfig;
-use tabled_grid::{ANSIBuf, LineOf, Place, Probes};
+use tabled_grid::{ANSIBuf, LineOf, Meter, Place};
 
 /// The character of a place is the one that is kept at the strongest level, found in at most six readings.
-pub fn character_of_a_place(
-    cfg: &SpannedConfig,
+pub fn character_of_a_place<M: Meter>(
+    cfg: &SpannedConfig<M>,
     place: Place,
     shape: (usize, usize),
     size: usize,
-    probes: &mut Probes,
+    probes: &mut M,
 ) -> Option<char>
     ensures value { result ≡ value (state_at cfg.now.characters) shape size place }
-    ensures six_readings { IsRaised 6 probes.old probes.new }
+    ensures six_readings { IsRaised 6 (M.made probes.old) (M.made probes.new) }
 {
     cfg.char_at(place, shape, size, probes)
 }
 
 /// The color of a place is the one that is kept at the strongest level, found in at most six readings.
-pub fn color_of_a_place<'a>(
-    cfg: &'a SpannedConfig,
+pub fn color_of_a_place<'a, M: Meter>(
+    cfg: &'a SpannedConfig<M>,
     place: Place,
     shape: (usize, usize),
     size: usize,
-    probes: &mut Probes,
+    probes: &mut M,
 ) -> Option<&'a ANSIBuf>
     ensures value { option_copied result ≡ value (state_at cfg.now.colors) shape size place }
-    ensures six_readings { IsRaised 6 probes.old probes.new }
+    ensures six_readings { IsRaised 6 (M.made probes.old) (M.made probes.new) }
 {
     cfg.color_at(place, shape, size, probes)
 }
 
 /// A line, of the lines 0 to `count` of its direction, is drawn where something is kept that draws it, found in at most six
 /// readings.
-pub fn line_is_drawn(cfg: &SpannedConfig, line: LineOf, count: usize, probes: &mut Probes) -> bool
+pub fn line_is_drawn<M: Meter>(
+    cfg: &SpannedConfig<M>,
+    line: LineOf,
+    count: usize,
+    probes: &mut M,
+) -> bool
     ensures drawn { IsTrue result ↔ Drawn (state_at cfg.now.characters) count line }
-    ensures six_readings { IsRaised 6 probes.old probes.new }
+    ensures six_readings { IsRaised 6 (M.made probes.old) (M.made probes.new) }
 {
     cfg.draws(line, count, probes)
 }

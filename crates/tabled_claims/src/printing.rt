@@ -2,20 +2,24 @@
 
 ghost use Rattle.std.specs.Prelude.{◌≡◌, ◌+◌, ◌*◌, ◌≤◌, ℕ, true, false, if◌then◌else◌, List, [], ◌∷◌, ◌++◌, length, map, option_map, slice_get, IfOk, OnOk, OnErr, IsOkUnless, MatchOption, string_bytes};
 ghost use Rattle.tabled_grid.specs.declared.place.LineOf.{LineOf as Line};
+ghost use Rattle.std.specs.FinMap.{empty};
 ghost use Rattle.tabled_grid.specs.Probing.{IsRaised};
+ghost use Rattle.tabled_grid.specs.Reading.{direction_of};
+ghost use Rattle.tabled_grid.specs.State.{HasNoOffsets};
 ghost use Rattle.tabled_configuration.specs.Configuration.{ConfigEvent, Shows, all_writes};
 ghost use Rattle.tabled_object.specs.Entities.{below};
 ghost use Rattle.tabled_config.specs.Along.{along, is_empty};
+ghost use Rattle.tabled_config.specs.Known.{HasNoneAcross};
 ghost use Rattle.tabled_config.specs.LinePieces.{has_line, pieces_of, crossed_after, lines_met};
 ghost use Rattle.tabled_config.specs.Marks.{mark_of, marks_of};
-ghost use Rattle.tabled_config.specs.Picture.{Look, text_shown, mark_at, marks_along, marks, line_if_drawn, text_lines, printed};
+ghost use Rattle.tabled_config.specs.Picture.{Look, text_marked, text_shown, mark_at, marks_along, marks, line_if_drawn, text_lines, printed};
 ghost use Rattle.tabled_config.specs.Refusal.{first_refusal};
 ghost use Rattle.tabled_config.specs.TextOrder.{text_order, line_text, place_in};
 ghost use Rattle.tabled_config.specs.Texts.{Table, texts};
 
 use tabled_config::{
     Mark, PrintError, Run, SpannedConfig, drawn_across, line_marks, line_runs, print_plain,
-    runs_across,
+    runs_across, write_across,
 };
 use tabled_grid::{Dimension, LineOf, OutOfMemory, Probes};
 
@@ -38,8 +42,8 @@ pub fn printed_or_refused<D: Dimension>(
 }
 
 /// The marks of a line are the character and the color of each place along it, in order, for every list of events that the
-/// configuration shows, whether the line is drawn or not. They take at most twelve readings for each place and six for each line
-/// that meets this one, and are refused for memory alone.
+/// configuration shows, whether the line is drawn or not. They take at most twelve readings for each place, six for each line that
+/// meets this one and four for the line, and are refused for memory alone.
 pub fn marks_of_a_line<'a, D: Dimension>(
     cfg: &'a SpannedConfig,
     dims: &D,
@@ -50,7 +54,7 @@ pub fn marks_of_a_line<'a, D: Dimension>(
     ensures marks { (events : List ConfigEvent) → Shows events cfg.now
         → IfOk result (λ found. map mark_of found.items ≡ marks events shape (D.width_of dims.now) (D.height_of dims.now) line) }
     ensures readings { (events : List ConfigEvent) → Shows events cfg.now
-        → IsRaised (12 * length (marks events shape (D.width_of dims.now) (D.height_of dims.now) line) + 6 * lines_met shape line) probes.old probes.new }
+        → IsRaised (12 * length (marks events shape (D.width_of dims.now) (D.height_of dims.now) line) + 6 * lines_met shape line + 4) probes.old probes.new }
 {
     line_marks(cfg, dims, shape, line, probes)
 }
@@ -66,7 +70,7 @@ pub fn runs_of_a_line<'a, D: Dimension>(
     ensures marks { (events : List ConfigEvent) → Shows events cfg.now
         → IfOk result (λ found. marks_of found.items ≡ marks events shape (D.width_of dims.now) (D.height_of dims.now) line) }
     ensures readings { (events : List ConfigEvent) → Shows events cfg.now
-        → IsRaised (12 * length (marks events shape (D.width_of dims.now) (D.height_of dims.now) line) + 6 * lines_met shape line) probes.old probes.new }
+        → IsRaised (12 * length (marks events shape (D.width_of dims.now) (D.height_of dims.now) line) + 6 * lines_met shape line + 4) probes.old probes.new }
 {
     line_runs(cfg, dims, shape, line, probes)
 }
@@ -96,9 +100,30 @@ pub fn runs_across_drawn_lines<'a, D: Dimension>(
     requires there { has_line shape line ≡ true }
     requires crossed { crossed.now ≡ map (λ n. crossed_after (all_writes cfg.now) shape line n) (below (pieces_of shape line + 1)) }
     ensures marks { IfOk result (λ found. marks_of found.items ≡ marks (all_writes cfg.now) shape (D.width_of dims.now) (D.height_of dims.now) line) }
-    ensures readings { IsRaised (12 * length (marks (all_writes cfg.now) shape (D.width_of dims.now) (D.height_of dims.now) line)) probes.old probes.new }
+    ensures readings { IsRaised (12 * length (marks (all_writes cfg.now) shape (D.width_of dims.now) (D.height_of dims.now) line) + 4) probes.old probes.new }
 {
     runs_across(cfg, dims, shape, line, crossed, probes)
+}
+
+/// The characters of a line, written from its marks; where nothing is kept for single places and no custom line stands across, in at
+/// most 29 readings, however long the line is.
+pub fn line_written_across<D: Dimension>(
+    text: &mut String,
+    cfg: &SpannedConfig,
+    dims: &D,
+    shape: (usize, usize),
+    line: LineOf,
+    crossed: &[bool],
+    probes: &mut Probes,
+) -> Result<(), OutOfMemory>
+    requires there { has_line shape line ≡ true }
+    requires crossed { crossed.now ≡ map (λ n. crossed_after (all_writes cfg.now) shape line n) (below (pieces_of shape line + 1)) }
+    ensures text { OnOk result (string_bytes text.new ≡ string_bytes text.old ++ text_marked (marks (all_writes cfg.now) shape (D.width_of dims.now) (D.height_of dims.now) line)) }
+    ensures readings { IsRaised (12 * length (marks (all_writes cfg.now) shape (D.width_of dims.now) (D.height_of dims.now) line) + 29) probes.old probes.new }
+    ensures looked_up_once { cfg.now.characters.cells ≡ empty → HasNoOffsets (direction_of line) cfg.now.characters → HasNoneAcross cfg.now.characters line
+        → IsRaised 29 probes.old probes.new }
+{
+    write_across(text, cfg, dims, shape, line, crossed, probes)
 }
 
 /// A drawn horizontal line of the picture, which is the characters of its marks, is what the places along it show, with a space

@@ -21,7 +21,7 @@ ghost use Rattle.tabled_grid.specs.Value.{value};
 
 use std::alloc::Global;
 use tabled_grid::{
-    Border, Borders, HorizontalLine, Layers, LineOf, Offset, OutOfMemory, Place, Position, Probes,
+    Border, Borders, HorizontalLine, Layers, LineOf, Meter, Offset, OutOfMemory, Place, Position,
     VerticalLine,
 };
 
@@ -34,23 +34,28 @@ pub fn new_store<T>(alloc: Global) -> Layers<T>
 
 /// What shows at a place is the value that the events leave there, for every list of events that the store shows, found in at
 /// most six readings.
-pub fn value_of_a_place<'a, T>(
-    store: &'a Layers<T>,
+pub fn value_of_a_place<'a, T, M: Meter>(
+    store: &'a Layers<T, M>,
     place: Place,
     shape: (usize, usize),
     size: usize,
-    probes: &mut Probes,
+    probes: &mut M,
 ) -> Option<&'a T>
     ensures value { (events : List (Event T)) → Shows events (state_at store.now) → option_copied result ≡ value (replay events) shape size place }
-    ensures six_readings { IsRaised 6 probes.old probes.new }
+    ensures six_readings { IsRaised 6 (M.made probes.old) (M.made probes.new) }
 {
     store.at(place, shape, size, probes)
 }
 
 /// A line is drawn where the events draw it, for every list of events that the store shows, found in at most six readings.
-pub fn line_is_drawn<T>(store: &Layers<T>, line: LineOf, count: usize, probes: &mut Probes) -> bool
+pub fn line_is_drawn<T, M: Meter>(
+    store: &Layers<T, M>,
+    line: LineOf,
+    count: usize,
+    probes: &mut M,
+) -> bool
     ensures drawn { (events : List (Event T)) → Shows events (state_at store.now) → IsTrue result ↔ IsTrue (drawn events count line) }
-    ensures six_readings { IsRaised 6 probes.old probes.new }
+    ensures six_readings { IsRaised 6 (M.made probes.old) (M.made probes.new) }
 {
     store.draws(line, count, probes)
 }

@@ -25,19 +25,6 @@ use Rattle.tabled_config.specs.declared.marks.LineChars.{LineChars}
 use Rattle.tabled_config.specs.Known.{IsAlike, AreKnown}
 use Rattle.tabled_config.specs.LinePieces.{pieces_of, crossing_of, edge_of}
 
--- a map whose entries have no first one
-pub none_kept : {X A : Type 0} (m : FinMap nat_cmp X) (all rest : List (ℕ × X)) (view : A → ℕ × X) (found : Option A) (answer : Bool) → all ≡ entries m
-    → MatchOption found ((all ≡ []) × (rest ≡ [])) (λ x. all ≡ view x ∷ rest) → is_some found ≡ not answer → IsTrue answer ↔ (m ≡ empty)
-none_kept m all rest view None true is nothing answered = (λ _. empty_of_len m (len-entries m ∙ ap length (sym is ∙ nothing.0)), λ _. refl)
-none_kept m all rest view None false is nothing answered = absurd cc
-none_kept m all rest view (Some x) true is more answered = absurd cc
-none_kept {X} m all rest view (Some x) false is more answered = (
-  λ yes. absurd cc,
-  λ none.
-      let one : length (view x ∷ rest) ≡ 0 = ap length (sym more ∙ is) ∙ ap (λ n. length (entries n)) none ∙ sym (len-entries empty) ∙ len-empty nat_cmp X in
-      absurd cc,
-)
-
 -- what a map without entries has under a key, and the rank of a line between the first one and the last one
 pub absent : {K X : Type 0} (R : K → K → Ordering) (m : FinMap R X) (k : K) → m ≡ empty → get m k ≡ None
 absent R m k none = ap (λ n. get n k) none ∙ get-empty R k

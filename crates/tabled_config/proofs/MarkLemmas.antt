@@ -1,6 +1,6 @@
 -- Marks that are put into something, run by run, and the meter on the way.
 use Rattle.std.proofs.Common.{◌≡◌, ℕ, ◌+◌, ◌≤◌, ◌<◌, Bool, true, if◌then◌else◌, Option, List, [], ◌∷◌, ◌++◌, length, take, map, replicate, encode_utf8_all, zero, suc, add-one, refl, ap, sym, subst, ◌∙◌, arith, Result, Ok, Err, IsErr, String, string_bytes}
-use Rattle.std.proofs.lemmas.List.{map-append, take_at, replicate_more}
+use Rattle.std.proofs.lemmas.List.{map-append, length-map, take_at, replicate_more}
 use Rattle.std.proofs.lemmas.List.FromFn.{map-range_with_len_more}
 use Rattle.tabled_border.specs.Texts.{Texts}
 use Rattle.tabled_grid.specs.Probing.{IsRaised}
@@ -30,6 +30,10 @@ raised_both a b most old between new p q fits = record {
 
 pub raised_least : (a most old new : ℕ) → IsRaised a old new → a ≤ most → IsRaised most old new
 raised_least a most old new p fits = record { no_lower = p.no_lower; by_at_most = omega (arith, p.by_at_most); stands_still = p.stands_still }
+
+-- two looks of at most two readings each, and then the walk
+pub with_look : (most old one two new : ℕ) → IsRaised 2 old one → IsRaised 2 one two → IsRaised most two new → IsRaised (most + 4) old new
+with_look most old one two new p q r = raised_both 4 most (most + 4) old two new (raised_both 2 2 4 old one two p q (omega arith)) r (omega arith)
 
 -- a mark by its two parts
 pub mark_by : (a b : Option ℕ) (x y : Option Texts) → a ≡ b → x ≡ y → ◌≡◌ {A = Shown} (a, x) (b, y)
@@ -109,6 +113,11 @@ characters_of_marks view places = ap text_shown (characters view places)
     characters : (view : Look) (places : List Place) → map (λ mark. mark.0) (map (mark_at view) places) ≡ map view.shown places
     characters view [] = refl
     characters view (place ∷ places) = ap (λ rest. view.shown place ∷ rest) (characters view places)
+
+-- a line has as many marks as places are walked, whether colors are wanted or not
+pub count_if_colored : (view : Look) (line : LineOf) (wanted : Bool) → has_line view.shape line ≡ true → length (marks_along view line) ≡ length (all_places (colored_if wanted view) line)
+count_if_colored view line wanted there =
+    length-map (along view.horizontal view.vertical view.shape view.widths view.heights line) (mark_at view) ∙ ap length (along_pieces (colored_if wanted view) line there)
 
 -- a text that took the marks of a line, whose colors were wanted or not, has gained their characters; one that took some marks
 -- still begins with what it was

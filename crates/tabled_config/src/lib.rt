@@ -22,7 +22,7 @@ pub use marks::{drawn_across, has_none_across, line_marks, line_runs, runs_acros
 pub use print::{print_plain, print_rows};
 pub use print_error::PrintError;
 pub use repeat::{push_spaces_before, push_times};
-pub use seen::{Seen, headline};
+pub use seen::{Seen, character_seen, color_seen, headline, line_seen};
 pub use tabled_configuration::{
     BorderEvent, CellOption, ColorMap, ColoredConfig, Colors, CompactConfig,
     CompactMultilineConfig, Configured, Formatting, SpannedConfig, TableOption, modify,

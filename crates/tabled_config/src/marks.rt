@@ -17,7 +17,9 @@ ghost use Rattle.tabled_config.specs.Texts.{Appends};
 use crate::line_pieces::{crossing_line, crossing_of, edge_of, has_line, pieces_of, size_of};
 use crate::sink::Sink;
 use crate::{Mark, Run, SpannedConfig};
-use tabled_grid::{ANSIBuf, Dimension, HorizontalLine, LineOf, OutOfMemory, Place, Probes, Rank};
+use tabled_grid::{
+    ANSIBuf, Dimension, HorizontalLine, LineOf, Meter, OutOfMemory, Place, Probes, Rank,
+};
 
 /// What was looked up of the characters of a line.
 #[derive(Drop)]
@@ -81,10 +83,11 @@ impl<'a, D: Dimension> MarkedLine<'a, '_, D> {
         self.cfg.color_at(place, self.shape, size, probes)
     }
 
-    /// The color of a crossing, or of an edge without its offsets, if colors are wanted.
+    /// The color of a crossing, or of an edge without its offsets, if colors are wanted; else nothing is read.
     fn plain_color(&self, place: Place, probes: &mut Probes) -> Option<&'a ANSIBuf>
         ensures value { option_copied result ≡ (if self.now.with_colors then plain_value (state_at self.now.cfg.now.colors) self.now.shape place else None) }
         ensures probes { IsRaised 5 probes.old probes.new }
+        ensures unread { self.now.with_colors ≡ false → probes.new ≡ probes.old }
     {
         if !self.with_colors {
             return None;
@@ -92,11 +95,12 @@ impl<'a, D: Dimension> MarkedLine<'a, '_, D> {
         self.cfg.read_plain_color(place, self.shape, probes)
     }
 
-    /// Whether no character is kept for one edge or one crossing of the line alone.
-    fn is_alike(&self) -> bool
-        ensures { IsTrue result ↔ IsAlike self.now.cfg.now.characters self.now.line }
+    /// Whether no character is kept for one edge or one crossing of the line alone: at most two readings.
+    fn is_alike(&self, probes: &mut Probes) -> bool
+        ensures value { IsTrue result ↔ IsAlike self.now.cfg.now.characters self.now.line }
+        ensures probes { IsRaised 2 probes.old probes.new }
     {
-        !self.cfg.has_cell_chars() && has_none_across(self.cfg, self.line)
+        !self.cfg.has_cell_chars(probes) && has_none_across(self.cfg, self.line, probes)
     }
 
     /// The character of an edge without its offsets, which is looked up once where edges look alike.
@@ -150,14 +154,16 @@ impl<'a, D: Dimension> MarkedLine<'a, '_, D> {
         shown
     }
 
-    /// Whether a place of an edge may show something else than its edge.
+    /// Whether a place of an edge may show something else than its edge: at most two readings.
     #[inline(always)]
-    fn has_offsets(&self) -> bool
+    fn has_offsets(&self, probes: &mut Probes) -> bool
         ensures characters { IsFalse result → HasNoOffsets (direction_of self.now.line) self.now.cfg.now.characters }
         ensures colors { IsFalse result → self.now.with_colors ≡ true → HasNoOffsets (direction_of self.now.line) self.now.cfg.now.colors }
+        ensures plain { self.now.with_colors ≡ false → HasNoOffsets (direction_of self.now.line) self.now.cfg.now.characters → IsFalse result }
+        ensures probes { IsRaised 2 probes.old probes.new }
     {
-        self.cfg.has_char_offsets(self.line)
-            || (self.with_colors && self.cfg.has_color_offsets(self.line))
+        self.cfg.has_char_offsets(self.line, probes)
+            || (self.with_colors && self.cfg.has_color_offsets(self.line, probes))
     }
 
     /// Puts the mark of a crossing, if the other line is drawn.
@@ -198,6 +204,7 @@ impl<'a, D: Dimension> MarkedLine<'a, '_, D> {
         ensures put { let view = viewed D.width_of D.height_of self.now in
             Put S.puts result (map (mark_at view) (crossing_places view self.now.line n)) sink.old sink.new }
         ensures probes { IsRaised 5 probes.old probes.new }
+        ensures unread { self.now.with_colors ≡ false → probes.new ≡ probes.old }
     {
         let mark = Mark {
             shown,
@@ -271,6 +278,7 @@ impl<'a, D: Dimension> MarkedLine<'a, '_, D> {
         ensures put { let view = viewed D.width_of D.height_of self.now in
             Put S.puts result (map (mark_at view) (edge_places view self.now.line n)) sink.old sink.new }
         ensures probes { IsRaised 5 probes.old probes.new }
+        ensures unread { self.now.with_colors ≡ false → probes.new ≡ probes.old }
     {
         let mark = Mark {
             shown,
@@ -299,7 +307,7 @@ impl<'a, D: Dimension> MarkedLine<'a, '_, D> {
         self.put_edge(sink, n, chars, probes)
     }
 
-    /// Puts the marks of the line, run by run.
+    /// Puts the marks of the line, run by run. Four readings say how it is to be looked up.
     pub(crate) fn put_all<S: Sink<'a>>(
         &self,
         sink: &mut S,
@@ -308,12 +316,12 @@ impl<'a, D: Dimension> MarkedLine<'a, '_, D> {
         ensures put { let view = viewed D.width_of D.height_of self.now in
             Put S.puts result (map (mark_at view) (all_places view self.now.line)) sink.old sink.new }
         ensures probes { let view = viewed D.width_of D.height_of self.now in
-            IsRaised (12 * length (all_places view self.now.line)) probes.old probes.new }
+            IsRaised (12 * length (all_places view self.now.line) + 4) probes.old probes.new }
     {
         let count = pieces_of(self.shape, self.line);
         let mut chars = LineChars {
-            have_offsets: self.has_offsets(),
-            are_alike: self.is_alike(),
+            have_offsets: self.has_offsets(probes),
+            are_alike: self.is_alike(probes),
             edge: None,
             crossing: None,
         };
@@ -328,33 +336,39 @@ impl<'a, D: Dimension> MarkedLine<'a, '_, D> {
 impl<D: Dimension> MarkedLine<'_, '_, D> {
     ghost use Rattle.tabled_config.specs.Viewed.{viewed};
 
-    /// The character of a crossing, or of an edge without its offsets.
-    fn shown(&self, place: Place) -> Option<char>
-        ensures { result ≡ plain_value (state_at self.now.cfg.now.characters) self.now.shape place }
-    {
-        self.cfg.plain_char_at(place, self.shape)
-    }
-
     /// What the line shows, as a custom line would have it: its edges, and its first crossing, those between, and its last one.
-    /// Where the class record alone decides that, it is read off there.
+    /// Where the class record alone decides that, it is read off there. At most 25 readings are made.
     #[inline(always)]
-    fn looks(&self) -> HorizontalLine<char>
+    fn looks(&self, probes: &mut Probes) -> HorizontalLine<char>
         ensures main { result.main ≡ plain_value (state_at self.now.cfg.now.characters) self.now.shape (edge_of self.now.line 0 0) }
         ensures left { result.left ≡ plain_value (state_at self.now.cfg.now.characters) self.now.shape (crossing_of self.now.line 0) }
         ensures intersection { 1 < pieces_of self.now.shape self.now.line → result.intersection ≡ plain_value (state_at self.now.cfg.now.characters) self.now.shape (crossing_of self.now.line 1) }
         ensures right { result.right ≡ plain_value (state_at self.now.cfg.now.characters) self.now.shape (crossing_of self.now.line (pieces_of self.now.shape self.now.line)) }
+        ensures probes { IsRaised 25 probes.old probes.new }
     {
         if let LineOf::Horizontal(row) = self.line
-            && let Some(class) = self.cfg.class_alone()
+            && let Some(class) = self.cfg.class_alone(probes)
         {
             return class.horizontal_line(Rank::of(row, self.shape.0));
         }
+        self.looked_up(probes)
+    }
+
+    /// The same, each character looked up by itself: at most twenty readings.
+    fn looked_up(&self, probes: &mut Probes) -> HorizontalLine<char>
+        ensures main { result.main ≡ plain_value (state_at self.now.cfg.now.characters) self.now.shape (edge_of self.now.line 0 0) }
+        ensures left { result.left ≡ plain_value (state_at self.now.cfg.now.characters) self.now.shape (crossing_of self.now.line 0) }
+        ensures intersection { result.intersection ≡ plain_value (state_at self.now.cfg.now.characters) self.now.shape (crossing_of self.now.line 1) }
+        ensures right { result.right ≡ plain_value (state_at self.now.cfg.now.characters) self.now.shape (crossing_of self.now.line (pieces_of self.now.shape self.now.line)) }
+        ensures probes { IsRaised 20 probes.old probes.new }
+    {
         let count = pieces_of(self.shape, self.line);
+        let (cfg, shape) = (self.cfg, self.shape);
         HorizontalLine {
-            main: self.shown(edge_of(self.line, 0, 0)),
-            intersection: self.shown(crossing_of(self.line, 1)),
-            left: self.shown(crossing_of(self.line, 0)),
-            right: self.shown(crossing_of(self.line, count)),
+            main: cfg.read_plain_char(edge_of(self.line, 0, 0), shape, probes),
+            intersection: cfg.read_plain_char(crossing_of(self.line, 1), shape, probes),
+            left: cfg.read_plain_char(crossing_of(self.line, 0), shape, probes),
+            right: cfg.read_plain_char(crossing_of(self.line, count), shape, probes),
         }
     }
 
@@ -366,18 +380,20 @@ impl<D: Dimension> MarkedLine<'_, '_, D> {
         n: usize,
         crossing: Option<char>,
         edge: Option<char>,
+        probes: &mut Probes,
     ) -> Result<(), OutOfMemory>
         requires within { n < pieces_of self.now.shape self.now.line }
         requires plain { self.now.with_colors ≡ false }
         requires no_offsets { HasNoOffsets (direction_of self.now.line) self.now.cfg.now.characters }
         requires crossing { crossing ≡ plain_value (state_at self.now.cfg.now.characters) self.now.shape (crossing_of self.now.line n) }
         requires edge { edge ≡ plain_value (state_at self.now.cfg.now.characters) self.now.shape (edge_of self.now.line n 0) }
-        ensures { let view = viewed D.width_of D.height_of self.now in
+        ensures put { let view = viewed D.width_of D.height_of self.now in
             Put text_gains result (map (mark_at view) (piece_places view self.now.line n)) text.old text.new }
+        ensures unread { probes.new ≡ probes.old }
     {
-        self.write_crossing(text, n, crossing)?;
+        self.write_crossing(text, n, crossing, probes)?;
         let size = size_of(self.dims, self.line, n);
-        self.put_run(text, n, size, edge, &mut Probes::new())
+        self.put_run(text, n, size, edge, probes)
     }
 
     /// Writes a crossing that shows this character, if the other line is drawn.
@@ -387,44 +403,49 @@ impl<D: Dimension> MarkedLine<'_, '_, D> {
         text: &mut String,
         n: usize,
         shown: Option<char>,
+        probes: &mut Probes,
     ) -> Result<(), OutOfMemory>
         requires within { n ≤ pieces_of self.now.shape self.now.line }
+        requires plain { self.now.with_colors ≡ false }
         requires shown { shown ≡ plain_value (state_at self.now.cfg.now.characters) self.now.shape (crossing_of self.now.line n) }
-        ensures { let view = viewed D.width_of D.height_of self.now in
+        ensures put { let view = viewed D.width_of D.height_of self.now in
             Put text_gains result (map (mark_at view) (crossing_places view self.now.line n)) text.old text.new }
+        ensures unread { probes.new ≡ probes.old }
     {
         if !self.is_crossed(n) {
             return Ok(());
         }
-        self.put_drawn(text, n, shown, &mut Probes::new())
+        self.put_drawn(text, n, shown, probes)
     }
 
-    /// Writes the line. What it shows is looked up once.
-    fn write_alike(&self, text: &mut String) -> Result<(), OutOfMemory>
+    /// Writes the line. What it shows is looked up once, in at most 25 readings.
+    fn write_alike(&self, text: &mut String, probes: &mut Probes) -> Result<(), OutOfMemory>
         requires plain { self.now.with_colors ≡ false }
         requires no_offsets { HasNoOffsets (direction_of self.now.line) self.now.cfg.now.characters }
         requires alike { IsAlike self.now.cfg.now.characters self.now.line }
-        ensures { let view = viewed D.width_of D.height_of self.now in
+        ensures put { let view = viewed D.width_of D.height_of self.now in
             Put text_gains result (map (mark_at view) (all_places view self.now.line)) text.old text.new }
+        ensures probes { IsRaised 25 probes.old probes.new }
     {
         let count = pieces_of(self.shape, self.line);
-        let looks = self.looks();
+        let looks = self.looks(probes);
         let mut crossing = looks.left;
         for n in 0..count {
-            self.write_piece(text, n, crossing, looks.main)?;
+            self.write_piece(text, n, crossing, looks.main, probes)?;
             crossing = looks.intersection;
         }
-        self.write_crossing(text, count, looks.right)
+        self.write_crossing(text, count, looks.right, probes)
     }
 }
 
-/// Whether no custom line of characters stands across a line: of the other direction, at whatever index.
-pub fn has_none_across(cfg: &SpannedConfig, line: LineOf) -> bool
-    ensures { IsTrue result ↔ HasNoneAcross cfg.now.characters line }
+/// Whether no custom line of characters stands across a line: of the other direction, at whatever index. That is one reading.
+pub fn has_none_across<M: Meter>(cfg: &SpannedConfig<M>, line: LineOf, probes: &mut M) -> bool
+    ensures value { IsTrue result ↔ HasNoneAcross cfg.now.characters line }
+    ensures probes { IsRaised 1 (M.made probes.old) (M.made probes.new) }
 {
     match line {
-        LineOf::Horizontal(_) => cfg.vertical_lines().next().is_none(),
-        LineOf::Vertical(_) => cfg.horizontal_lines().next().is_none(),
+        LineOf::Horizontal(_) => !cfg.has_char_lines(LineOf::Vertical(0), probes),
+        LineOf::Vertical(_) => !cfg.has_char_lines(LineOf::Horizontal(0), probes),
     }
 }
 
@@ -458,7 +479,7 @@ fn put_line<'a, D: Dimension, S: Sink<'a>>(
     probes: &mut Probes,
 ) -> Result<(), OutOfMemory>
     ensures put { Put S.puts result (marks (all_writes cfg.now) shape (D.width_of dims.now) (D.height_of dims.now) line) sink.old sink.new }
-    ensures probes { IsRaised (12 * length (marks (all_writes cfg.now) shape (D.width_of dims.now) (D.height_of dims.now) line) + 6 * lines_met shape line) probes.old probes.new }
+    ensures probes { IsRaised (12 * length (marks (all_writes cfg.now) shape (D.width_of dims.now) (D.height_of dims.now) line) + 6 * lines_met shape line + 4) probes.old probes.new }
 {
     if !has_line(shape, line) {
         return Ok(());
@@ -477,7 +498,8 @@ fn put_line<'a, D: Dimension, S: Sink<'a>>(
 
 /// What each place along a line of a table shows, in order, whether the line is drawn or not: `shape` is the number of the
 /// table's rows and of its columns. A line past the last one, and one of a table without rows or columns, has no places. At most
-/// twelve readings are made for each place, and six for each line that meets this one, drawn or not; only memory can be refused.
+/// twelve readings are made for each place, six for each line that meets this one, drawn or not, and four for the line; only memory
+/// can be refused.
 pub fn line_marks<'a, D: Dimension>(
     cfg: &'a SpannedConfig,
     dims: &D,
@@ -486,7 +508,7 @@ pub fn line_marks<'a, D: Dimension>(
     probes: &mut Probes,
 ) -> Result<Vec<Mark<'a>>, OutOfMemory>
     ensures marks { (es : List ConfigEvent) → Shows es cfg.now → IfOk result (λ found. map mark_of found.items ≡ marks es shape (D.width_of dims.now) (D.height_of dims.now) line) }
-    ensures probes { (es : List ConfigEvent) → Shows es cfg.now → IsRaised (12 * length (marks es shape (D.width_of dims.now) (D.height_of dims.now) line) + 6 * lines_met shape line) probes.old probes.new }
+    ensures probes { (es : List ConfigEvent) → Shows es cfg.now → IsRaised (12 * length (marks es shape (D.width_of dims.now) (D.height_of dims.now) line) + 6 * lines_met shape line + 4) probes.old probes.new }
 {
     let mut marks = Vec::new(cfg.allocator());
     put_line(cfg, dims, shape, line, &mut marks, probes)?;
@@ -503,7 +525,7 @@ pub fn line_runs<'a, D: Dimension>(
     probes: &mut Probes,
 ) -> Result<Vec<Run<'a>>, OutOfMemory>
     ensures marks { (es : List ConfigEvent) → Shows es cfg.now → IfOk result (λ found. marks_of found.items ≡ marks es shape (D.width_of dims.now) (D.height_of dims.now) line) }
-    ensures probes { (es : List ConfigEvent) → Shows es cfg.now → IsRaised (12 * length (marks es shape (D.width_of dims.now) (D.height_of dims.now) line) + 6 * lines_met shape line) probes.old probes.new }
+    ensures probes { (es : List ConfigEvent) → Shows es cfg.now → IsRaised (12 * length (marks es shape (D.width_of dims.now) (D.height_of dims.now) line) + 6 * lines_met shape line + 4) probes.old probes.new }
 {
     let mut runs = Vec::new(cfg.allocator());
     put_line(cfg, dims, shape, line, &mut runs, probes)?;
@@ -512,7 +534,7 @@ pub fn line_runs<'a, D: Dimension>(
 
 /// The marks of a line that is there, as runs, where `crossed` says which of the lines that it meets are drawn, as
 /// `drawn_across` does for any line of its direction: so a caller that walks along many lines asks that once. At most twelve
-/// readings are made for each place; only memory can be refused.
+/// readings are made for each place, and four for the line; only memory can be refused.
 pub fn runs_across<'a, D: Dimension>(
     cfg: &'a SpannedConfig,
     dims: &D,
@@ -524,7 +546,7 @@ pub fn runs_across<'a, D: Dimension>(
     requires there { has_line shape line ≡ true }
     requires crossed { crossed.now ≡ map (λ n. crossed_after (all_writes cfg.now) shape line n) (below (pieces_of shape line + 1)) }
     ensures marks { IfOk result (λ found. marks_of found.items ≡ marks (all_writes cfg.now) shape (D.width_of dims.now) (D.height_of dims.now) line) }
-    ensures probes { IsRaised (12 * length (marks (all_writes cfg.now) shape (D.width_of dims.now) (D.height_of dims.now) line)) probes.old probes.new }
+    ensures probes { IsRaised (12 * length (marks (all_writes cfg.now) shape (D.width_of dims.now) (D.height_of dims.now) line) + 4) probes.old probes.new }
 {
     let marked = MarkedLine {
         cfg,
@@ -540,7 +562,8 @@ pub fn runs_across<'a, D: Dimension>(
 }
 
 /// Writes the characters of the marks of a line that is there, a space for none, where `crossed` says which of the lines that it
-/// meets are drawn, as `runs_across` takes it. Where memory is refused some of them may have been written.
+/// meets are drawn, as `runs_across` takes it. Where memory is refused some of them may have been written. At most twelve readings
+/// are made for each place, and 29 for the line; where no offset, no cell and no line across is kept, 29 in all.
 pub fn write_across<D: Dimension>(
     text: &mut String,
     cfg: &SpannedConfig,
@@ -548,10 +571,13 @@ pub fn write_across<D: Dimension>(
     shape: (usize, usize),
     line: LineOf,
     crossed: &[bool],
+    probes: &mut Probes,
 ) -> Result<(), OutOfMemory>
     requires there { has_line shape line ≡ true }
     requires crossed { crossed.now ≡ map (λ n. crossed_after (all_writes cfg.now) shape line n) (below (pieces_of shape line + 1)) }
-    ensures { Appends result text.old text.new (text_marked (marks (all_writes cfg.now) shape (D.width_of dims.now) (D.height_of dims.now) line)) }
+    ensures text { Appends result text.old text.new (text_marked (marks (all_writes cfg.now) shape (D.width_of dims.now) (D.height_of dims.now) line)) }
+    ensures probes { IsRaised (12 * length (marks (all_writes cfg.now) shape (D.width_of dims.now) (D.height_of dims.now) line) + 29) probes.old probes.new }
+    ensures looked_up_once { HasNoOffsets (direction_of line) cfg.now.characters → IsAlike cfg.now.characters line → IsRaised 29 probes.old probes.new }
 {
     let marked = MarkedLine {
         cfg,
@@ -561,8 +587,10 @@ pub fn write_across<D: Dimension>(
         crossed,
         with_colors: false,
     };
-    if !marked.has_offsets() && marked.is_alike() {
-        return marked.write_alike(text);
+    let have_offsets = marked.has_offsets(probes);
+    let are_alike = marked.is_alike(probes);
+    if are_alike && !have_offsets {
+        return marked.write_alike(text, probes);
     }
-    marked.put_all(text, &mut Probes::new())
+    marked.put_all(text, probes)
 }

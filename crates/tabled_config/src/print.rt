@@ -71,7 +71,15 @@ impl<D: Dimension> Frame<'_, D> {
             Appends result text.old text.new (text_marked (marks_along view (Line.Horizontal row))) }
     {
         let line = LineOf::Horizontal(row);
-        write_across(text, self.cfg, self.dims, self.shape, line, self.sides)
+        write_across(
+            text,
+            self.cfg,
+            self.dims,
+            self.shape,
+            line,
+            self.sides,
+            &mut Probes::new(),
+        )
     }
 
     /// Writes a horizontal line and a line feed, if the line is drawn.
@@ -94,12 +102,14 @@ impl<D: Dimension> Frame<'_, D> {
             result ≡ character (view.shown (Spot.Vertical row col at)) }
     {
         let place = Place::Vertical { row, col, at };
-        if self.cfg.has_char_offsets(LineOf::Vertical(col)) || at >= self.dims.get_height(row) {
+        let line = LineOf::Vertical(col);
+        let probes = &mut Probes::new();
+        if self.cfg.has_char_offsets(line, probes) || at >= self.dims.get_height(row) {
             return self.character(place);
         }
         printed_as(
             self.cfg
-                .plain_char_at(edge_of(LineOf::Vertical(col), row, 0), self.shape),
+                .read_plain_char(edge_of(line, row, 0), self.shape, probes),
         )
     }
 

@@ -2,6 +2,7 @@
 
 ghost use Rattle.std.specs.Prelude.{◌≡◌, ◌≤◌, ◌++◌, List, [], OnOk, OnErr, IsTrue, IsOkUnless, option_copied, string_bytes};
 ghost use Rattle.tabled_grid.specs.Event.{replay};
+ghost use Rattle.tabled_grid.specs.Probing.{IsRaised};
 ghost use Rattle.tabled_grid.specs.Value.{value};
 ghost use Rattle.tabled_grid.specs.Drawn.{drawn};
 ghost use Rattle.tabled_configuration.specs.Configuration.{ConfigEvent, characters_of, colors_of};
@@ -11,8 +12,8 @@ ghost use Rattle.tabled_config.specs.Picture.{edge_size, printed};
 ghost use Rattle.tabled_config.specs.Refusal.{has_no_spans, table_faults};
 ghost use Rattle.tabled_config.specs.Texts.{texts};
 
-use crate::{ColoredConfig, PrintError, print_plain};
-use tabled_grid::{ANSIBuf, Dimension, LineOf, Place, Probes};
+use crate::{ColoredConfig, PrintError, SpannedConfig, print_plain};
+use tabled_grid::{ANSIBuf, Dimension, LineOf, Meter, Place, Probes};
 
 /// What one place shows, whether one line is drawn, how many readings each of these took, and how printing ended.
 #[derive(Drop)]
@@ -31,6 +32,52 @@ pub struct Seen<'a> {
     pub line_probes: u64,
     /// Whether the table was printed.
     pub printed: Result<(), PrintError>,
+}
+
+/// The character of a place after any list of options: that of the latest write, not erased since, of the highest level there,
+/// found by at most six readings. `size` is how long the edge of the place is. It is written for every type of meters, so the
+/// readings that it makes are counted by the one that is lent.
+pub fn character_seen<M: Meter>(
+    cfg: &SpannedConfig<M>,
+    place: Place,
+    shape: (usize, usize),
+    size: usize,
+    probes: &mut M,
+) -> Option<char>
+    ensures character { (options : List (Colored → List ConfigEvent)) (events : List ConfigEvent) (colored : Colored) → HaveMade options events colored → cfg.now ≡ colored.spanned
+        → result ≡ value (replay (characters_of events)) shape size place }
+    ensures six_readings { IsRaised 6 (M.made probes.old) (M.made probes.new) }
+{
+    cfg.char_at(place, shape, size, probes)
+}
+
+/// The color of a place after any list of options, likewise.
+pub fn color_seen<'a, M: Meter>(
+    cfg: &'a SpannedConfig<M>,
+    place: Place,
+    shape: (usize, usize),
+    size: usize,
+    probes: &mut M,
+) -> Option<&'a ANSIBuf>
+    ensures color { (options : List (Colored → List ConfigEvent)) (events : List ConfigEvent) (colored : Colored) → HaveMade options events colored → cfg.now ≡ colored.spanned
+        → option_copied result ≡ value (replay (colors_of events)) shape size place }
+    ensures six_readings { IsRaised 6 (M.made probes.old) (M.made probes.new) }
+{
+    cfg.color_at(place, shape, size, probes)
+}
+
+/// Whether a line, of the lines 0 to `count` of its direction, is drawn after any list of options, likewise.
+pub fn line_seen<M: Meter>(
+    cfg: &SpannedConfig<M>,
+    line: LineOf,
+    count: usize,
+    probes: &mut M,
+) -> bool
+    ensures drawn { (options : List (Colored → List ConfigEvent)) (events : List ConfigEvent) (colored : Colored) → HaveMade options events colored → cfg.now ≡ colored.spanned
+        → result ≡ drawn (characters_of events) count line }
+    ensures six_readings { IsRaised 6 (M.made probes.old) (M.made probes.new) }
+{
+    cfg.draws(line, count, probes)
 }
 
 /// The headline. After any list of options on a table of one shape, each edge place and crossing has, found by at most six
@@ -68,11 +115,11 @@ pub fn headline<'a, D: Dimension>(
     let mut color_probes = Probes::new();
     let mut line_probes = Probes::new();
     Seen {
-        character: config.char_at(place, shape, size, &mut character_probes),
+        character: character_seen(config, place, shape, size, &mut character_probes),
         character_probes: character_probes.count(),
-        color: config.color_at(place, shape, size, &mut color_probes),
+        color: color_seen(config, place, shape, size, &mut color_probes),
         color_probes: color_probes.count(),
-        is_drawn: config.draws(line, count, &mut line_probes),
+        is_drawn: line_seen(config, line, count, &mut line_probes),
         line_probes: line_probes.count(),
         printed: print_plain(out, config, dims, shape, cells),
     }

@@ -48,6 +48,7 @@ impl ColoredConfig {
     ghost use Rattle.tabled_configuration.specs.Colored.{Changes, by_cell_color};
     ghost use Rattle.tabled_configuration.specs.contracts.colored_config.ColoredConfig.{the_row};
     ghost use Rattle.tabled_configuration.specs.contracts.spanned_config.SpannedConfig.{the_row as spanned_row};
+    ghost use Rattle.tabled_kept.specs.contracts.probes.Probes.{the_row as probes_row};
 
     /// A configuration over the given one, without colors of cells.
     pub fn new(config: SpannedConfig) -> Self
@@ -113,7 +114,7 @@ impl ColoredConfig {
 
     /// The configuration of the borders and of what is set for cells, to be changed. What is written there is this configuration's.
     pub fn config_mut(&mut self) -> &mut SpannedConfig
-        ensures* writes_back { sem 𝓛 (Lends the_row spanned_row self.entry result (λ config. record self.old { spanned = config })) }
+        ensures* writes_back { sem 𝓛 (Lends the_row (spanned_row probes_row) self.entry result (λ config. record self.old { spanned = config })) }
         ensures value { result.now ≡ self.old.spanned }
     {
         &mut self.config

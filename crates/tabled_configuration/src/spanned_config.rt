@@ -15,6 +15,7 @@ mod colors;
 mod copies;
 mod equality;
 mod lines;
+mod looking;
 mod margin;
 mod offsets;
 mod plain;
@@ -28,16 +29,17 @@ use std::marker::Model;
 use tabled_grid::{ANSIBuf, Borders, Layers, LineOf, Place, Probes, Target};
 use tabled_layout::TableSettings;
 
-/// What a table keeps for its borders, and what is set for its cells, its margin and its spans.
+/// What a table keeps for its borders, and what is set for its cells, its margin and its spans. `M` is the type of the meters
+/// with which its borders are read.
 #[derive(Debug)]
-pub struct SpannedConfig {
-    characters: Layers<char>,
-    colors: Layers<ANSIBuf>,
+pub struct SpannedConfig<M = Probes> {
+    characters: Layers<char, M>,
+    colors: Layers<ANSIBuf, M>,
     settings: TableSettings,
 }
 
 /// Written out, so that dropping a configuration is one call wherever its life ends.
-impl Drop for SpannedConfig {
+impl<M> Drop for SpannedConfig<M> {
     fn drop(self) {
         let SpannedConfig {
             characters: _,
@@ -47,7 +49,7 @@ impl Drop for SpannedConfig {
     }
 }
 
-impl Model for SpannedConfig {
+impl<M> Model for SpannedConfig<M> {
     ghost use Rattle.tabled_configuration.specs.Configuration.{Configuration, configuration_code};
 
     ghost Value = { Configuration };
@@ -59,9 +61,7 @@ impl Model for SpannedConfig {
 
 impl SpannedConfig {
     ghost use Rattle.tabled_grid.specs.declared.place.LineOf.{LineOf as Line};
-    ghost use Rattle.tabled_grid.specs.Value.{value};
     ghost use Rattle.tabled_grid.specs.Drawn.{Drawn};
-    ghost use Rattle.tabled_grid.specs.Probing.{IsRaised};
     ghost use Rattle.tabled_grid.specs.Calls.{default_set, default_erased, cell_erased, spot_of};
     ghost use Rattle.std.specs.FinMap.{get};
     ghost use Rattle.tabled_configuration.specs.Configuration.{Shows, Changes, by_characters, borders_set, borders_removed};
@@ -198,30 +198,6 @@ impl SpannedConfig {
         let mut probes = Probes::new();
         self.characters
             .draws(LineOf::Vertical(line), cols, &mut probes)
-    }
-
-    /// Whether a line is drawn, of the lines 0 to `count` of its direction. At most six readings are made.
-    pub fn draws(&self, line: LineOf, count: usize, probes: &mut Probes) -> bool
-        ensures drawn { IsTrue result ↔ Drawn (state_at self.now.characters) count line }
-        ensures probes { IsRaised 6 probes.old probes.new }
-    {
-        self.characters.draws(line, count, probes)
-    }
-
-    /// The character that shows at a place of a table of `shape.0` rows and `shape.1` columns. `size` is
-    /// the width of a horizontal edge's column or the height of a vertical edge's row; for a crossing
-    /// it is not read. A place outside the table has none. At most six readings are made.
-    pub fn char_at(
-        &self,
-        place: Place,
-        shape: (usize, usize),
-        size: usize,
-        probes: &mut Probes,
-    ) -> Option<char>
-        ensures value { result ≡ value (state_at self.now.characters) shape size place }
-        ensures probes { IsRaised 6 probes.old probes.new }
-    {
-        self.characters.at(place, shape, size, probes).copied()
     }
 }
 

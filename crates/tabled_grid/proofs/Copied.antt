@@ -12,13 +12,13 @@ abbrev pub SamePair : {A B : Type 0} → A → B → A → B → Type 0
 SamePair {A} {B} a b c d = ◌≡◌ {A = A × B} (a, b) (c, d)
 
 -- the numbers are right
-abbrev pub AllCounted : {T : Type 0} → Inside T → Type 0
+abbrev pub AllCounted : {T M : Type 0} → Inside T M → Type 0
 AllCounted i =
     CellsCounted (table line_cmp i.on_lines) (table spot_cmp i.cells)
     × VerticalCounted i.tops i.bottoms (table nat_cmp i.vertical_lines)
     × HorizontalCounted i.lefts i.rights i.betweens (table nat_cmp i.horizontal_lines)
 
-module _ {T : Type 0} (old new : Inside T) where
+module _ {T M : Type 0} (old new : Inside T M) where
   pub same_seen : SamePair new.vertical_lines new.horizontal_lines old.vertical_lines old.horizontal_lines → new.cells ≡ old.cells → SamePair new.horizontal_offsets new.vertical_offsets old.horizontal_offsets old.vertical_offsets → SamePair new.default_value new.class_record old.default_value old.class_record → seen new ≡ seen old
   same_seen lines cells offsets below = λ i. seen (record new {
     default_value = (below i).0;

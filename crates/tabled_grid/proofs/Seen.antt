@@ -13,7 +13,7 @@ use Rattle.tabled_grid.specs.Event.{Event, Changes}
 use Rattle.tabled_grid.specs.State.{State, state_at}
 
 -- what the fields keep
-abbrev pub seen : {T : Type 0} → Inside T → State T
+abbrev pub seen : {T M : Type 0} → Inside T M → State T
 seen i = record {
   default_value = i.default_value;
   class_record = i.class_record;

@@ -42,6 +42,11 @@ HasNoCells state = state.cells ≡ empty
 abbrev pub edge_place : ℕ → ℕ → Offset → EdgePlace
 edge_place r c offset = record { row = r; col = c; offset = offset }
 
+-- no custom line of that direction stands at an index
+abbrev pub HasNoLines : {T : Type 0} → Direction → State T → Type 0
+HasNoLines Horizontal state = state.horizontal_lines ≡ empty
+HasNoLines Vertical state = state.vertical_lines ≡ empty
+
 -- what a custom line has for each of its parts; that it is there is its mark
 abbrev pub horizontal_part : {T : Type 0} → Part → HorizontalLine T → Option (Written T)
 horizontal_part mark line = Some standing

@@ -20,8 +20,7 @@ use crate::{
 pub use entity_border::border_writes;
 use std::alloc::Global;
 use std::marker::Model;
-use std::mem;
-use tabled_kept::CountedMap;
+use tabled_kept::{CountedMap, One};
 
 /// What a table keeps for its border places, of one kind of value: characters, or colors.
 ///
@@ -39,25 +38,25 @@ use tabled_kept::CountedMap;
 /// .........
 /// ```
 #[derive(Debug)]
-pub struct Layers<T> {
+pub struct Layers<T, M = Probes> {
     alloc: Global,
-    default_value: Option<T>,
-    class_record: Borders<T>,
-    vertical_lines: CountedMap<usize, VerticalLine<T>>,
-    horizontal_lines: CountedMap<usize, HorizontalLine<T>>,
-    cells: CountedMap<Spot, T>,
-    horizontal_offsets: CountedMap<EdgePlace, T>,
-    vertical_offsets: CountedMap<EdgePlace, T>,
-    on_lines: CountedMap<LineOf, u128>,
-    tops: Number,
-    bottoms: Number,
-    lefts: Number,
-    rights: Number,
-    betweens: Number,
+    default_value: One<Option<T>, M>,
+    class_record: One<Borders<T>, M>,
+    vertical_lines: CountedMap<usize, VerticalLine<T>, M>,
+    horizontal_lines: CountedMap<usize, HorizontalLine<T>, M>,
+    cells: CountedMap<Spot, T, M>,
+    horizontal_offsets: CountedMap<EdgePlace, T, M>,
+    vertical_offsets: CountedMap<EdgePlace, T, M>,
+    on_lines: CountedMap<LineOf, u128, M>,
+    tops: Number<M>,
+    bottoms: Number<M>,
+    lefts: Number<M>,
+    rights: Number<M>,
+    betweens: Number<M>,
 }
 
 /// Written out, so that dropping a store is one call wherever its life ends, and not one for each field.
-impl<T: Drop> Drop for Layers<T> {
+impl<T: Drop, M> Drop for Layers<T, M> {
     fn drop(self) {
         let Layers {
             alloc: _,
@@ -78,7 +77,7 @@ impl<T: Drop> Drop for Layers<T> {
     }
 }
 
-impl<T> Model for Layers<T> {
+impl<T, M> Model for Layers<T, M> {
     ghost use Rattle.tabled_grid.specs.State.{State};
     ghost use Rattle.tabled_grid.specs.Table.{table};
     ghost use Rattle.tabled_grid.specs.Keys.{line_cmp, spot_cmp, edge_place_cmp};
@@ -120,8 +119,8 @@ impl<T> Layers<T> {
     {
         Layers {
             alloc,
-            default_value: None,
-            class_record: Borders::empty(),
+            default_value: One::new(None),
+            class_record: One::new(Borders::empty()),
             vertical_lines: CountedMap::new(alloc),
             horizontal_lines: CountedMap::new(alloc),
             cells: CountedMap::new(alloc),
@@ -147,7 +146,7 @@ impl<T> Layers<T> {
         T: Drop,
         ensures { Changes (default_set value) (state_at self.old) (state_at self.new) }
     {
-        drop(mem::replace(&mut self.default_value, Some(value)));
+        drop(self.default_value.replace(Some(value)));
     }
 
     /// Erases the default.
@@ -156,7 +155,7 @@ impl<T> Layers<T> {
         T: Drop,
         ensures { Changes (erase (level_sites 0) ∷ []) (state_at self.old) (state_at self.new) }
     {
-        drop(mem::replace(&mut self.default_value, None));
+        drop(self.default_value.replace(None));
     }
 
     /// Sets the class record whole: what it had before is gone, also where the new record has nothing.
@@ -165,7 +164,7 @@ impl<T> Layers<T> {
         T: Drop,
         ensures { Changes (class_record_set borders) (state_at self.old) (state_at self.new) }
     {
-        drop(mem::replace(&mut self.class_record, borders));
+        drop(self.class_record.replace(borders));
     }
 
     /// Erases the class record.
@@ -174,7 +173,7 @@ impl<T> Layers<T> {
         T: Drop,
         ensures { Changes (erase (level_sites 1) ∷ []) (state_at self.old) (state_at self.new) }
     {
-        drop(mem::replace(&mut self.class_record, Borders::empty()));
+        drop(self.class_record.replace(Borders::empty()));
     }
 
     /// Puts a custom horizontal line at index `line`, in place of the one that stood there. Only where none
@@ -247,7 +246,7 @@ impl<T> Layers<T> {
         );
     }
 
-    /// Erases all custom lines of both directions.
+    /// Erases all custom lines of both directions. The room of their tables stays.
     pub fn erase_lines(&mut self)
     where
         T: Drop,
@@ -284,7 +283,8 @@ impl<T> Layers<T> {
         self.erase_spot(place.spot());
     }
 
-    /// Erases the whole cell level.
+    /// Erases the whole cell level. The room of its tables stays, so what has a slot there can be written again without a
+    /// request for memory.
     pub fn erase_cells(&mut self)
     where
         T: Drop,

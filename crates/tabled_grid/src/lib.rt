@@ -30,7 +30,7 @@ pub use offset::Offset;
 pub use place::{LineOf, Place, Rank};
 pub use site::{Class, Direction, Part, Site, Spot};
 pub use tabled_border::{ANSIBuf, ANSIFmt, ANSIStr, AnsiText, Border, Keep, OutOfMemory};
-pub use tabled_kept::{Numbered, Probes};
+pub use tabled_kept::{Meter, Numbered, Probes};
 pub use tabled_object::{
     Cell, Column, Columns, Combine, Difference, DifferenceIterator, Dimension, Entity,
     EntityIterator, ExactRecords, FirstColumn, FirstRow, FixedDimension, LastColumn,

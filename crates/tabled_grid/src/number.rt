@@ -5,36 +5,45 @@ ghost use Rattle.tabled_grid.specs.Table.{one_if};
 ghost use Rattle.tabled_grid.specs.Probing.{IsCounted, IsRaised};
 
 use crate::Probes;
-use std::marker::Model;
+use std::marker::{Model, PhantomData};
+use tabled_kept::Meter;
 
 /// How many of something a store keeps.
 #[derive(Debug, Drop)]
-pub(crate) struct Number {
+pub(crate) struct Number<M = Probes> {
     kept: u128,
+    by: PhantomData<M>,
 }
 
-impl Model for Number {
+impl<M> Model for Number<M> {
     ghost Value = { ℕ };
 
     ghost view = { λ number. number.kept };
 }
 
+/// The reading, for every type of meters.
+impl<M: Meter> Number<M> {
+    /// The number: one reading.
+    pub(crate) fn read(&self, probes: &mut M) -> u128
+        ensures value { result ≡ self.now }
+        ensures counted { IsCounted (M.made probes.old) (M.made probes.new) }
+        ensures raised { IsRaised 1 (M.made probes.old) (M.made probes.new) }
+    {
+        probes.raise();
+        self.kept
+    }
+}
+
+/// What is not counted, which stands where no look-up that is written for every type of meters can call it.
 impl Number {
     /// None.
     pub(crate) fn new() -> Self
         ensures { result ≡ 0 }
     {
-        Number { kept: 0 }
-    }
-
-    /// The number: one reading.
-    pub(crate) fn read(&self, probes: &mut Probes) -> u128
-        ensures value { result ≡ self.now }
-        ensures counted { IsCounted probes.old probes.new }
-        ensures raised { IsRaised 1 probes.old probes.new }
-    {
-        probes.raise();
-        self.kept
+        Number {
+            kept: 0,
+            by: PhantomData,
+        }
     }
 
     /// The same number again.
@@ -42,9 +51,13 @@ impl Number {
         ensures { result ≡ self.now }
     {
         // one field more, and this does not compile
-        let Number { kept } = self;
+        let Number { kept, by } = self;
+        let _: &PhantomData<Probes> = by;
         let kept: u128 = *kept;
-        Number { kept }
+        Number {
+            kept,
+            by: PhantomData,
+        }
     }
 
     /// Counts what was put, and no longer what was taken for it.

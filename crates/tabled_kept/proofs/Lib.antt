@@ -9,3 +9,4 @@ pub mod Joining
 pub mod KeptLemmas
 pub mod FewSlots
 pub mod NumberedLemmas
+pub mod Tallies

@@ -6,23 +6,26 @@ ghost use Rattle.tabled_kept.specs.Table.{table};
 ghost use Rattle.tabled_kept.specs.Same.{same_map};
 ghost use Rattle.tabled_kept.specs.Probing.{IsCounted, IsRaised};
 
-use crate::entries::Entries;
 use crate::key::Key;
+use crate::meter::Meter;
 use crate::probes::Probes;
+use crate::tally::Tally;
 use std::alloc::Global;
-use std::marker::Model;
+use std::marker::{Model, PhantomData};
 use tabled_border::{Keep, OutOfMemory};
 
 /// A map with one way to read it, which is counted. Until something is kept it takes no memory beside itself. In contracts it is the
 /// list of its entries.
 #[derive(Debug, Drop)]
-pub struct CountedMap<K: Key, V> {
+pub struct CountedMap<K: Key, V, M = Probes> {
     alloc: Global,
     /// Its entries, once something was kept.
-    pub(crate) entries: Option<Box<Entries<K, V>>>,
+    pub(crate) entries: Option<Box<Tally<K, V>>>,
+    /// The type of the meters with which it is read.
+    by: PhantomData<M>,
 }
 
-impl<K: Key, V> Model for CountedMap<K, V> {
+impl<K: Key, V, M> Model for CountedMap<K, V, M> {
     ghost use Rattle.std.specs.Prelude.{List, [], option_map, unwrap_or};
 
     ghost Value = { List (K × V) };
@@ -30,22 +33,13 @@ impl<K: Key, V> Model for CountedMap<K, V> {
     ghost view = { λ kept. unwrap_or (option_map (λ entries. entries.value) kept.entries) [] };
 }
 
-impl<K: Key, V> CountedMap<K, V> {
-    /// A map with nothing in it.
-    pub fn new(alloc: Global) -> Self
-        ensures { table K.cmp result ≡ map.empty }
-    {
-        CountedMap {
-            alloc,
-            entries: None,
-        }
-    }
-
+/// The two readings, for every type of meters.
+impl<K: Key, V, M: Meter> CountedMap<K, V, M> {
     /// What is kept under a key: one reading.
-    pub fn read(&self, key: K, probes: &mut Probes) -> Option<&V>
+    pub fn read(&self, key: K, probes: &mut M) -> Option<&V>
         ensures value { option_copied result ≡ map.get (table K.cmp self.now) key }
-        ensures counted { IsCounted probes.old probes.new }
-        ensures raised { IsRaised 1 probes.old probes.new }
+        ensures counted { IsCounted (M.made probes.old) (M.made probes.new) }
+        ensures raised { IsRaised 1 (M.made probes.old) (M.made probes.new) }
     {
         match &self.entries {
             Some(entries) => entries.read(key, probes),
@@ -56,20 +50,30 @@ impl<K: Key, V> CountedMap<K, V> {
         }
     }
 
-    /// Whether nothing was kept since the map was made or cleared, so that there is nothing to look for. That is known at once.
-    pub fn is_unused(&self) -> bool
-        ensures { IsTrue result → (table K.cmp self.now ≡ map.empty) }
+    /// Whether nothing is kept: one reading, which does not look at the entries.
+    pub fn is_empty(&self, probes: &mut M) -> bool
+        ensures value { IsTrue result ↔ (table K.cmp self.now ≡ map.empty) }
+        ensures counted { IsCounted (M.made probes.old) (M.made probes.new) }
+        ensures raised { IsRaised 1 (M.made probes.old) (M.made probes.new) }
     {
-        self.entries.is_none()
-    }
-
-    /// Whether nothing is kept.
-    pub fn is_empty(&self) -> bool
-        ensures { IsTrue result ↔ (table K.cmp self.now ≡ map.empty) }
-    {
+        probes.raise();
         match &self.entries {
             Some(entries) => entries.is_empty(),
             None => true,
+        }
+    }
+}
+
+/// What is not counted, which stands where no look-up that is written for every type of meters can call it.
+impl<K: Key, V> CountedMap<K, V> {
+    /// A map with nothing in it.
+    pub fn new(alloc: Global) -> Self
+        ensures { table K.cmp result ≡ map.empty }
+    {
+        CountedMap {
+            alloc,
+            entries: None,
+            by: PhantomData,
         }
     }
 
@@ -101,7 +105,7 @@ impl<K: Key, V> CountedMap<K, V> {
         ensures absent { map.get (table K.cmp self.old) key ≡ None }
         ensures few { map.len (table K.cmp self.new) < 2 ^ 64 }
     {
-        let mut entries = Entries::new(self.alloc);
+        let mut entries = Tally::new(self.alloc);
         let before = entries.insert(key, value)?;
         self.entries = Some(Box::new(self.alloc, entries)?);
         Ok(before)
@@ -129,6 +133,18 @@ impl<K: Key, V> CountedMap<K, V> {
         let _ = self.remove(key);
     }
 
+    /// Takes everything, which takes no memory. The room of the tables stays, so what stood in a slot can be kept there again
+    /// without a request for memory.
+    pub fn clear(&mut self)
+    where
+        V: Drop,
+        ensures { table K.cmp self.new ≡ map.empty }
+    {
+        if let Some(entries) = &mut self.entries {
+            entries.clear();
+        }
+    }
+
     /// Whether the two maps keep the same: the same keys, and equal values under each.
     pub fn is_same(&self, other: &Self) -> bool
     where
@@ -142,23 +158,26 @@ impl<K: Key, V> CountedMap<K, V> {
             (None, None) => true,
         }
     }
-
-    /// Takes everything, and gives its memory back.
-    pub fn clear(&mut self)
-    where
-        V: Drop,
-        ensures { table K.cmp self.new ≡ map.empty }
-    {
-        self.entries = None;
-    }
 }
 
 impl<K: Key, V: Keep> Keep for CountedMap<K, V> {
     fn keep(&self, alloc: Global) -> Result<Self, OutOfMemory> {
-        let entries = match &self.entries {
+        // one field more, or a list in place of a value, and this does not compile
+        let CountedMap {
+            alloc: _,
+            entries,
+            by,
+        } = self;
+        let entries: &Option<Box<Tally<K, V>>> = entries;
+        let _: &PhantomData<Probes> = by;
+        let entries = match entries {
             Some(entries) => Some(Box::new(alloc, entries.keep(alloc)?)?),
             None => None,
         };
-        Ok(CountedMap { alloc, entries })
+        Ok(CountedMap {
+            alloc,
+            entries,
+            by: PhantomData,
+        })
     }
 }

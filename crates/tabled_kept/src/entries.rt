@@ -1,6 +1,6 @@
 //! The entries of a kept map: in a table where their keys have slots, and else in an ordered map.
 
-ghost use Rattle.std.specs.Prelude.{◌≡◌, ◌↔◌, ◌<◌, ◌^◌, OnOk, OnErr, IfOk, None, option_copied, IsTrue};
+ghost use Rattle.std.specs.Prelude.{◌≡◌, ◌<◌, ◌^◌, OnOk, OnErr, IfOk, None, option_copied};
 ghost use Rattle.std.specs.FinMap as map;
 ghost use Rattle.std.specs.BTreeMap.{insert_entry};
 ghost use Rattle.tabled_kept.specs.Table.{table};
@@ -8,7 +8,7 @@ ghost use Rattle.tabled_kept.specs.Same.{same_map};
 ghost use Rattle.tabled_kept.specs.Probing.{IsCounted, IsRaised};
 
 use crate::key::Key;
-use crate::probes::Probes;
+use crate::meter::Meter;
 use crate::table::Table;
 use std::alloc::Global;
 use std::collections::BTreeMap;
@@ -46,23 +46,16 @@ impl<K: Key, V> Entries<K, V> {
     }
 
     /// What is kept under a key: one reading.
-    pub(crate) fn read(&self, key: K, probes: &mut Probes) -> Option<&V>
+    pub(crate) fn read<M: Meter>(&self, key: K, probes: &mut M) -> Option<&V>
         ensures value { option_copied result ≡ map.get (table K.cmp self.now) key }
-        ensures counted { IsCounted probes.old probes.new }
-        ensures raised { IsRaised 1 probes.old probes.new }
+        ensures counted { IsCounted (M.made probes.old) (M.made probes.new) }
+        ensures raised { IsRaised 1 (M.made probes.old) (M.made probes.new) }
     {
         probes.raise();
         match key.slot() {
             Some(slot) => self.dense.get(slot),
             None => self.others.get(&key),
         }
-    }
-
-    /// Whether nothing is kept.
-    pub(crate) fn is_empty(&self) -> bool
-        ensures { IsTrue result ↔ (table K.cmp self.now ≡ map.empty) }
-    {
-        self.dense.is_empty() && self.others.is_empty()
     }
 
     /// Keeps a value under a key, and returns the one that was there. Only a new key can need memory; where
@@ -102,6 +95,16 @@ impl<K: Key, V> Entries<K, V> {
         }
         let before = self.others.remove(&key);
         before
+    }
+
+    /// Takes everything. The room of the table stays.
+    pub(crate) fn clear(&mut self)
+    where
+        V: Drop,
+        ensures { table K.cmp self.new ≡ map.empty }
+    {
+        self.dense.clear();
+        self.others.clear();
     }
 
     /// Whether both are the same: the same keys, and equal values under each.

@@ -113,7 +113,7 @@ impl<V> CountedMap<usize, V> {
             return Numbered { left: None };
         };
         Numbered {
-            left: Some(entries.iter()),
+            left: Some(entries.entries.iter()),
         }
     }
 

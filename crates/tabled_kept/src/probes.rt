@@ -2,6 +2,8 @@
 
 ghost use Rattle.std.specs.Prelude.{◌≡◌, ℕ};
 
+use crate::meter::Meter;
+
 /// How many readings of a store were made: readings of a kept map, of a count, of the class record
 /// or of the default. It saturates at `u64::MAX`.
 #[derive(Debug, Drop)]
@@ -16,8 +18,6 @@ impl std::marker::Model for Probes {
 }
 
 impl Probes {
-    ghost use Rattle.tabled_kept.specs.Probing.{IsCounted, IsRaised};
-
     /// No reading so far.
     pub fn new() -> Self
         ensures { result ≡ 0 }
@@ -31,13 +31,13 @@ impl Probes {
     {
         self.made
     }
+}
 
-    /// Counts one reading.
+impl Meter for Probes {
+    ghost made = { λ probes. probes };
+
     #[tactic(auto, unfolding(crate::specs::Probing::IsCounted))]
-    pub fn raise(&mut self)
-        ensures counted { IsCounted self.old self.new }
-        ensures raised { IsRaised 1 self.old self.new }
-    {
+    fn raise(&mut self) {
         self.made = self.made.saturating_add(1);
     }
 }

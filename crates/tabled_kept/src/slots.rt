@@ -15,7 +15,7 @@ use tabled_border::{Keep, OutOfMemory};
 /// Slots with the numbers from 0 on, each empty or with a value. There are as many as the greatest number written so far asks
 /// for. In contracts they are the values, each under the number of its slot: empty slots play no part.
 #[derive(Debug, Drop)]
-pub struct Slots<V> {
+pub(crate) struct Slots<V> {
     slots: Vec<Option<V>>,
 }
 
@@ -34,7 +34,7 @@ impl<V> Model for Slots<V> {
 
 impl<V> Slots<V> {
     /// No slots.
-    pub fn new(alloc: Global) -> Self
+    pub(crate) fn new(alloc: Global) -> Self
         ensures { result ≡ map.empty }
     {
         Slots {
@@ -43,14 +43,14 @@ impl<V> Slots<V> {
     }
 
     /// The slots, in the order of their numbers.
-    pub fn as_slice(&self) -> &[Option<V>]
+    pub(crate) fn as_slice(&self) -> &[Option<V>]
         ensures { filled result.now ≡ self.now }
     {
         &self.slots
     }
 
     /// The value in the slot of a number, if one is there.
-    pub fn get(&self, at: usize) -> Option<&V>
+    pub(crate) fn get(&self, at: usize) -> Option<&V>
         ensures { option_copied result ≡ map.get self.now at }
     {
         match self.slots.get(at) {
@@ -61,7 +61,7 @@ impl<V> Slots<V> {
 
     /// Puts a value into the slot of a number, and returns the one that was there. Only where there is no such slot yet can
     /// memory be refused; then empty slots may have been added, and nothing else changes.
-    pub fn put(&mut self, at: usize, value: V) -> Result<Option<V>, OutOfMemory>
+    pub(crate) fn put(&mut self, at: usize, value: V) -> Result<Option<V>, OutOfMemory>
     where
         V: Drop,
         ensures before { IfOk result (λ before. before ≡ map.get self.old at) }
@@ -76,7 +76,7 @@ impl<V> Slots<V> {
     }
 
     /// Takes the value out of the slot of a number, if one is there. The slot stays.
-    pub fn take(&mut self, at: usize) -> Option<V>
+    pub(crate) fn take(&mut self, at: usize) -> Option<V>
         ensures before { result ≡ map.get self.old at }
         ensures removed { self.new ≡ map.remove self.old at }
     {
@@ -87,7 +87,7 @@ impl<V> Slots<V> {
     }
 
     /// Takes all values out. The room for the slots stays.
-    pub fn clear(&mut self)
+    pub(crate) fn clear(&mut self)
     where
         V: Drop,
         ensures { self.new ≡ map.empty }
@@ -96,7 +96,7 @@ impl<V> Slots<V> {
     }
 
     /// Whether no slot has a value.
-    pub fn is_empty(&self) -> bool
+    pub(crate) fn is_empty(&self) -> bool
         ensures { IsTrue result ↔ (self.now ≡ map.empty) }
     {
         for slot in &self.slots {
@@ -108,7 +108,7 @@ impl<V> Slots<V> {
     }
 
     /// Whether both have values in slots of the same numbers, and equal ones in each.
-    pub fn is_same(&self, other: &Self) -> bool
+    pub(crate) fn is_same(&self, other: &Self) -> bool
     where
         V: PartialEq,
         ensures { result ≡ same_map V.eq self.now other.now }

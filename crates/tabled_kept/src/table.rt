@@ -1,6 +1,6 @@
 //! Tables of slots: rows of slots, each row as long as its writes ask for.
 
-ghost use Rattle.std.specs.Prelude.{◌≡◌, ◌↔◌, ◌<◌, ◌≤◌, ℕ, length, vec_len, slice_index_or, unwrap_or, IsTrue, OnOk, OnErr, IfOk, None, option_copied};
+ghost use Rattle.std.specs.Prelude.{◌≡◌, ◌<◌, ◌≤◌, ℕ, length, vec_len, slice_index_or, unwrap_or, OnOk, OnErr, IfOk, None, option_copied};
 ghost use Rattle.std.specs.FinMap as map;
 ghost use Rattle.tabled_kept.specs.Slots.{slot_cmp, slot, in_rows};
 ghost use Rattle.tabled_kept.specs.Same.{same_map};
@@ -23,7 +23,7 @@ pub struct Slot {
 /// Rows of slots. There are as many rows as the greatest row written so far asks for, and each is as long as its own greatest
 /// number. In contracts they are the values, each under its slot: empty slots and empty rows play no part.
 #[derive(Debug, Drop)]
-pub struct Table<V> {
+pub(crate) struct Table<V> {
     rows: Vec<Slots<V>>,
 }
 
@@ -41,7 +41,7 @@ impl<V> Model for Table<V> {
 
 impl<V> Table<V> {
     /// A table with no rows.
-    pub fn new(alloc: Global) -> Self
+    pub(crate) fn new(alloc: Global) -> Self
         ensures { result ≡ map.empty }
     {
         Table {
@@ -50,7 +50,7 @@ impl<V> Table<V> {
     }
 
     /// The value in a slot, if one is there.
-    pub fn get(&self, slot: Slot) -> Option<&V>
+    pub(crate) fn get(&self, slot: Slot) -> Option<&V>
         ensures { option_copied result ≡ map.get self.now slot }
     {
         match self.rows.get(slot.row) {
@@ -60,7 +60,7 @@ impl<V> Table<V> {
     }
 
     /// The slots of the first row.
-    pub fn first_row(&self) -> &[Option<V>]
+    pub(crate) fn first_row(&self) -> &[Option<V>]
         ensures { (col : ℕ) → slice_index_or result.now col None ≡ map.get self.now (slot 0 col) }
     {
         match self.rows.first() {
@@ -71,7 +71,7 @@ impl<V> Table<V> {
 
     /// Puts a value into a slot, and returns the one that was there. Only where there is no such slot yet can memory be
     /// refused; then empty slots and rows may have been added, and nothing else changes.
-    pub fn put(&mut self, slot: Slot, value: V) -> Result<Option<V>, OutOfMemory>
+    pub(crate) fn put(&mut self, slot: Slot, value: V) -> Result<Option<V>, OutOfMemory>
     where
         V: Drop,
         ensures before { IfOk result (λ before. before ≡ map.get self.old slot) }
@@ -89,7 +89,7 @@ impl<V> Table<V> {
     }
 
     /// Takes the value out of a slot, if one is there. The slot stays.
-    pub fn take(&mut self, slot: Slot) -> Option<V>
+    pub(crate) fn take(&mut self, slot: Slot) -> Option<V>
         ensures before { result ≡ map.get self.old slot }
         ensures removed { self.new ≡ map.remove self.old slot }
     {
@@ -101,7 +101,7 @@ impl<V> Table<V> {
     }
 
     /// Takes all values out. The room for the rows and for their slots stays.
-    pub fn clear(&mut self)
+    pub(crate) fn clear(&mut self)
     where
         V: Drop,
         ensures { self.new ≡ map.empty }
@@ -109,20 +109,8 @@ impl<V> Table<V> {
         clear_all(&mut self.rows);
     }
 
-    /// Whether no slot has a value.
-    pub fn is_empty(&self) -> bool
-        ensures { IsTrue result ↔ (self.now ≡ map.empty) }
-    {
-        for row in &self.rows {
-            if !row.is_empty() {
-                return false;
-            }
-        }
-        true
-    }
-
     /// Whether both have values in the same slots, and equal ones in each.
-    pub fn is_same(&self, other: &Self) -> bool
+    pub(crate) fn is_same(&self, other: &Self) -> bool
     where
         V: PartialEq,
         ensures { result ≡ same_map V.eq self.now other.now }

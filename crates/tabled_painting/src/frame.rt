@@ -256,7 +256,7 @@ impl<'a, 'b> Frame<'a, 'b> {
         if !has_alike_sides(cfg) {
             return Ok(None);
         }
-        if !self.with_colors && has_none_across(cfg, LineOf::Horizontal(0)) {
+        if !self.with_colors && has_none_across(cfg, LineOf::Horizontal(0), &mut Probes::new()) {
             return Ok(Some(self.beside_by_rank()));
         }
         if self.shape.0 < MANY_ROWS {
@@ -299,7 +299,7 @@ impl<'a, 'b> Frame<'a, 'b> {
         ensures inner { 1 < self.now.shape.1 → result.inner ≡ plain_value (state_at self.now.cfg.now.spanned.characters) self.now.shape (Spot.Vertical 0 1 0) }
         ensures last { result.last ≡ plain_value (state_at self.now.cfg.now.spanned.characters) self.now.shape (Spot.Vertical 0 self.now.shape.1 0) }
     {
-        if let Some(class) = self.cfg.config().class_alone() {
+        if let Some(class) = self.cfg.config().class_alone(&mut Probes::new()) {
             return Ranked {
                 first: class.left,
                 inner: class.vertical,
@@ -521,7 +521,10 @@ impl<'a, 'b> Frame<'a, 'b> {
             cfg.allocator(),
             self.line_bytes(LINE_BYTES, LINE_BYTES),
         )?;
-        write_across(&mut text, cfg, self.sizes, self.shape, line, self.sides)?;
+        let probes = &mut Probes::new();
+        write_across(
+            &mut text, cfg, self.sizes, self.shape, line, self.sides, probes,
+        )?;
         Ok(text)
     }
 

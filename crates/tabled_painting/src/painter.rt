@@ -13,7 +13,7 @@ ghost use Rattle.tabled_painting.specs.InColor.{Paints, between, prefix_of, suff
 use std::alloc::{AllocError, Global};
 use tabled_border::ANSIBuf;
 use tabled_config::{SpannedConfig, push_spaces_before, push_times, write_across};
-use tabled_grid::{FixedDimension, LineOf, OutOfMemory};
+use tabled_grid::{FixedDimension, LineOf, OutOfMemory, Probes};
 
 /// A text that painted lines are written into, one after another, and the color of what was written last.
 #[derive(Drop)]
@@ -222,7 +222,8 @@ impl<'a> Painter<'a> {
         requires color { option_copied self.old.color ≡ None }
         ensures { OnOk result (Paints (paint None (text_marked (marks (all_writes cfg.now) shape (slice_index sizes.now.widths.items) (slice_index sizes.now.heights.items) line))) self.old self.new) }
     {
-        write_across(&mut self.text, cfg, sizes, shape, line, crossed)?;
+        let probes = &mut Probes::new();
+        write_across(&mut self.text, cfg, sizes, shape, line, crossed, probes)?;
         Ok(())
     }
 

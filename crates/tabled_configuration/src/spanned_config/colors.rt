@@ -1,15 +1,13 @@
 //! Border colors, level by level.
 
 ghost use Rattle.std.specs.Prelude.{◌≡◌, option_copied};
-ghost use Rattle.tabled_grid.specs.Value.{value};
-ghost use Rattle.tabled_grid.specs.Probing.{IsRaised};
 ghost use Rattle.tabled_grid.specs.Calls.{default_erased, cell_erased, spot_of};
 ghost use Rattle.std.specs.FinMap.{get};
-ghost use Rattle.tabled_grid.specs.State.{state_at, class_record_set};
+ghost use Rattle.tabled_grid.specs.State.{class_record_set};
 ghost use Rattle.tabled_configuration.specs.Configuration.{Changes, by_colors, all_but_offsets, default_color_set};
 
 use super::{SpannedConfig, erase_below_offsets};
-use tabled_grid::{ANSIBuf, Borders, Place, Probes, Target};
+use tabled_grid::{ANSIBuf, Borders, Place, Target};
 
 impl SpannedConfig {
     /// Sets the record of class colors whole: what it had before is gone, also where the new record has
@@ -91,21 +89,5 @@ impl SpannedConfig {
         ensures { Changes (by_colors (cell_erased place)) self.old self.new }
     {
         self.colors.erase_cell(place);
-    }
-
-    /// The color that shows at a place of a table of `shape.0` rows and `shape.1` columns. `size` is
-    /// the width of a horizontal edge's column or the height of a vertical edge's row; for a crossing
-    /// it is not read. A place outside the table has none. At most six readings are made.
-    pub fn color_at(
-        &self,
-        place: Place,
-        shape: (usize, usize),
-        size: usize,
-        probes: &mut Probes,
-    ) -> Option<&ANSIBuf>
-        ensures value { option_copied result ≡ value (state_at self.now.colors) shape size place }
-        ensures probes { IsRaised 6 probes.old probes.new }
-    {
-        self.colors.at(place, shape, size, probes)
     }
 }

@@ -7,7 +7,7 @@ use crate::keys::EdgePlace;
 use crate::number::Number;
 use crate::{Borders, HorizontalLine, Keep, LineOf, OutOfMemory, Spot, VerticalLine};
 use std::alloc::Global;
-use tabled_kept::CountedMap;
+use tabled_kept::{CountedMap, One};
 
 /// What is kept under the index of a custom line.
 type Lines<V> = CountedMap<usize, V>;
@@ -50,7 +50,11 @@ impl<T: Keep> Keep for Layers<T> {
             alloc,
         )?;
         let on_lines: CountedMap<LineOf, u128> = on_lines.keep(alloc)?;
-        let below: (Option<T>, Borders<T>) = keep_two(default_value, class_record, alloc)?;
+        let below: (One<Option<T>>, One<Borders<T>>) = keep_two(
+            default_value,
+            class_record,
+            alloc,
+        )?;
         let tops: Number = tops.copy();
         let bottoms: Number = bottoms.copy();
         let lefts: Number = lefts.copy();

@@ -9,7 +9,7 @@ ghost use Rattle.tabled_grid.specs.Writes.{writes_made};
 use super::Layers;
 use super::cell_border::writes_around;
 use super::writes::Group;
-use crate::{Border, Entity, EntityIterator, Keep, OutOfMemory, Position, Write};
+use crate::{Border, Entity, EntityIterator, Keep, OutOfMemory, Position, Probes, Write};
 use std::alloc::Global;
 
 /// The writes of a border around each cell that the entity names in a table of `shape.0` rows and `shape.1` columns,
@@ -69,7 +69,7 @@ impl<T> Layers<T> {
         ensures err { OnErr result (self.new ≡ self.old) }
         ensures without_cells { filter (is_inside shape.0 shape.1) (cells_of entity shape.0 shape.1) ≡ [] → IsOk result }
     {
-        if self.cells.is_unused() {
+        if self.cells.is_empty(&mut Probes::new()) {
             return self.write_first_borders(entity.iter(shape.0, shape.1), shape, border);
         }
         let writes = border_writes(self.alloc, entity, shape, border)?;

@@ -32,7 +32,8 @@ impl<T: PartialEq> Layers<T> {
     fn is_same_below(&self, other: &Self) -> bool
         ensures { result ≡ same_below T.eq self.now other.now }
     {
-        self.default_value == other.default_value && self.class_record == other.class_record
+        *self.default_value.get() == *other.default_value.get()
+            && *self.class_record.get() == *other.class_record.get()
     }
 
     /// Whether the custom lines are equal.

@@ -19,12 +19,12 @@ use crate::{
     Spot, Target, VerticalLine, VerticalLines,
 };
 use std::collections::BTreeMap;
-use tabled_kept::CountedMap;
+use tabled_kept::{CountedMap, Meter, One};
 
 impl<T> Layers<T> {
     ghost use Rattle.tabled_grid.specs.Value.{value, plain_value};
     ghost use Rattle.tabled_grid.specs.Drawn.{Drawn};
-    ghost use Rattle.tabled_grid.specs.State.{state_at, HasNoOffsets, HasNoCells};
+    ghost use Rattle.tabled_grid.specs.State.{state_at, HasNoCells, HasNoLines, HasNoOffsets};
     ghost use Rattle.tabled_grid.specs.Writes.{kept_at};
     ghost use Rattle.tabled_grid.specs.Reading.{pick, main_of, offset_of, plain_edge, plain_crossing, edge_shown, HasClassAlone};
     ghost use Rattle.tabled_grid.specs.ClassAlone.{ShowsClasses};
@@ -33,7 +33,7 @@ impl<T> Layers<T> {
     pub fn get_class(&self) -> &Borders<T>
         ensures { result.now ≡ self.now.class_record }
     {
-        &self.class_record
+        self.class_record.get()
     }
 
     /// The custom horizontal line that stands at an index, if one does.
@@ -70,7 +70,7 @@ impl<T> Layers<T> {
     pub fn get_default(&self) -> Option<&T>
         ensures { option_copied result ≡ self.now.default_value }
     {
-        self.default_value.as_ref()
+        self.default_value.get().as_ref()
     }
 
     /// What is kept at a target: at the cell level of a place, whose `at` is not read for an edge, or at a numbered
@@ -112,19 +112,33 @@ impl<T> Layers<T> {
         self.vertical_lines.copy(self.alloc)
     }
 
+    /// What an edge or a crossing shows without its offsets, in a table of `shape.0` rows and `shape.1`
+    /// columns: what is kept at the highest level below them that has something there. `at` of an edge
+    /// is not read, so an edge of length 0 has a value too. An edge or a crossing outside has nothing.
+    pub fn plain_at(&self, place: Place, shape: (usize, usize)) -> Option<&T>
+        ensures { option_copied result ≡ plain_value (state_at self.now) shape place }
+    {
+        self.read_plain(place, shape, &mut Probes::new())
+    }
+}
+
+/// Look-ups, for every type of meters: they can make none, so each reading raises the one that is lent, and what is read without
+/// one can't be called here.
+impl<T, M: Meter> Layers<T, M> {
+    ghost use Rattle.tabled_grid.specs.Value.{value, plain_value};
+    ghost use Rattle.tabled_grid.specs.Drawn.{Drawn};
+    ghost use Rattle.tabled_grid.specs.State.{state_at, HasNoCells, HasNoLines, HasNoOffsets};
+    ghost use Rattle.tabled_grid.specs.Writes.{kept_at};
+    ghost use Rattle.tabled_grid.specs.Reading.{pick, main_of, offset_of, plain_edge, plain_crossing, edge_shown, HasClassAlone};
+    ghost use Rattle.tabled_grid.specs.ClassAlone.{ShowsClasses};
+
     /// What shows at a place of a table of `shape.0` rows and `shape.1` columns: what is kept at the
     /// highest level that has something there. `size` is the width of a horizontal edge's column or
     /// the height of a vertical edge's row; for a crossing it is not read. A place outside the table
     /// has nothing. At most six readings are made.
-    pub fn at(
-        &self,
-        place: Place,
-        shape: (usize, usize),
-        size: usize,
-        probes: &mut Probes,
-    ) -> Option<&T>
+    pub fn at(&self, place: Place, shape: (usize, usize), size: usize, probes: &mut M) -> Option<&T>
         ensures value { option_copied result ≡ value (state_at self.now) shape size place }
-        ensures probes { IsRaised 6 probes.old probes.new }
+        ensures probes { IsRaised 6 (M.made probes.old) (M.made probes.new) }
     {
         if !place.is_inside(shape, size) {
             return None;
@@ -141,19 +155,10 @@ impl<T> Layers<T> {
         }
     }
 
-    /// What an edge or a crossing shows without its offsets, in a table of `shape.0` rows and `shape.1`
-    /// columns: what is kept at the highest level below them that has something there. `at` of an edge
-    /// is not read, so an edge of length 0 has a value too. An edge or a crossing outside has nothing.
-    pub fn plain_at(&self, place: Place, shape: (usize, usize)) -> Option<&T>
-        ensures { option_copied result ≡ plain_value (state_at self.now) shape place }
-    {
-        self.read_plain(place, shape, &mut Probes::new())
-    }
-
     /// The same as `plain_at`, with its readings counted: at most five are made.
-    pub fn read_plain(&self, place: Place, shape: (usize, usize), probes: &mut Probes) -> Option<&T>
+    pub fn read_plain(&self, place: Place, shape: (usize, usize), probes: &mut M) -> Option<&T>
         ensures value { option_copied result ≡ plain_value (state_at self.now) shape place }
-        ensures probes { IsRaised 5 probes.old probes.new }
+        ensures probes { IsRaised 5 (M.made probes.old) (M.made probes.new) }
     {
         if !place.has_spot(shape) {
             return None;
@@ -172,36 +177,65 @@ impl<T> Layers<T> {
 
     /// The class record, where nothing else is looked at below the offsets: neither a custom line nor the edges and the crossings
     /// of cells, and no default. Each edge and each crossing then shows what the record has for its class, so what many places
-    /// show can be read off it at once.
-    pub fn class_alone(&self) -> Option<&Borders<T>>
+    /// show can be read off it at once. At most five readings are made.
+    pub fn class_alone(&self, probes: &mut M) -> Option<&Borders<T>>
         ensures class { IfSome result (λ class. class.now ≡ self.now.class_record) }
         ensures shown { OnSome result (ShowsClasses self.now) }
+        ensures probes { IsRaised 5 (M.made probes.old) (M.made probes.new) }
     {
-        if self.has_class_alone() && self.default_value.is_none() {
-            return Some(&self.class_record);
+        if self.has_class_alone(probes) && self.default_value.read(probes).is_none() {
+            return Some(self.class_record.read(probes));
         }
         None
     }
 
-    /// Whether something is kept at an offset of an edge of a horizontal line, from its start or its end.
-    pub fn has_horizontal_offsets(&self) -> bool
-        ensures { IsFalse result ↔ HasNoOffsets horizontal self.now }
+    /// Whether there is nothing to look for below the offsets but what the class record and the default have: at most three
+    /// readings.
+    fn has_class_alone(&self, probes: &mut M) -> bool
+        ensures value { IsTrue result ↔ HasClassAlone self.now }
+        ensures probes { IsRaised 3 (M.made probes.old) (M.made probes.new) }
     {
-        !self.horizontal_offsets.is_empty()
+        !self.has_cells(probes) && !self.has_hlines(probes) && !self.has_vlines(probes)
     }
 
-    /// Whether something is kept at an offset of an edge of a vertical line, from its start or its end.
-    pub fn has_vertical_offsets(&self) -> bool
-        ensures { IsFalse result ↔ HasNoOffsets vertical self.now }
+    /// Whether something is kept at an offset of an edge of a horizontal line, from its start or its end: one reading.
+    pub fn has_horizontal_offsets(&self, probes: &mut M) -> bool
+        ensures value { IsFalse result ↔ HasNoOffsets horizontal self.now }
+        ensures probes { IsRaised 1 (M.made probes.old) (M.made probes.new) }
     {
-        !self.vertical_offsets.is_empty()
+        !self.horizontal_offsets.is_empty(probes)
     }
 
-    /// Whether something is kept for an edge or a crossing by itself.
-    pub fn has_cells(&self) -> bool
-        ensures { IsFalse result ↔ HasNoCells self.now }
+    /// Whether something is kept at an offset of an edge of a vertical line, from its start or its end: one reading.
+    pub fn has_vertical_offsets(&self, probes: &mut M) -> bool
+        ensures value { IsFalse result ↔ HasNoOffsets vertical self.now }
+        ensures probes { IsRaised 1 (M.made probes.old) (M.made probes.new) }
     {
-        !self.cells.is_empty()
+        !self.vertical_offsets.is_empty(probes)
+    }
+
+    /// Whether something is kept for an edge or a crossing by itself: one reading.
+    pub fn has_cells(&self, probes: &mut M) -> bool
+        ensures value { IsFalse result ↔ HasNoCells self.now }
+        ensures probes { IsRaised 1 (M.made probes.old) (M.made probes.new) }
+    {
+        !self.cells.is_empty(probes)
+    }
+
+    /// Whether a custom horizontal line stands at some index: one reading.
+    pub fn has_hlines(&self, probes: &mut M) -> bool
+        ensures value { IsFalse result ↔ HasNoLines horizontal self.now }
+        ensures probes { IsRaised 1 (M.made probes.old) (M.made probes.new) }
+    {
+        !self.horizontal_lines.is_empty(probes)
+    }
+
+    /// Whether a custom vertical line stands at some index: one reading.
+    pub fn has_vlines(&self, probes: &mut M) -> bool
+        ensures value { IsFalse result ↔ HasNoLines vertical self.now }
+        ensures probes { IsRaised 1 (M.made probes.old) (M.made probes.new) }
+    {
+        !self.vertical_lines.is_empty(probes)
     }
 
     /// What the edge of a line, of the lines 0 to `line.1` of its direction, shows at place `at.0` of its `at.1` places.
@@ -210,11 +244,11 @@ impl<T> Layers<T> {
         line: (LineOf, usize),
         col: usize,
         at: (usize, usize),
-        probes: &mut Probes,
+        probes: &mut M,
     ) -> Option<&T>
         requires { at.0 < at.1 }
         ensures value { option_copied result ≡ edge_shown self.now line.0 line.1 col at.0 at.1 }
-        ensures probes { IsRaised 6 probes.old probes.new }
+        ensures probes { IsRaised 6 (M.made probes.old) (M.made probes.new) }
     {
         let (number, size) = at;
         let start = self.offset_of(line.0, col, Offset::Start(number), probes);
@@ -229,9 +263,9 @@ impl<T> Layers<T> {
     }
 
     /// What is kept at an offset of an edge of a line: one reading.
-    fn offset_of(&self, line: LineOf, at: usize, offset: Offset, probes: &mut Probes) -> Option<&T>
+    fn offset_of(&self, line: LineOf, at: usize, offset: Offset, probes: &mut M) -> Option<&T>
         ensures value { option_copied result ≡ offset_of self.now line at offset }
-        ensures raised { IsRaised 1 probes.old probes.new }
+        ensures raised { IsRaised 1 (M.made probes.old) (M.made probes.new) }
     {
         match line {
             LineOf::Horizontal(row) => self.horizontal_offsets.read(
@@ -254,43 +288,9 @@ impl<T> Layers<T> {
     }
 
     /// What the edge of a line, of the lines 0 to `line.1` of its direction, shows without its offsets.
-    #[inline(always)]
-    fn plain_edge(&self, line: (LineOf, usize), at: usize, probes: &mut Probes) -> Option<&T>
+    fn plain_edge(&self, line: (LineOf, usize), at: usize, probes: &mut M) -> Option<&T>
         ensures value { option_copied result ≡ plain_edge self.now line.0 line.1 at }
-        ensures probes { IsRaised 4 probes.old probes.new }
-    {
-        if self.has_class_alone() {
-            return self.class_edge(line, probes);
-        }
-        self.edge_by_levels(line, at, probes)
-    }
-
-    /// Whether there is nothing to look for below the offsets but what the class record and the default have.
-    fn has_class_alone(&self) -> bool
-        ensures { IsTrue result → HasClassAlone self.now }
-    {
-        self.cells.is_unused()
-            && self.horizontal_lines.is_unused()
-            && self.vertical_lines.is_unused()
-    }
-
-    /// What the class record, or else the default, has for the edges of a line, of the lines 0 to `line.1` of its direction.
-    #[inline(always)]
-    fn class_edge(&self, line: (LineOf, usize), probes: &mut Probes) -> Option<&T>
-        ensures value { option_copied result ≡ pick (class_value (edges (direction_of line.0) (rank line.1 (number line.0))) self.now.class_record) self.now.default_value }
-        ensures probes { IsRaised 2 probes.old probes.new }
-    {
-        let class = class_edges(&self.class_record, line.0, line.1, probes);
-        if class.is_some() {
-            return class;
-        }
-        read_default(&self.default_value, probes)
-    }
-
-    /// The same as `plain_edge`, looked for level by level.
-    fn edge_by_levels(&self, line: (LineOf, usize), at: usize, probes: &mut Probes) -> Option<&T>
-        ensures value { option_copied result ≡ plain_edge self.now line.0 line.1 at }
-        ensures probes { IsRaised 4 probes.old probes.new }
+        ensures probes { IsRaised 4 (M.made probes.old) (M.made probes.new) }
     {
         let cell = self.cells.read(line.0.edge(at), probes);
         if cell.is_some() {
@@ -303,10 +303,23 @@ impl<T> Layers<T> {
         self.class_edge(line, probes)
     }
 
+    /// What the class record, or else the default, has for the edges of a line, of the lines 0 to `line.1` of its direction.
+    #[inline(always)]
+    fn class_edge(&self, line: (LineOf, usize), probes: &mut M) -> Option<&T>
+        ensures value { option_copied result ≡ pick (class_value (edges (direction_of line.0) (rank line.1 (number line.0))) self.now.class_record) self.now.default_value }
+        ensures probes { IsRaised 2 (M.made probes.old) (M.made probes.new) }
+    {
+        let class = class_edges(&self.class_record, line.0, line.1, probes);
+        if class.is_some() {
+            return class;
+        }
+        self.default_value.read(probes).as_ref()
+    }
+
     /// What a custom line has for its edges: one reading.
-    fn main_of(&self, line: LineOf, probes: &mut Probes) -> Option<&T>
+    fn main_of(&self, line: LineOf, probes: &mut M) -> Option<&T>
         ensures value { option_copied result ≡ main_of self.now line }
-        ensures raised { IsRaised 1 probes.old probes.new }
+        ensures raised { IsRaised 1 (M.made probes.old) (M.made probes.new) }
     {
         match line {
             LineOf::Horizontal(row) => match self.horizontal_lines.read(row, probes) {
@@ -321,52 +334,15 @@ impl<T> Layers<T> {
     }
 
     /// What a crossing shows in a table of `shape.0` rows and `shape.1` columns.
-    #[inline(always)]
     fn plain_crossing(
         &self,
         row: usize,
         col: usize,
         shape: (usize, usize),
-        probes: &mut Probes,
+        probes: &mut M,
     ) -> Option<&T>
         ensures value { option_copied result ≡ plain_crossing self.now shape.0 shape.1 row col }
-        ensures probes { IsRaised 5 probes.old probes.new }
-    {
-        if self.has_class_alone() {
-            return self.class_crossing(row, col, shape, probes);
-        }
-        self.crossing_by_levels(row, col, shape, probes)
-    }
-
-    /// What the class record, or else the default, has for a crossing.
-    #[inline(always)]
-    fn class_crossing(
-        &self,
-        row: usize,
-        col: usize,
-        shape: (usize, usize),
-        probes: &mut Probes,
-    ) -> Option<&T>
-        ensures value { option_copied result ≡ pick (class_value (crossings (rank shape.0 row) (rank shape.1 col)) self.now.class_record) self.now.default_value }
-        ensures probes { IsRaised 2 probes.old probes.new }
-    {
-        let class = class_crossing(&self.class_record, row, col, shape, probes);
-        if class.is_some() {
-            return class;
-        }
-        read_default(&self.default_value, probes)
-    }
-
-    /// The same as `plain_crossing`, looked for level by level.
-    fn crossing_by_levels(
-        &self,
-        row: usize,
-        col: usize,
-        shape: (usize, usize),
-        probes: &mut Probes,
-    ) -> Option<&T>
-        ensures value { option_copied result ≡ plain_crossing self.now shape.0 shape.1 row col }
-        ensures probes { IsRaised 5 probes.old probes.new }
+        ensures probes { IsRaised 5 (M.made probes.old) (M.made probes.new) }
     {
         let cell = self.cells.read(Spot::Crossing(row, col), probes);
         if cell.is_some() {
@@ -384,16 +360,35 @@ impl<T> Layers<T> {
         self.class_crossing(row, col, shape, probes)
     }
 
+    /// What the class record, or else the default, has for a crossing.
+    #[inline(always)]
+    fn class_crossing(
+        &self,
+        row: usize,
+        col: usize,
+        shape: (usize, usize),
+        probes: &mut M,
+    ) -> Option<&T>
+        ensures value { option_copied result ≡ pick (class_value (crossings (rank shape.0 row) (rank shape.1 col)) self.now.class_record) self.now.default_value }
+        ensures probes { IsRaised 2 (M.made probes.old) (M.made probes.new) }
+    {
+        let class = class_crossing(&self.class_record, row, col, shape, probes);
+        if class.is_some() {
+            return class;
+        }
+        self.default_value.read(probes).as_ref()
+    }
+
     /// Whether a line is drawn, of the lines 0 to `count` of its direction. At most six readings are
     /// made.
-    pub fn draws(&self, line: LineOf, count: usize, probes: &mut Probes) -> bool
+    pub fn draws(&self, line: LineOf, count: usize, probes: &mut M) -> bool
         ensures drawn { IsTrue result ↔ Drawn (state_at self.now) count line }
-        ensures probes { IsRaised 6 probes.old probes.new }
+        ensures probes { IsRaised 6 (M.made probes.old) (M.made probes.new) }
     {
         if line.number() > count {
             return false;
         }
-        if read_default(&self.default_value, probes).is_some() {
+        if self.default_value.read(probes).is_some() {
             return true;
         }
         if class_draws(&self.class_record, line, count, probes) {
@@ -420,27 +415,17 @@ impl<T> Layers<T> {
     }
 }
 
-/// The default: one reading.
-fn read_default<'a, T>(default_value: &'a Option<T>, probes: &mut Probes) -> Option<&'a T>
-    ensures value { option_copied result ≡ default_value.now }
-    ensures counted { IsCounted probes.old probes.new }
-    ensures raised { IsRaised 1 probes.old probes.new }
-{
-    probes.raise();
-    default_value.as_ref()
-}
-
 /// What a custom horizontal line has for its crossing with a vertical line: one reading.
-fn meeting_horizontal<'a, T>(
-    lines: &'a CountedMap<usize, HorizontalLine<T>>,
+fn meeting_horizontal<'a, T, M: Meter>(
+    lines: &'a CountedMap<usize, HorizontalLine<T>, M>,
     row: usize,
     col: usize,
     cols: usize,
-    probes: &mut Probes,
+    probes: &mut M,
 ) -> Option<&'a T>
     ensures value { option_copied result ≡ option_and_then (horizontal_meeting (rank cols col)) (map.get (table nat_cmp lines.now) row) }
-    ensures counted { IsCounted probes.old probes.new }
-    ensures raised { IsRaised 1 probes.old probes.new }
+    ensures counted { IsCounted (M.made probes.old) (M.made probes.new) }
+    ensures raised { IsRaised 1 (M.made probes.old) (M.made probes.new) }
 {
     match lines.read(row, probes) {
         Some(line) => line.at_crossing(col, cols),
@@ -449,16 +434,16 @@ fn meeting_horizontal<'a, T>(
 }
 
 /// What a custom vertical line has for its crossing with a horizontal line: one reading.
-fn meeting_vertical<'a, T>(
-    lines: &'a CountedMap<usize, VerticalLine<T>>,
+fn meeting_vertical<'a, T, M: Meter>(
+    lines: &'a CountedMap<usize, VerticalLine<T>, M>,
     row: usize,
     col: usize,
     rows: usize,
-    probes: &mut Probes,
+    probes: &mut M,
 ) -> Option<&'a T>
     ensures value { option_copied result ≡ option_and_then (vertical_meeting (rank rows row)) (map.get (table nat_cmp lines.now) col) }
-    ensures counted { IsCounted probes.old probes.new }
-    ensures raised { IsRaised 1 probes.old probes.new }
+    ensures counted { IsCounted (M.made probes.old) (M.made probes.new) }
+    ensures raised { IsRaised 1 (M.made probes.old) (M.made probes.new) }
 {
     match lines.read(col, probes) {
         Some(line) => line.at_crossing(row, rows),
@@ -467,17 +452,17 @@ fn meeting_vertical<'a, T>(
 }
 
 /// What the class record has for the edges of a line, of the lines 0 to `count` of its direction: one reading.
-fn class_edges<'a, T>(
-    class: &'a Borders<T>,
+fn class_edges<'a, T, M: Meter>(
+    class: &'a One<Borders<T>, M>,
     line: LineOf,
     count: usize,
-    probes: &mut Probes,
+    probes: &mut M,
 ) -> Option<&'a T>
     ensures value { option_copied result ≡ class_value (edges (direction_of line) (rank count (number line))) class.now }
-    ensures counted { IsCounted probes.old probes.new }
-    ensures raised { IsRaised 1 probes.old probes.new }
+    ensures counted { IsCounted (M.made probes.old) (M.made probes.new) }
+    ensures raised { IsRaised 1 (M.made probes.old) (M.made probes.new) }
 {
-    probes.raise();
+    let class = class.read(probes);
     match line {
         LineOf::Horizontal(row) => class.at_horizontal(row, count),
         LineOf::Vertical(col) => class.at_vertical(col, count),
@@ -485,28 +470,32 @@ fn class_edges<'a, T>(
 }
 
 /// What the class record has for a crossing: one reading.
-fn class_crossing<'a, T>(
-    class: &'a Borders<T>,
+fn class_crossing<'a, T, M: Meter>(
+    class: &'a One<Borders<T>, M>,
     row: usize,
     col: usize,
     shape: (usize, usize),
-    probes: &mut Probes,
+    probes: &mut M,
 ) -> Option<&'a T>
     ensures value { option_copied result ≡ class_value (crossings (rank shape.0 row) (rank shape.1 col)) class.now }
-    ensures counted { IsCounted probes.old probes.new }
-    ensures raised { IsRaised 1 probes.old probes.new }
+    ensures counted { IsCounted (M.made probes.old) (M.made probes.new) }
+    ensures raised { IsRaised 1 (M.made probes.old) (M.made probes.new) }
 {
-    probes.raise();
-    class.at_crossing(row, col, shape.0, shape.1)
+    class.read(probes).at_crossing(row, col, shape.0, shape.1)
 }
 
 /// Whether the class record draws a line: one reading.
-fn class_draws<T>(class: &Borders<T>, line: LineOf, count: usize, probes: &mut Probes) -> bool
+fn class_draws<T, M: Meter>(
+    class: &One<Borders<T>, M>,
+    line: LineOf,
+    count: usize,
+    probes: &mut M,
+) -> bool
     ensures drawn { result ≡ class_drawn class.now count line }
-    ensures counted { IsCounted probes.old probes.new }
-    ensures raised { IsRaised 1 probes.old probes.new }
+    ensures counted { IsCounted (M.made probes.old) (M.made probes.new) }
+    ensures raised { IsRaised 1 (M.made probes.old) (M.made probes.new) }
 {
-    probes.raise();
+    let class = class.read(probes);
     match line {
         LineOf::Horizontal(row) => {
             (row == 0 && class.has_top())
@@ -522,16 +511,16 @@ fn class_draws<T>(class: &Borders<T>, line: LineOf, count: usize, probes: &mut P
 }
 
 /// Whether a horizontal line is drawn by a custom line, or by the cells on it: at most four readings.
-fn row_is_drawn<T>(
-    lines: &CountedMap<usize, HorizontalLine<T>>,
-    ends: (&Number, &Number),
-    numbers: &CountedMap<LineOf, u128>,
+fn row_is_drawn<T, M: Meter>(
+    lines: &CountedMap<usize, HorizontalLine<T>, M>,
+    ends: (&Number<M>, &Number<M>),
+    numbers: &CountedMap<LineOf, u128, M>,
     row: usize,
     count: usize,
-    probes: &mut Probes,
+    probes: &mut M,
 ) -> bool
     ensures drawn { result ≡ row_drawn (table nat_cmp lines.now) ends.entry.0.now ends.entry.1.now (table line_cmp numbers.now) count row }
-    ensures probes { IsRaised 4 probes.old probes.new }
+    ensures probes { IsRaised 4 (M.made probes.old) (M.made probes.new) }
 {
     let (tops, bottoms) = ends;
     lines.read(row, probes).is_some()
@@ -545,16 +534,16 @@ fn row_is_drawn<T>(
 }
 
 /// Whether a vertical line is drawn by a custom line, or by the cells on it: at most four readings.
-fn col_is_drawn<T>(
-    lines: &CountedMap<usize, VerticalLine<T>>,
-    meetings: (&Number, &Number, &Number),
-    numbers: &CountedMap<LineOf, u128>,
+fn col_is_drawn<T, M: Meter>(
+    lines: &CountedMap<usize, VerticalLine<T>, M>,
+    meetings: (&Number<M>, &Number<M>, &Number<M>),
+    numbers: &CountedMap<LineOf, u128, M>,
     col: usize,
     count: usize,
-    probes: &mut Probes,
+    probes: &mut M,
 ) -> bool
     ensures drawn { result ≡ col_drawn (table nat_cmp lines.now) meetings.entry.0.now meetings.entry.1.now meetings.entry.2.now (table line_cmp numbers.now) count col }
-    ensures probes { IsRaised 4 probes.old probes.new }
+    ensures probes { IsRaised 4 (M.made probes.old) (M.made probes.new) }
 {
     let (lefts, rights, betweens) = meetings;
     lines.read(col, probes).is_some()

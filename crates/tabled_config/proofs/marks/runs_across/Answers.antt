@@ -1,5 +1,5 @@
 -- The places of a line that is there are all that are walked.
-use Rattle.std.proofs.Common.{◌*◌, ◌++◌, map, sym, ap, subst, ◌∙◌}
+use Rattle.std.proofs.Common.{◌+◌, ◌*◌, ◌++◌, map, sym, ap, subst, ◌∙◌}
 use Rattle.tabled_grid.specs.Probing.{IsRaised}
 use Rattle.tabled_configuration.specs.Configuration.{all_writes}
 use Rattle.tabled_config.specs.Picture.{Look, look, mark_at}
@@ -11,7 +11,7 @@ use Rattle.tabled_config.proofs.marks.runs_across.Goals as goal
 pub returns-in_err-put_all-clause-probes : goal.returns-in_err-put_all-clause-probes
 returns-in_err-put_all-clause-probes g c =
     let view : Look = look (all_writes c.args.cfg.now) c.args.shape (g.D.Dimension.width_of c.args.dims.now) (g.D.Dimension.height_of c.args.dims.now) in
-    subst (λ n. IsRaised (12 * n) c.args.probes.now c.put_all.new.probes) (sym (marks_count view c.args.line c.requires.there)) c.put_all.ensures.probes
+    subst (λ n. IsRaised (12 * n + 4) c.args.probes.now c.put_all.new.probes) (sym (marks_count view c.args.line c.requires.there)) c.put_all.ensures.probes
 
 pub returns-clause-marks : goal.returns-clause-marks
 returns-clause-marks g c =
@@ -23,4 +23,4 @@ returns-clause-marks g c =
 pub returns-clause-probes : goal.returns-clause-probes
 returns-clause-probes g c =
     let view : Look = look (all_writes c.args.cfg.now) c.args.shape (g.D.Dimension.width_of c.args.dims.now) (g.D.Dimension.height_of c.args.dims.now) in
-    subst (λ n. IsRaised (12 * n) c.args.probes.now c.put_all.new.probes) (sym (marks_count view c.args.line c.requires.there)) c.put_all.ensures.probes
+    subst (λ n. IsRaised (12 * n + 4) c.args.probes.now c.put_all.new.probes) (sym (marks_count view c.args.line c.requires.there)) c.put_all.ensures.probes

@@ -4,7 +4,7 @@ use Rattle.tabled_config.specs.Picture.{Look, mark_at}
 use Rattle.tabled_config.specs.LinePieces.{pieces_of, crossing_places, piece_places, places_before, all_places}
 use Rattle.tabled_config.specs.Viewed.{viewed}
 use Rattle.tabled_config.proofs.LineLemmas.{no_marks_before, marks_more, marks_closed, before_more_count, piece_fits, all_count}
-use Rattle.tabled_config.proofs.MarkLemmas.{raised_none, raised_both, puts_more, put_more, put_stopped}
+use Rattle.tabled_config.proofs.MarkLemmas.{raised_none, raised_both, with_look, puts_more, put_more, put_stopped}
 use Rattle.tabled_config.proofs.marks.MarkedLine.put_all.Goals as goal
 
 pub loop-n-init : goal.loop-n-init
@@ -13,11 +13,11 @@ loop-n-init g c =
     let view : Look = viewed g.D.Dimension.width_of g.D.Dimension.height_of c.args.self.now in
     record {
       put = subst (λ marks. g.S.Sink.puts marks c.args.sink.now c.args.sink.now) (sym (no_marks_before view c.args.self.now.line)) (laws.puts_none c.args.sink.now);
-      raised = raised_none (12 * length (places_before view c.args.self.now.line 0)) c.args.probes.now;
+      raised = raised_none (12 * length (places_before view c.args.self.now.line 0)) c.is_alike.new.probes;
       known = record {
         no_offsets = c.has_offsets.ensures.characters;
         no_colored_offsets = c.has_offsets.ensures.colors;
-        alike = c.is_alike.ensures.0;
+        alike = c.is_alike.ensures.value.0;
         edges = λ shown none. absurd cc;
         crossings = λ shown none. absurd cc;
       };
@@ -36,7 +36,7 @@ loop-n-preserved g c =
       raised =
           (let more = before_more_count view line n in
           raised_both (12 * length (places_before view line n)) (12 * length (piece_places view line n)) (12 * length (places_before view line (n + 1)))
-          c.args.probes.now c.loop-n.probes c.put_piece.new.probes c.loop-n.invariant.raised c.put_piece.ensures.probes (omega (arith, more)));
+          c.is_alike.new.probes c.loop-n.probes c.put_piece.new.probes c.loop-n.invariant.raised c.put_piece.ensures.probes (omega (arith, more)));
       known = c.put_piece.ensures.known;
     }
 
@@ -54,8 +54,9 @@ returns-in_err-put_piece-clause-probes g c =
     let n = c.loop-n.n in
     let counted = c.pieces_of-count.ensures in
     let fits = piece_fits view line n (omega (arith, counted)) in
-    raised_both (12 * length (places_before view line n)) (12 * length (piece_places view line n)) (12 * length (all_places view line))
-    c.args.probes.now c.loop-n.probes c.put_piece.new.probes c.loop-n.invariant.raised c.put_piece.ensures.probes (omega (arith, fits))
+    with_look (12 * length (all_places view line)) c.args.probes.now c.has_offsets.new.probes c.is_alike.new.probes c.put_piece.new.probes c.has_offsets.ensures.probes c.is_alike.ensures.probes
+    (raised_both (12 * length (places_before view line n)) (12 * length (piece_places view line n)) (12 * length (all_places view line))
+    c.is_alike.new.probes c.loop-n.probes c.put_piece.new.probes c.loop-n.invariant.raised c.put_piece.ensures.probes (omega (arith, fits)))
 
 pub returns-clause-put : goal.returns-clause-put
 returns-clause-put g c =
@@ -78,5 +79,6 @@ returns-clause-probes g c =
     let all = all_count view line in
     let before : length (places_before view line c.loop-n.n) ≡ length (places_before view line (pieces_of c.args.self.now.shape line)) = ap (λ n. length (places_before view line n)) last in
     let closing : length (crossing_places view line c.pieces_of-count.result) ≡ length (crossing_places view line (pieces_of c.args.self.now.shape line)) = ap (λ n. length (crossing_places view line n)) counted in
-    raised_both (12 * length (places_before view line c.loop-n.n)) (12 * length (crossing_places view line c.pieces_of-count.result)) (12 * length (all_places view line))
-    c.args.probes.now c.loop-n.probes c.put_crossing.new.probes c.loop-n.invariant.raised c.put_crossing.ensures.probes (omega (arith, all, before, closing))
+    with_look (12 * length (all_places view line)) c.args.probes.now c.has_offsets.new.probes c.is_alike.new.probes c.put_crossing.new.probes c.has_offsets.ensures.probes c.is_alike.ensures.probes
+    (raised_both (12 * length (places_before view line c.loop-n.n)) (12 * length (crossing_places view line c.pieces_of-count.result)) (12 * length (all_places view line))
+    c.is_alike.new.probes c.loop-n.probes c.put_crossing.new.probes c.loop-n.invariant.raised c.put_crossing.ensures.probes (omega (arith, all, before, closing)))

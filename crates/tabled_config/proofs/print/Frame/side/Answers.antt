@@ -13,5 +13,5 @@ returns g c =
     let shape = c.args.self.now.shape in
     c.printed_as.ensures
     ∙ ap character
-    (own_plain cfg shape (g.D.Dimension.width_of c.args.self.now.dims.now) (g.D.Dimension.height_of c.args.self.now.dims.now) (LineOf.Vertical c.args.col) c.args.row c.args.at c.plain_char_at.result
-    (c.has_char_offsets.ensures.0 c.if-has_char_offsets.false) (c.plain_char_at.ensures ∙ ap (plain_value (state_at cfg.characters) shape) c.edge_of.ensures) (omega arith))
+    (own_plain cfg shape (g.D.Dimension.width_of c.args.self.now.dims.now) (g.D.Dimension.height_of c.args.self.now.dims.now) (LineOf.Vertical c.args.col) c.args.row c.args.at c.read_plain_char.result
+    (c.has_char_offsets.ensures.value.0 c.if-has_char_offsets.false) (c.read_plain_char.ensures.value ∙ ap (plain_value (state_at cfg.characters) shape) c.edge_of.ensures) (omega arith))

@@ -9,5 +9,5 @@ none_there (Some x) false is said = absurd cc
 
 pub returns-then-is_none-clause-shown : goal.returns-then-is_none-clause-shown
 returns-then-is_none-clause-shown g c =
-    let none = none_there c.self.inside.default_value c.is_none.result c.is_none.ensures c.if-is_none.true in
-    shows_classes c.args.self.now (c.has_class_alone.ensures c.if-has_class_alone.true) (ap (λ k. k.default_value) (sym c.self.view_is) ∙ none)
+    let none = none_there c.read.result.now c.is_none.result c.is_none.ensures c.if-is_none.true in
+    shows_classes c.args.self.now (c.has_class_alone.ensures.value.0 c.if-has_class_alone.true) (ap (λ k. k.default_value) (sym c.self.view_is) ∙ sym c.read.ensures.value ∙ none)

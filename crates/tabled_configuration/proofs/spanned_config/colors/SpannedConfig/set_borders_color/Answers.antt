@@ -1,0 +1,5 @@
+use Rattle.tabled_configuration.proofs.ConfigurationLemmas.{Changes_by_colors}
+use Rattle.tabled_configuration.proofs.spanned_config.colors.SpannedConfig.set_borders_color.Goals as goal
+
+pub returns : goal.returns
+returns c = Changes_by_colors _ c.self.inside.characters c.self.inside.colors _ c.self.inside.settings c.args.self.now c.self.view_is c.set_class.ensures

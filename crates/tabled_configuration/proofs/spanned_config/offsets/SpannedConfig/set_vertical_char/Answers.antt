@@ -1,0 +1,11 @@
+use Rattle.std.proofs.Common.{subst}
+use Rattle.tabled_grid.specs.Event as grid
+use Rattle.tabled_grid.specs.Calls.{offset_set}
+use Rattle.tabled_grid.specs.State.{state_at}
+use Rattle.tabled_grid.proofs.Seen.{on_ok}
+use Rattle.tabled_configuration.proofs.ConfigurationLemmas.{Changes_by_characters}
+use Rattle.tabled_configuration.proofs.spanned_config.offsets.SpannedConfig.set_vertical_char.Goals as goal
+
+pub returns-clause-ok : goal.returns-clause-ok
+returns-clause-ok c =
+    on_ok c.set_offset.result (λ e. Changes_by_characters _ c.self.inside.characters _ c.self.inside.colors c.self.inside.settings c.args.self.now c.self.view_is (subst (λ place. grid.Changes (offset_set place c.args.offset c.args.character) (state_at c.self.inside.characters) (state_at c.set_offset.new.self)) c.vertical_at.ensures e)) c.set_offset.ensures.ok

@@ -1,7 +1,0 @@
-use Rattle.std.proofs.Common.{None}
-use Rattle.tabled_grid.proofs.Changing.{default_erased}
-use Rattle.tabled_grid.proofs.Seen.{seen, changed, with_default}
-use Rattle.tabled_grid.proofs.layers.Layers.erase_default.Goals as goal
-
-pub returns : goal.returns
-returns g c = changed _ (seen c.self.inside) c.args.self.now _ _ c.self.view_is (with_default (seen c.self.inside) c.replace.new.dest None c.replace.ensures.after) (default_erased (seen c.self.inside))

@@ -1,6 +1,0 @@
-use Rattle.tabled_grid.proofs.Changing.{class_put}
-use Rattle.tabled_grid.proofs.Seen.{seen, changed, with_class}
-use Rattle.tabled_grid.proofs.layers.Layers.set_class.Goals as goal
-
-pub returns : goal.returns
-returns g c = changed _ (seen c.self.inside) c.args.self.now _ _ c.self.view_is (with_class (seen c.self.inside) c.replace.new.dest c.args.borders c.replace.ensures.after) (class_put (seen c.self.inside) c.args.borders)
