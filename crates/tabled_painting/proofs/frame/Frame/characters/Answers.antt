@@ -25,7 +25,7 @@ returns c plain =
     let frame = c.args.self.now in
     let line : LineOf = LineOf.Horizontal c.args.row in
     let view : Look = look (all_writes frame.cfg.now.spanned) frame.shape (slice_index frame.sizes.now.widths.items) (slice_index frame.sizes.now.heights.items) in
-    ap (paint None) (c.in_ok-write_across.ensures ∙ ap (λ bs. bs ++ text_marked (marks (all_writes c.config-cfg.result.now) frame.shape (slice_index frame.sizes.now.widths.items) (slice_index frame.sizes.now.heights.items) line)) c.in_ok-text.ensures.bytes
+    ap (paint None) (c.in_ok-write_across.ensures.text ∙ ap (λ bs. bs ++ text_marked (marks (all_writes c.config-cfg.result.now) frame.shape (slice_index frame.sizes.now.widths.items) (slice_index frame.sizes.now.heights.items) line)) c.in_ok-text.ensures.bytes
     ∙ ap (λ cfg. text_marked (marks (all_writes cfg) frame.shape (slice_index frame.sizes.now.widths.items) (slice_index frame.sizes.now.heights.items) line)) c.config-cfg.ensures
     ∙ sym (kept_text false view line))
     ∙ without_colors view line
