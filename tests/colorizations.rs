@@ -31,6 +31,16 @@ fn by_column(alloc: Global) -> Result<Table, OutOfMemory> {
     Ok(table)
 }
 
+#[test]
+fn cells_are_colored_column_by_column(rt: HostRuntime) -> Result<(), Fail> {
+    let table = by_column(rt.alloc())?;
+    assert!(rt; table.has_cell_color(0, 0, X));
+    assert!(rt; table.has_cell_color(1, 0, Y));
+    assert!(rt; table.has_cell_color(0, 1, Z));
+    assert!(rt; table.has_cell_color(1, 1, X));
+    Ok(())
+}
+
 fn by_row(alloc: Global) -> Result<Table, OutOfMemory> {
     let mut table = Table::of_shape(alloc, 2, 2)?;
     table.with(Colorization::by_row(colors(alloc, 3)?))?;
@@ -51,6 +61,15 @@ fn columns(alloc: Global) -> Result<Table, OutOfMemory> {
     let mut table = Table::of_shape(alloc, 1, 3)?;
     table.with(Colorization::columns(colors(alloc, 2)?))?;
     Ok(table)
+}
+
+#[test]
+fn columns_are_colored_in_turn(rt: HostRuntime) -> Result<(), Fail> {
+    let table = columns(rt.alloc())?;
+    assert!(rt; table.has_cell_color(0, 0, X));
+    assert!(rt; table.has_cell_color(0, 1, Y));
+    assert!(rt; table.has_cell_color(0, 2, X));
+    Ok(())
 }
 
 fn rows(alloc: Global) -> Result<Table, OutOfMemory> {
@@ -77,10 +96,32 @@ fn exact(alloc: Global) -> Result<Table, OutOfMemory> {
     Ok(table)
 }
 
+#[test]
+fn entities_of_an_object_are_colored_in_its_order(rt: HostRuntime) -> Result<(), Fail> {
+    let table = exact(rt.alloc())?;
+    assert!(rt; table.has_cell_color(0, 0, Y));
+    assert!(rt; table.has_cell_color(1, 0, X));
+    assert!(rt; table.has_cell_color(1, 1, X));
+    assert!(rt; !table.has_cell_color(0, 1, X) && !table.has_cell_color(0, 1, Y));
+    Ok(())
+}
+
 fn chess(alloc: Global) -> Result<Table, OutOfMemory> {
     let mut table = Table::of_shape(alloc, 3, 2)?;
     table.with(Colorization::chess(alloc, Color::FG_RED, Color::FG_GREEN)?)?;
     Ok(table)
+}
+
+#[test]
+fn a_chess_board_is_colored_by_parity(rt: HostRuntime) -> Result<(), Fail> {
+    let table = chess(rt.alloc())?;
+    for row in 0..3usize {
+        for col in 0..2usize {
+            let is_even = row % 2 == col % 2;
+            assert!(rt; table.has_cell_color(row, col, if is_even { X } else { Y }));
+        }
+    }
+    Ok(())
 }
 
 /// Whether a copy is equal to its source, and another pattern is not.

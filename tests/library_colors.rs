@@ -39,23 +39,17 @@ fn drawn(cfg: &ColoredConfig, place: Place) -> char {
     }
 }
 
-/// Whether the top line is red but for its two ends.
-fn has_red_top(cfg: &ColoredConfig) -> bool {
-    let left = Place::Horizontal {
-        row: 0,
-        col: 0,
-        at: 0,
-    };
-    let right = Place::Horizontal {
-        row: 0,
-        col: 1,
-        at: 2,
-    };
-    drawn(cfg, left) == 'r'
-        && drawn(cfg, Place::Cross { row: 0, col: 1 }) == 'r'
-        && drawn(cfg, right) == 'r'
-        && drawn(cfg, Place::Cross { row: 0, col: 0 }) == '.'
-        && drawn(cfg, Place::Cross { row: 0, col: 2 }) == '.'
+/// The top line of the drawing.
+fn top_line(alloc: Global, cfg: &ColoredConfig) -> Result<String, OutOfMemory> {
+    let mut line = String::new(alloc);
+    line.push(drawn(cfg, Place::Cross { row: 0, col: 0 }))?;
+    for col in 0..2usize {
+        for at in 0..3usize {
+            line.push(drawn(cfg, Place::Horizontal { row: 0, col, at }))?;
+        }
+        line.push(drawn(cfg, Place::Cross { row: 0, col: col + 1 }))?;
+    }
+    Ok(line)
 }
 
 fn is_blue(cfg: &ColoredConfig, col: usize) -> bool {
@@ -74,12 +68,12 @@ fn the_sample_has_the_colors_and_the_alignments_that_it_is_said_to_have(
     rt: HostRuntime,
 ) -> Result<(), Fail> {
     let cfg = sample(rt.alloc())?;
-    let top = has_red_top(&cfg);
+    let top = top_line(rt.alloc(), &cfg)?;
     let cells = is_blue(&cfg, 0) && is_blue(&cfg, 1);
     let left = alignment(&cfg, 0) == AlignmentHorizontal::Left;
     let right = alignment(&cfg, 1) == AlignmentHorizontal::Right;
     drop(cfg);
-    assert!(rt; top);
+    assert_eq!(rt; top.as_str(), ".rrrrrrr.");
     assert!(rt; cells);
     assert!(rt; left);
     assert!(rt; right);

@@ -5,6 +5,7 @@ use std::alloc::Global;
 use std::test::Fail;
 use tabled_config::SpannedConfig;
 use tabled_grid::{OutOfMemory, Position};
+use tabled_layout::Spans;
 use tabled_style::Style;
 
 /// A table in which the cell of the second row and column spans two columns and three rows, and the one below two columns.
@@ -109,5 +110,20 @@ fn spans_outside_draw_nothing(rt: HostRuntime) -> Result<(), Fail> {
     let line = "+-+-+-+";
     let cells = "| | | |";
     assert!(rt; table.shows(&[line, cells, line, cells, line, cells, line]));
+    Ok(())
+}
+
+#[test]
+fn equal_spans_look_alike(rt: HostRuntime) -> Result<(), Fail> {
+    let (mut once, mut again) = (Spans::new(rt.alloc()), Spans::new(rt.alloc()));
+    once.set(Position::new(1, 0), 2)?;
+    again.set(Position::new(1, 0), 7)?;
+    again.set(Position::new(0, 3), 5)?;
+    let other = format!(in rt.alloc(); "{again:?}")?;
+    again.set(Position::new(0, 3), 1)?;
+    again.set(Position::new(1, 0), 2)?;
+    let text = format!(in rt.alloc(); "{once:?}")?;
+    assert_eq!(rt; text.as_str(), format!(in rt.alloc(); "{again:?}")?.as_str());
+    assert!(rt; text.as_str() != other.as_str());
     Ok(())
 }

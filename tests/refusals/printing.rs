@@ -3,6 +3,7 @@
 use crate::sample::{Sample, is_same};
 use crate::turn::{Named, Outcome, Turn};
 use std::alloc::Global;
+use std::fmt::Write;
 use tabled::{TableError, TextTable};
 use tabled_config::{
     CellRows, ColoredConfig, PrintError, line_marks, line_runs, print_plain, print_rows,
@@ -270,6 +271,15 @@ fn write_to(turn: &mut Turn) -> Result<Outcome, OutOfMemory> {
     }
 }
 
+/// What becomes of a table that is displayed.
+fn display(turn: &mut Turn) -> Result<Outcome, OutOfMemory> {
+    let (table, _copy) = table(turn.alloc())?;
+    let mut writer = Counts { bytes: 0 };
+    turn.spend();
+    let returned = write!(&mut writer, "{table}");
+    Ok(Outcome::of(returned, writer.bytes == DRAWN.len(), writer.bytes == 0))
+}
+
 /// What becomes of a text on a line of the table.
 fn title(turn: &mut Turn) -> Result<Outcome, OutOfMemory> {
     let alloc = turn.alloc();
@@ -285,7 +295,7 @@ fn title(turn: &mut Turn) -> Result<Outcome, OutOfMemory> {
 }
 
 /// Tables of texts.
-pub(crate) fn tables() -> [Named; 12] {
+pub(crate) fn tables() -> [Named; 13] {
     [
         ("TextTable::new", make),
         ("TextTable::from_rows", make_of_rows),
@@ -299,5 +309,6 @@ pub(crate) fn tables() -> [Named; 12] {
         ("TextTable::append_to", append_to),
         ("TextTable::write_to", write_to),
         ("TextTable::print_to", print_to),
+        ("<TextTable as Display>::fmt", display),
     ]
 }
