@@ -1,8 +1,10 @@
-//! What this library promises: each promise is the contract of a function here, and its body is the call that keeps it. A law,
-//! which is about definitions alone, has the call of the law as its body.
+//! What this library promises: each promise is the contract of a function here, and its body is the call that keeps it, or the calls
+//! that do so in a row. A law, which is about definitions alone, does nothing.
 //!
 //! Nothing is defined here: the words of the contracts stand in the `specs/` of the crates below, and `docs/DEFINITIONS.md`
-//! explains them. Where a contract below were to promise less, a function here would no longer be proved.
+//! explains them. Each public call of the library is made here or in `tabled_kinds`, by a function whose contract says what the call
+//! gives or leaves. So where the contract of a call were to say less, a function here would no longer be proved. `tools/uncalled`
+//! compares the calls with the functions, and `tools/unclaimed_calls` has the few of which nothing can be said.
 #![tactic(auto)]
 
 pub mod cells;
@@ -21,4 +23,6 @@ pub mod spans;
 pub mod store;
 pub mod styles;
 pub mod tables;
+pub mod theme_colors;
+pub mod themes;
 pub mod worked;
