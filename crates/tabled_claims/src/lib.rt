@@ -7,6 +7,7 @@
 //! compares the calls with the functions, and `tools/unclaimed_calls` has the few of which nothing can be said.
 #![tactic(auto)]
 
+pub mod cell_borders;
 pub mod cells;
 pub mod colors;
 pub mod lists;
@@ -18,9 +19,12 @@ pub mod painted;
 pub mod places;
 pub mod printing;
 pub mod program;
+pub mod ready_styles;
 pub mod settings;
 pub mod spans;
 pub mod store;
+pub mod style_lines;
+pub mod style_records;
 pub mod styles;
 pub mod tables;
 pub mod theme_colors;
