@@ -7,9 +7,12 @@
 //! compares the calls with the functions, and `tools/unclaimed_calls` has the few of which nothing can be said.
 #![tactic(auto)]
 
+pub mod border_color_calls;
 pub mod cell_borders;
 pub mod cells;
+pub mod colored_configurations;
 pub mod colors;
+pub mod configurations;
 pub mod lists;
 pub mod objects;
 pub mod options;
@@ -17,9 +20,11 @@ pub mod orders;
 pub mod outlines;
 pub mod painted;
 pub mod places;
+pub mod plain_reads;
 pub mod printing;
 pub mod program;
 pub mod ready_styles;
+pub mod setting_calls;
 pub mod settings;
 pub mod spans;
 pub mod store;
