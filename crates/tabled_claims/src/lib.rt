@@ -28,6 +28,7 @@ pub mod setting_calls;
 pub mod settings;
 pub mod spans;
 pub mod store;
+pub mod store_reads;
 pub mod style_lines;
 pub mod style_records;
 pub mod styles;
