@@ -35,4 +35,5 @@ pub mod styles;
 pub mod tables;
 pub mod theme_colors;
 pub mod themes;
+pub mod values;
 pub mod worked;
