@@ -24,6 +24,7 @@ pub mod plain_reads;
 pub mod printing;
 pub mod program;
 pub mod ready_styles;
+pub mod refusals;
 pub mod setting_calls;
 pub mod settings;
 pub mod spans;
