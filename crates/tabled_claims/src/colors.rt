@@ -1,14 +1,17 @@
 //! The texts of colors.
 
-ghost use Rattle.std.specs.Prelude.{◌≡◌, ◌↔◌, [], true, false, codes, IsTrue, IfOk, string_bytes};
+ghost use Rattle.std.specs.Prelude.{◌≡◌, ◌↔◌, [], true, false, codes, IsTrue, IfOk, string_bytes, if◌then◌else◌, None, IsOk, option_map};
 ghost use Rattle.std.specs.declared.cmp.Ordering.{Ordering as Order};
 ghost use Rattle.tabled_color.specs.Shade.{Shade, texts_of, static_shade, owned_shade, sequence, rgb_sequence, joined};
 ghost use Rattle.tabled_color.specs.Painting.{colorized};
+ghost use Rattle.tabled_border.specs.Texts.{Texts};
+ghost use Rattle.tabled_border.specs.LentTexts.{lent_texts};
+ghost use Rattle.tabled_border.specs.declared.ansi.ANSIStr.{ANSIStr as Lent};
 
 use std::alloc::Global;
 use std::cmp::Ordering;
 use std::hash::Hash;
-use tabled_border::OutOfMemory;
+use tabled_border::{ANSIBuf, ANSIFmt, ANSIStr, AnsiText, OutOfMemory};
 use tabled_color::Color;
 
 /// Black characters.
@@ -337,6 +340,76 @@ pub fn text_in_color(alloc: Global, color: &Color, text: &str) -> Result<String,
 {
     color.colorize(alloc, text)
 }
+
+/// A color without texts; new colors have none.
+pub fn no_color_at_all() -> Color
+    ensures empty { result ≡ static_shade [] [] }
+    ensures first { (color : Shade) → ⟦<Color as Default>⟧.is_default color → color ≡ static_shade [] [] }
+{
+    Color::empty()
+}
+
+/// Whether a color has no texts.
+pub fn color_is_empty(color: &Color) -> bool
+    ensures { IsTrue result ↔ ((color.now.prefix ≡ []) × (color.now.suffix ≡ [])) }
+{
+    color.is_empty()
+}
+
+/// The text of a color before what is colored.
+pub fn prefix_of_a_color(color: &Color) -> &str
+    ensures { result.now ≡ color.now.prefix }
+{
+    color.get_prefix()
+}
+
+/// The text of a color after what is colored.
+pub fn suffix_of_a_color(color: &Color) -> &str
+    ensures { result.now ≡ color.now.suffix }
+{
+    color.get_suffix()
+}
+
+/// The texts of a color that does not own them, and nothing of one that does.
+pub fn texts_of_a_static_color(color: &Color) -> Option<ANSIStr<'static>>
+    ensures { option_map lent_texts result ≡ (if color.now.owned then None else Some (texts_of color.now)) }
+{
+    color.as_ansi_str()
+}
+
+/// The texts of a color, given up by it; those that it owns take no memory.
+pub fn texts_given_up(alloc: Global, color: Color) -> Result<ANSIBuf, OutOfMemory>
+    ensures texts { IfOk result (λ texts. texts ≡ texts_of color) }
+    ensures owned { IsTrue color.owned → IsOk result }
+{
+    color.into_ansi(alloc)
+}
+
+/// A color of owned texts owns them, and one of static texts has them as they are.
+pub fn colors_converted(texts: ANSIBuf, lent: ANSIStr<'static>) -> (Color, Color)
+    ensures owned { result.0 ≡ owned_shade texts.prefix texts.suffix }
+    ensures lent { result.1 ≡ static_shade (lent_texts lent.entry).prefix (lent_texts lent.entry).suffix }
+{
+    (Color::from(texts), Color::from(lent))
+}
+
+/// What a color states as its texts, for the padding and the margin and for a writer, are its texts; of owned and of lent texts
+/// they are these.
+pub fn stated_texts()
+    ensures prefix { (color : Shade) → ⟦<Color as AnsiText>⟧.prefix_text color ≡ color.prefix }
+    ensures suffix { (color : Shade) → ⟦<Color as AnsiText>⟧.suffix_text color ≡ color.suffix }
+    ensures written_prefix { (color : Shade) → ⟦<Color as ANSIFmt>⟧.prefix_text color ≡ color.prefix }
+    ensures written_suffix { (color : Shade) → ⟦<Color as ANSIFmt>⟧.suffix_text color ≡ color.suffix }
+    ensures owned_prefix { (texts : Texts) → ⟦<ANSIBuf as AnsiText>⟧.prefix_text texts ≡ texts.prefix }
+    ensures owned_suffix { (texts : Texts) → ⟦<ANSIBuf as AnsiText>⟧.suffix_text texts ≡ texts.suffix }
+    ensures owned_written_prefix { (texts : Texts) → ⟦<ANSIBuf as ANSIFmt>⟧.prefix_text texts ≡ texts.prefix }
+    ensures owned_written_suffix { (texts : Texts) → ⟦<ANSIBuf as ANSIFmt>⟧.suffix_text texts ≡ texts.suffix }
+    ensures lent_prefix { (texts : Lent) → ⟦<ANSIStr<'static> as AnsiText>⟧.prefix_text texts ≡ (lent_texts texts).prefix }
+    ensures lent_suffix { (texts : Lent) → ⟦<ANSIStr<'static> as AnsiText>⟧.suffix_text texts ≡ (lent_texts texts).suffix }
+    ensures lent_written_prefix { (texts : Lent) → ⟦<ANSIStr<'static> as ANSIFmt>⟧.prefix_text texts ≡ (lent_texts texts).prefix }
+    ensures lent_written_suffix { (texts : Lent) → ⟦<ANSIStr<'static> as ANSIFmt>⟧.suffix_text texts ≡ (lent_texts texts).suffix }
+    ensures first_lent { (texts : Lent) → ⟦<ANSIStr<'static> as Default>⟧.is_default texts → lent_texts texts ≡ record { prefix = []; suffix = [] } }
+{}
 
 /// Colors are equal by `==` exactly where they are the same, and so where their order is `Equal`; equal ones are hashed
 /// alike. A static color is unequal to an owned one, and stands before it.

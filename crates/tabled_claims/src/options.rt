@@ -11,7 +11,7 @@ ghost use Rattle.tabled_config.specs.Picture.{look};
 ghost use Rattle.tabled_color.specs.BorderColors.{border_texts};
 ghost use Rattle.tabled_color.specs.Coloring.{entity_colored, table_colored};
 ghost use Rattle.tabled_color.specs.Shade.{texts_of};
-ghost use Rattle.tabled_style.specs.Named.{ready_applied};
+ghost use Rattle.tabled_style.specs.Named.{ready_applied, shown};
 ghost use Rattle.tabled_theme.specs.Events.{theme_applied};
 ghost use Rattle.tabled_highlight.specs.Highlighting.{highlight_events};
 ghost use Rattle.tabled_colorization.specs.Turns.{colorization, exact_colorization};
@@ -21,6 +21,8 @@ ghost use Rattle.tabled_correction.specs.Correction.{correction_events};
 ghost use Rattle.tabled_options.specs.LineChar.{line_char_events};
 ghost use Rattle.tabled_options.specs.LineText.{text_events};
 ghost use Rattle.tabled_options.specs.NamedLine.{column_line, last_column_line, last_row_line, row_line};
+ghost use Rattle.std.specs.List.{filter};
+ghost use Rattle.tabled_object.specs.Entities.{cells_of, is_inside};
 
 use std::alloc::Global;
 use tabled_border::{AnsiText, Border as GridBorder, OutOfMemory};
@@ -114,7 +116,8 @@ pub fn ready_style_on_a_table<R, D>(
     cfg: &mut ColoredConfig,
     dims: &mut D,
 ) -> Result<(), OutOfMemory>
-    ensures { OnOk result (Changes (ready_applied option) cfg.old cfg.new) }
+    ensures changed { OnOk result (Changes (ready_applied option) cfg.old cfg.new) }
+    ensures without_lines { (shown option).horizontals ≡ [] → IsOk result }
 {
     option.change(records, cfg, dims)
 }
@@ -194,7 +197,8 @@ pub fn border_on_cells<T, B, L, Right, R>(
 ) -> Result<(), OutOfMemory>
 where
     R: Records + ExactRecords,
-    ensures { OnOk result (Changes (entity_bordered option.now (R.row_count records.old, R.column_count records.old) entity) cfg.old cfg.new) }
+    ensures changed { OnOk result (Changes (entity_bordered option.now (R.row_count records.old, R.column_count records.old) entity) cfg.old cfg.new) }
+    ensures without_cells { filter (is_inside (R.row_count records.old) (R.column_count records.old)) (cells_of entity (R.row_count records.old) (R.column_count records.old)) ≡ [] → IsOk result }
 {
     option.change(records, cfg, entity)
 }
@@ -208,7 +212,8 @@ pub fn grid_border_on_cells<R>(
 ) -> Result<(), OutOfMemory>
 where
     R: Records + ExactRecords,
-    ensures { OnOk result (Changes (entity_bordered option.now (R.row_count records.old, R.column_count records.old) entity) cfg.old cfg.new) }
+    ensures changed { OnOk result (Changes (entity_bordered option.now (R.row_count records.old, R.column_count records.old) entity) cfg.old cfg.new) }
+    ensures without_cells { filter (is_inside (R.row_count records.old) (R.column_count records.old)) (cells_of entity (R.row_count records.old) (R.column_count records.old)) ≡ [] → IsOk result }
 {
     option.change(records, cfg, entity)
 }

@@ -1,6 +1,6 @@
 //! The plain printer.
 
-ghost use Rattle.std.specs.Prelude.{◌≡◌, ◌+◌, ◌*◌, ◌≤◌, ℕ, true, false, if◌then◌else◌, List, [], ◌∷◌, ◌++◌, length, map, option_map, slice_get, IfOk, OnOk, OnErr, IsOkUnless, MatchOption, string_bytes};
+ghost use Rattle.std.specs.Prelude.{◌≡◌, ◌+◌, ◌*◌, ◌≤◌, ℕ, true, false, if◌then◌else◌, List, [], ◌∷◌, ◌++◌, length, map, option_map, slice_get, IfOk, OnOk, OnErr, IsOkUnless, MatchOption, string_bytes, ◌<◌, slice_index_or};
 ghost use Rattle.tabled_grid.specs.declared.place.LineOf.{LineOf as Line};
 ghost use Rattle.std.specs.FinMap.{empty};
 ghost use Rattle.tabled_grid.specs.Probing.{IsRaised};
@@ -13,13 +13,13 @@ ghost use Rattle.tabled_config.specs.Known.{HasNoneAcross};
 ghost use Rattle.tabled_config.specs.LinePieces.{has_line, pieces_of, crossed_after, lines_met};
 ghost use Rattle.tabled_config.specs.Marks.{mark_of, marks_of};
 ghost use Rattle.tabled_config.specs.Picture.{Look, text_marked, text_shown, mark_at, marks_along, marks, line_if_drawn, text_lines, printed};
-ghost use Rattle.tabled_config.specs.Refusal.{first_refusal};
+ghost use Rattle.tabled_config.specs.Refusal.{first_refusal, table_faults};
 ghost use Rattle.tabled_config.specs.TextOrder.{text_order, line_text, place_in};
 ghost use Rattle.tabled_config.specs.Texts.{Table, texts};
 
 use tabled_config::{
-    Mark, PrintError, Run, SpannedConfig, drawn_across, line_marks, line_runs, print_plain,
-    runs_across, write_across,
+    CellRows, Mark, PrintError, Run, SpannedConfig, drawn_across, line_marks, line_runs,
+    print_plain, print_rows, runs_across, write_across,
 };
 use tabled_grid::{Dimension, LineOf, OutOfMemory, Probes};
 
@@ -141,4 +141,37 @@ pub fn marks_in_order()
     ensures texts { (view : Look) (cells : Table) → is_empty view.shape ≡ false → text_lines view cells ≡ map (line_text view cells) (text_order view) }
     ensures marks { (view : Look) (col : ℕ) → is_empty view.shape ≡ false → col ≤ view.shape.1
         → marks_along view (Line.Vertical col) ≡ map (λ at. mark_at view (place_in col at)) (text_order view) }
+{}
+
+/// Cells that are known to fit: the picture around them, appended, and a refusal for memory alone leaves the text as it was.
+pub fn known_cells_printed<D: Dimension, R: CellRows>(
+    out: &mut String,
+    cfg: &SpannedConfig,
+    dims: &D,
+    shape: (usize, usize),
+    cells: &R,
+) -> Result<(), OutOfMemory>
+    requires { table_faults (D.width_of dims.now) (D.height_of dims.now) shape (R.table cells.now) ≡ [] }
+    ensures text { (events : List ConfigEvent) → Shows events cfg.now
+        → OnOk result (string_bytes out.new ≡ string_bytes out.old ++ printed events shape (D.width_of dims.now) (D.height_of dims.now) (R.table cells.now)) }
+    ensures unchanged { OnErr result (string_bytes out.new ≡ string_bytes out.old) }
+{
+    print_rows(out, cfg, dims, shape, cells)
+}
+
+/// The cells of a row, of rows of any type, are those of the table that they state; lent rows state the texts of their cells.
+pub fn cells_of_a_row<'a, R: CellRows>(
+    rows: &'a R,
+    row: usize,
+    room: &'a mut Vec<String>,
+) -> Result<&'a [String], OutOfMemory>
+    requires { row < length (R.table rows.now) }
+    ensures cells { IfOk result (λ cells. map string_bytes cells.now ≡ slice_index_or (R.table rows.now) row []) }
+{
+    rows.row(row, room)
+}
+
+/// Lent rows state the texts of their cells.
+pub fn lent_rows_as_a_table<'a>(rows: &&'a [Vec<String>])
+    ensures { ⟦<&'a [Vec<String>] as CellRows>⟧.table rows.now ≡ texts rows.now.now }
 {}

@@ -1,6 +1,6 @@
 //! What is set for cells, by entity.
 
-ghost use Rattle.std.specs.Prelude.{◌≡◌, ◌+◌, ◌%◌, ◌==◌, ◌<◌, ◌++◌, ℕ, List, [], ◌∷◌, None, false, if◌then◌else◌, IsOk, IsTrue, OnOk, OnErr};
+ghost use Rattle.std.specs.Prelude.{◌≡◌, ◌+◌, ◌%◌, ◌==◌, ◌<◌, ◌++◌, ℕ, List, [], ◌∷◌, None, false, if◌then◌else◌, IsOk, IsTrue, OnOk, OnErr, ◌↔◌};
 ghost use Rattle.std.specs.List.{filter_map};
 ghost use Rattle.tabled_border.specs.Texts.{Texts};
 ghost use Rattle.tabled_object.specs.declared.position.Position.{Position as At};
@@ -18,7 +18,7 @@ ghost use Rattle.tabled_colorization.specs.declared.pattern.Pattern.TheVariants 
 ghost use Rattle.tabled_colorization.specs.Turns.{colorization};
 
 use std::alloc::Global;
-use tabled_border::OutOfMemory;
+use tabled_border::{Keep, OutOfMemory};
 use tabled_object::{Entity, Position};
 use tabled_settings::EntityMap;
 
@@ -61,6 +61,68 @@ pub fn value_of_a_cell<T>(map: &EntityMap<T>, cell: Position) -> &T
         → result.now ≡ setting events default cell }
 {
     map.get(cell)
+}
+
+/// Writes a value for the cells of an entity here, and one in another map. Where memory is refused neither changes; for all cells
+/// none is asked for.
+pub fn written_in_two_maps<T, U>(
+    map: &mut EntityMap<T>,
+    other: &mut EntityMap<U>,
+    entity: Entity,
+    value: T,
+    other_value: U,
+) -> Result<(), OutOfMemory>
+where
+    T: Drop,
+    U: Drop,
+    ensures written { OnOk result (map.new ≡ after map.old (write_of entity value)) }
+    ensures other_ok { OnOk result (other.new ≡ after other.old (write_of entity other_value)) }
+    ensures unchanged { OnErr result (map.new ≡ map.old) }
+    ensures other_err { OnErr result (other.new ≡ other.old) }
+    ensures always { IsTrue (is_global entity) → IsOk result }
+{
+    map.insert_both(other, entity, value, other_value)
+}
+
+/// Makes the writes and removals of a list here, in its order, and those of two other lists in two other maps: a value is written
+/// for an entity, and where there is none the entity's is removed. Where memory is refused none of the maps changes. It costs the
+/// lists and not what the maps held, unless an event is one of all cells.
+pub fn applied_to_three_maps<T, U, V>(
+    map: &mut EntityMap<T>,
+    alloc: Global,
+    events: Vec<(Entity, Option<T>)>,
+    second: &mut EntityMap<U>,
+    second_events: Vec<(Entity, Option<U>)>,
+    third: &mut EntityMap<V>,
+    third_events: Vec<(Entity, Option<V>)>,
+) -> Result<(), OutOfMemory>
+where
+    T: Keep + Drop,
+    U: Keep + Drop,
+    V: Keep + Drop,
+    ensures written { OnOk result (map.new ≡ after_all map.old events.items) }
+    ensures second_ok { OnOk result (second.new ≡ after_all second.old second_events.items) }
+    ensures third_ok { OnOk result (third.new ≡ after_all third.old third_events.items) }
+    ensures unchanged { OnErr result (map.new ≡ map.old) }
+    ensures second_err { OnErr result (second.new ≡ second.old) }
+    ensures third_err { OnErr result (third.new ≡ third.old) }
+{
+    map.apply_three(alloc, events, second, second_events, third, third_events)
+}
+
+/// What was written last for all cells, or the default where that was removed or nothing was written. A cell has it unless an
+/// entity that covers the cell had an event since then.
+pub fn value_of_all_cells<T>(map: &EntityMap<T>) -> &T
+    ensures { result.now ≡ map.now.global }
+{
+    map.global()
+}
+
+/// Whether no entity but `Global` had an event since the last one of `Global`.
+pub fn nothing_since_all_cells<T>(map: &EntityMap<T>) -> bool
+    ensures { IsTrue result ↔ (map.now.since ≡ []) }
+{
+    map.is_empty()
 }
 
 /// After any list of events an entity map has, for every cell, the value that the last event covering it gives.

@@ -1,28 +1,33 @@
 //! The store of borders, for every type of value.
 #![tactic(auto, using(crate::proofs::Shown::shown_next, crate::proofs::Shown::shown_then))]
 
-ghost use Rattle.std.specs.Prelude.{◌≡◌, ◌↔◌, ℕ, List, [], ◌∷◌, ◌++◌, IsTrue, Option, OnOk, OnErr, option_copied};
+ghost use Rattle.std.specs.Prelude.{◌≡◌, ◌↔◌, ℕ, List, [], ◌∷◌, ◌++◌, IsTrue, Option, OnOk, OnErr, option_copied, ◌||◌, IsOk, None, IsSomeAnd};
 ghost use Rattle.std.specs.Option.{option_eq};
 ghost use Rattle.tabled_grid.specs.declared.event.Event.{Event};
 ghost use Rattle.tabled_grid.specs.declared.event.Event.TheVariants.{Erase as erase};
-ghost use Rattle.tabled_grid.specs.declared.event.Region.TheVariants.{Level as level_sites};
+ghost use Rattle.tabled_grid.specs.declared.event.Region.TheVariants.{Level as level_sites, One as one_site};
 ghost use Rattle.tabled_grid.specs.declared.event.Written.{Written};
 ghost use Rattle.tabled_grid.specs.declared.place.LineOf.{LineOf as Line};
 ghost use Rattle.tabled_grid.specs.declared.place.Place.{Place as At};
 ghost use Rattle.tabled_grid.specs.declared.site.Direction.TheVariants.{Horizontal, Vertical};
 ghost use Rattle.tabled_grid.specs.declared.site.Site.{Site};
-ghost use Rattle.tabled_grid.specs.Calls.{default_set, line_set_horizontal, line_set_vertical, line_removed, lines_erased, cell_set, cell_erased, offset_set, offsets_erased, border_set, border_erased};
+ghost use Rattle.tabled_grid.specs.Calls.{default_set, line_set_horizontal, line_set_vertical, line_removed, lines_erased, cell_set, cell_erased, offset_set, offsets_erased, border_set, border_erased, entity_border_erased, entity_border_set, frame_erased, writes_anew, spot_of, offset_site};
 ghost use Rattle.tabled_grid.specs.Drawn.{Drawn, drawn};
 ghost use Rattle.tabled_grid.specs.Event.{replay, Shows, Changes};
 ghost use Rattle.tabled_grid.specs.Probing.{IsRaised};
 ghost use Rattle.tabled_grid.specs.Same.{same_written};
 ghost use Rattle.tabled_grid.specs.State.{State, class_record_set, state_at, writes_of};
 ghost use Rattle.tabled_grid.specs.Value.{value};
+ghost use Rattle.std.specs.List.{filter};
+ghost use Rattle.tabled_grid.specs.Writes.{site_of, writes_made};
+ghost use Rattle.tabled_object.specs.Entities.{cells_of, is_inside};
+ghost use Rattle.tabled_grid.specs.declared.site.Site.TheVariants.{Line as of_line, Cell as at_spot};
+ghost use Rattle.tabled_grid.specs.declared.site.Part.TheVariants.{Mark as mark};
 
 use std::alloc::Global;
 use tabled_grid::{
-    Border, Borders, HorizontalLine, Layers, LineOf, Meter, Offset, OutOfMemory, Place, Position,
-    VerticalLine,
+    Border, Borders, Entity, HorizontalLine, Keep, Layers, LineOf, Meter, Offset, OutOfMemory,
+    Place, Position, Target, VerticalLine, Write,
 };
 
 /// A new store shows that nothing happened.
@@ -88,7 +93,7 @@ pub fn class_record_erased<T: Drop>(store: &mut Layers<T>)
     store.erase_class();
 }
 
-/// A custom horizontal line put at an index, in place of the one that stood there.
+/// A custom horizontal line put at an index, in place of the one that stood there, where no memory is asked for.
 pub fn horizontal_line_put<T: Drop>(
     store: &mut Layers<T>,
     index: usize,
@@ -96,6 +101,7 @@ pub fn horizontal_line_put<T: Drop>(
 ) -> Result<(), OutOfMemory>
     ensures shown { (before : List (Event T)) → Shows before (state_at store.old) → OnOk result (Shows (before ++ line_set_horizontal index line) (state_at store.new)) }
     ensures unchanged { OnErr result (store.new ≡ store.old) }
+    ensures absent { OnErr result (state_at store.old (of_line (Line.Horizontal index) mark) ≡ None) }
 {
     store.insert_hline(index, line)
 }
@@ -107,7 +113,7 @@ pub fn horizontal_line_removed<T: Drop>(store: &mut Layers<T>, index: usize)
     store.remove_hline(index);
 }
 
-/// A custom vertical line put at an index, in place of the one that stood there.
+/// A custom vertical line put at an index, in place of the one that stood there, where no memory is asked for.
 pub fn vertical_line_put<T: Drop>(
     store: &mut Layers<T>,
     index: usize,
@@ -115,6 +121,7 @@ pub fn vertical_line_put<T: Drop>(
 ) -> Result<(), OutOfMemory>
     ensures shown { (before : List (Event T)) → Shows before (state_at store.old) → OnOk result (Shows (before ++ line_set_vertical index line) (state_at store.new)) }
     ensures unchanged { OnErr result (store.new ≡ store.old) }
+    ensures absent { OnErr result (state_at store.old (of_line (Line.Vertical index) mark) ≡ None) }
 {
     store.insert_vline(index, line)
 }
@@ -133,7 +140,7 @@ pub fn lines_erased<T: Drop>(store: &mut Layers<T>)
     store.erase_lines();
 }
 
-/// A value written for cells at the edge or the crossing of a place.
+/// A value written for cells at the edge or the crossing of a place; where one stood there no memory is asked for.
 pub fn cell_written<T: Drop>(
     store: &mut Layers<T>,
     place: Place,
@@ -141,6 +148,7 @@ pub fn cell_written<T: Drop>(
 ) -> Result<(), OutOfMemory>
     ensures shown { (before : List (Event T)) → Shows before (state_at store.old) → OnOk result (Shows (before ++ cell_set place value) (state_at store.new)) }
     ensures unchanged { OnErr result (store.new ≡ store.old) }
+    ensures absent { OnErr result (state_at store.old (at_spot (spot_of place)) ≡ None) }
 {
     store.set_cell(place, value)
 }
@@ -159,7 +167,7 @@ pub fn cells_erased<T: Drop>(store: &mut Layers<T>)
     store.erase_cells();
 }
 
-/// A value written at a numbered place of an edge.
+/// A value written at a numbered place of an edge; where one stood there no memory is asked for.
 pub fn offset_written<T: Drop>(
     store: &mut Layers<T>,
     place: Place,
@@ -168,6 +176,7 @@ pub fn offset_written<T: Drop>(
 ) -> Result<(), OutOfMemory>
     ensures shown { (before : List (Event T)) → Shows before (state_at store.old) → OnOk result (Shows (before ++ offset_set place offset value) (state_at store.new)) }
     ensures unchanged { OnErr result (store.new ≡ store.old) }
+    ensures absent { OnErr result (IsSomeAnd (offset_site place offset) (λ site. state_at store.old site ≡ None)) }
 {
     store.set_offset(place, offset, value)
 }
@@ -186,7 +195,7 @@ pub fn vertical_offsets_erased<T: Drop>(store: &mut Layers<T>)
     store.erase_vertical_offsets();
 }
 
-/// What a border gives, written around a cell.
+/// What a border gives, written around a cell; where something stood at each of these places no memory is asked for.
 pub fn border_written<T: Drop>(
     store: &mut Layers<T>,
     pos: Position,
@@ -194,6 +203,7 @@ pub fn border_written<T: Drop>(
 ) -> Result<(), OutOfMemory>
     ensures shown { (before : List (Event T)) → Shows before (state_at store.old) → OnOk result (Shows (before ++ border_set pos border) (state_at store.new)) }
     ensures unchanged { OnErr result (store.new ≡ store.old) }
+    ensures absent { OnErr result (IsTrue (writes_anew (state_at store.old) (border_set pos border))) }
 {
     store.set_border(pos, border)
 }
@@ -203,6 +213,83 @@ pub fn border_erased<T: Drop>(store: &mut Layers<T>, pos: Position)
     ensures { (before : List (Event T)) → Shows before (state_at store.old) → Shows (before ++ (border_erased pos)) (state_at store.new) }
 {
     store.erase_border(pos);
+}
+
+/// Writes what the border gives at the cell level of the sides and corners of each cell that the entity names in a table of
+/// `shape.0` rows and `shape.1` columns, row by row: for what two cells share the later one counts. Cells outside are passed
+/// over. Where memory is refused nothing changes; without a cell inside none is asked for.
+pub fn entity_border_written<T>(
+    store: &mut Layers<T>,
+    entity: Entity,
+    shape: (usize, usize),
+    border: &Border<T>,
+) -> Result<(), OutOfMemory>
+where
+    T: Keep,
+    ensures shown { (before : List (Event T)) → Shows before (state_at store.old) → OnOk result (Shows (before ++ (entity_border_set entity shape border.now)) (state_at store.new)) }
+    ensures unchanged { OnErr result (store.new ≡ store.old) }
+    ensures without_cells { filter (is_inside shape.0 shape.1) (cells_of entity shape.0 shape.1) ≡ [] → IsOk result }
+{
+    store.set_entity_border(entity, shape, border)
+}
+
+/// Erases the cell level of the sides and corners of each cell that the entity names in a table of `shape.0` rows and `shape.1`
+/// columns, also of those that it shares with cells beside it. Cells outside are passed over.
+pub fn entity_border_erased<T>(store: &mut Layers<T>, entity: Entity, shape: (usize, usize))
+where
+    T: Drop,
+    ensures { (before : List (Event T)) → Shows before (state_at store.old) → Shows (before ++ (entity_border_erased entity shape)) (state_at store.new) }
+{
+    store.erase_entity_border(entity, shape);
+}
+
+/// Erases the cell level of the outer lines of a table of `shape.0` rows and `shape.1` columns: of the edges and crossings on
+/// horizontal lines 0 and `shape.0` and on vertical lines 0 and `shape.1`. A table without rows or without columns has none of
+/// them.
+pub fn frame_erased<T>(store: &mut Layers<T>, shape: (usize, usize))
+where
+    T: Drop,
+    ensures { (before : List (Event T)) → Shows before (state_at store.old) → Shows (before ++ (frame_erased shape)) (state_at store.new) }
+{
+    store.erase_frame(shape);
+}
+
+/// Makes the writes of a list, in its order: of two at one site the later one counts. Where memory is refused nothing changes;
+/// where something stood at each of their sites, none is asked for.
+pub fn writes_made<T>(store: &mut Layers<T>, writes: Vec<Write<T>>) -> Result<(), OutOfMemory>
+where
+    T: Drop,
+    ensures shown { (before : List (Event T)) → Shows before (state_at store.old) → OnOk result (Shows (before ++ (writes_made writes.items)) (state_at store.new)) }
+    ensures unchanged { OnErr result (store.new ≡ store.old) }
+    ensures absent { OnErr result (IsTrue (writes_anew (state_at store.old) (writes_made writes.items))) }
+{
+    store.write_all(writes)
+}
+
+/// Makes the writes of two lists, one in this store and one in another, whole or not at all over both: where memory is refused
+/// neither changes; where something stood at each of their sites, none is asked for.
+pub fn writes_made_in_two_stores<T: Drop, U: Drop>(
+    store: &mut Layers<T>,
+    writes: Vec<Write<T>>,
+    other: &mut Layers<U>,
+    others: Vec<Write<U>>,
+) -> Result<(), OutOfMemory>
+    ensures shown { (before : List (Event T)) → Shows before (state_at store.old) → OnOk result (Shows (before ++ (writes_made writes.items)) (state_at store.new)) }
+    ensures others_shown { (before : List (Event U)) → Shows before (state_at other.old) → OnOk result (Shows (before ++ writes_made others.items) (state_at other.new)) }
+    ensures unchanged { OnErr result (store.new ≡ store.old) }
+    ensures others_unchanged { OnErr result (other.new ≡ other.old) }
+    ensures absent { OnErr result (IsTrue (writes_anew (state_at store.old) (writes_made writes.items) || writes_anew (state_at other.old) (writes_made others.items))) }
+{
+    store.write_both(writes, other, others)
+}
+
+/// Erases what stands at a target, and nothing else.
+pub fn target_erased<T>(store: &mut Layers<T>, target: Target)
+where
+    T: Drop,
+    ensures { (before : List (Event T)) → Shows before (state_at store.old) → Shows (before ++ (erase (one_site (site_of target)) ∷ [])) (state_at store.new) }
+{
+    store.erase_at(target);
 }
 
 /// A list of events that was shown before a change, followed by the events of the change, is shown after it.

@@ -17,9 +17,10 @@ ghost use Rattle.tabled_text.specs.Refusal.{of_printer, unequal};
 ghost use Rattle.tabled_text.specs.Sizes.{column_count, column_widths, row_heights, unequal_row};
 ghost use Rattle.tabled_text.specs.TextTable.{lent_rows, shape_of, text_of, painted};
 ghost use Rattle.tabled_text.specs.declared.table_error.TableError.{TableError as Refusal};
+ghost use Rattle.std.specs.Fmt.{WritesOnOk};
 
 use std::alloc::Global;
-use std::{fmt, io};
+use std::{fmt, io, mem};
 use tabled_config::{CellOption, ColoredConfig, PrintError, TableOption};
 use tabled_grid::{FixedDimension, Object, OutOfMemory, Shape};
 use tabled_text::{TableError, TextTable};
@@ -201,4 +202,33 @@ pub fn texts_of_a_table(table: &TextTable) -> &[Vec<String>]
     ensures { texts result.now ≡ table.now.texts }
 {
     table.texts()
+}
+
+/// The configuration of a table, lent.
+pub fn configuration_of_a_table(table: &TextTable) -> &ColoredConfig
+    ensures { result.now ≡ table.now.config }
+{
+    table.config()
+}
+
+/// The configuration of a table, lent to be changed, is the table's, and so is what is written there; texts and sizes are as before.
+pub fn configuration_written(table: &mut TextTable, config: ColoredConfig) -> ColoredConfig
+    ensures before { result ≡ table.old.config }
+    ensures written { table.new ≡ record table.old { config = config } }
+{
+    mem::replace(table.config_mut(), config)
+}
+
+/// The counts of rows and of columns of a table.
+pub fn shape_of_a_table(table: &TextTable) -> Shape
+    ensures { result ≡ shape_of table.now.texts }
+{
+    table.shape()
+}
+
+/// A table displayed by a formatter: where that takes it, it has the table's text.
+pub fn table_displayed<W: fmt::Write>(table: &TextTable, out: &mut fmt::Formatter<W>) -> fmt::Result
+    ensures { (events : List ConfigEvent) → borders.Shows events table.now.config.spanned → WritesOnOk W.write_str_gives out.old result (text_of events table.now.texts) out.new }
+{
+    fmt::Display::fmt(table, out)
 }

@@ -1,11 +1,11 @@
 //! Look-ups in a configuration's borders. They are written for every type of meters: so none can be made here, and each reading
 //! raises the one that is lent.
 
-ghost use Rattle.std.specs.Prelude.{◌≡◌, ◌↔◌, IsFalse, IsTrue, IfSome, OnSome, option_copied};
+ghost use Rattle.std.specs.Prelude.{◌≡◌, ◌↔◌, IsFalse, IsTrue, None, IfSome, IsSome, OnSome, option_copied};
 ghost use Rattle.tabled_grid.specs.ClassAlone.{ShowsClasses};
 ghost use Rattle.tabled_grid.specs.Drawn.{Drawn};
 ghost use Rattle.tabled_grid.specs.Probing.{IsRaised};
-ghost use Rattle.tabled_grid.specs.Reading.{direction_of};
+ghost use Rattle.tabled_grid.specs.Reading.{direction_of, HasClassAlone};
 ghost use Rattle.tabled_grid.specs.State.{state_at, HasNoCells, HasNoLines, HasNoOffsets};
 ghost use Rattle.tabled_grid.specs.Value.{plain_value, value};
 
@@ -86,6 +86,7 @@ impl<M: Meter> SpannedConfig<M> {
     pub fn class_alone(&self, probes: &mut M) -> Option<&Borders<char>>
         ensures class { IfSome result (λ class. class.now ≡ self.now.characters.class_record) }
         ensures shown { OnSome result (ShowsClasses self.now.characters) }
+        ensures lent { HasClassAlone self.now.characters → self.now.characters.default_value ≡ None → IsSome result }
         ensures probes { IsRaised 5 (M.made probes.old) (M.made probes.new) }
     {
         self.characters.class_alone(probes)

@@ -1,6 +1,6 @@
 //! How a store is read.
 
-ghost use Rattle.std.specs.Prelude.{◌≡◌, ◌↔◌, ◌<◌, IsTrue, IsFalse, ℕ, IfOk, IfSome, OnSome, is_some, option_copied, option_and_then};
+ghost use Rattle.std.specs.Prelude.{◌≡◌, ◌↔◌, ◌<◌, IsTrue, IsFalse, ℕ, None, IfOk, IfSome, IsSome, OnSome, is_some, option_copied, option_and_then};
 ghost use Rattle.std.specs.Ordering.{nat_cmp};
 ghost use Rattle.std.specs.FinMap as map;
 ghost use Rattle.tabled_grid.specs.Table.{table};
@@ -181,6 +181,7 @@ impl<T, M: Meter> Layers<T, M> {
     pub fn class_alone(&self, probes: &mut M) -> Option<&Borders<T>>
         ensures class { IfSome result (λ class. class.now ≡ self.now.class_record) }
         ensures shown { OnSome result (ShowsClasses self.now) }
+        ensures lent { HasClassAlone self.now → self.now.default_value ≡ None → IsSome result }
         ensures probes { IsRaised 5 (M.made probes.old) (M.made probes.new) }
     {
         if self.has_class_alone(probes) && self.default_value.read(probes).is_none() {

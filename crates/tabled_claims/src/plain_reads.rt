@@ -1,0 +1,133 @@
+//! What a configuration has beside its offsets, and whether it has anything of a kind.
+
+ghost use Rattle.std.specs.Prelude.{◌||◌, ◌↔◌, ◌≡◌, None, IfSome, IsFalse, IsSome, IsTrue, OnSome, is_some, option_copied};
+ghost use Rattle.std.specs.FinMap as map;
+ghost use Rattle.tabled_configuration.specs.AlikeCells.{AreAlike};
+ghost use Rattle.tabled_grid.specs.ClassAlone.{ShowsClasses};
+ghost use Rattle.tabled_grid.specs.Probing.{IsRaised};
+ghost use Rattle.tabled_grid.specs.Reading.{direction_of, HasClassAlone};
+ghost use Rattle.tabled_grid.specs.State.{HasNoCells, HasNoLines, HasNoOffsets, state_at};
+ghost use Rattle.tabled_config.specs.Known.{HasNoneAcross};
+ghost use Rattle.tabled_grid.specs.Value.{plain_value};
+
+use tabled_config::{SpannedConfig, has_none_across};
+use tabled_grid::{ANSIBuf, Borders, LineOf, Meter, Place};
+
+/// The character of an edge or a crossing without its offset characters. `at` of an edge is not read.
+pub fn character_beside_offsets(
+    cfg: &SpannedConfig,
+    place: Place,
+    shape: (usize, usize),
+) -> Option<char>
+    ensures { result ≡ plain_value (state_at cfg.now.characters) shape place }
+{
+    cfg.plain_char_at(place, shape)
+}
+
+/// The same, with its readings counted: at most five are made.
+pub fn character_beside_offsets_counted<M: Meter>(
+    cfg: &SpannedConfig<M>,
+    place: Place,
+    shape: (usize, usize),
+    probes: &mut M,
+) -> Option<char>
+    ensures value { result ≡ plain_value (state_at cfg.now.characters) shape place }
+    ensures probes { IsRaised 5 (M.made probes.old) (M.made probes.new) }
+{
+    cfg.read_plain_char(place, shape, probes)
+}
+
+/// The color of an edge or a crossing without its offset colors, with its readings counted: at most five are made. `at` of an
+/// edge is not read.
+pub fn color_beside_offsets_counted<'a, M: Meter>(
+    cfg: &'a SpannedConfig<M>,
+    place: Place,
+    shape: (usize, usize),
+    probes: &mut M,
+) -> Option<&'a ANSIBuf>
+    ensures value { option_copied result ≡ plain_value (state_at cfg.now.colors) shape place }
+    ensures probes { IsRaised 5 (M.made probes.old) (M.made probes.new) }
+{
+    cfg.read_plain_color(place, shape, probes)
+}
+
+/// The class record of the characters, where nothing else is looked at below the offset characters: each edge and each crossing
+/// then shows what the record has for its class.
+pub fn class_record_alone<'a, M: Meter>(
+    cfg: &'a SpannedConfig<M>,
+    probes: &mut M,
+) -> Option<&'a Borders<char>>
+    ensures class { IfSome result (λ class. class.now ≡ cfg.now.characters.class_record) }
+    ensures shown { OnSome result (ShowsClasses cfg.now.characters) }
+    ensures lent { HasClassAlone cfg.now.characters → cfg.now.characters.default_value ≡ None → IsSome result }
+    ensures probes { IsRaised 5 (M.made probes.old) (M.made probes.new) }
+{
+    cfg.class_alone(probes)
+}
+
+/// Whether an offset character is kept for some line of the direction of this one.
+pub fn has_character_offsets<M: Meter>(cfg: &SpannedConfig<M>, line: LineOf, probes: &mut M) -> bool
+    ensures value { IsFalse result ↔ HasNoOffsets (direction_of line) cfg.now.characters }
+    ensures probes { IsRaised 1 (M.made probes.old) (M.made probes.new) }
+{
+    cfg.has_char_offsets(line, probes)
+}
+
+/// Whether an offset color is kept for some line of the direction of this one.
+pub fn has_color_offsets<M: Meter>(cfg: &SpannedConfig<M>, line: LineOf, probes: &mut M) -> bool
+    ensures value { IsFalse result ↔ HasNoOffsets (direction_of line) cfg.now.colors }
+    ensures probes { IsRaised 1 (M.made probes.old) (M.made probes.new) }
+{
+    cfg.has_color_offsets(line, probes)
+}
+
+/// Whether a character is kept for an edge or a crossing by itself.
+pub fn has_cell_characters<M: Meter>(cfg: &SpannedConfig<M>, probes: &mut M) -> bool
+    ensures value { IsFalse result ↔ HasNoCells cfg.now.characters }
+    ensures probes { IsRaised 1 (M.made probes.old) (M.made probes.new) }
+{
+    cfg.has_cell_chars(probes)
+}
+
+/// Whether a color is kept for an edge or a crossing by itself.
+pub fn has_cell_colors<M: Meter>(cfg: &SpannedConfig<M>, probes: &mut M) -> bool
+    ensures value { IsFalse result ↔ HasNoCells cfg.now.colors }
+    ensures probes { IsRaised 1 (M.made probes.old) (M.made probes.new) }
+{
+    cfg.has_cell_colors(probes)
+}
+
+/// Whether a custom line of characters of the direction of this line stands at some index.
+pub fn has_lines_of_characters<M: Meter>(
+    cfg: &SpannedConfig<M>,
+    line: LineOf,
+    probes: &mut M,
+) -> bool
+    ensures value { IsFalse result ↔ HasNoLines (direction_of line) cfg.now.characters }
+    ensures probes { IsRaised 1 (M.made probes.old) (M.made probes.new) }
+{
+    cfg.has_char_lines(line, probes)
+}
+
+/// Whether no custom line of characters stands across a line: of the other direction, at whatever index.
+pub fn has_no_line_across<M: Meter>(cfg: &SpannedConfig<M>, line: LineOf, probes: &mut M) -> bool
+    ensures value { IsTrue result ↔ HasNoneAcross cfg.now.characters line }
+    ensures probes { IsRaised 1 (M.made probes.old) (M.made probes.new) }
+{
+    has_none_across(cfg, line, probes)
+}
+
+/// Whether nothing was set for the cells of an entity but `Global` since something was set for all, so that all cells have the
+/// same settings.
+pub fn has_alike_cells(cfg: &SpannedConfig) -> bool
+    ensures { IsTrue result ↔ AreAlike cfg.now.settings.cells }
+{
+    cfg.has_alike_cells()
+}
+
+/// Whether a custom horizontal line of characters, or one of colors, stands at an index.
+pub fn has_custom_line(cfg: &SpannedConfig, line: usize) -> bool
+    ensures { result ≡ (is_some (map.get cfg.now.characters.horizontal_lines line) || is_some (map.get cfg.now.colors.horizontal_lines line)) }
+{
+    cfg.has_custom_line(line)
+}

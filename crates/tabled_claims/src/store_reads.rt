@@ -1,0 +1,189 @@
+//! What a store keeps, level by level.
+
+ghost use Rattle.std.specs.Prelude.{◌↔◌, ◌≡◌, None, IfOk, IfSome, IsFalse, IsSome, OnSome, option_copied};
+ghost use Rattle.std.specs.FinMap as map;
+ghost use Rattle.std.specs.Ordering.{nat_cmp};
+ghost use Rattle.tabled_grid.specs.CellBorder.{border_shown};
+ghost use Rattle.tabled_grid.specs.ClassAlone.{ShowsClasses};
+ghost use Rattle.tabled_grid.specs.Probing.{IsRaised};
+ghost use Rattle.tabled_grid.specs.declared.site.Direction.TheVariants.{Horizontal as horizontal, Vertical as vertical};
+ghost use Rattle.tabled_grid.specs.State.{HasNoCells, HasNoLines, HasNoOffsets, state_at};
+ghost use Rattle.tabled_grid.specs.Reading.{HasClassAlone};
+ghost use Rattle.tabled_grid.specs.Table.{table};
+ghost use Rattle.tabled_grid.specs.Value.{plain_value, value};
+ghost use Rattle.tabled_grid.specs.Writes.{kept_at};
+
+use std::collections::BTreeMap;
+use tabled_grid::{
+    Border, Borders, HorizontalLine, HorizontalLines, Keep, Layers, Meter, OutOfMemory, Place,
+    Position, Target, VerticalLine, VerticalLines,
+};
+
+/// The class record.
+pub fn class_record_kept<T>(store: &Layers<T>) -> &Borders<T>
+    ensures { result.now ≡ store.now.class_record }
+{
+    store.get_class()
+}
+
+/// The custom horizontal line that stands at an index, if one does.
+pub fn horizontal_line_kept<T>(store: &Layers<T>, line: usize) -> Option<&HorizontalLine<T>>
+    ensures { option_copied result ≡ map.get store.now.horizontal_lines line }
+{
+    store.get_hline(line)
+}
+
+/// The custom vertical line that stands at an index, if one does.
+pub fn vertical_line_kept<T>(store: &Layers<T>, line: usize) -> Option<&VerticalLine<T>>
+    ensures { option_copied result ≡ map.get store.now.vertical_lines line }
+{
+    store.get_vline(line)
+}
+
+/// The custom horizontal lines, each with the index at which it stands, in rising order. They are lent, so no memory is asked
+/// for.
+pub fn horizontal_lines_lent<T>(store: &Layers<T>) -> HorizontalLines<'_, T>
+    ensures { result ≡ map.entries store.now.horizontal_lines }
+{
+    store.iter_hlines()
+}
+
+/// The custom vertical lines, each with the index at which it stands, in rising order. They are lent, so no memory is asked for.
+pub fn vertical_lines_lent<T>(store: &Layers<T>) -> VerticalLines<'_, T>
+    ensures { result ≡ map.entries store.now.vertical_lines }
+{
+    store.iter_vlines()
+}
+
+/// The default, if one is set.
+pub fn default_kept<T>(store: &Layers<T>) -> Option<&T>
+    ensures { option_copied result ≡ store.now.default_value }
+{
+    store.get_default()
+}
+
+/// What is kept at a target: at the cell level of a place, whose `at` is not read for an edge, or at a numbered place of an edge.
+/// What other levels keep there plays no part.
+pub fn kept_at_a_target<T>(store: &Layers<T>, target: Target) -> Option<&T>
+    ensures { option_copied result ≡ kept_at store.now target }
+{
+    store.kept_at(target)
+}
+
+/// A copy of all custom horizontal lines, each under the index at which it stands. Its memory comes from the allocator that the
+/// store keeps.
+pub fn horizontal_lines_copied<T>(
+    store: &Layers<T>,
+) -> Result<BTreeMap<usize, HorizontalLine<T>>, OutOfMemory>
+where
+    T: Keep,
+    ensures { IfOk result (λ lines. table nat_cmp lines.entries ≡ store.now.horizontal_lines) }
+{
+    store.hlines()
+}
+
+/// A copy of all custom vertical lines, each under the index at which it stands. Its memory comes from the allocator that the
+/// store keeps.
+pub fn vertical_lines_copied<T>(
+    store: &Layers<T>,
+) -> Result<BTreeMap<usize, VerticalLine<T>>, OutOfMemory>
+where
+    T: Keep,
+    ensures { IfOk result (λ lines. table nat_cmp lines.entries ≡ store.now.vertical_lines) }
+{
+    store.vlines()
+}
+
+/// What an edge or a crossing shows without its offsets, in a table of `shape.0` rows and `shape.1` columns: what is kept at the
+/// highest level below them that has something there. `at` of an edge is not read, so an edge of length 0 has a value too. An
+/// edge or a crossing outside has nothing.
+pub fn value_beside_offsets<T>(store: &Layers<T>, place: Place, shape: (usize, usize)) -> Option<&T>
+    ensures { option_copied result ≡ plain_value (state_at store.now) shape place }
+{
+    store.plain_at(place, shape)
+}
+
+/// The same as `plain_at`, with its readings counted: at most five are made.
+pub fn value_beside_offsets_counted<'a, T, M: Meter>(
+    store: &'a Layers<T, M>,
+    place: Place,
+    shape: (usize, usize),
+    probes: &mut M,
+) -> Option<&'a T>
+    ensures value { option_copied result ≡ plain_value (state_at store.now) shape place }
+    ensures probes { IsRaised 5 (M.made probes.old) (M.made probes.new) }
+{
+    store.read_plain(place, shape, probes)
+}
+
+/// The class record, where nothing else is looked at below the offsets: neither a custom line nor the edges and the crossings of
+/// cells, and no default. Each edge and each crossing then shows what the record has for its class, so what many places show can
+/// be read off it at once.
+pub fn class_record_alone<'a, T, M: Meter>(
+    store: &'a Layers<T, M>,
+    probes: &mut M,
+) -> Option<&'a Borders<T>>
+    ensures class { IfSome result (λ class. class.now ≡ store.now.class_record) }
+    ensures shown { OnSome result (ShowsClasses store.now) }
+    ensures lent { HasClassAlone store.now → store.now.default_value ≡ None → IsSome result }
+    ensures probes { IsRaised 5 (M.made probes.old) (M.made probes.new) }
+{
+    store.class_alone(probes)
+}
+
+/// Whether something is kept at an offset of an edge of a horizontal line, from its start or its end.
+pub fn has_horizontal_offsets<T, M: Meter>(store: &Layers<T, M>, probes: &mut M) -> bool
+    ensures value { IsFalse result ↔ HasNoOffsets horizontal store.now }
+    ensures probes { IsRaised 1 (M.made probes.old) (M.made probes.new) }
+{
+    store.has_horizontal_offsets(probes)
+}
+
+/// Whether something is kept at an offset of an edge of a vertical line, from its start or its end.
+pub fn has_vertical_offsets<T, M: Meter>(store: &Layers<T, M>, probes: &mut M) -> bool
+    ensures value { IsFalse result ↔ HasNoOffsets vertical store.now }
+    ensures probes { IsRaised 1 (M.made probes.old) (M.made probes.new) }
+{
+    store.has_vertical_offsets(probes)
+}
+
+/// Whether something is kept for an edge or a crossing by itself.
+pub fn has_cells<T, M: Meter>(store: &Layers<T, M>, probes: &mut M) -> bool
+    ensures value { IsFalse result ↔ HasNoCells store.now }
+    ensures probes { IsRaised 1 (M.made probes.old) (M.made probes.new) }
+{
+    store.has_cells(probes)
+}
+
+/// Whether a custom horizontal line stands at some index.
+pub fn has_horizontal_lines<T, M: Meter>(store: &Layers<T, M>, probes: &mut M) -> bool
+    ensures value { IsFalse result ↔ HasNoLines horizontal store.now }
+    ensures probes { IsRaised 1 (M.made probes.old) (M.made probes.new) }
+{
+    store.has_hlines(probes)
+}
+
+/// Whether a custom vertical line stands at some index.
+pub fn has_vertical_lines<T, M: Meter>(store: &Layers<T, M>, probes: &mut M) -> bool
+    ensures value { IsFalse result ↔ HasNoLines vertical store.now }
+    ensures probes { IsRaised 1 (M.made probes.old) (M.made probes.new) }
+{
+    store.has_vlines(probes)
+}
+
+/// What shows at the sides and the corners of a cell in a table of `shape.0` rows and `shape.1` columns, without the offsets:
+/// each as `plain_at` returns it. A cell outside has nothing.
+pub fn border_shown<T>(store: &Layers<T>, pos: Position, shape: (usize, usize)) -> Border<&T>
+    ensures { record {
+      top = option_copied result.top;
+      bottom = option_copied result.bottom;
+      left = option_copied result.left;
+      right = option_copied result.right;
+      left_top_corner = option_copied result.left_top_corner;
+      left_bottom_corner = option_copied result.left_bottom_corner;
+      right_top_corner = option_copied result.right_top_corner;
+      right_bottom_corner = option_copied result.right_bottom_corner;
+    } ≡ border_shown (state_at store.now) shape pos }
+{
+    store.get_border(pos, shape)
+}
