@@ -4,7 +4,7 @@
 ghost use Rattle.std.specs.Prelude.{◌≡◌, ◌↔◌, ℕ, [], ◌∷◌, map, IsTrue, option_copied};
 ghost use Rattle.tabled_grid.specs.declared.place.Place.{Place as At};
 ghost use Rattle.tabled_grid.specs.Drawn.{Drawn};
-ghost use Rattle.tabled_grid.specs.Probing.{IsRaised};
+ghost use Rattle.tabled_grid.specs.Probing.{IsCounted, IsRaised};
 ghost use Rattle.tabled_grid.specs.Site.{level};
 ghost use Rattle.tabled_grid.specs.State.{state_at};
 ghost use Rattle.tabled_grid.specs.Value.{sites, value};
@@ -52,6 +52,14 @@ pub fn line_is_drawn<M: Meter>(
     ensures six_readings { IsRaised 6 (M.made probes.old) (M.made probes.new) }
 {
     cfg.draws(line, count, probes)
+}
+
+/// A reading raises the meter that is lent by one, up to its end.
+pub fn reading_is_counted<M: Meter>(probes: &mut M)
+    ensures counted { IsCounted (M.made probes.old) (M.made probes.new) }
+    ensures raised { IsRaised 1 (M.made probes.old) (M.made probes.new) }
+{
+    probes.raise();
 }
 
 /// The sites of a place stand in the order of their levels, the strongest first: of an edge those of the offsets from its start
