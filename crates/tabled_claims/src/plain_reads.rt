@@ -59,40 +59,25 @@ pub fn class_record_alone(cfg: &SpannedConfig) -> Option<&Borders<char>>
     cfg.class_alone()
 }
 
-/// Whether an offset character is kept for some line of the direction of this one.
-pub fn has_character_offsets(cfg: &SpannedConfig, line: LineOf) -> bool
-    ensures { IsFalse result ↔ HasNoOffsets (direction_of line) cfg.now.characters }
+/// Whether anything is kept at numbered places of the edges of a line's direction, of characters and of colors.
+pub fn has_offsets(cfg: &SpannedConfig, line: LineOf) -> (bool, bool)
+    ensures characters { IsFalse result.0 ↔ HasNoOffsets (direction_of line) cfg.now.characters }
+    ensures colors { IsFalse result.1 ↔ HasNoOffsets (direction_of line) cfg.now.colors }
 {
-    cfg.has_char_offsets(line)
+    (cfg.has_char_offsets(line), cfg.has_color_offsets(line))
 }
 
-/// Whether an offset color is kept for some line of the direction of this one.
-pub fn has_color_offsets(cfg: &SpannedConfig, line: LineOf) -> bool
-    ensures { IsFalse result ↔ HasNoOffsets (direction_of line) cfg.now.colors }
+/// Whether anything is kept at the cell level, of characters and of colors; and whether nothing is set for some cells alone.
+pub fn has_cells(cfg: &SpannedConfig) -> (bool, bool, bool)
+    ensures characters { IsFalse result.0 ↔ HasNoCells cfg.now.characters }
+    ensures colors { IsFalse result.1 ↔ HasNoCells cfg.now.colors }
+    ensures alike { IsTrue result.2 ↔ AreAlike cfg.now.settings.cells }
 {
-    cfg.has_color_offsets(line)
-}
-
-/// Whether a character is kept for an edge or a crossing by itself.
-pub fn has_cell_characters(cfg: &SpannedConfig) -> bool
-    ensures { IsFalse result ↔ HasNoCells cfg.now.characters }
-{
-    cfg.has_cell_chars()
-}
-
-/// Whether a color is kept for an edge or a crossing by itself.
-pub fn has_cell_colors(cfg: &SpannedConfig) -> bool
-    ensures { IsFalse result ↔ HasNoCells cfg.now.colors }
-{
-    cfg.has_cell_colors()
-}
-
-/// Whether nothing was set for the cells of an entity but `Global` since something was set for all, so that all cells have the
-/// same settings.
-pub fn has_alike_cells(cfg: &SpannedConfig) -> bool
-    ensures { IsTrue result ↔ AreAlike cfg.now.settings.cells }
-{
-    cfg.has_alike_cells()
+    (
+        cfg.has_cell_chars(),
+        cfg.has_cell_colors(),
+        cfg.has_alike_cells(),
+    )
 }
 
 /// Whether a custom horizontal line of characters, or one of colors, stands at an index.
