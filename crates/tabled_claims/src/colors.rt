@@ -1,6 +1,6 @@
 //! The texts of colors.
 
-ghost use Rattle.std.specs.Prelude.{◌≡◌, ◌↔◌, [], true, false, codes, IsTrue, IfOk, string_bytes, if◌then◌else◌, None, IsOk, option_map};
+ghost use Rattle.std.specs.Prelude.{◌≡◌, ◌↔◌, [], ◌∷◌, true, false, codes, IsTrue, IfOk, string_bytes, if◌then◌else◌, None, IsOk, option_map};
 ghost use Rattle.std.specs.declared.cmp.Ordering.{Ordering as Order};
 ghost use Rattle.tabled_color.specs.Shade.{Shade, texts_of, static_shade, owned_shade, sequence, rgb_sequence, joined};
 ghost use Rattle.tabled_color.specs.Painting.{colorized};
@@ -14,291 +14,122 @@ use std::hash::Hash;
 use tabled_border::{ANSIBuf, ANSIFmt, ANSIStr, AnsiText, OutOfMemory};
 use tabled_color::Color;
 
-/// Black characters.
-pub fn black_characters() -> Color
-    ensures { result ≡ static_shade (sequence (codes "30")) (sequence (codes "39")) }
+/// The eight colors of characters by the texts that terminals know them by: black, red, green, yellow, blue, magenta, cyan, white.
+pub fn colors_of_characters() -> [Color; 8]
+    ensures { result ≡ static_shade (sequence (codes "30")) (sequence (codes "39"))
+        ∷ static_shade (sequence (codes "31")) (sequence (codes "39"))
+        ∷ static_shade (sequence (codes "32")) (sequence (codes "39"))
+        ∷ static_shade (sequence (codes "33")) (sequence (codes "39"))
+        ∷ static_shade (sequence (codes "34")) (sequence (codes "39"))
+        ∷ static_shade (sequence (codes "35")) (sequence (codes "39"))
+        ∷ static_shade (sequence (codes "36")) (sequence (codes "39"))
+        ∷ static_shade (sequence (codes "37")) (sequence (codes "39")) ∷ [] }
 {
-    Color::FG_BLACK
+    [
+        Color::FG_BLACK,
+        Color::FG_RED,
+        Color::FG_GREEN,
+        Color::FG_YELLOW,
+        Color::FG_BLUE,
+        Color::FG_MAGENTA,
+        Color::FG_CYAN,
+        Color::FG_WHITE,
+    ]
 }
 
-/// Red characters.
-pub fn red_characters() -> Color
-    ensures { result ≡ static_shade (sequence (codes "31")) (sequence (codes "39")) }
+/// The bright ones, in the same order.
+pub fn bright_colors_of_characters() -> [Color; 8]
+    ensures { result ≡ static_shade (sequence (codes "90")) (sequence (codes "39"))
+        ∷ static_shade (sequence (codes "91")) (sequence (codes "39"))
+        ∷ static_shade (sequence (codes "92")) (sequence (codes "39"))
+        ∷ static_shade (sequence (codes "93")) (sequence (codes "39"))
+        ∷ static_shade (sequence (codes "94")) (sequence (codes "39"))
+        ∷ static_shade (sequence (codes "95")) (sequence (codes "39"))
+        ∷ static_shade (sequence (codes "96")) (sequence (codes "39"))
+        ∷ static_shade (sequence (codes "97")) (sequence (codes "39")) ∷ [] }
 {
-    Color::FG_RED
+    [
+        Color::FG_BRIGHT_BLACK,
+        Color::FG_BRIGHT_RED,
+        Color::FG_BRIGHT_GREEN,
+        Color::FG_BRIGHT_YELLOW,
+        Color::FG_BRIGHT_BLUE,
+        Color::FG_BRIGHT_MAGENTA,
+        Color::FG_BRIGHT_CYAN,
+        Color::FG_BRIGHT_WHITE,
+    ]
 }
 
-/// Green characters.
-pub fn green_characters() -> Color
-    ensures { result ≡ static_shade (sequence (codes "32")) (sequence (codes "39")) }
+/// The eight colors of the background, in the same order.
+pub fn colors_of_the_background() -> [Color; 8]
+    ensures { result ≡ static_shade (sequence (codes "40")) (sequence (codes "49"))
+        ∷ static_shade (sequence (codes "41")) (sequence (codes "49"))
+        ∷ static_shade (sequence (codes "42")) (sequence (codes "49"))
+        ∷ static_shade (sequence (codes "43")) (sequence (codes "49"))
+        ∷ static_shade (sequence (codes "44")) (sequence (codes "49"))
+        ∷ static_shade (sequence (codes "45")) (sequence (codes "49"))
+        ∷ static_shade (sequence (codes "46")) (sequence (codes "49"))
+        ∷ static_shade (sequence (codes "47")) (sequence (codes "49")) ∷ [] }
 {
-    Color::FG_GREEN
+    [
+        Color::BG_BLACK,
+        Color::BG_RED,
+        Color::BG_GREEN,
+        Color::BG_YELLOW,
+        Color::BG_BLUE,
+        Color::BG_MAGENTA,
+        Color::BG_CYAN,
+        Color::BG_WHITE,
+    ]
 }
 
-/// Yellow characters.
-pub fn yellow_characters() -> Color
-    ensures { result ≡ static_shade (sequence (codes "33")) (sequence (codes "39")) }
+/// The bright ones of the background, in the same order.
+pub fn bright_colors_of_the_background() -> [Color; 8]
+    ensures { result ≡ static_shade (sequence (codes "100")) (sequence (codes "49"))
+        ∷ static_shade (sequence (codes "101")) (sequence (codes "49"))
+        ∷ static_shade (sequence (codes "102")) (sequence (codes "49"))
+        ∷ static_shade (sequence (codes "103")) (sequence (codes "49"))
+        ∷ static_shade (sequence (codes "104")) (sequence (codes "49"))
+        ∷ static_shade (sequence (codes "105")) (sequence (codes "49"))
+        ∷ static_shade (sequence (codes "106")) (sequence (codes "49"))
+        ∷ static_shade (sequence (codes "107")) (sequence (codes "49")) ∷ [] }
 {
-    Color::FG_YELLOW
+    [
+        Color::BG_BRIGHT_BLACK,
+        Color::BG_BRIGHT_RED,
+        Color::BG_BRIGHT_GREEN,
+        Color::BG_BRIGHT_YELLOW,
+        Color::BG_BRIGHT_BLUE,
+        Color::BG_BRIGHT_MAGENTA,
+        Color::BG_BRIGHT_CYAN,
+        Color::BG_BRIGHT_WHITE,
+    ]
 }
 
-/// Blue characters.
-pub fn blue_characters() -> Color
-    ensures { result ≡ static_shade (sequence (codes "34")) (sequence (codes "39")) }
+/// Bold, dimmed, italic, underlined and blinking characters, those in the color of the background, hidden ones, those that are struck
+/// through, and the end of all colors and attributes.
+pub fn attributes() -> [Color; 9]
+    ensures { result ≡ static_shade (sequence (codes "1")) (sequence (codes "22"))
+        ∷ static_shade (sequence (codes "2")) (sequence (codes "22"))
+        ∷ static_shade (sequence (codes "3")) (sequence (codes "23"))
+        ∷ static_shade (sequence (codes "4")) (sequence (codes "24"))
+        ∷ static_shade (sequence (codes "5")) (sequence (codes "25"))
+        ∷ static_shade (sequence (codes "7")) (sequence (codes "27"))
+        ∷ static_shade (sequence (codes "8")) (sequence (codes "28"))
+        ∷ static_shade (sequence (codes "9")) (sequence (codes "29"))
+        ∷ static_shade (sequence (codes "0")) (sequence (codes "0")) ∷ [] }
 {
-    Color::FG_BLUE
-}
-
-/// Magenta characters.
-pub fn magenta_characters() -> Color
-    ensures { result ≡ static_shade (sequence (codes "35")) (sequence (codes "39")) }
-{
-    Color::FG_MAGENTA
-}
-
-/// Cyan characters.
-pub fn cyan_characters() -> Color
-    ensures { result ≡ static_shade (sequence (codes "36")) (sequence (codes "39")) }
-{
-    Color::FG_CYAN
-}
-
-/// White characters.
-pub fn white_characters() -> Color
-    ensures { result ≡ static_shade (sequence (codes "37")) (sequence (codes "39")) }
-{
-    Color::FG_WHITE
-}
-
-/// Bright black characters.
-pub fn bright_black_characters() -> Color
-    ensures { result ≡ static_shade (sequence (codes "90")) (sequence (codes "39")) }
-{
-    Color::FG_BRIGHT_BLACK
-}
-
-/// Bright red characters.
-pub fn bright_red_characters() -> Color
-    ensures { result ≡ static_shade (sequence (codes "91")) (sequence (codes "39")) }
-{
-    Color::FG_BRIGHT_RED
-}
-
-/// Bright green characters.
-pub fn bright_green_characters() -> Color
-    ensures { result ≡ static_shade (sequence (codes "92")) (sequence (codes "39")) }
-{
-    Color::FG_BRIGHT_GREEN
-}
-
-/// Bright yellow characters.
-pub fn bright_yellow_characters() -> Color
-    ensures { result ≡ static_shade (sequence (codes "93")) (sequence (codes "39")) }
-{
-    Color::FG_BRIGHT_YELLOW
-}
-
-/// Bright blue characters.
-pub fn bright_blue_characters() -> Color
-    ensures { result ≡ static_shade (sequence (codes "94")) (sequence (codes "39")) }
-{
-    Color::FG_BRIGHT_BLUE
-}
-
-/// Bright magenta characters.
-pub fn bright_magenta_characters() -> Color
-    ensures { result ≡ static_shade (sequence (codes "95")) (sequence (codes "39")) }
-{
-    Color::FG_BRIGHT_MAGENTA
-}
-
-/// Bright cyan characters.
-pub fn bright_cyan_characters() -> Color
-    ensures { result ≡ static_shade (sequence (codes "96")) (sequence (codes "39")) }
-{
-    Color::FG_BRIGHT_CYAN
-}
-
-/// Bright white characters.
-pub fn bright_white_characters() -> Color
-    ensures { result ≡ static_shade (sequence (codes "97")) (sequence (codes "39")) }
-{
-    Color::FG_BRIGHT_WHITE
-}
-
-/// A black background.
-pub fn black_background() -> Color
-    ensures { result ≡ static_shade (sequence (codes "40")) (sequence (codes "49")) }
-{
-    Color::BG_BLACK
-}
-
-/// A red background.
-pub fn red_background() -> Color
-    ensures { result ≡ static_shade (sequence (codes "41")) (sequence (codes "49")) }
-{
-    Color::BG_RED
-}
-
-/// A green background.
-pub fn green_background() -> Color
-    ensures { result ≡ static_shade (sequence (codes "42")) (sequence (codes "49")) }
-{
-    Color::BG_GREEN
-}
-
-/// A yellow background.
-pub fn yellow_background() -> Color
-    ensures { result ≡ static_shade (sequence (codes "43")) (sequence (codes "49")) }
-{
-    Color::BG_YELLOW
-}
-
-/// A blue background.
-pub fn blue_background() -> Color
-    ensures { result ≡ static_shade (sequence (codes "44")) (sequence (codes "49")) }
-{
-    Color::BG_BLUE
-}
-
-/// A magenta background.
-pub fn magenta_background() -> Color
-    ensures { result ≡ static_shade (sequence (codes "45")) (sequence (codes "49")) }
-{
-    Color::BG_MAGENTA
-}
-
-/// A cyan background.
-pub fn cyan_background() -> Color
-    ensures { result ≡ static_shade (sequence (codes "46")) (sequence (codes "49")) }
-{
-    Color::BG_CYAN
-}
-
-/// A white background.
-pub fn white_background() -> Color
-    ensures { result ≡ static_shade (sequence (codes "47")) (sequence (codes "49")) }
-{
-    Color::BG_WHITE
-}
-
-/// A bright black background.
-pub fn bright_black_background() -> Color
-    ensures { result ≡ static_shade (sequence (codes "100")) (sequence (codes "49")) }
-{
-    Color::BG_BRIGHT_BLACK
-}
-
-/// A bright red background.
-pub fn bright_red_background() -> Color
-    ensures { result ≡ static_shade (sequence (codes "101")) (sequence (codes "49")) }
-{
-    Color::BG_BRIGHT_RED
-}
-
-/// A bright green background.
-pub fn bright_green_background() -> Color
-    ensures { result ≡ static_shade (sequence (codes "102")) (sequence (codes "49")) }
-{
-    Color::BG_BRIGHT_GREEN
-}
-
-/// A bright yellow background.
-pub fn bright_yellow_background() -> Color
-    ensures { result ≡ static_shade (sequence (codes "103")) (sequence (codes "49")) }
-{
-    Color::BG_BRIGHT_YELLOW
-}
-
-/// A bright blue background.
-pub fn bright_blue_background() -> Color
-    ensures { result ≡ static_shade (sequence (codes "104")) (sequence (codes "49")) }
-{
-    Color::BG_BRIGHT_BLUE
-}
-
-/// A bright magenta background.
-pub fn bright_magenta_background() -> Color
-    ensures { result ≡ static_shade (sequence (codes "105")) (sequence (codes "49")) }
-{
-    Color::BG_BRIGHT_MAGENTA
-}
-
-/// A bright cyan background.
-pub fn bright_cyan_background() -> Color
-    ensures { result ≡ static_shade (sequence (codes "106")) (sequence (codes "49")) }
-{
-    Color::BG_BRIGHT_CYAN
-}
-
-/// A bright white background.
-pub fn bright_white_background() -> Color
-    ensures { result ≡ static_shade (sequence (codes "107")) (sequence (codes "49")) }
-{
-    Color::BG_BRIGHT_WHITE
-}
-
-/// Bold characters.
-pub fn bold() -> Color
-    ensures { result ≡ static_shade (sequence (codes "1")) (sequence (codes "22")) }
-{
-    Color::BOLD
-}
-
-/// Dimmed characters.
-pub fn dimmed() -> Color
-    ensures { result ≡ static_shade (sequence (codes "2")) (sequence (codes "22")) }
-{
-    Color::DIMMED
-}
-
-/// Italic characters.
-pub fn italic() -> Color
-    ensures { result ≡ static_shade (sequence (codes "3")) (sequence (codes "23")) }
-{
-    Color::ITALIC
-}
-
-/// Underlined characters.
-pub fn underline() -> Color
-    ensures { result ≡ static_shade (sequence (codes "4")) (sequence (codes "24")) }
-{
-    Color::UNDERLINE
-}
-
-/// Blinking characters.
-pub fn blink() -> Color
-    ensures { result ≡ static_shade (sequence (codes "5")) (sequence (codes "25")) }
-{
-    Color::BLINK
-}
-
-/// Characters in the color of the background, on their own.
-pub fn invert() -> Color
-    ensures { result ≡ static_shade (sequence (codes "7")) (sequence (codes "27")) }
-{
-    Color::INVERT
-}
-
-/// Hidden characters.
-pub fn hidden() -> Color
-    ensures { result ≡ static_shade (sequence (codes "8")) (sequence (codes "28")) }
-{
-    Color::HIDDEN
-}
-
-/// Characters that are struck through.
-pub fn strikethrough() -> Color
-    ensures { result ≡ static_shade (sequence (codes "9")) (sequence (codes "29")) }
-{
-    Color::STRIKETHROUGH
-}
-
-/// The end of all colors and attributes.
-pub fn reset() -> Color
-    ensures { result ≡ static_shade (sequence (codes "0")) (sequence (codes "0")) }
-{
-    Color::RESET
+    [
+        Color::BOLD,
+        Color::DIMMED,
+        Color::ITALIC,
+        Color::UNDERLINE,
+        Color::BLINK,
+        Color::INVERT,
+        Color::HIDDEN,
+        Color::STRIKETHROUGH,
+        Color::RESET,
+    ]
 }
 
 /// A color of characters by its red, green and blue part, in decimal.
@@ -356,18 +187,12 @@ pub fn color_is_empty(color: &Color) -> bool
     color.is_empty()
 }
 
-/// The text of a color before what is colored.
-pub fn prefix_of_a_color(color: &Color) -> &str
-    ensures { result.now ≡ color.now.prefix }
+/// The texts of a color, before and after what is colored.
+pub fn texts_of_a_color(color: &Color) -> (&str, &str)
+    ensures prefix { result.0.now ≡ color.now.prefix }
+    ensures suffix { result.1.now ≡ color.now.suffix }
 {
-    color.get_prefix()
-}
-
-/// The text of a color after what is colored.
-pub fn suffix_of_a_color(color: &Color) -> &str
-    ensures { result.now ≡ color.now.suffix }
-{
-    color.get_suffix()
+    (color.get_prefix(), color.get_suffix())
 }
 
 /// The texts of a color that does not own them, and nothing of one that does.

@@ -62,18 +62,12 @@ pub fn fields_read(cfg: &CompactConfig) -> (Borders<char>, AlignmentHorizontal)
     (*cfg.get_borders(), cfg.get_alignment_horizontal())
 }
 
-/// The colors of its margin.
-pub fn margin_color_read(cfg: &CompactConfig) -> &Sides<ANSIStr<'static>>
-    ensures { result.now ≡ cfg.now.margin_color }
+/// The colors of its margin and of its padding.
+pub fn colors_read(cfg: &CompactConfig) -> (&Sides<ANSIStr<'static>>, &Sides<ANSIStr<'static>>)
+    ensures margin { result.0.now ≡ cfg.now.margin_color }
+    ensures padding { result.1.now ≡ cfg.now.padding_color }
 {
-    cfg.get_margin_color()
-}
-
-/// The colors of its padding.
-pub fn padding_color_read(cfg: &CompactConfig) -> &Sides<ANSIStr<'static>>
-    ensures { result.now ≡ cfg.now.padding_color }
-{
-    cfg.get_padding_color()
+    (cfg.get_margin_color(), cfg.get_padding_color())
 }
 
 /// How texts of several lines are formatted, by its three parts.
@@ -166,18 +160,14 @@ pub fn multiline_fields_read(
     )
 }
 
-/// The colors of its margin.
-pub fn multiline_margin_color_read(cfg: &CompactMultilineConfig) -> &Sides<ANSIStr<'static>>
-    ensures { result.now ≡ cfg.now.margin_color }
+/// The colors of its margin and of its padding.
+pub fn multiline_colors_read(
+    cfg: &CompactMultilineConfig,
+) -> (&Sides<ANSIStr<'static>>, &Sides<ANSIStr<'static>>)
+    ensures margin { result.0.now ≡ cfg.now.margin_color }
+    ensures padding { result.1.now ≡ cfg.now.padding_color }
 {
-    cfg.get_margin_color()
-}
-
-/// The colors of its padding.
-pub fn multiline_padding_color_read(cfg: &CompactMultilineConfig) -> &Sides<ANSIStr<'static>>
-    ensures { result.now ≡ cfg.now.padding_color }
-{
-    cfg.get_padding_color()
+    (cfg.get_margin_color(), cfg.get_padding_color())
 }
 
 /// The defaults of both are as new ones.

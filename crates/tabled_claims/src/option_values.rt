@@ -328,32 +328,22 @@ pub fn colors_of_a_board(
     Colorization::chess(alloc, white, black)
 }
 
-/// Colors for whole rows in turn.
-pub fn colors_of_rows(colors: Vec<Color>) -> Colorization
-    ensures { result ≡ record { pattern = pattern.Rows; colors = colors.items } }
+/// Colors for whole rows in turn, for whole columns, for cells row by row, and for cells column by column.
+pub fn colors_by_pattern(
+    rows: Vec<Color>,
+    columns: Vec<Color>,
+    by_row: Vec<Color>,
+    by_column: Vec<Color>,
+) -> [Colorization; 4]
+    ensures { result ≡ record { pattern = pattern.Rows; colors = rows.items } ∷ record { pattern = pattern.Columns; colors = columns.items }
+        ∷ record { pattern = pattern.ByRow; colors = by_row.items } ∷ record { pattern = pattern.ByColumn; colors = by_column.items } ∷ [] }
 {
-    Colorization::rows(colors)
-}
-
-/// Colors for whole columns in turn.
-pub fn colors_of_columns(colors: Vec<Color>) -> Colorization
-    ensures { result ≡ record { pattern = pattern.Columns; colors = colors.items } }
-{
-    Colorization::columns(colors)
-}
-
-/// Colors for cells in turn, row by row.
-pub fn colors_along_rows(colors: Vec<Color>) -> Colorization
-    ensures { result ≡ record { pattern = pattern.ByRow; colors = colors.items } }
-{
-    Colorization::by_row(colors)
-}
-
-/// Colors for cells in turn, column by column.
-pub fn colors_along_columns(colors: Vec<Color>) -> Colorization
-    ensures { result ≡ record { pattern = pattern.ByColumn; colors = colors.items } }
-{
-    Colorization::by_column(colors)
+    [
+        Colorization::rows(rows),
+        Colorization::columns(columns),
+        Colorization::by_row(by_row),
+        Colorization::by_column(by_column),
+    ]
 }
 
 /// Colors for what an object lists, in turn.

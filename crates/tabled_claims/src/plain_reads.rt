@@ -65,60 +65,41 @@ pub fn class_record_alone<'a, M: Meter>(
     cfg.class_alone(probes)
 }
 
-/// Whether an offset character is kept for some line of the direction of this one.
-pub fn has_character_offsets<M: Meter>(cfg: &SpannedConfig<M>, line: LineOf, probes: &mut M) -> bool
-    ensures value { IsFalse result ↔ HasNoOffsets (direction_of line) cfg.now.characters }
-    ensures probes { IsRaised 1 (M.made probes.old) (M.made probes.new) }
+/// Whether anything is kept at numbered places of the edges of a line's direction, of characters and of colors: one reading each.
+pub fn has_offsets<M: Meter>(cfg: &SpannedConfig<M>, line: LineOf, probes: &mut M) -> (bool, bool)
+    ensures characters { IsFalse result.0 ↔ HasNoOffsets (direction_of line) cfg.now.characters }
+    ensures colors { IsFalse result.1 ↔ HasNoOffsets (direction_of line) cfg.now.colors }
+    ensures readings { IsRaised 2 (M.made probes.old) (M.made probes.new) }
 {
-    cfg.has_char_offsets(line, probes)
+    (
+        cfg.has_char_offsets(line, probes),
+        cfg.has_color_offsets(line, probes),
+    )
 }
 
-/// Whether an offset color is kept for some line of the direction of this one.
-pub fn has_color_offsets<M: Meter>(cfg: &SpannedConfig<M>, line: LineOf, probes: &mut M) -> bool
-    ensures value { IsFalse result ↔ HasNoOffsets (direction_of line) cfg.now.colors }
-    ensures probes { IsRaised 1 (M.made probes.old) (M.made probes.new) }
+/// Whether anything is kept at the cell level, of characters and of colors: one reading each.
+pub fn has_cells<M: Meter>(cfg: &SpannedConfig<M>, probes: &mut M) -> (bool, bool)
+    ensures characters { IsFalse result.0 ↔ HasNoCells cfg.now.characters }
+    ensures colors { IsFalse result.1 ↔ HasNoCells cfg.now.colors }
+    ensures readings { IsRaised 2 (M.made probes.old) (M.made probes.new) }
 {
-    cfg.has_color_offsets(line, probes)
+    (cfg.has_cell_chars(probes), cfg.has_cell_colors(probes))
 }
 
-/// Whether a character is kept for an edge or a crossing by itself.
-pub fn has_cell_characters<M: Meter>(cfg: &SpannedConfig<M>, probes: &mut M) -> bool
-    ensures value { IsFalse result ↔ HasNoCells cfg.now.characters }
-    ensures probes { IsRaised 1 (M.made probes.old) (M.made probes.new) }
+/// Whether a custom line of characters of the direction of a line stands at some index, and whether none stands across it: one
+/// reading each.
+pub fn has_lines<M: Meter>(cfg: &SpannedConfig<M>, line: LineOf, probes: &mut M) -> (bool, bool)
+    ensures along { IsFalse result.0 ↔ HasNoLines (direction_of line) cfg.now.characters }
+    ensures none_across { IsTrue result.1 ↔ HasNoneAcross cfg.now.characters line }
+    ensures readings { IsRaised 2 (M.made probes.old) (M.made probes.new) }
 {
-    cfg.has_cell_chars(probes)
+    (
+        cfg.has_char_lines(line, probes),
+        has_none_across(cfg, line, probes),
+    )
 }
 
-/// Whether a color is kept for an edge or a crossing by itself.
-pub fn has_cell_colors<M: Meter>(cfg: &SpannedConfig<M>, probes: &mut M) -> bool
-    ensures value { IsFalse result ↔ HasNoCells cfg.now.colors }
-    ensures probes { IsRaised 1 (M.made probes.old) (M.made probes.new) }
-{
-    cfg.has_cell_colors(probes)
-}
-
-/// Whether a custom line of characters of the direction of this line stands at some index.
-pub fn has_lines_of_characters<M: Meter>(
-    cfg: &SpannedConfig<M>,
-    line: LineOf,
-    probes: &mut M,
-) -> bool
-    ensures value { IsFalse result ↔ HasNoLines (direction_of line) cfg.now.characters }
-    ensures probes { IsRaised 1 (M.made probes.old) (M.made probes.new) }
-{
-    cfg.has_char_lines(line, probes)
-}
-
-/// Whether no custom line of characters stands across a line: of the other direction, at whatever index.
-pub fn has_no_line_across<M: Meter>(cfg: &SpannedConfig<M>, line: LineOf, probes: &mut M) -> bool
-    ensures value { IsTrue result ↔ HasNoneAcross cfg.now.characters line }
-    ensures probes { IsRaised 1 (M.made probes.old) (M.made probes.new) }
-{
-    has_none_across(cfg, line, probes)
-}
-
-/// Whether nothing was set for the cells of an entity but `Global` since something was set for all, so that all cells have the
-/// same settings.
+/// Whether nothing is set for some cells alone.
 pub fn has_alike_cells(cfg: &SpannedConfig) -> bool
     ensures { IsTrue result ↔ AreAlike cfg.now.settings.cells }
 {

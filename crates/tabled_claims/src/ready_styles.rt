@@ -12,95 +12,67 @@ use tabled_config::SpannedConfig;
 use tabled_grid::{Borders, OutOfMemory};
 use tabled_style::{On, ReadyStyle, Style};
 
-/// The style `empty`: nothing at all.
-pub fn empty() -> Style<(), (), (), (), (), (), 0, 0>
-    ensures { result ≡ ready.empty }
+/// The ready styles without a frame: without any line, with spaces between columns, with a line below row 0, with lines of `=`.
+pub fn styles_without_a_frame() -> (
+    Style<(), (), (), (), (), (), 0, 0>,
+    Style<(), (), (), (), (), On, 0, 0>,
+    Style<(), (), (), (), (), On, 1, 0>,
+    Style<On, On, (), (), (), On, 1, 0>,
+)
+    ensures empty { result.0 ≡ ready.empty }
+    ensures blank { result.1 ≡ ready.blank }
+    ensures psql { result.2 ≡ ready.psql }
+    ensures re_structured_text { result.3 ≡ ready.re_structured_text }
 {
-    Style::empty()
+    (
+        Style::empty(),
+        Style::blank(),
+        Style::psql(),
+        Style::re_structured_text(),
+    )
 }
 
-/// The style `blank`: spaces between columns.
-pub fn blank() -> Style<(), (), (), (), (), On, 0, 0>
-    ensures { result ≡ ready.blank }
+/// Those with a frame or with sides, and without lines between rows.
+pub fn styles_with_a_frame() -> (
+    Style<(), (), On, On, (), On, 1, 0>,
+    Style<On, On, On, On, (), On, 1, 0>,
+    Style<On, On, On, On, (), On, 1, 0>,
+    Style<On, On, On, On, (), On, 0, 0>,
+)
+    ensures markdown { result.0 ≡ ready.markdown }
+    ensures sharp { result.1 ≡ ready.sharp }
+    ensures rounded { result.2 ≡ ready.rounded }
+    ensures ascii_rounded { result.3 ≡ ready.ascii_rounded }
 {
-    Style::blank()
+    (
+        Style::markdown(),
+        Style::sharp(),
+        Style::rounded(),
+        Style::ascii_rounded(),
+    )
 }
 
-/// The style `ascii`: lines of `-`, `|` and `+` everywhere.
-pub fn ascii() -> Style<On, On, On, On, On, On, 0, 0>
-    ensures { result ≡ ready.ascii }
+/// Those with all lines.
+pub fn styles_with_all_lines() -> (
+    Style<On, On, On, On, On, On, 0, 0>,
+    Style<On, On, On, On, On, On, 0, 0>,
+    Style<On, On, On, On, On, On, 0, 0>,
+    Style<On, On, On, On, On, On, 0, 0>,
+    Style<On, On, On, On, On, On, 0, 0>,
+)
+    ensures ascii { result.0 ≡ ready.ascii }
+    ensures modern { result.1 ≡ ready.modern }
+    ensures modern_rounded { result.2 ≡ ready.modern_rounded }
+    ensures extended { result.3 ≡ ready.extended }
+    ensures dots { result.4 ≡ ready.dots }
 {
-    Style::ascii()
-}
-
-/// The style `psql`: lines between columns, and one below row 0.
-pub fn psql() -> Style<(), (), (), (), (), On, 1, 0>
-    ensures { result ≡ ready.psql }
-{
-    Style::psql()
-}
-
-/// The style `markdown`: sides, lines between columns, and one below row 0.
-pub fn markdown() -> Style<(), (), On, On, (), On, 1, 0>
-    ensures { result ≡ ready.markdown }
-{
-    Style::markdown()
-}
-
-/// The style `modern`: thin lines everywhere.
-pub fn modern() -> Style<On, On, On, On, On, On, 0, 0>
-    ensures { result ≡ ready.modern }
-{
-    Style::modern()
-}
-
-/// The style `sharp`: a thin frame, lines between columns, and one below row 0.
-pub fn sharp() -> Style<On, On, On, On, (), On, 1, 0>
-    ensures { result ≡ ready.sharp }
-{
-    Style::sharp()
-}
-
-/// The style `rounded`: the same with round corners.
-pub fn rounded() -> Style<On, On, On, On, (), On, 1, 0>
-    ensures { result ≡ ready.rounded }
-{
-    Style::rounded()
-}
-
-/// The style `modern_rounded`: thin lines everywhere, with round corners.
-pub fn modern_rounded() -> Style<On, On, On, On, On, On, 0, 0>
-    ensures { result ≡ ready.modern_rounded }
-{
-    Style::modern_rounded()
-}
-
-/// The style `extended`: double lines everywhere.
-pub fn extended() -> Style<On, On, On, On, On, On, 0, 0>
-    ensures { result ≡ ready.extended }
-{
-    Style::extended()
-}
-
-/// The style `dots`: dots everywhere.
-pub fn dots() -> Style<On, On, On, On, On, On, 0, 0>
-    ensures { result ≡ ready.dots }
-{
-    Style::dots()
-}
-
-/// The style `re_structured_text`: lines of `=` above, below and under row 0.
-pub fn re_structured_text() -> Style<On, On, (), (), (), On, 1, 0>
-    ensures { result ≡ ready.re_structured_text }
-{
-    Style::re_structured_text()
-}
-
-/// The style `ascii_rounded`: a frame with round corners of `.` and `'`, and lines between columns.
-pub fn ascii_rounded() -> Style<On, On, On, On, (), On, 0, 0>
-    ensures { result ≡ ready.ascii_rounded }
-{
-    Style::ascii_rounded()
+    (
+        Style::ascii(),
+        Style::modern(),
+        Style::modern_rounded(),
+        Style::extended(),
+        Style::dots(),
+    )
 }
 
 /// The ready styles in the order of their list.

@@ -1,6 +1,6 @@
 //! What is set for cells, for the margin and as spans, call by call.
 
-ghost use Rattle.std.specs.Prelude.{◌++◌, ◌<◌, ◌≡◌, IsOk, IsTrue, OnErr, OnOk, not, option_copied};
+ghost use Rattle.std.specs.Prelude.{◌++◌, ◌<◌, ◌≡◌, IsOk, IsTrue, OnErr, OnOk, not, option_copied, [], ◌∷◌};
 ghost use Rattle.tabled_configuration.specs.Configuration.{Changes, by_column_span, by_margin, by_row_span, by_setting, has_no_spans};
 ghost use Rattle.tabled_grid.specs.Table.{table};
 ghost use Rattle.tabled_layout.specs.Covering.{covered_by_both_spans, covered_by_column_span, covered_by_row_span};
@@ -30,13 +30,6 @@ pub fn alignment_horizontal_set(
     cfg.set_alignment_horizontal(entity, alignment)
 }
 
-/// Where the text of a cell stands between its left and its right side: at the left where nothing was set.
-pub fn alignment_horizontal_read(cfg: &SpannedConfig, position: Position) -> AlignmentHorizontal
-    ensures { result ≡ value_at cfg.now.settings.cells.alignment_horizontal position }
-{
-    cfg.get_alignment_horizontal(position)
-}
-
 /// Sets where the texts of the cells of an entity stand between the upper and the lower side. Where memory is refused nothing
 /// changes; for all cells none is asked for.
 pub fn alignment_vertical_set(
@@ -49,13 +42,6 @@ pub fn alignment_vertical_set(
     ensures always { IsTrue (is_global entity) → IsOk result }
 {
     cfg.set_alignment_vertical(entity, alignment)
-}
-
-/// Where the text of a cell stands between its upper and its lower side: at the top where nothing was set.
-pub fn alignment_vertical_read(cfg: &SpannedConfig, position: Position) -> AlignmentVertical
-    ensures { result ≡ value_at cfg.now.settings.cells.alignment_vertical position }
-{
-    cfg.get_alignment_vertical(position)
 }
 
 /// Sets whether spaces at the left and the right of the texts of the cells of an entity are dropped before they are aligned.
@@ -72,13 +58,6 @@ pub fn trim_horizontal_set(
     cfg.set_trim_horizontal(entity, trim)
 }
 
-/// Whether spaces at the left and the right of a cell's text are dropped before it is aligned: not where nothing was set.
-pub fn trim_horizontal_read(cfg: &SpannedConfig, position: Position) -> bool
-    ensures { result ≡ value_at cfg.now.settings.cells.trim_horizontal position }
-{
-    cfg.get_trim_horizontal(position)
-}
-
 /// Sets whether empty lines above and below the texts of the cells of an entity are dropped before they are aligned. Where memory
 /// is refused nothing changes; for all cells none is asked for.
 pub fn trim_vertical_set(
@@ -91,13 +70,6 @@ pub fn trim_vertical_set(
     ensures always { IsTrue (is_global entity) → IsOk result }
 {
     cfg.set_trim_vertical(entity, trim)
-}
-
-/// Whether empty lines above and below a cell's text are dropped before it is aligned: not where nothing was set.
-pub fn trim_vertical_read(cfg: &SpannedConfig, position: Position) -> bool
-    ensures { result ≡ value_at cfg.now.settings.cells.trim_vertical position }
-{
-    cfg.get_trim_vertical(position)
 }
 
 /// Sets whether each line of the texts of the cells of an entity is aligned by itself. Where memory is refused nothing changes;
@@ -114,13 +86,6 @@ pub fn line_alignment_set(
     cfg.set_line_alignment(entity, each_line)
 }
 
-/// Whether each line of a cell's text is aligned by itself: not where nothing was set.
-pub fn line_alignment_read(cfg: &SpannedConfig, position: Position) -> bool
-    ensures { result ≡ value_at cfg.now.settings.cells.line_alignment position }
-{
-    cfg.get_line_alignment(position)
-}
-
 /// Sets the character that fills the cells of an entity beside their texts. Where memory is refused nothing changes; for all
 /// cells none is asked for.
 pub fn justification_set(
@@ -133,13 +98,6 @@ pub fn justification_set(
     ensures always { IsTrue (is_global entity) → IsOk result }
 {
     cfg.set_justification(entity, character)
-}
-
-/// The character that fills a cell beside its text: a space where nothing was set.
-pub fn justification_read(cfg: &SpannedConfig, position: Position) -> char
-    ensures { result ≡ value_at cfg.now.settings.cells.justification position }
-{
-    cfg.get_justification(position)
 }
 
 /// Sets the color of the characters that fill the cells of an entity beside their texts, or none. Where memory is refused nothing
@@ -156,13 +114,6 @@ pub fn justification_color_set(
     cfg.set_justification_color(entity, color)
 }
 
-/// The color of the characters that fill a cell beside its text: none where nothing was set.
-pub fn justification_color_read(cfg: &SpannedConfig, position: Position) -> Option<&ANSIBuf>
-    ensures { option_copied result ≡ value_at cfg.now.settings.cells.justification_color position }
-{
-    cfg.get_justification_color(position)
-}
-
 /// Sets the color of the padding of the cells of an entity on each side, or none there. Where memory is refused nothing changes;
 /// for all cells none is asked for.
 pub fn padding_color_set(
@@ -175,13 +126,6 @@ pub fn padding_color_set(
     ensures always { IsTrue (is_global entity) → IsOk result }
 {
     cfg.set_padding_color(entity, colors)
-}
-
-/// The color of a cell's padding on each side, lent: none where nothing was set.
-pub fn padding_color_read(cfg: &SpannedConfig, position: Position) -> &Sides<Option<ANSIBuf>>
-    ensures { result.now ≡ value_at cfg.now.settings.cells.padding_color position }
-{
-    cfg.get_padding_color(position)
 }
 
 /// Sets both trims of the cells of an entity: whether spaces at the left and the right of their texts, and whether empty lines
@@ -222,13 +166,6 @@ pub fn margin_set(cfg: &mut SpannedConfig, margin: Sides<Indent>)
     cfg.set_margin(margin);
 }
 
-/// How wide the margin is on each side, and what fills it: no room and a space where nothing was set.
-pub fn margin_read(cfg: &SpannedConfig) -> &Sides<Indent>
-    ensures { result.now ≡ cfg.now.settings.margin.size }
-{
-    cfg.get_margin()
-}
-
 /// Sets where on its side each part of the margin begins.
 pub fn margin_offset_set(cfg: &mut SpannedConfig, offset: Sides<Offset>)
     ensures { Changes (by_margin (of_offset offset)) cfg.old cfg.new }
@@ -236,25 +173,11 @@ pub fn margin_offset_set(cfg: &mut SpannedConfig, offset: Sides<Offset>)
     cfg.set_margin_offset(offset);
 }
 
-/// Where on its side each part of the margin begins: at the start where nothing was set.
-pub fn margin_offset_read(cfg: &SpannedConfig) -> &Sides<Offset>
-    ensures { result.now ≡ cfg.now.settings.margin.offset }
-{
-    cfg.get_margin_offset()
-}
-
 /// Sets the color of each part of the margin, or none.
 pub fn margin_color_set(cfg: &mut SpannedConfig, color: Sides<Option<ANSIBuf>>)
     ensures { Changes (by_margin (of_color color)) cfg.old cfg.new }
 {
     cfg.set_margin_color(color);
-}
-
-/// The color of each part of the margin: none where nothing was set.
-pub fn margin_color_read(cfg: &SpannedConfig) -> &Sides<Option<ANSIBuf>>
-    ensures { result.now ≡ cfg.now.settings.margin.color }
-{
-    cfg.get_margin_color()
 }
 
 /// Sets over how many columns the cell at a position spans; fewer than two remove its span, which takes no memory. Where memory
@@ -299,33 +222,72 @@ pub fn row_spans_read(cfg: &SpannedConfig) -> &BTreeMap<Position, usize>
     cfg.get_row_spans()
 }
 
-/// Whether a cell is covered by a column span: it stands in the row of a cell that spans several columns, at its right and within
-/// these. It is looked for among all column spans.
-pub fn covered_by_column_span(cfg: &SpannedConfig, position: Position) -> bool
-    ensures { result ≡ covered_by_column_span cfg.now.settings.column_spans position }
+/// What is set for a cell: how its text is aligned across and down, whether its lines and its ends are trimmed, whether its lines are
+/// aligned by themselves, and what fills it.
+pub fn settings_of_a_cell(
+    cfg: &SpannedConfig,
+    position: Position,
+) -> (
+    AlignmentHorizontal,
+    AlignmentVertical,
+    bool,
+    bool,
+    bool,
+    char,
+)
+    ensures across { result.0 ≡ value_at cfg.now.settings.cells.alignment_horizontal position }
+    ensures down { result.1 ≡ value_at cfg.now.settings.cells.alignment_vertical position }
+    ensures trimmed_across { result.2 ≡ value_at cfg.now.settings.cells.trim_horizontal position }
+    ensures trimmed_down { result.3 ≡ value_at cfg.now.settings.cells.trim_vertical position }
+    ensures each_line { result.4 ≡ value_at cfg.now.settings.cells.line_alignment position }
+    ensures filling { result.5 ≡ value_at cfg.now.settings.cells.justification position }
 {
-    cfg.is_cell_covered_by_column_span(position)
+    (
+        cfg.get_alignment_horizontal(position),
+        cfg.get_alignment_vertical(position),
+        cfg.get_trim_horizontal(position),
+        cfg.get_trim_vertical(position),
+        cfg.get_line_alignment(position),
+        cfg.get_justification(position),
+    )
 }
 
-/// Whether a cell is covered by a row span: it stands in the column of a cell that spans several rows, below it and within these.
-/// It is looked for among all row spans.
-pub fn covered_by_row_span(cfg: &SpannedConfig, position: Position) -> bool
-    ensures { result ≡ covered_by_row_span cfg.now.settings.row_spans position }
+/// The colors that are set for a cell, of what fills it and of its padding.
+pub fn setting_colors_of_a_cell(
+    cfg: &SpannedConfig,
+    position: Position,
+) -> (Option<&ANSIBuf>, &Sides<Option<ANSIBuf>>)
+    ensures filling { option_copied result.0 ≡ value_at cfg.now.settings.cells.justification_color position }
+    ensures padding { result.1.now ≡ value_at cfg.now.settings.cells.padding_color position }
 {
-    cfg.is_cell_covered_by_row_span(position)
+    (
+        cfg.get_justification_color(position),
+        cfg.get_padding_color(position),
+    )
 }
 
-/// Whether a cell is covered by both spans of one cell: it stands both below that and at its right, within its rows and within
-/// its columns. It is looked for among all column spans.
-pub fn covered_by_both_spans(cfg: &SpannedConfig, position: Position) -> bool
-    ensures { result ≡ covered_by_both_spans cfg.now.settings.column_spans cfg.now.settings.row_spans position }
+/// The margin: its sizes, its offsets and its colors.
+pub fn margin_read(cfg: &SpannedConfig) -> (&Sides<Indent>, &Sides<Offset>, &Sides<Option<ANSIBuf>>)
+    ensures sizes { result.0.now ≡ cfg.now.settings.margin.size }
+    ensures offsets { result.1.now ≡ cfg.now.settings.margin.offset }
+    ensures colors { result.2.now ≡ cfg.now.settings.margin.color }
 {
-    cfg.is_cell_covered_by_both_spans(position)
+    (
+        cfg.get_margin(),
+        cfg.get_margin_offset(),
+        cfg.get_margin_color(),
+    )
 }
 
-/// Whether any cell spans several columns or several rows.
-pub fn has_spans(cfg: &SpannedConfig) -> bool
-    ensures { result ≡ not (has_no_spans cfg.now) }
+/// Whether a span of columns covers a position, one of rows, or both of one cell; and whether there is any span.
+pub fn covered_by_spans(cfg: &SpannedConfig, position: Position) -> [bool; 4]
+    ensures { result ≡ covered_by_column_span cfg.now.settings.column_spans position ∷ covered_by_row_span cfg.now.settings.row_spans position
+        ∷ covered_by_both_spans cfg.now.settings.column_spans cfg.now.settings.row_spans position ∷ not (has_no_spans cfg.now) ∷ [] }
 {
-    cfg.has_spans()
+    [
+        cfg.is_cell_covered_by_column_span(position),
+        cfg.is_cell_covered_by_row_span(position),
+        cfg.is_cell_covered_by_both_spans(position),
+        cfg.has_spans(),
+    ]
 }

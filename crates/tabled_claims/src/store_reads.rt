@@ -19,25 +19,23 @@ use tabled_grid::{
     Position, Target, VerticalLine, VerticalLines,
 };
 
-/// The class record.
-pub fn class_record_kept<T>(store: &Layers<T>) -> &Borders<T>
-    ensures { result.now ≡ store.now.class_record }
+/// The class record, and the default, if one is set.
+pub fn class_record_and_default_kept<T>(store: &Layers<T>) -> (&Borders<T>, Option<&T>)
+    ensures class_record { result.0.now ≡ store.now.class_record }
+    ensures default { option_copied result.1 ≡ store.now.default_value }
 {
-    store.get_class()
+    (store.get_class(), store.get_default())
 }
 
-/// The custom horizontal line that stands at an index, if one does.
-pub fn horizontal_line_kept<T>(store: &Layers<T>, line: usize) -> Option<&HorizontalLine<T>>
-    ensures { option_copied result ≡ map.get store.now.horizontal_lines line }
+/// The custom lines that stand at an index, the horizontal and the vertical one, if they do.
+pub fn lines_kept<T>(
+    store: &Layers<T>,
+    line: usize,
+) -> (Option<&HorizontalLine<T>>, Option<&VerticalLine<T>>)
+    ensures horizontal { option_copied result.0 ≡ map.get store.now.horizontal_lines line }
+    ensures vertical { option_copied result.1 ≡ map.get store.now.vertical_lines line }
 {
-    store.get_hline(line)
-}
-
-/// The custom vertical line that stands at an index, if one does.
-pub fn vertical_line_kept<T>(store: &Layers<T>, line: usize) -> Option<&VerticalLine<T>>
-    ensures { option_copied result ≡ map.get store.now.vertical_lines line }
-{
-    store.get_vline(line)
+    (store.get_hline(line), store.get_vline(line))
 }
 
 /// The custom horizontal lines, each with the index at which it stands, in rising order. They are lent, so no memory is asked
@@ -53,13 +51,6 @@ pub fn vertical_lines_lent<T>(store: &Layers<T>) -> VerticalLines<'_, T>
     ensures { result ≡ map.entries store.now.vertical_lines }
 {
     store.iter_vlines()
-}
-
-/// The default, if one is set.
-pub fn default_kept<T>(store: &Layers<T>) -> Option<&T>
-    ensures { option_copied result ≡ store.now.default_value }
-{
-    store.get_default()
 }
 
 /// What is kept at a target: at the cell level of a place, whose `at` is not read for an edge, or at a numbered place of an edge.
@@ -131,44 +122,30 @@ pub fn class_record_alone<'a, T, M: Meter>(
     store.class_alone(probes)
 }
 
-/// Whether something is kept at an offset of an edge of a horizontal line, from its start or its end.
-pub fn has_horizontal_offsets<T, M: Meter>(store: &Layers<T, M>, probes: &mut M) -> bool
-    ensures value { IsFalse result ↔ HasNoOffsets horizontal store.now }
-    ensures probes { IsRaised 1 (M.made probes.old) (M.made probes.new) }
+/// Whether anything is kept at numbered places of horizontal edges, of vertical ones, and at the cell level: one reading each.
+pub fn has_offsets_and_cells<T, M: Meter>(
+    store: &Layers<T, M>,
+    probes: &mut M,
+) -> (bool, bool, bool)
+    ensures horizontal { IsFalse result.0 ↔ HasNoOffsets horizontal store.now }
+    ensures vertical { IsFalse result.1 ↔ HasNoOffsets vertical store.now }
+    ensures cells { IsFalse result.2 ↔ HasNoCells store.now }
+    ensures readings { IsRaised 3 (M.made probes.old) (M.made probes.new) }
 {
-    store.has_horizontal_offsets(probes)
+    (
+        store.has_horizontal_offsets(probes),
+        store.has_vertical_offsets(probes),
+        store.has_cells(probes),
+    )
 }
 
-/// Whether something is kept at an offset of an edge of a vertical line, from its start or its end.
-pub fn has_vertical_offsets<T, M: Meter>(store: &Layers<T, M>, probes: &mut M) -> bool
-    ensures value { IsFalse result ↔ HasNoOffsets vertical store.now }
-    ensures probes { IsRaised 1 (M.made probes.old) (M.made probes.new) }
+/// Whether a custom horizontal line stands at some index, and a vertical one: one reading each.
+pub fn has_lines<T, M: Meter>(store: &Layers<T, M>, probes: &mut M) -> (bool, bool)
+    ensures horizontal { IsFalse result.0 ↔ HasNoLines horizontal store.now }
+    ensures vertical { IsFalse result.1 ↔ HasNoLines vertical store.now }
+    ensures readings { IsRaised 2 (M.made probes.old) (M.made probes.new) }
 {
-    store.has_vertical_offsets(probes)
-}
-
-/// Whether something is kept for an edge or a crossing by itself.
-pub fn has_cells<T, M: Meter>(store: &Layers<T, M>, probes: &mut M) -> bool
-    ensures value { IsFalse result ↔ HasNoCells store.now }
-    ensures probes { IsRaised 1 (M.made probes.old) (M.made probes.new) }
-{
-    store.has_cells(probes)
-}
-
-/// Whether a custom horizontal line stands at some index.
-pub fn has_horizontal_lines<T, M: Meter>(store: &Layers<T, M>, probes: &mut M) -> bool
-    ensures value { IsFalse result ↔ HasNoLines horizontal store.now }
-    ensures probes { IsRaised 1 (M.made probes.old) (M.made probes.new) }
-{
-    store.has_hlines(probes)
-}
-
-/// Whether a custom vertical line stands at some index.
-pub fn has_vertical_lines<T, M: Meter>(store: &Layers<T, M>, probes: &mut M) -> bool
-    ensures value { IsFalse result ↔ HasNoLines vertical store.now }
-    ensures probes { IsRaised 1 (M.made probes.old) (M.made probes.new) }
-{
-    store.has_vlines(probes)
+    (store.has_hlines(probes), store.has_vlines(probes))
 }
 
 /// What shows at the sides and the corners of a cell in a table of `shape.0` rows and `shape.1` columns, without the offsets:

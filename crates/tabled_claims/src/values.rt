@@ -337,25 +337,13 @@ pub fn owned_texts(alloc: Global, prefix: &str, suffix: &str) -> Result<ANSIBuf,
     ANSIBuf::new(alloc, prefix, suffix)
 }
 
-/// The text before what is colored.
-pub fn owned_prefix(color: &ANSIBuf) -> &str
-    ensures { result.now ≡ color.now.prefix }
+/// The texts before and after what is colored, and whether both are empty.
+pub fn owned_texts_read(color: &ANSIBuf) -> (&str, &str, bool)
+    ensures prefix { result.0.now ≡ color.now.prefix }
+    ensures suffix { result.1.now ≡ color.now.suffix }
+    ensures empty { IsTrue result.2 ↔ ((color.now.prefix ≡ []) × (color.now.suffix ≡ [])) }
 {
-    color.get_prefix()
-}
-
-/// The text after what is colored.
-pub fn owned_suffix(color: &ANSIBuf) -> &str
-    ensures { result.now ≡ color.now.suffix }
-{
-    color.get_suffix()
-}
-
-/// Whether both texts are empty.
-pub fn owned_texts_are_empty(color: &ANSIBuf) -> bool
-    ensures { IsTrue result ↔ ((color.now.prefix ≡ []) × (color.now.suffix ≡ [])) }
-{
-    color.is_empty()
+    (color.get_prefix(), color.get_suffix(), color.is_empty())
 }
 
 /// The two texts of a color, lent.

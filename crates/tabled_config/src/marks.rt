@@ -84,6 +84,7 @@ impl<'a, D: Dimension> MarkedLine<'a, '_, D> {
     }
 
     /// The color of a crossing, or of an edge without its offsets, if colors are wanted; else nothing is read.
+    #[inline(always)]
     fn plain_color(&self, place: Place, probes: &mut Probes) -> Option<&'a ANSIBuf>
         ensures value { option_copied result ≡ (if self.now.with_colors then plain_value (state_at self.now.cfg.now.colors) self.now.shape place else None) }
         ensures probes { IsRaised 5 probes.old probes.new }

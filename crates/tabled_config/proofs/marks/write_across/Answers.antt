@@ -29,6 +29,6 @@ returns-clause-probes g c =
 pub returns-clause-looked_up_once : goal.returns-clause-looked_up_once
 returns-clause-looked_up_once g c = λ none alike.
     elim c.else-are_alike.branch [
-      else-are_alike-via-then-are_alike+else-not-have_offsets w ↦ absurd (let no = c.has_offsets-have_offsets.ensures.plain refl none in let yes = w.if-not-have_offsets.false in cc)
-    | else-are_alike-via-else-are_alike w ↦ absurd (let yes = c.is_alike-are_alike.ensures.value.1 alike in let no = w.if-are_alike.false in cc)
+      | else-are_alike-via-then-are_alike+else-not-have_offsets w ↦ absurd (let no = c.has_offsets-have_offsets.ensures.plain refl none in let yes = w.if-not-have_offsets.false in cc)
+      | else-are_alike-via-else-are_alike w ↦ absurd (let yes = c.is_alike-are_alike.ensures.value.1 alike in let no = w.if-are_alike.false in cc)
     ]
