@@ -116,6 +116,10 @@ own_crossing_color_if cfg shape widths heights line n true place found at is =
     (is ∙ ap (plain_value (state_at cfg.colors) shape) at ∙ sym (crossing_plain cfg.colors shape line n))
 own_crossing_color_if cfg shape widths heights line n false place found at is = is
 
+-- where no colors are wanted there is none
+pub uncolored : {X : Type 0} (wanted : Bool) (color : Option X) → wanted ≡ false → None ≡ (if wanted then color else None)
+uncolored wanted color plain = sym (ap (λ b. if b then color else None) plain)
+
 -- the lines that are drawn, listed
 pub listed_within : {X : Type 0} (f : ℕ → X) (xs : List X) (n k : ℕ) → xs ≡ map f (below (n + 1)) → k ≤ n → k < length xs
 listed_within f xs n k e h = let l : length xs ≡ n + 1 = ap length e ∙ length-map-range_with_len f 0 (n + 1) in omega arith

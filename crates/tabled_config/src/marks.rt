@@ -83,12 +83,10 @@ impl<'a, D: Dimension> MarkedLine<'a, '_, D> {
         self.cfg.color_at(place, self.shape, size, probes)
     }
 
-    /// The color of a crossing, or of an edge without its offsets, if colors are wanted; else nothing is read.
-    #[inline(always)]
+    /// The color of a crossing, or of an edge without its offsets, if colors are wanted.
     fn plain_color(&self, place: Place, probes: &mut Probes) -> Option<&'a ANSIBuf>
         ensures value { option_copied result ≡ (if self.now.with_colors then plain_value (state_at self.now.cfg.now.colors) self.now.shape place else None) }
         ensures probes { IsRaised 5 probes.old probes.new }
-        ensures unread { self.now.with_colors ≡ false → probes.new ≡ probes.old }
     {
         if !self.with_colors {
             return None;
@@ -205,7 +203,6 @@ impl<'a, D: Dimension> MarkedLine<'a, '_, D> {
         ensures put { let view = viewed D.width_of D.height_of self.now in
             Put S.puts result (map (mark_at view) (crossing_places view self.now.line n)) sink.old sink.new }
         ensures probes { IsRaised 5 probes.old probes.new }
-        ensures unread { self.now.with_colors ≡ false → probes.new ≡ probes.old }
     {
         let mark = Mark {
             shown,
@@ -279,7 +276,6 @@ impl<'a, D: Dimension> MarkedLine<'a, '_, D> {
         ensures put { let view = viewed D.width_of D.height_of self.now in
             Put S.puts result (map (mark_at view) (edge_places view self.now.line n)) sink.old sink.new }
         ensures probes { IsRaised 5 probes.old probes.new }
-        ensures unread { self.now.with_colors ≡ false → probes.new ≡ probes.old }
     {
         let mark = Mark {
             shown,
@@ -381,20 +377,37 @@ impl<D: Dimension> MarkedLine<'_, '_, D> {
         n: usize,
         crossing: Option<char>,
         edge: Option<char>,
-        probes: &mut Probes,
     ) -> Result<(), OutOfMemory>
         requires within { n < pieces_of self.now.shape self.now.line }
         requires plain { self.now.with_colors ≡ false }
         requires no_offsets { HasNoOffsets (direction_of self.now.line) self.now.cfg.now.characters }
         requires crossing { crossing ≡ plain_value (state_at self.now.cfg.now.characters) self.now.shape (crossing_of self.now.line n) }
         requires edge { edge ≡ plain_value (state_at self.now.cfg.now.characters) self.now.shape (edge_of self.now.line n 0) }
-        ensures put { let view = viewed D.width_of D.height_of self.now in
+        ensures { let view = viewed D.width_of D.height_of self.now in
             Put text_gains result (map (mark_at view) (piece_places view self.now.line n)) text.old text.new }
-        ensures unread { probes.new ≡ probes.old }
     {
-        self.write_crossing(text, n, crossing, probes)?;
-        let size = size_of(self.dims, self.line, n);
-        self.put_run(text, n, size, edge, probes)
+        self.write_crossing(text, n, crossing)?;
+        self.write_edge(text, n, edge)
+    }
+
+    /// Writes an edge all of whose places show this character, as no offset is kept.
+    #[inline(always)]
+    fn write_edge(
+        &self,
+        text: &mut String,
+        n: usize,
+        shown: Option<char>,
+    ) -> Result<(), OutOfMemory>
+        requires within { n < pieces_of self.now.shape self.now.line }
+        requires plain { self.now.with_colors ≡ false }
+        requires no_offsets { HasNoOffsets (direction_of self.now.line) self.now.cfg.now.characters }
+        requires shown { shown ≡ plain_value (state_at self.now.cfg.now.characters) self.now.shape (edge_of self.now.line n 0) }
+        ensures { let view = viewed D.width_of D.height_of self.now in
+            Put text_gains result (map (mark_at view) (edge_places view self.now.line n)) text.old text.new }
+    {
+        let count = size_of(self.dims, self.line, n);
+        let mark = Mark { shown, color: None };
+        text.put(Run { mark, count })
     }
 
     /// Writes a crossing that shows this character, if the other line is drawn.
@@ -404,19 +417,18 @@ impl<D: Dimension> MarkedLine<'_, '_, D> {
         text: &mut String,
         n: usize,
         shown: Option<char>,
-        probes: &mut Probes,
     ) -> Result<(), OutOfMemory>
         requires within { n ≤ pieces_of self.now.shape self.now.line }
         requires plain { self.now.with_colors ≡ false }
         requires shown { shown ≡ plain_value (state_at self.now.cfg.now.characters) self.now.shape (crossing_of self.now.line n) }
-        ensures put { let view = viewed D.width_of D.height_of self.now in
+        ensures { let view = viewed D.width_of D.height_of self.now in
             Put text_gains result (map (mark_at view) (crossing_places view self.now.line n)) text.old text.new }
-        ensures unread { probes.new ≡ probes.old }
     {
         if !self.is_crossed(n) {
             return Ok(());
         }
-        self.put_drawn(text, n, shown, probes)
+        let mark = Mark { shown, color: None };
+        text.put(Run { mark, count: 1 })
     }
 
     /// Writes the line. What it shows is looked up once, in at most 25 readings.
@@ -432,10 +444,10 @@ impl<D: Dimension> MarkedLine<'_, '_, D> {
         let looks = self.looks(probes);
         let mut crossing = looks.left;
         for n in 0..count {
-            self.write_piece(text, n, crossing, looks.main, probes)?;
+            self.write_piece(text, n, crossing, looks.main)?;
             crossing = looks.intersection;
         }
-        self.write_crossing(text, count, looks.right, probes)
+        self.write_crossing(text, count, looks.right)
     }
 }
 

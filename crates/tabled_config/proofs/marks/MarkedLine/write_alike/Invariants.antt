@@ -14,5 +14,4 @@ invariant-loop-n g l =
     record {
       written : text_gains (map (mark_at view) (places_before view l.self.line l.n)) l.initial.text l.text;
       next : l.n < pieces_of l.self.shape l.self.line → l.crossing ≡ plain_value (state_at l.self.cfg.now.characters) l.self.shape (crossing_of l.self.line l.n);
-      unread : l.probes ≡ l.initial.probes;
     }
