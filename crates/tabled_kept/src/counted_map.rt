@@ -14,8 +14,8 @@ use std::alloc::Global;
 use std::marker::{Model, PhantomData};
 use tabled_border::{Keep, OutOfMemory};
 
-/// A map with one way to read it, which is counted. Until something is kept it takes no memory beside itself. In contracts it is the
-/// list of its entries.
+/// A map that is read in two ways, each of which is counted. Until something is kept it takes no memory beside itself. In contracts it
+/// is the list of its entries.
 #[derive(Debug, Drop)]
 pub struct CountedMap<K: Key, V, M = Probes> {
     alloc: Global,
