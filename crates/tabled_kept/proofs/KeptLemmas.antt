@@ -12,7 +12,7 @@ use Rattle.tabled_kept.specs.Same.{same_map}
 use Rattle.tabled_kept.specs.Kept.{joined, Parted}
 use Rattle.tabled_kept.proofs.SameGets.{both, all_of, get_alike, alike_get, both_none}
 use Rattle.tabled_kept.proofs.TableLemmas.{exact_slots}
-use Rattle.tabled_kept.proofs.Tables.{no-entries, no-keys}
+use Rattle.tabled_kept.proofs.Tables.{no-entries}
 use Rattle.tabled_kept.proofs.Joining.{at_slot, same_tests, ties_by_slot, never_ties, get-joined}
 
 pub none_or : {X : Type 0} (x : Option X) → (IsSome x → x ≡ None) → x ≡ None
@@ -127,18 +127,6 @@ module _ {K : Type 0} {R : K → K → Ordering} (o : IsTotalOrder R) (exact : m
       by_slot : (q : K) (at : Option Slot) → at_slot at (map.get dense) (map.get (table R others) q) ≡ None
       by_slot q None = ap (λ m. map.get m q) (no-entries o exact others few) ∙ map.get-empty R q
       by_slot q (Some s) = ap (λ m. map.get m s) none ∙ map.get-empty slot_cmp s
-
-  pub empty_dense : (dense : map.FinMap slot_cmp V) (others : List (K × V)) → PartedHere dense others → whole dense others ≡ map.empty → dense ≡ map.empty
-  empty_dense dense others parted none = map.same_map slots_total exact_slots _ _ (λ s.
-      none_or (map.get dense s) (λ some. sym (read_dense dense others parted (key_at s) s (parted.in_place s some)) ∙ ap (λ m. map.get m (key_at s)) none ∙ map.get-empty R (key_at s))
-      ∙ sym (map.get-empty slot_cmp s))
-
-  pub empty_others : (dense : map.FinMap slot_cmp V) (others : List (K × V)) → PartedHere dense others → whole dense others ≡ map.empty → length others ≡ 0
-  empty_others dense others parted none = no-keys o exact others (map.same_map o exact _ _ (λ q. by_slot q (slot_of q) refl ∙ sym (map.get-empty R q)))
-    where
-      by_slot : (q : K) (at : Option Slot) → slot_of q ≡ at → map.get (table R others) q ≡ None
-      by_slot q None of_q = sym (read_others dense others parted q of_q) ∙ ap (λ m. map.get m q) none ∙ map.get-empty R q
-      by_slot q (Some s) of_q = parted.apart q (ap is_some of_q)
 
   -- two are the same where both of their parts are
   pub same_parts : (E : V → V → Bool) (dense dense' : map.FinMap slot_cmp V) (others others' : List (K × V)) → PartedHere dense others → PartedHere dense' others' → (same_map E dense dense' && same_map E (table R others) (table R others')) ≡ same_map E (whole dense others) (whole dense' others')
