@@ -7,9 +7,7 @@ use tabled::settings::formatting::{AlignmentStrategy, Justification, TrimStrateg
 use tabled::settings::object::{Columns, Rows};
 use tabled::settings::{Alignment, Style};
 use tabled::{TableError, TextTable};
-use tabled_cells::{
-    Placement, aligned, free_above, line_parts, lines_shown, placed_text, widest,
-};
+use tabled_cells::{Placement, aligned, free_above, line_parts, show_lines, widest};
 use tabled_config::{SpannedConfig, push_spaces_before, push_times};
 use tabled_grid::{Entity, Position};
 use tabled_settings::{AlignmentHorizontal, AlignmentVertical};
@@ -144,18 +142,6 @@ fn texts_are_aligned_by_what_a_terminal_shows(rt: HostRuntime) -> Result<(), Fai
 }
 
 #[test]
-fn one_text_is_placed_by_itself(rt: HostRuntime) -> Result<(), Fail> {
-    let alloc = rt.alloc();
-    let mut cfg = SpannedConfig::new(alloc);
-    cfg.set_alignment_horizontal(Entity::Global, AlignmentHorizontal::Right)?;
-    let how = Placement::of(&cfg, Position::new(0, 0));
-    let mut room = Vec::new(alloc);
-    let cell = placed_text(alloc, &mut room, &how, 6, 3, "a\nbc")?;
-    assert_eq!(rt; cell.as_str(), "   a  \n   bc \n      ");
-    Ok(())
-}
-
-#[test]
 fn a_cell_is_taken_apart(rt: HostRuntime) -> Result<(), Fail> {
     let alloc = rt.alloc();
     let mut cfg = SpannedConfig::new(alloc);
@@ -163,10 +149,11 @@ fn a_cell_is_taken_apart(rt: HostRuntime) -> Result<(), Fail> {
     cfg.set_trim_horizontal(Entity::Global, true)?;
     cfg.set_justification(Entity::Global, '.')?;
     let how = Placement::of(&cfg, Position::new(0, 0));
-    let mut room = Vec::new(alloc);
-    let lines = lines_shown(&mut room, &how, " ab \nc")?;
-    assert_eq!(rt; lines, ["ab", "c"].as_slice());
-    let widest = widest(&how, lines);
+    let mut lines = Vec::new(alloc);
+    lines.push("an earlier line")?;
+    show_lines(&mut lines, &how, " ab \nc")?;
+    assert_eq!(rt; lines.as_slice(), ["ab", "c"].as_slice());
+    let widest = widest(&how, &lines);
     assert_eq!(rt; aligned(&how, widest, "c"), 2);
     let parts = line_parts(alloc, &how, 7, widest, "c")?;
     assert_eq!(rt; (parts.before, parts.after, parts.fill), (1, 3, '.'));

@@ -4,9 +4,7 @@ use crate::common::configs::{ascii_borders, begins, config, prints, seen};
 use std::alloc::Global;
 use std::test::Fail;
 use tabled_border::{ANSIBuf, Border};
-use tabled_config::{
-    ColoredConfig, Run, SpannedConfig, drawn_across, print_rows, runs_across, write_across,
-};
+use tabled_config::{ColoredConfig, Frame, Run, Sink, SpannedConfig};
 use tabled_grid::{
     Borders, Entity, FixedDimension, Layers, LineOf, OutOfMemory, Position, Probes, border_writes,
 };
@@ -93,42 +91,6 @@ fn a_ready_style_replaces_what_was_there(rt: HostRuntime) -> Result<(), Fail> {
     Ok(())
 }
 
-#[test]
-fn rows_are_printed_one_by_one(rt: HostRuntime) -> Result<(), Fail> {
-    let alloc = rt.alloc();
-    let mut cfg = SpannedConfig::new(alloc);
-    cfg.set_borders(ascii_borders());
-    let dims = FixedDimension::new(vec![in alloc; 3usize; 1]?, vec![in alloc; 1usize; 1]?);
-    let mut row = Vec::new(alloc);
-    row.push(String::from_str(alloc, " a ")?)?;
-    let mut rows = Vec::new(alloc);
-    rows.push(row)?;
-    let mut text = String::from_str(alloc, "before:")?;
-    print_rows(&mut text, &cfg, &dims, (1, 1), &rows.as_slice())?;
-    assert_eq!(rt; text.as_str(), "before:+---+\n| a |\n+---+");
-    Ok(())
-}
-
-/// Which of the vertical lines of a table of two columns are drawn.
-fn are_drawn(cfg: &SpannedConfig, expected: &[bool]) -> Result<bool, OutOfMemory> {
-    let drawn = drawn_across(cfg, (2, 2), LineOf::Horizontal(1), &mut Probes::new())?;
-    Ok(drawn.as_slice() == expected)
-}
-
-#[test]
-fn a_line_meets_the_lines_that_are_drawn(rt: HostRuntime) -> Result<(), Fail> {
-    let mut cfg = SpannedConfig::new(rt.alloc());
-    assert!(rt; are_drawn(&cfg, &[false, false, false])?);
-    cfg.set_borders(Borders {
-        vertical: Some('|'),
-        ..Borders::empty()
-    });
-    assert!(rt; are_drawn(&cfg, &[false, true, false])?);
-    cfg.set_borders(ascii_borders());
-    assert!(rt; are_drawn(&cfg, &[true, true, true])?);
-    Ok(())
-}
-
 /// Whether runs show these characters, each so often.
 fn are_runs(runs: &[Run<'_>], expected: &[(char, usize)]) -> bool {
     for (run, (character, count)) in runs.iter().zip(expected) {
@@ -140,19 +102,50 @@ fn are_runs(runs: &[Run<'_>], expected: &[(char, usize)]) -> bool {
 }
 
 #[test]
-fn a_line_is_walked_by_the_lines_that_it_meets(rt: HostRuntime) -> Result<(), Fail> {
+fn a_line_is_put_into_what_takes_marks(rt: HostRuntime) -> Result<(), Fail> {
     let alloc = rt.alloc();
     let mut cfg = SpannedConfig::new(alloc);
     cfg.set_borders(ascii_borders());
     let dims = FixedDimension::new(vec![in alloc; 3usize; 2]?, vec![in alloc; 1usize; 2]?);
-    let (line, probes) = (LineOf::Horizontal(1), &mut Probes::new());
-    let crossed = drawn_across(&cfg, (2, 2), line, probes)?;
-    let runs = runs_across(&cfg, &dims, (2, 2), line, &crossed, probes)?;
+    let frame = Frame::new(&cfg, &dims, (2, 2), true)?;
+    let probes = &mut Probes::new();
+    let mut runs = Vec::new(alloc);
+    frame.put_line(1, &mut runs, probes)?;
     let expected = [('+', 1), ('-', 3), ('+', 1), ('-', 3), ('+', 1)];
     assert!(rt; are_runs(&runs, &expected));
     let mut text = String::from_str(alloc, "line ")?;
-    write_across(&mut text, &cfg, &dims, (2, 2), line, &crossed, probes)?;
+    frame.put_line(1, &mut text, probes)?;
     assert_eq!(rt; text.as_str(), "line +---+---+");
+    let mut marks = Vec::new(alloc);
+    frame.put_line(1, &mut marks, probes)?;
+    assert_eq!(rt; marks.len(), 9);
+    let mut count = 1usize;
+    frame.put_line(1, &mut count, probes)?;
+    assert_eq!(rt; count, 10);
+    assert_eq!(rt; (frame.count_columns()?, frame.count_lines()?), (9, 5));
+    Ok(())
+}
+
+#[test]
+fn a_side_is_shown_where_its_line_is_drawn(rt: HostRuntime) -> Result<(), Fail> {
+    let alloc = rt.alloc();
+    let mut cfg = SpannedConfig::new(alloc);
+    cfg.set_borders(Borders {
+        vertical: Some('|'),
+        ..Borders::empty()
+    });
+    let dims = FixedDimension::new(vec![in alloc; 3usize; 3]?, vec![in alloc; 1usize; 2]?);
+    let frame = Frame::new(&cfg, &dims, (2, 3), false)?;
+    let sides = [None, Some(Some('|')), Some(Some('|')), None];
+    for (col, side) in sides.iter().enumerate() {
+        assert_eq!(rt; frame.side(1, col, 0).map(|mark| mark.shown), *side);
+        assert_eq!(rt; frame.sides.at(col).map(|mark| mark.shown), *side);
+    }
+    cfg.set_border(Position::new(1, 0), Border::new().left('<'))?;
+    let frame = Frame::new(&cfg, &dims, (2, 3), false)?;
+    assert_eq!(rt; frame.side(0, 0, 0).map(|mark| mark.shown), Some(None));
+    assert_eq!(rt; frame.side(1, 0, 0).map(|mark| mark.shown), Some(Some('<')));
+    assert_eq!(rt; frame.side(1, 3, 0).map(|mark| mark.shown), None);
     Ok(())
 }
 

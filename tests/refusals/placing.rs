@@ -1,7 +1,7 @@
 //! The calls that put one text into its cell.
 
 use crate::turn::{Named, Outcome, Turn};
-use tabled_cells::{Placement, line_parts, lines_shown, placed_text};
+use tabled_cells::{Placement, line_parts, show_lines};
 use tabled_config::{SpannedConfig, push_spaces_before, push_times};
 use tabled_grid::{Entity, OutOfMemory, Position};
 use tabled_settings::AlignmentHorizontal;
@@ -16,22 +16,13 @@ fn at_the_right(turn: &Turn) -> Result<Placement, OutOfMemory> {
     Ok(Placement::of(&cfg, CELL))
 }
 
-/// What becomes of a text that is put into its cell whole.
-fn place(turn: &mut Turn) -> Result<Outcome, OutOfMemory> {
-    let how = at_the_right(turn)?;
-    let mut room = Vec::new(turn.alloc());
-    turn.spend();
-    let placed = placed_text(turn.alloc(), &mut room, &how, 6, 1, "ab");
-    Ok(Outcome::of_value(placed.map(|text| text.as_str() == " ..ab ")))
-}
-
 /// What becomes of the lines of a text.
 fn cut(turn: &mut Turn) -> Result<Outcome, OutOfMemory> {
     let how = at_the_right(turn)?;
-    let mut room = Vec::new(turn.alloc());
+    let mut lines = Vec::new(turn.alloc());
     turn.spend();
-    let lines = lines_shown(&mut room, &how, "ab\nc");
-    Ok(Outcome::of_value(lines.map(|lines| lines.len() == 2)))
+    let shown = show_lines(&mut lines, &how, "ab\nc");
+    Ok(Outcome::of_value(shown.map(|_| lines.len() == 2)))
 }
 
 /// What becomes of the parts of a line.
@@ -59,10 +50,9 @@ fn write_spaces(turn: &mut Turn) -> Result<Outcome, OutOfMemory> {
 }
 
 /// Each of them.
-pub(crate) fn calls() -> [Named; 5] {
+pub(crate) fn calls() -> [Named; 4] {
     [
-        ("placed_text", place),
-        ("lines_shown", cut),
+        ("show_lines", cut),
         ("line_parts", part),
         ("push_times", write),
         ("push_spaces_before", write_spaces),

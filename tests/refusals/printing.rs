@@ -6,7 +6,7 @@ use std::alloc::Global;
 use std::fmt::Write;
 use tabled::{TableError, TextTable};
 use tabled_config::{
-    CellRows, ColoredConfig, PrintError, line_marks, line_runs, print_plain, print_rows,
+    ColoredConfig, Frame, Mark, PrintError, Run, Sink, line_marks, line_runs, print_plain,
 };
 use tabled_grid::{Cell, Keep, LineOf, OutOfMemory, Probes};
 use tabled_object::Rows;
@@ -49,25 +49,27 @@ fn print(
     }
 }
 
-/// What becomes of the printer over cells that are known to fit.
-fn print_fitting(turn: &mut Turn) -> Result<Outcome, OutOfMemory> {
+/// What becomes of a frame, and of a line of it in a text. Where memory is refused the text begins as it did.
+fn frame_a_table(turn: &mut Turn) -> Result<Outcome, OutOfMemory> {
     let sample = Sample::new(turn.alloc())?;
-    let cells = cells_of(turn.alloc(), &[&[" a ", " b "], &[" c ", " d "]])?;
     let mut text = String::from_str(turn.alloc(), "before:")?;
     turn.spend();
-    let rows = &cells.as_slice();
-    let returned = print_rows(&mut text, sample.cfg.config(), &sample.dims, (2, 2), rows);
-    Ok(Outcome::of(returned, text.len() > 40, text.as_str() == "before:"))
+    let cfg = sample.cfg.config();
+    let returned = Frame::new(cfg, &sample.dims, (2, 2), true)
+        .and_then(|frame| frame.put_line(1, &mut text, &mut Probes::new()));
+    Ok(Outcome::of(returned, text.len() > 10, text.as_str().starts_with("before:")))
 }
 
-/// What becomes of a row that is lent.
-fn lend_a_row(turn: &mut Turn) -> Result<Outcome, OutOfMemory> {
-    let cells = cells_of(turn.alloc(), &[&[" a ", " b "], &[" c ", " d "]])?;
-    let mut room = Vec::new(turn.alloc());
+/// What becomes of a run in a list of marks. Where memory is refused some may have been put.
+fn put_a_run(turn: &mut Turn) -> Result<Outcome, OutOfMemory> {
+    let mut marks = Vec::new(turn.alloc());
+    let mark = Mark {
+        shown: Some('='),
+        color: None,
+    };
     turn.spend();
-    let rows = &cells.as_slice();
-    let lent = rows.row(1, &mut room);
-    Ok(Outcome::of_value(lent.map(|row| row.len() == 2)))
+    let returned = marks.put(Run { mark, count: 2 });
+    Ok(Outcome::of(returned, marks.len() == 2, marks.len() < 2))
 }
 
 /// What becomes of the marks of a line.
@@ -106,8 +108,8 @@ pub(crate) fn plain() -> [Named; 7] {
             "print_plain (a row too short)",
             |turn| { print(turn, SHORT, Err(PrintError::ColumnCount(1))) },
         ),
-        ("print_rows", print_fitting),
-        ("<&[Vec<String>] as CellRows>::row", lend_a_row),
+        ("Frame::put_line", frame_a_table),
+        ("<Vec<Mark> as Sink>::put", put_a_run),
         ("line_marks", mark_a_line),
         ("line_runs", list_runs),
     ]

@@ -7,10 +7,9 @@ ghost use Rattle.tabled_grid.specs.ClassAlone.{ShowsClasses};
 ghost use Rattle.tabled_grid.specs.Probing.{IsRaised};
 ghost use Rattle.tabled_grid.specs.Reading.{direction_of, HasClassAlone};
 ghost use Rattle.tabled_grid.specs.State.{HasNoCells, HasNoLines, HasNoOffsets, state_at};
-ghost use Rattle.tabled_config.specs.Known.{HasNoneAcross};
 ghost use Rattle.tabled_grid.specs.Value.{plain_value};
 
-use tabled_config::{SpannedConfig, has_none_across};
+use tabled_config::SpannedConfig;
 use tabled_grid::{ANSIBuf, Borders, LineOf, Meter, Place};
 
 /// The character of an edge or a crossing without its offset characters. `at` of an edge is not read.
@@ -86,17 +85,13 @@ pub fn has_cells<M: Meter>(cfg: &SpannedConfig<M>, probes: &mut M) -> (bool, boo
     (cfg.has_cell_chars(probes), cfg.has_cell_colors(probes))
 }
 
-/// Whether a custom line of characters of the direction of a line stands at some index, and whether none stands across it: one
-/// reading each.
+/// Whether a custom line of the direction of a line stands at some index, of characters and of colors: one reading each.
 pub fn has_lines<M: Meter>(cfg: &SpannedConfig<M>, line: LineOf, probes: &mut M) -> (bool, bool)
-    ensures along { IsFalse result.0 ↔ HasNoLines (direction_of line) cfg.now.characters }
-    ensures none_across { IsTrue result.1 ↔ HasNoneAcross cfg.now.characters line }
+    ensures characters { IsFalse result.0 ↔ HasNoLines (direction_of line) cfg.now.characters }
+    ensures colors { IsFalse result.1 ↔ HasNoLines (direction_of line) cfg.now.colors }
     ensures readings { IsRaised 2 (M.made probes.old) (M.made probes.new) }
 {
-    (
-        cfg.has_char_lines(line, probes),
-        has_none_across(cfg, line, probes),
-    )
+    (cfg.has_char_lines(line, probes), cfg.has_color_lines(line, probes))
 }
 
 /// Whether nothing is set for some cells alone.

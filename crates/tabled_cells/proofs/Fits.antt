@@ -1,4 +1,4 @@
--- A cell as it is printed has as many lines as its row is high, and each of them is as wide as its column.
+-- Each line of a cell is as wide as its column, and has no line feed.
 use Rattle.std.proofs.Common.{◌≡◌, ◌==◌, ◌&&◌, ℕ, ◌+◌, ◌-◌, ◌<◌, ◌≤◌, zero, suc, max, fold, Bool, true, false, if◌then◌else◌, cond, not, ltb, eqb, List, [], ◌∷◌, ◌++◌, map, length, get_or, take, replicate, reverse, refl, sym, ap, subst, ◌∙◌, arith, lit<, eq-eqb, encode_utf8, length-append}
 use Rattle.std.specs.Prelude.{chars}
 use Rattle.std.specs.Str.{IsUtf8}
@@ -16,15 +16,13 @@ use Rattle.unicode_width.proofs.Rules.{str_width-append_simple, str_width-printa
 use Rattle.unicode_width.proofs.Computing.{unicode_width}
 use Rattle.tabled_settings.specs.declared.alignment.AlignmentHorizontal.{AlignmentHorizontal}
 use Rattle.tabled_settings.specs.declared.alignment.AlignmentHorizontal.TheVariants.{Left, Center, Right}
-use Rattle.tabled_settings.specs.declared.alignment.AlignmentVertical.{AlignmentVertical}
-use Rattle.tabled_settings.specs.declared.alignment.AlignmentVertical.TheVariants as upright
 use Rattle.tabled_config.specs.Texts.{pieces, width_of_text}
 use Rattle.tabled_config.specs.Pieces.{first_piece, after_first_piece}
 use Rattle.tabled_config.proofs.PieceLemmas.{first_of_pieces, rest_of_pieces}
 use Rattle.tabled_cells.specs.declared.placement.Placement.{Placement}
 use Rattle.tabled_cells.specs.Trimmed.{without_first, without_ends, is_space, is_blank, line_shown, lines_shown}
-use Rattle.tabled_cells.specs.Placed.{line_parts, free_before, free_above, times, filled, fill_of, greatest, placed_line, aligned_width, empty_line, placed_lines, placed}
-use Rattle.tabled_cells.proofs.Writing.{IsAscii-spaces, times_spaces}
+use Rattle.tabled_cells.specs.Placed.{line_parts, free_before, free_above, times, filled, fill_of, greatest, aligned_width}
+use Rattle.tabled_config.proofs.TimesLemmas.{IsAscii-spaces, times_spaces}
 
 -- ---- what stands before and after a line feed is a text too
 
@@ -54,6 +52,21 @@ pub IsUtf8-piece : (k : ℕ) (text : List ℕ) → IsUtf8 text → IsUtf8 (get_o
 IsUtf8-piece zero text u = subst IsUtf8 (sym (first_of_pieces text)) (first_by text _ refl u)
 IsUtf8-piece (suc k) text u =
     subst IsUtf8 (rest_of_pieces text k ∙ ap (λ n. get_or (pieces text) n []) (omega arith)) (IsUtf8-piece k (after_first_piece text) (IsUtf8-rest text u))
+
+-- ---- a line of a cell, as text
+
+-- a line of a cell that has no text, one that has, and line n of a cell
+abbrev pub empty_line : ℕ → List ℕ
+empty_line width = replicate width 32
+
+unfoldable pub placed_line : Placement → ℕ → ℕ → List ℕ → List ℕ
+placed_line how width aligned line = let parts = line_parts how width aligned line in filled parts.fill parts.before parts.after line
+
+abbrev pub placed_at : Placement → ℕ → ℕ → List (List ℕ) → ℕ → List ℕ
+placed_at how width height lines n =
+    let above = free_above how.alignment_vertical (height - length lines) in
+    let line = get_or lines (n - above) [] in
+    if ltb n above then empty_line width else if ltb (n - above) (length lines) then placed_line how width (aligned_width how lines line) line else empty_line width
 
 -- ---- how wide spaces are
 
@@ -93,7 +106,7 @@ cut_joined line (next ∷ lines) lack =
     slice_split_at (λ b. eqb b 10) line 10 (join_with_byte 10 (next ∷ lines)) (All-head Lacks line (next ∷ lines) lack) refl
     ∙ ap (λ rest. line ∷ rest) (cut_joined next lines (All-tail Lacks line (next ∷ lines) lack))
 
-cut_lines : (lines : List (List ℕ)) → 0 < length lines → All Lacks lines → pieces (join_with_byte 10 lines) ≡ lines
+pub cut_lines : (lines : List (List ℕ)) → 0 < length lines → All Lacks lines → pieces (join_with_byte 10 lines) ≡ lines
 cut_lines [] some lack = absurd (omega arith)
 cut_lines (line ∷ lines) some lack = cut_joined line lines lack
 
@@ -123,10 +136,6 @@ pub greatest_bound : {X : Type 0} (f : X → ℕ) (a : ℕ) (xs : List X) (k : �
 greatest_bound f a [] k d within = absurd (omega arith)
 greatest_bound f a (x ∷ xs) zero d within = omega (arith, fold-max-start (max a (f x)) (map f xs))
 greatest_bound f a (x ∷ xs) (suc k) d within = greatest_bound f (max a (f x)) xs k d (omega arith)
-
-width_of_nothing : width_of_text [] ≡ 0
-unfolding str_width
-width_of_nothing = ap (str_width false) chars-nil
 
 -- ---- spaces before a text and after it
 
@@ -171,11 +180,6 @@ before_fits : (side : AlignmentHorizontal) (free : ℕ) → free_before side fre
 before_fits Left free = omega arith
 before_fits Center free = omega arith
 before_fits Right free = omega arith
-
-above_fits : (side : AlignmentVertical) (free : ℕ) → free_above side free ≤ free
-above_fits upright.Top free = omega arith
-above_fits upright.Center free = omega arith
-above_fits upright.Bottom free = omega arith
 
 wide_by : (character width before after : ℕ) (line : List ℕ) (fits : Bool) → (not (character == 10) && (width_of_text (filled character before after line) == width)) ≡ fits
     → width_of_text (filled 32 before after line) ≡ width → width_of_text (filled (fill_of character width before after line) before after line) ≡ width
@@ -240,7 +244,6 @@ placed_lacks how width aligned line lack =
 record Good (most : ℕ) (line : List ℕ) : Type 0 where
   utf8 : IsUtf8 line
   narrow : width_of_text line ≤ most
-  lacks : Lacks line
 
 space_off : (most : ℕ) (b : ℕ) (bs : List ℕ) → (b == 32) ≡ true → Good most (b ∷ bs) → Good most bs
 space_off most b bs is good =
@@ -249,7 +252,6 @@ space_off most b bs is good =
     record {
       utf8 = IsUtf8-drop (32 ∷ bs) 1 spaced.utf8 (IsCharBoundary-after_ascii (32 ∷ bs) 0 spaced.utf8 (omega arith) (lit< tt));
       narrow = let one = one_space bs in omega (arith, one, spaced.narrow);
-      lacks = All-tail IsOther 32 bs spaced.lacks;
     }
 
 spaces_off : (most : ℕ) (line : List ℕ) → Good most line → Good most (without_first is_space line)
@@ -269,7 +271,6 @@ last_off most front good =
     record {
       utf8 = text;
       narrow = let one = spaces_after front 1 text in omega (arith, one, good.narrow);
-      lacks = subst Lacks cut (All-take IsOther (length front) (front ++ 32 ∷ []) good.lacks);
     }
 
 reverse_cons : (b : ℕ) (bs : List ℕ) → reverse (b ∷ bs) ≡ reverse bs ++ b ∷ []
@@ -321,7 +322,6 @@ pieces_good text u k d within =
     record {
       utf8 = subst IsUtf8 (sym same) (IsUtf8-piece k text u);
       narrow = greatest_bound width_of_text 0 (pieces text) k d within;
-      lacks = subst Lacks (sym same) (piece_lacks k text);
     }
 
 shown_good : (how : Placement) (text : List ℕ) → IsUtf8 text → All (Good (greatest (map width_of_text (pieces text)))) (lines_shown how text)
@@ -330,27 +330,6 @@ shown_good how text u =
     let most : ℕ = greatest (map width_of_text (pieces text)) in
     kept_good most how.trim_vertical (map (line_shown how) (pieces text))
     (All-map (Good most) (line_shown how) (pieces text) (λ k d within. line_good most how.trim_horizontal (get_or (pieces text) k d) (pieces_good text u k d within)))
-
-fewer_first : {A : Type 0} (test : A → Bool) (xs : List A) → length (without_first test xs) ≤ length xs
-fewer_first test [] = omega arith
-fewer_first test (x ∷ xs) = by_first (test x) (fewer_first test xs)
-  where
-    by_first : (t : Bool) → length (without_first test xs) ≤ length xs → length (if t then without_first test xs else x ∷ xs) ≤ length (x ∷ xs)
-    by_first true rest = omega (arith, rest)
-    by_first false rest = omega arith
-
-fewer_kept : (trim : Bool) (lines : List (List ℕ)) → length (if trim then without_ends is_blank lines else lines) ≤ length lines
-fewer_kept true lines =
-    let first = fewer_first is_blank lines in
-    let last = fewer_first is_blank (reverse (without_first is_blank lines)) in
-    omega (arith, first, last, length-reverse (without_first is_blank (reverse (without_first is_blank lines))), length-reverse (without_first is_blank lines))
-fewer_kept false lines = omega arith
-
-shown_fewer : (how : Placement) (text : List ℕ) → length (lines_shown how text) ≤ length (pieces text)
-unfolding lines_shown
-shown_fewer how text =
-    let kept = fewer_kept how.trim_vertical (map (line_shown how) (pieces text)) in
-    omega (arith, kept, length-map (pieces text) (line_shown how))
 
 -- the widest of lines that may stand in a column may
 widest_narrow : (most start : ℕ) (lines : List (List ℕ)) → start ≤ most → All (Good most) lines → fold max start (map width_of_text lines) ≤ most
@@ -361,11 +340,6 @@ widest_narrow most start (line ∷ lines) small all =
 
 -- ---- a cell
 
--- a line of a cell as it ought to be
-record Fitting (width : ℕ) (line : List ℕ) : Type 0 where
-  wide : width_of_text line ≡ width
-  lacks : Lacks line
-
 aligned_room : (each : Bool) (own all : ℕ) → own ≤ all → own ≤ (if each then own else all)
 aligned_room true own all fits = omega arith
 aligned_room false own all fits = fits
@@ -374,65 +348,56 @@ aligned_most : (each : Bool) (own all most : ℕ) → own ≤ most → all ≤ m
 aligned_most true own all most first second = first
 aligned_most false own all most first second = second
 
-module _ (how : Placement) (width height : ℕ) (text : List ℕ) (u : IsUtf8 text) (room : greatest (map width_of_text (pieces text)) + 2 ≤ width) (high : length (pieces text) ≤ height) where
-  lines : List (List ℕ)
-  lines = lines_shown how text
+-- the lines that are shown have no line feed
+shown_lacks : (how : Placement) (text : List ℕ) → All Lacks (lines_shown how text)
+unfolding lines_shown
+shown_lacks how text = kept_lacks how.trim_vertical (map (line_shown how) (pieces text)) (All-map Lacks (line_shown how) (pieces text) (λ k d within. line_lacks how.trim_horizontal (get_or (pieces text) k d) (subst Lacks (get_or_default (pieces text) k [] d within) (piece_lacks k text))))
+  where
+    line_lacks : (trim : Bool) (line : List ℕ) → Lacks line → Lacks (if trim then without_ends is_space line else line)
+    line_lacks true line lack = All-without_ends IsOther is_space line lack
+    line_lacks false line lack = lack
 
-  line_fits : (k : ℕ) (d : List ℕ) → k < length (lines_shown how text)
-      → Fitting width (placed_line how width (aligned_width how (lines_shown how text) (get_or (lines_shown how text) k d)) (get_or (lines_shown how text) k d))
-  line_fits k d within =
-      let most : ℕ = greatest (map width_of_text (pieces text)) in
-      let shown : List (List ℕ) = lines_shown how text in
-      let line : List ℕ = get_or shown k d in
-      let good : Good most line = shown_good how text u k d within in
-      let all : greatest (map width_of_text shown) ≤ most = widest_narrow most 0 shown (omega arith) (shown_good how text u) in
-      let own : width_of_text line ≤ greatest (map width_of_text shown) = greatest_bound width_of_text 0 shown k d within in
-      record {
-        wide = wide_line how width (aligned_width how shown line) line good.utf8 (aligned_room how.line_alignment (width_of_text line) (greatest (map width_of_text shown)) own)
-            (let least = aligned_most how.line_alignment (width_of_text line) (greatest (map width_of_text shown)) most good.narrow all in omega (arith, least));
-        lacks = placed_lacks how width (aligned_width how shown line) line good.lacks;
-      }
+    kept_lacks : (trim : Bool) (lines : List (List ℕ)) → All Lacks lines → All Lacks (if trim then without_ends is_blank lines else lines)
+    kept_lacks true lines lack = All-without_ends Lacks is_blank lines lack
+    kept_lacks false lines lack = lack
 
-  empty_fits : Fitting width (empty_line width)
-  empty_fits = record { wide = empty_wide width; lacks = All-replicate IsOther width 32 refl }
+module _ (how : Placement) (width height : ℕ) (text : List ℕ) (n : ℕ) where
+  abbrev shown : List (List ℕ)
+  shown = lines_shown how text
 
-  lines_fit : All (Fitting width) (placed_lines how width height text)
-  unfolding placed_lines
-  lines_fit =
-      let shown : List (List ℕ) = lines_shown how text in
-      let free : ℕ = height - length shown in
-      let above : ℕ = free_above how.alignment_vertical free in
-      let placed_one : List ℕ → List ℕ = λ line. placed_line how width (aligned_width how shown line) line in
-      All-append (Fitting width) (replicate above (empty_line width) ++ map placed_one shown) (replicate (free - above) (empty_line width))
-      (All-append (Fitting width) (replicate above (empty_line width)) (map placed_one shown) (All-replicate (Fitting width) above (empty_line width) empty_fits)
-      (All-map (Fitting width) placed_one shown (λ k d within. line_fits k d within)))
-      (All-replicate (Fitting width) (free - above) (empty_line width) empty_fits)
+  abbrev above : ℕ
+  above = free_above how.alignment_vertical (height - length (lines_shown how text))
 
-  -- as many lines as the row is high
-  pub placed_high : length (placed_lines how width height text) ≡ height
-  unfolding placed_lines
-  placed_high =
-      let shown : List (List ℕ) = lines_shown how text in
-      let free : ℕ = height - length shown in
-      let above : ℕ = free_above how.alignment_vertical free in
-      let placed_one : List ℕ → List ℕ = λ line. placed_line how width (aligned_width how shown line) line in
-      let fewer = shown_fewer how text in
-      let most = above_fits how.alignment_vertical free in
-      let front = length-append (replicate above (empty_line width)) (map placed_one shown) in
-      let whole = length-append (replicate above (empty_line width) ++ map placed_one shown) (replicate (free - above) (empty_line width)) in
-      omega (arith, front, whole, length-replicate above (empty_line width), length-replicate (free - above) (empty_line width), length-map shown placed_one, fewer, most)
+  abbrev line : List ℕ
+  line = get_or (lines_shown how text) (n - above) []
 
-  -- each of them as wide as the column
-  pub placed_wide : list_all (λ piece. width_of_text piece == width) (placed_lines how width height text) ≡ true
-  placed_wide = each_wide (placed_lines how width height text) lines_fit
+  abbrev by_place : Bool → Bool → List ℕ
+  by_place first second = if first then empty_line width else if second then placed_line how width (aligned_width how shown line) line else empty_line width
+
+  -- a line of a cell has no line feed
+  pub placed_at_lacks : Lacks (placed_at how width height (lines_shown how text) n)
+  placed_at_lacks = by_case (ltb n above) (ltb (n - above) (length shown)) refl
     where
-      each_wide : (ls : List (List ℕ)) → All (Fitting width) ls → list_all (λ piece. width_of_text piece == width) ls ≡ true
-      each_wide [] all = refl
-      each_wide (l ∷ ls) all = and_from _ _ (eq-eqb _ _ (All-head (Fitting width) l ls all).wide) (each_wide ls (All-tail (Fitting width) l ls all))
+      empty_lacks : Lacks (empty_line width)
+      empty_lacks = All-replicate IsOther width 32 refl
 
-  -- and these are the pieces of the cell
-  pub cut_placed : 0 < height → pieces (placed how width height text) ≡ placed_lines how width height text
-  unfolding placed
-  cut_placed some =
-      cut_lines (placed_lines how width height text) (let long = placed_high in omega (arith, long))
-      (λ k d within. (lines_fit k d within).lacks)
+      by_case : (first second : Bool) → ltb (n - above) (length shown) ≡ second → Lacks (by_place first second)
+      by_case true second is = empty_lacks
+      by_case false true is = placed_lacks how width (aligned_width how shown line) line (shown_lacks how text (n - above) [] (ltb-true (n - above) (length shown) is))
+      by_case false false is = empty_lacks
+
+  -- and is as wide as its column, where that leaves room for the text
+  pub placed_at_wide : IsUtf8 text → greatest (map width_of_text (pieces text)) + 2 ≤ width → width_of_text (placed_at how width height (lines_shown how text) n) ≡ width
+  placed_at_wide u room = by_case (ltb n above) (ltb (n - above) (length shown)) refl
+    where
+      by_case : (first second : Bool) → ltb (n - above) (length shown) ≡ second → width_of_text (by_place first second) ≡ width
+      by_case true second is = empty_wide width
+      by_case false true is =
+          let within = ltb-true (n - above) (length shown) is in
+          let most : ℕ = greatest (map width_of_text (pieces text)) in
+          let good : Good most line = shown_good how text u (n - above) [] within in
+          let all : greatest (map width_of_text shown) ≤ most = widest_narrow most 0 shown (omega arith) (shown_good how text u) in
+          let own : width_of_text line ≤ greatest (map width_of_text shown) = greatest_bound width_of_text 0 shown (n - above) [] within in
+          wide_line how width (aligned_width how shown line) line good.utf8 (aligned_room how.line_alignment (width_of_text line) (greatest (map width_of_text shown)) own)
+          (let least = aligned_most how.line_alignment (width_of_text line) (greatest (map width_of_text shown)) most good.narrow all in omega (arith, least))
+      by_case false false is = empty_wide width

@@ -1,6 +1,5 @@
 pub mod Trimming
 pub mod Measuring
-pub mod Writing
 pub mod Fits
 pub mod Unset
 pub mod Printing

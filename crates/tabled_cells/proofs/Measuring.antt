@@ -6,7 +6,7 @@ use Rattle.tabled_settings.specs.declared.alignment.AlignmentHorizontal.TheVaria
 use Rattle.tabled_config.specs.Texts.{width_of_text}
 use Rattle.tabled_cells.specs.declared.filling.LineParts.{LineParts}
 use Rattle.tabled_cells.specs.declared.placement.Placement.{Placement}
-use Rattle.tabled_cells.specs.Placed.{greatest, free_before, filled, fill_of, line_parts, placed_line, aligned_width}
+use Rattle.tabled_cells.specs.Placed.{greatest, free_before, fill_of, line_parts, aligned_width}
 
 -- the greatest of a walk is the greatest of the list
 pub greatest_found : (ns : List ℕ) → unwrap_or (reduce max ns) 0 ≡ greatest ns
@@ -38,9 +38,3 @@ parts_same how width widest lines line is =
       fill = fill_of how.justification width before (width - 2 - before - width_of_text line) line;
     } in
     ap parts (before_same how.alignment_horizontal how.line_alignment (width - 2) (width_of_text line) widest (greatest (map width_of_text lines)) is)
-
-pub aligned_same : (how : Placement) (width widest : ℕ) (lines : List (List ℕ)) (line : List ℕ)
-    → (how.line_alignment ≡ false → how.alignment_horizontal ≢ Left → widest ≡ greatest (map width_of_text lines))
-    → placed_line how width (if how.line_alignment then width_of_text line else widest) line ≡ placed_line how width (aligned_width how lines line) line
-unfolding placed_line
-aligned_same how width widest lines line is = ap (λ parts. filled parts.fill parts.before parts.after line) (parts_same how width widest lines line is)

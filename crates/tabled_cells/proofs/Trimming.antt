@@ -1,14 +1,15 @@
 -- What a walk over a line, or over lines, drops at their ends.
-use Rattle.std.proofs.Common.{◌≡◌, ◌≢◌, ℕ, ◌+◌, ◌-◌, ◌<◌, ◌≤◌, Bool, true, false, if◌then◌else◌, ◌==◌, Option, Some, None, IfSome, MatchOption, List, [], ◌∷◌, ◌++◌, reverse, take, length, get_or, refl, sym, ap, ◌∙◌, arith, lit<, length-append}
+use Rattle.std.proofs.Common.{◌≡◌, ◌≢◌, ℕ, ◌+◌, ◌-◌, ◌<◌, ◌≤◌, Bool, true, false, ◌&&◌, if◌then◌else◌, ◌==◌, Option, Some, None, IfSome, MatchOption, List, [], ◌∷◌, ◌++◌, reverse, length, get_or, refl, sym, ap, ◌∙◌, arith, lit<, length-append, Result, Ok, Err, OnOk}
 use Rattle.std.proofs.lemmas.Bool.{eqb-true}
 use Rattle.std.proofs.lemmas.Bool.Decides.{nat_tests}
-use Rattle.std.proofs.lemmas.List.{reverse-append, reverse-reverse, take_more, get_or_default, get_or-map, length-map, take-map}
+use Rattle.std.proofs.lemmas.List.{append-nil, append_assoc, reverse-append, reverse-reverse, get_or_default}
 use Rattle.std.proofs.lemmas.List.Splits.{slice_split_none, slice_split_at}
 use Rattle.std.proofs.lemmas.Str.Pattern.{IsSplitOnceResult, split_parts}
 use denote.Ref.{Bor}
 use Rattle.tabled_config.specs.Texts.{pieces}
 use Rattle.tabled_config.specs.Pieces.{lent}
-use Rattle.tabled_cells.specs.Trimmed.{without_first, is_space, is_blank}
+use Rattle.tabled_cells.specs.declared.placement.Placement.{Placement}
+use Rattle.tabled_cells.specs.Trimmed.{without_first, without_ends, is_space, is_blank, goes_on, lines_kept}
 
 -- what begins with something that passes is as the rest of it
 pub passes_first : {A : Type 0} (test : A → Bool) (x : A) (xs : List A) → test x ≡ true → without_first test (x ∷ xs) ≡ without_first test xs
@@ -35,10 +36,6 @@ pub no_space_last : (line : List ℕ) → ((front : List ℕ) → line ≢ front
 no_space_last line never =
     no_space_first (reverse line) (λ rest begins. never (reverse rest) (sym (reverse-reverse line) ∙ ap reverse begins ∙ reverse_cons 32 rest))
 
--- the lines up to one place more, from the last
-pub take_back : {A : Type 0} (xs : List A) (n : ℕ) (d : A) → n < length xs → reverse (take (n + 1) xs) ≡ get_or xs n d ∷ reverse (take n xs)
-take_back xs n d within = ap reverse (take_more xs n d within) ∙ reverse-append (take n xs) (get_or xs n d ∷ [])
-
 other : (text : List ℕ) (k d : ℕ) → k < length text → ((i : ℕ) → i < length text → get_or text i 0 ≢ 10) → (get_or text k d == 10) ≡ false
 other text k d within never = not_ten (get_or text k d) (λ is. never k within (get_or_default text k 0 d within ∙ is))
   where
@@ -59,24 +56,66 @@ cut_shorter text (Some parts) is =
     let at = split_parts 10 text (Some parts) is (lit< tt) in
     omega (arith, ap length at.0, length-append parts.0.now (10 ∷ parts.1.now))
 
--- the lines up to an end, read from the last
-module _ (lines : List (Bor (List ℕ))) (end : ℕ) (d : Bor (List ℕ)) (some : 0 < end) (within : end ≤ length lines) where
-  last_line : reverse (take end (lent lines)) ≡ (get_or lines (end - 1) d).now ∷ reverse (take (end - 1) (lent lines))
-  last_line =
-      let inside : end - 1 < length lines = omega arith in
-      let same : end - 1 + 1 ≡ end = omega arith in
-      ap (λ n. reverse (take n (lent lines))) (sym same)
-      ∙ take_back (lent lines) (end - 1) [] (rw length-map inside)
-      ∙ ap (λ line. line ∷ reverse (take (end - 1) (lent lines))) (get_or-map (λ text. text.now) lines (end - 1) d [] inside)
+-- ---- blank lines above the others
 
-  pub blank_dropped : is_blank (get_or lines (end - 1) d).now ≡ true → without_first is_blank (reverse (take (end - 1) (lent lines))) ≡ without_first is_blank (reverse (take end (lent lines)))
-  blank_dropped blank =
-      sym (ap (without_first is_blank) last_line ∙ passes_first is_blank (get_or lines (end - 1) d).now (reverse (take (end - 1) (lent lines))) blank)
+abbrev goes : Bool → Bool → List (List ℕ) → List (List ℕ)
+goes trims none more = if trims && none then without_first is_blank more else more
 
-  pub other_kept : is_blank (get_or lines (end - 1) d).now ≡ false → without_first is_blank (reverse (take end (lent lines))) ≡ reverse (take end (lent lines))
-  other_kept filled =
-      ap (without_first is_blank) last_line ∙ fails_first is_blank (get_or lines (end - 1) d).now (reverse (take (end - 1) (lent lines))) filled ∙ sym last_line
+-- a line that is put goes on with all that follows it
+pub line_put : (how : Placement) (old new : List (List ℕ)) (line : List ℕ) → new ≡ old ++ line ∷ [] → ((how.trim_vertical && (length old == 0)) && is_blank line) ≡ false
+    → (more : List (List ℕ)) → new ++ goes_on how new more ≡ old ++ goes_on how old (line ∷ more)
+line_put how old new line put kept more =
+    ap (λ b. new ++ goes how.trim_vertical b more) some ∙ ap (λ b. new ++ (if b then without_first is_blank more else more)) (both_false how.trim_vertical)
+    ∙ ap (λ xs. xs ++ more) put ∙ append_assoc old (line ∷ []) more
+    ∙ ap (λ xs. old ++ xs) (sym (whole (how.trim_vertical && (length old == 0)) kept))
+  where
+    some : (length new == 0) ≡ false
+    some = ap (λ xs. length xs == 0) put ∙ (let l = length-append old (line ∷ []) in grind (arith, nat_tests))
 
--- these lines are those that are kept
-pub up_to : (lines : List (Bor (List ℕ))) (end : ℕ) (kept : List (List ℕ)) → reverse (take end (lent lines)) ≡ kept → lent (take end lines) ≡ reverse kept
-up_to lines end kept is = sym (take-map (λ text. text.now) end lines) ∙ sym (reverse-reverse (take end (lent lines))) ∙ ap reverse is
+    both_false : (b : Bool) → b && false ≡ false
+    both_false true = refl
+    both_false false = refl
+
+    whole : (b : Bool) → b && is_blank line ≡ false → (if b then without_first is_blank (line ∷ more) else line ∷ more) ≡ line ∷ more
+    whole true other = fails_first is_blank line more other
+    whole false other = refl
+
+-- a blank line before all others is passed over
+pub line_passed : (how : Placement) (old : List (List ℕ)) (line : List ℕ) → how.trim_vertical ≡ true → (length old == 0) ≡ true → is_blank line ≡ true
+    → (more : List (List ℕ)) → old ++ goes_on how old more ≡ old ++ goes_on how old (line ∷ more)
+line_passed how old line trims none blank more =
+    ap (λ xs. old ++ xs)
+    ((λ i. goes (trims i) (none i) more) ∙ sym (passes_first is_blank line more blank) ∙ sym (λ i. goes (trims i) (none i) (line ∷ more)))
+
+-- nothing goes on with nothing
+pub goes_nowhere : (how : Placement) (lines : List (List ℕ)) → lines ++ goes_on how lines [] ≡ lines
+goes_nowhere how lines = ap (λ xs. lines ++ xs) (either (how.trim_vertical && (length lines == 0))) ∙ append-nil lines
+  where
+    either : (b : Bool) → (if b then without_first is_blank [] else []) ≡ []
+    either true = refl
+    either false = refl
+
+-- so after the last line all are there
+pub last_put : {T E : Type 0} (r : Result T E) (how : Placement) (old new : List (List ℕ)) (line : List ℕ) (whole : List (List ℕ))
+    → OnOk r ((more : List (List ℕ)) → new ++ goes_on how new more ≡ old ++ goes_on how old (line ∷ more)) → old ++ goes_on how old (line ∷ []) ≡ whole → OnOk r (new ≡ whole)
+last_put (Ok x) how old new line whole put so_far = sym (goes_nowhere how new) ∙ put [] ∙ so_far
+last_put (Err e) how old new line whole put so_far = tt
+
+-- ---- blank lines below the others
+
+pub blank_dropped : (front lines : List (List ℕ)) (last : List ℕ) → lines ≡ front ++ last ∷ [] → is_blank last ≡ true → without_first is_blank (reverse front) ≡ without_first is_blank (reverse lines)
+blank_dropped front lines last are blank = sym (ap (λ xs. without_first is_blank (reverse xs)) are ∙ ap (without_first is_blank) (reverse-append front (last ∷ [])) ∙ passes_first is_blank last (reverse front) blank)
+
+pub other_kept : (front lines : List (List ℕ)) (last : List ℕ) → lines ≡ front ++ last ∷ [] → is_blank last ≡ false → lines ≡ reverse (without_first is_blank (reverse lines))
+other_kept front lines last are filled =
+    sym (ap reverse (ap (λ xs. without_first is_blank (reverse xs)) are ∙ ap (without_first is_blank) (reverse-append front (last ∷ [])) ∙ fails_first is_blank last (reverse front) filled
+    ∙ sym (reverse-append front (last ∷ [])) ∙ ap reverse (sym are)) ∙ reverse-reverse lines)
+
+-- ---- the lines that are shown
+
+pub shown_trimmed : (how : Placement) (lines cut new : List (List ℕ)) → how.trim_vertical ≡ true → cut ≡ goes_on how [] lines → new ≡ reverse (without_first is_blank (reverse cut)) → new ≡ lines_kept how lines
+shown_trimmed how lines cut new trims are is =
+    is ∙ ap (λ ls. reverse (without_first is_blank (reverse ls))) (are ∙ ap (λ b. goes b true lines) trims) ∙ sym (ap (λ b. if b then without_ends is_blank lines else lines) trims)
+
+pub shown_whole : (how : Placement) (lines cut : List (List ℕ)) → how.trim_vertical ≡ false → cut ≡ goes_on how [] lines → cut ≡ lines_kept how lines
+shown_whole how lines cut whole are = are ∙ ap (λ b. goes b true lines) whole ∙ sym (ap (λ b. if b then without_ends is_blank lines else lines) whole)

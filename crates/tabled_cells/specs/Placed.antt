@@ -1,13 +1,11 @@
 -- A cell as it is printed: where its text stands in it, and what fills the rest.
 pub use Rattle.tabled_config.specs.Texts.{times}
-use Rattle.std.specs.Prelude.{ℕ, ◌-◌, ◌/◌, ◌==◌, ◌&&◌, not, max, fold, if◌then◌else◌, List, [], ◌∷◌, ◌++◌, map, length, replicate}
-use Rattle.std.specs.List.{join_with_byte}
+use Rattle.std.specs.Prelude.{ℕ, ◌-◌, ◌/◌, ◌==◌, ◌&&◌, not, max, fold, if◌then◌else◌, List, [], ◌∷◌, ◌++◌, map}
 use Rattle.tabled_settings.specs.declared.alignment.AlignmentHorizontal.{AlignmentHorizontal}
 use Rattle.tabled_settings.specs.declared.alignment.AlignmentVertical.{AlignmentVertical}
 use Rattle.tabled_config.specs.Texts.{width_of_text}
 use Rattle.tabled_cells.specs.declared.filling.LineParts.{LineParts}
 use Rattle.tabled_cells.specs.declared.placement.Placement.{Placement}
-use Rattle.tabled_cells.specs.Trimmed.{lines_shown}
 
 -- how much of what is free in a line stands before the text, and how many of the free lines stand above it: of an odd number the
 -- middle leaves one more behind
@@ -42,32 +40,6 @@ line_parts how width aligned line =
     let after = room - before - width_of_text line in
     record { before = before; after = after; fill = fill_of how.justification width before after line }
 
--- such a line
-unfoldable pub placed_line : Placement → ℕ → ℕ → List ℕ → List ℕ
-placed_line how width aligned line = let parts = line_parts how width aligned line in filled parts.fill parts.before parts.after line
-
 -- how wide what is aligned is: a line by itself, or all of them as one, which is as wide as the widest
 abbrev pub aligned_width : Placement → List (List ℕ) → List ℕ → ℕ
 aligned_width how lines line = if how.line_alignment then width_of_text line else greatest (map width_of_text lines)
-
--- a line of a cell that has no text
-abbrev pub empty_line : ℕ → List ℕ
-empty_line width = replicate width 32
-
--- the lines of a cell: those of its text, and above and below them lines without text, up to a height
-abbrev pub around : Placement → ℕ → ℕ → List (List ℕ) → List (List ℕ)
-around how width height lines =
-    let free = height - length lines in
-    let above = free_above how.alignment_vertical free in
-    replicate above (empty_line width) ++ map (λ line. placed_line how width (aligned_width how lines line) line) lines ++ replicate (free - above) (empty_line width)
-
--- a line with the line feed that ends it
-abbrev pub ended : List ℕ → List ℕ
-ended line = line ++ 10 ∷ []
-
-unfoldable pub placed_lines : Placement → ℕ → ℕ → List ℕ → List (List ℕ)
-placed_lines how width height text = around how width height (lines_shown how text)
-
--- a cell as a text
-unfoldable pub placed : Placement → ℕ → ℕ → List ℕ → List ℕ
-placed how width height text = join_with_byte 10 (placed_lines how width height text)

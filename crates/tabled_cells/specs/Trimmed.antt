@@ -1,5 +1,5 @@
 -- The lines of a text that are shown in its cell: all of it, or less where it is trimmed.
-use Rattle.std.specs.Prelude.{ℕ, Bool, ◌==◌, if◌then◌else◌, List, [], ◌∷◌, map, reverse}
+use Rattle.std.specs.Prelude.{ℕ, Bool, ◌==◌, ◌&&◌, if◌then◌else◌, List, [], ◌∷◌, length, map, reverse}
 use Rattle.std.specs.List.{list_all}
 use Rattle.tabled_config.specs.Texts.{pieces}
 use Rattle.tabled_cells.specs.declared.placement.Placement.{Placement}
@@ -22,6 +22,10 @@ is_blank line = list_all is_space line
 -- a line as it is shown: without the spaces at its ends, where these are trimmed
 abbrev pub line_shown : Placement → List ℕ → List ℕ
 line_shown how line = if how.trim_horizontal then without_ends is_space line else line
+
+-- what of further lines is shown below those: where blank lines are trimmed, none before the first other one
+abbrev pub goes_on : Placement → List (List ℕ) → List (List ℕ) → List (List ℕ)
+goes_on how above more = if how.trim_vertical && (length above == 0) then without_first is_blank more else more
 
 -- the lines of a text, each as it is shown; without the blank ones above and below all others, where these are trimmed
 abbrev pub lines_kept : Placement → List (List ℕ) → List (List ℕ)

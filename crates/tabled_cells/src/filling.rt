@@ -26,7 +26,7 @@ pub struct LineParts {
 }
 
 /// Writes a line between two spaces, with so many of a character before it and after it.
-pub(crate) fn push_filled(
+fn push_filled(
     cell: &mut String,
     character: char,
     before: usize,

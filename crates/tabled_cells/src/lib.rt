@@ -4,13 +4,11 @@
 #![tactic(auto)]
 
 mod filling;
-mod place;
 mod placement;
 mod trim;
 mod width;
 
 pub use filling::{LineParts, aligned, line_parts, widest};
-pub use place::{join_lines, placed_text};
 pub use placement::{Placement, free_above};
-pub use trim::lines_shown;
+pub use trim::show_lines;
 pub use width::{is_printable, width_of};

@@ -1,9 +1,9 @@
 //! The lines of a text as they are shown.
 
-ghost use Rattle.std.specs.Prelude.{◌≡◌, ◌<◌, [], ◌∷◌, map, reverse, length, OnOk, IfOk, IfSome, MatchOption};
+ghost use Rattle.std.specs.Prelude.{◌≡◌, ◌<◌, ℕ, List, [], ◌∷◌, ◌++◌, map, reverse, length, OnOk, IfSome, MatchOption};
 ghost use Rattle.tabled_config.specs.Pieces.{lent};
 ghost use Rattle.tabled_config.specs.Texts.{pieces};
-ghost use Rattle.tabled_cells.specs.Trimmed.{without_first, without_ends, is_space, line_shown, lines_kept, lines_shown};
+ghost use Rattle.tabled_cells.specs.Trimmed.{without_first, is_space, line_shown, goes_on, lines_shown};
 ghost use Rattle.tabled_cells.specs.Trimmed as shown;
 
 use crate::Placement;
@@ -49,45 +49,6 @@ fn is_blank(line: &str) -> bool
     line.as_bytes().iter().all(|byte| *byte == b' ')
 }
 
-/// Lines without the blank ones above the others.
-fn after_blank<'a, 'b>(lines: &'b [&'a str]) -> &'b [&'a str]
-    ensures { lent result.now ≡ without_first shown.is_blank (lent lines.now) }
-{
-    let mut rest = lines;
-    while let [line, more @ ..] = rest {
-        if !is_blank(line) {
-            return rest;
-        }
-        rest = more;
-    }
-    rest
-}
-
-/// Lines without the blank ones below the others.
-fn before_blank<'a, 'b>(lines: &'b [&'a str]) -> &'b [&'a str]
-    ensures { lent result.now ≡ reverse (without_first shown.is_blank (reverse (lent lines.now))) }
-{
-    let mut end = lines.len();
-    while end > 0 {
-        if !is_blank(lines[end - 1]) {
-            return &lines[..end];
-        }
-        end -= 1;
-    }
-    &lines[..0]
-}
-
-/// Of lines that are shown those that are kept.
-fn lines_kept<'a, 'b>(how: &Placement, lines: &'b [&'a str]) -> &'b [&'a str]
-    ensures { lent result.now ≡ lines_kept how.now (lent lines.now) }
-{
-    if how.trim_vertical {
-        before_blank(after_blank(lines))
-    } else {
-        lines
-    }
-}
-
 /// The first line of a text and what follows the line feed after it, if the text has one.
 fn cut(text: &str) -> Option<(&str, &str)>
     ensures pieces { MatchOption result (pieces text.now ≡ text.now ∷ []) (λ parts. pieces text.now ≡ parts.0.now ∷ pieces parts.1.now) }
@@ -96,28 +57,60 @@ fn cut(text: &str) -> Option<(&str, &str)>
     text.split_once('\n')
 }
 
-/// Puts the lines of a text into a list, each as it is shown, in place of what that had.
+/// Puts a line after others, as it is shown, unless it is blank, and such lines are trimmed above the others.
+fn push_shown<'a>(
+    lines: &mut Vec<&'a str>,
+    how: &Placement,
+    line: &'a str,
+) -> Result<(), AllocError>
+    ensures { OnOk result ((more : List (List ℕ)) → lent lines.new.items ++ goes_on how.now (lent lines.new.items) more
+        ≡ lent lines.old.items ++ goes_on how.now (lent lines.old.items) (line_shown how.now line.now ∷ more)) }
+{
+    let shown = line_shown(how, line);
+    if how.trim_vertical && lines.is_empty() && is_blank(shown) {
+        return Ok(());
+    }
+    lines.push(shown)?;
+    Ok(())
+}
+
+/// Puts the lines of a text into a list, each as it is shown, in place of what that had, and without the blank ones above the
+/// others where these are trimmed.
 fn cut_into<'a>(lines: &mut Vec<&'a str>, how: &Placement, text: &'a str) -> Result<(), AllocError>
-    ensures { OnOk result (lent lines.new.items ≡ map (line_shown how.now) (pieces text.now)) }
+    ensures { OnOk result (lent lines.new.items ≡ goes_on how.now [] (map (line_shown how.now) (pieces text.now))) }
 {
     lines.clear();
     let mut rest = text;
     while let Some((line, more)) = cut(rest) {
-        lines.push(line_shown(how, line))?;
+        push_shown(lines, how, line)?;
         rest = more;
     }
-    lines.push(line_shown(how, rest))?;
-    Ok(())
+    push_shown(lines, how, rest)
 }
 
-/// The lines of a text that are shown, which stand in `room`.
-pub fn lines_shown<'a, 'b>(
-    room: &'b mut Vec<&'a str>,
+/// Takes the blank lines below the others out of a list.
+fn drop_blank_end(lines: &mut Vec<&str>)
+    ensures { lent lines.new.items ≡ reverse (without_first shown.is_blank (reverse (lent lines.old.items))) }
+{
+    while let Some(last) = lines.last() {
+        if !is_blank(last) {
+            return;
+        }
+        lines.pop();
+    }
+}
+
+/// Puts the lines of a text that are shown into a list, in place of what that had.
+pub fn show_lines<'a>(
+    lines: &mut Vec<&'a str>,
     how: &Placement,
     text: &'a str,
-) -> Result<&'b [&'a str], AllocError>
-    ensures { IfOk result (λ lines. lent lines.now ≡ lines_shown how.now text.now) }
+) -> Result<(), AllocError>
+    ensures { OnOk result (lent lines.new.items ≡ lines_shown how.now text.now) }
 {
-    cut_into(room, how, text)?;
-    Ok(lines_kept(how, room.as_slice()))
+    cut_into(lines, how, text)?;
+    if how.trim_vertical {
+        drop_blank_end(lines);
+    }
+    Ok(())
 }

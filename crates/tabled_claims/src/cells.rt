@@ -1,31 +1,32 @@
 //! How a text stands in its cell.
 
-ghost use Rattle.std.specs.Prelude.{◌≡◌, ◌==◌, ◌<◌, ◌≤◌, ◌+◌, ◌-◌, ℕ, List, [], ◌∷◌, ◌++◌, true, map, length, replicate, string_bytes, IfOk};
-ghost use Rattle.std.specs.List.{list_all};
+ghost use Rattle.std.specs.Prelude.{◌≡◌, ◌==◌, ◌≤◌, ◌+◌, ◌-◌, ℕ, List, [], ◌∷◌, ◌++◌, false, if◌then◌else◌, nat_lt, map, length, replicate, slice_index_or, OnOk};
+ghost use Rattle.std.specs.List.{All};
 ghost use Rattle.std.specs.Str.{IsUtf8};
 ghost use Rattle.tabled_settings.specs.CellSettings.{first_settings};
 ghost use Rattle.tabled_config.specs.Texts.{pieces, width_of_text};
 ghost use Rattle.tabled_cells.specs.declared.placement.Placement.{Placement as How};
 ghost use Rattle.tabled_cells.specs.Placements.{placement_at};
-ghost use Rattle.tabled_cells.specs.Placed.{placed, placed_lines, greatest};
+ghost use Rattle.tabled_cells.specs.Placed.{greatest};
+ghost use Rattle.tabled_cells.specs.Trimmed.{lines_shown};
+ghost use Rattle.tabled_config.specs.Pieces.{lent};
+ghost use Rattle.tabled_painting.specs.CellLines.{Coloring, cell_line};
+ghost use Rattle.tabled_painting.specs.Painted.{plain};
 
-use std::alloc::{AllocError, Global};
-use tabled_cells::{Placement, placed_text};
+use std::alloc::AllocError;
+use tabled_cells::{Placement, show_lines};
 use tabled_config::SpannedConfig;
 use tabled_grid::Position;
 
-/// A text stands in its cell as its placement says: aligned, trimmed and filled.
-pub fn text_in_its_cell<'a>(
-    alloc: Global,
-    room: &mut Vec<&'a str>,
+/// The lines of a text that are shown are those of it that its placement says, each as it says.
+pub fn lines_of_a_text<'a>(
+    lines: &mut Vec<&'a str>,
     how: &Placement,
-    width: usize,
-    height: usize,
     text: &'a str,
-) -> Result<String, AllocError>
-    ensures placed { IfOk result (λ cell. string_bytes cell ≡ placed how.now width height text.now) }
+) -> Result<(), AllocError>
+    ensures shown { OnOk result (lent lines.new.items ≡ lines_shown how.now text.now) }
 {
-    placed_text(alloc, room, how, width, height, text)
+    show_lines(lines, how, text)
 }
 
 /// The placement of a cell's text is what is set for the cell.
@@ -35,18 +36,17 @@ pub fn placement_of_a_cell(cfg: &SpannedConfig, position: Position) -> Placement
     Placement::of(cfg, position)
 }
 
-/// Whatever is set for it, a cell has as many lines as its row is high, and each of them is as wide as its column, where these
-/// leave room for its text.
+/// Whatever is set for it, each line of a cell is as wide as its column, where that leaves room for its text, and has no line feed.
 pub fn cells_always_fit()
-    ensures high { (how : How) (width height : ℕ) (text : List ℕ) → IsUtf8 text → greatest (map width_of_text (pieces text)) + 2 ≤ width → length (pieces text) ≤ height → 0 < height
-        → length (pieces (placed how width height text)) ≡ height }
-    ensures wide { (how : How) (width height : ℕ) (text : List ℕ) → IsUtf8 text → greatest (map width_of_text (pieces text)) + 2 ≤ width → length (pieces text) ≤ height → 0 < height
-        → list_all (λ piece. width_of_text piece == width) (pieces (placed how width height text)) ≡ true }
+    ensures wide { (how : How) (colors : Coloring) (width height : ℕ) (text : List ℕ) (line : ℕ) → IsUtf8 text → greatest (map width_of_text (pieces text)) + 2 ≤ width
+        → width_of_text (plain (cell_line how colors width height (lines_shown how text) line)) ≡ width }
+    ensures one_line { (how : How) (colors : Coloring) (width height : ℕ) (text : List ℕ) (line : ℕ)
+        → All (λ byte. (byte == 10) ≡ false) (plain (cell_line how colors width height (lines_shown how text) line)) }
 {}
 
 /// Where nothing is set, the lines of a text stand at the left and at the top of its cell, with spaces beside and below them.
 pub fn nothing_set_stands_left_and_top()
-    ensures { (row col width height : ℕ) (text : List ℕ)
-        → placed_lines (placement_at first_settings row col) width height text
-        ≡ map (λ line. 32 ∷ line ++ replicate (width - 2 - width_of_text line) 32 ++ 32 ∷ []) (pieces text) ++ replicate (height - length (pieces text)) (replicate width 32) }
+    ensures { (row col width height : ℕ) (colors : Coloring) (text : List ℕ) (line : ℕ) → let how = placement_at first_settings row col in
+        plain (cell_line how colors width height (lines_shown how text) line)
+        ≡ (if nat_lt line (length (pieces text)) then 32 ∷ slice_index_or (pieces text) line [] ++ replicate (width - 2 - width_of_text (slice_index_or (pieces text) line [])) 32 ++ 32 ∷ [] else replicate width 32) }
 {}

@@ -1,25 +1,26 @@
 //! The plain printer.
 
-ghost use Rattle.std.specs.Prelude.{◌≡◌, ◌+◌, ◌*◌, ◌≤◌, ℕ, true, false, if◌then◌else◌, List, [], ◌∷◌, ◌++◌, length, map, option_map, slice_get, IfOk, OnOk, OnErr, IsOkUnless, MatchOption, string_bytes, ◌<◌, slice_index_or};
+ghost use Rattle.std.specs.Prelude.{◌≡◌, ◌+◌, ◌*◌, ◌<◌, ◌≤◌, ℕ, true, false, if◌then◌else◌, List, [], ◌∷◌, ◌++◌, length, map, Some, None, option_map, slice_get, IfOk, OnOk, OnErr, IsOkUnless, MatchOption, MatchResult, string_bytes};
+ghost use Rattle.std.specs.List.{flat_map, join_with_byte};
 ghost use Rattle.tabled_grid.specs.declared.place.LineOf.{LineOf as Line};
-ghost use Rattle.std.specs.FinMap.{empty};
+ghost use Rattle.tabled_grid.specs.declared.place.Place.{Place as Spot};
+ghost use Rattle.tabled_grid.specs.declared.site.Direction.TheVariants.{Horizontal, Vertical};
 ghost use Rattle.tabled_grid.specs.Probing.{IsRaised};
-ghost use Rattle.tabled_grid.specs.Reading.{direction_of};
-ghost use Rattle.tabled_grid.specs.State.{HasNoOffsets};
 ghost use Rattle.tabled_configuration.specs.Configuration.{ConfigEvent, Shows, all_writes};
-ghost use Rattle.tabled_object.specs.Entities.{below};
 ghost use Rattle.tabled_config.specs.Along.{along, is_empty};
-ghost use Rattle.tabled_config.specs.Known.{HasNoneAcross};
-ghost use Rattle.tabled_config.specs.LinePieces.{has_line, pieces_of, crossed_after, lines_met};
-ghost use Rattle.tabled_config.specs.Marks.{mark_of, marks_of};
-ghost use Rattle.tabled_config.specs.Picture.{Look, text_marked, text_shown, mark_at, marks_along, marks, line_if_drawn, text_lines, printed};
-ghost use Rattle.tabled_config.specs.Refusal.{first_refusal, table_faults};
+ghost use Rattle.tabled_config.specs.Alike.{NoneForPlaces, NoneForLines};
+ghost use Rattle.tabled_config.specs.LinePieces.{lines_met};
+ghost use Rattle.tabled_config.specs.Marks.{mark_of, marks_of, run_marks};
+ghost use Rattle.tabled_config.specs.Picture.{Look, look, text_marked, text_shown, mark_at, marks_along, marks, line_if_drawn, text_lines, printed};
+ghost use Rattle.tabled_config.specs.Refusal.{first_refusal};
+ghost use Rattle.tabled_config.specs.Sides.{side_at};
 ghost use Rattle.tabled_config.specs.TextOrder.{text_order, line_text, place_in};
 ghost use Rattle.tabled_config.specs.Texts.{Table, texts};
+ghost use Rattle.tabled_config.specs.Viewed.{frame_look, with_colors_if};
 
 use tabled_config::{
-    CellRows, Mark, PrintError, Run, SpannedConfig, drawn_across, line_marks, line_runs,
-    print_plain, print_rows, runs_across, write_across,
+    Frame, Mark, PrintError, Run, Sides, Sink, SpannedConfig, join_lines, line_marks, line_runs,
+    print_plain,
 };
 use tabled_grid::{Dimension, LineOf, OutOfMemory, Probes};
 
@@ -75,55 +76,100 @@ pub fn runs_of_a_line<'a, D: Dimension>(
     line_runs(cfg, dims, shape, line, probes)
 }
 
-/// The lines of the other direction that are drawn, in at most six readings for each.
-pub fn lines_drawn_across(
-    cfg: &SpannedConfig,
-    shape: (usize, usize),
-    line: LineOf,
-    probes: &mut Probes,
-) -> Result<Vec<bool>, OutOfMemory>
-    ensures listed { IfOk result (λ crossed. crossed.items ≡ map (λ n. crossed_after (all_writes cfg.now) shape line n) (below (pieces_of shape line + 1))) }
-    ensures readings { IsRaised (6 * (pieces_of shape line + 1)) probes.old probes.new }
-{
-    drawn_across(cfg, shape, line, probes)
-}
-
-/// The runs of a line, where these are known: its marks after the configuration's own writes.
-pub fn runs_across_drawn_lines<'a, D: Dimension>(
+/// A frame looks as the configuration's own writes have it, with its colors or without them.
+pub fn frame_of_a_table<'a, 'b, D: Dimension>(
     cfg: &'a SpannedConfig,
-    dims: &D,
+    dims: &'b D,
     shape: (usize, usize),
-    line: LineOf,
-    crossed: &[bool],
-    probes: &mut Probes,
-) -> Result<Vec<Run<'a>>, OutOfMemory>
-    requires there { has_line shape line ≡ true }
-    requires crossed { crossed.now ≡ map (λ n. crossed_after (all_writes cfg.now) shape line n) (below (pieces_of shape line + 1)) }
-    ensures marks { IfOk result (λ found. marks_of found.items ≡ marks (all_writes cfg.now) shape (D.width_of dims.now) (D.height_of dims.now) line) }
-    ensures readings { IsRaised (12 * length (marks (all_writes cfg.now) shape (D.width_of dims.now) (D.height_of dims.now) line) + 4) probes.old probes.new }
+    with_colors: bool,
+) -> Result<Frame<'a, 'b, D>, OutOfMemory>
+    requires { is_empty shape ≡ false }
+    ensures looks { IfOk result (λ frame. frame_look D.width_of D.height_of frame ≡ with_colors_if with_colors (look (all_writes cfg.now) shape (D.width_of dims.now) (D.height_of dims.now))) }
 {
-    runs_across(cfg, dims, shape, line, crossed, probes)
+    Frame::new(cfg, dims, shape, with_colors)
 }
 
-/// The characters of a line, written from its marks; where nothing is kept for single places and no custom line stands across, in at
-/// most 29 readings, however long the line is.
-pub fn line_written_across<D: Dimension>(
-    text: &mut String,
-    cfg: &SpannedConfig,
-    dims: &D,
-    shape: (usize, usize),
-    line: LineOf,
-    crossed: &[bool],
+/// The marks of a horizontal line of a frame, put into whatever takes marks, and what a refusal leaves of that; where nothing is kept
+/// for single places and no vertical line is a custom one, in at most 45 readings, however long the line is.
+pub fn line_put_into_a_sink<'a, D: Dimension, S: Sink<'a>>(
+    frame: &Frame<'a, '_, D>,
+    row: usize,
+    sink: &mut S,
     probes: &mut Probes,
 ) -> Result<(), OutOfMemory>
-    requires there { has_line shape line ≡ true }
-    requires crossed { crossed.now ≡ map (λ n. crossed_after (all_writes cfg.now) shape line n) (below (pieces_of shape line + 1)) }
-    ensures text { OnOk result (string_bytes text.new ≡ string_bytes text.old ++ text_marked (marks (all_writes cfg.now) shape (D.width_of dims.now) (D.height_of dims.now) line)) }
-    ensures readings { IsRaised (12 * length (marks (all_writes cfg.now) shape (D.width_of dims.now) (D.height_of dims.now) line) + 29) probes.old probes.new }
-    ensures looked_up_once { cfg.now.characters.cells ≡ empty → HasNoOffsets (direction_of line) cfg.now.characters → HasNoneAcross cfg.now.characters line
-        → IsRaised 29 probes.old probes.new }
+    requires { row ≤ frame.now.shape.0 }
+    ensures put { MatchResult result (λ _. S.puts (marks_along (frame_look D.width_of D.height_of frame.now) (Line.Horizontal row)) sink.old sink.new) (λ _. S.leaves sink.old sink.new) }
+    ensures readings { IsRaised (12 * length (marks_along (frame_look D.width_of D.height_of frame.now) (Line.Horizontal row)) + 6 * (frame.now.shape.1 + 1) + 45) probes.old probes.new }
+    ensures looked_up_once { NoneForPlaces frame.now.cfg.now frame.now.with_colors Horizontal → NoneForLines frame.now.cfg.now frame.now.with_colors Vertical → IsRaised 45 probes.old probes.new }
 {
-    write_across(text, cfg, dims, shape, line, crossed, probes)
+    frame.put_line(row, sink, probes)
+}
+
+/// The marks of a run are put as the sink says, which a text, lists of marks and of runs, and a number do.
+pub fn run_put_into_a_sink<'a, S: Sink<'a>>(sink: &mut S, run: Run<'a>) -> Result<(), OutOfMemory>
+    ensures put { MatchResult result (λ _. S.puts (run_marks run.entry) sink.old sink.new) (λ _. S.leaves sink.old sink.new) }
+{
+    sink.put(run)
+}
+
+/// A text takes the characters of a line, a list its marks, and a number how many these are.
+pub fn characters_and_marks_of_a_line<'a, D: Dimension>(
+    frame: &Frame<'a, '_, D>,
+    row: usize,
+    text: &mut String,
+    marks: &mut Vec<Mark<'a>>,
+) -> Result<usize, OutOfMemory>
+    requires { row ≤ frame.now.shape.0 }
+    ensures text { OnOk result (string_bytes text.new ≡ string_bytes text.old ++ text_marked (marks_along (frame_look D.width_of D.height_of frame.now) (Line.Horizontal row))) }
+    ensures marks { OnOk result (map mark_of marks.new.items ≡ map mark_of marks.old.items ++ marks_along (frame_look D.width_of D.height_of frame.now) (Line.Horizontal row)) }
+    ensures count { IfOk result (λ count. count ≡ length (marks_along (frame_look D.width_of D.height_of frame.now) (Line.Horizontal row))) }
+{
+    let mut count = 0usize;
+    frame.put_line(row, text, &mut Probes::new())?;
+    frame.put_line(row, marks, &mut Probes::new())?;
+    frame.put_line(row, &mut count, &mut Probes::new())?;
+    Ok(count)
+}
+
+/// Beside a line of text of a row a vertical line shows, if it is drawn, what its place there does; and a horizontal line is drawn as
+/// the frame looks.
+pub fn side_of_a_row<'a, D: Dimension>(
+    frame: &Frame<'a, '_, D>,
+    row: usize,
+    col: usize,
+    at: usize,
+) -> (Option<Mark<'a>>, bool)
+    requires row { row < frame.now.shape.0 }
+    requires col { col ≤ frame.now.shape.1 }
+    requires at { at < D.height_of frame.now.dims.now row }
+    ensures side { option_map mark_of result.0 ≡ (if (frame_look D.width_of D.height_of frame.now).vertical col then Some (mark_at (frame_look D.width_of D.height_of frame.now) (Spot.Vertical row col at)) else None) }
+    ensures drawn { result.1 ≡ (frame_look D.width_of D.height_of frame.now).horizontal row }
+{
+    (frame.side(row, col, at), frame.draws(row))
+}
+
+/// The mark that is kept for a vertical line.
+pub fn kept_side<'a>(sides: &Sides<'a>, col: usize) -> Option<Mark<'a>>
+    requires { col ≤ sides.now.last }
+    ensures kept { result ≡ side_at sides.now col }
+{
+    sides.at(col)
+}
+
+/// A table is as long as its horizontal lines have places, and as high as its vertical ones.
+pub fn size_of_a_frame<D: Dimension>(frame: &Frame<D>) -> Result<(usize, usize), OutOfMemory>
+    ensures columns { IfOk result (λ size. size.0 ≡ length (marks_along (frame_look D.width_of D.height_of frame.now) (Line.Horizontal 0))) }
+    ensures lines { IfOk result (λ size. size.1 ≡ length (marks_along (frame_look D.width_of D.height_of frame.now) (Line.Vertical 0))) }
+{
+    Ok((frame.count_columns()?, frame.count_lines()?))
+}
+
+/// Lines that end in line feeds are joined by them.
+pub fn lines_joined(text: &mut String, start: usize)
+    ensures { (before : List ℕ) (lines : List (List ℕ)) → length before ≡ start → string_bytes text.old ≡ before ++ flat_map (λ line. line ++ 10 ∷ []) lines
+        → string_bytes text.new ≡ before ++ join_with_byte 10 lines }
+{
+    join_lines(text, start);
 }
 
 /// A drawn horizontal line of the picture, which is the characters of its marks, is what the places along it show, with a space
@@ -141,37 +187,4 @@ pub fn marks_in_order()
     ensures texts { (view : Look) (cells : Table) → is_empty view.shape ≡ false → text_lines view cells ≡ map (line_text view cells) (text_order view) }
     ensures marks { (view : Look) (col : ℕ) → is_empty view.shape ≡ false → col ≤ view.shape.1
         → marks_along view (Line.Vertical col) ≡ map (λ at. mark_at view (place_in col at)) (text_order view) }
-{}
-
-/// Cells that are known to fit: the picture around them, appended, and a refusal for memory alone leaves the text as it was.
-pub fn known_cells_printed<D: Dimension, R: CellRows>(
-    out: &mut String,
-    cfg: &SpannedConfig,
-    dims: &D,
-    shape: (usize, usize),
-    cells: &R,
-) -> Result<(), OutOfMemory>
-    requires { table_faults (D.width_of dims.now) (D.height_of dims.now) shape (R.table cells.now) ≡ [] }
-    ensures text { (events : List ConfigEvent) → Shows events cfg.now
-        → OnOk result (string_bytes out.new ≡ string_bytes out.old ++ printed events shape (D.width_of dims.now) (D.height_of dims.now) (R.table cells.now)) }
-    ensures unchanged { OnErr result (string_bytes out.new ≡ string_bytes out.old) }
-{
-    print_rows(out, cfg, dims, shape, cells)
-}
-
-/// The cells of a row, of rows of any type, are those of the table that they state; lent rows state the texts of their cells.
-pub fn cells_of_a_row<'a, R: CellRows>(
-    rows: &'a R,
-    row: usize,
-    room: &'a mut Vec<String>,
-) -> Result<&'a [String], OutOfMemory>
-    requires { row < length (R.table rows.now) }
-    ensures cells { IfOk result (λ cells. map string_bytes cells.now ≡ slice_index_or (R.table rows.now) row []) }
-{
-    rows.row(row, room)
-}
-
-/// Lent rows state the texts of their cells.
-pub fn lent_rows_as_a_table<'a>(rows: &&'a [Vec<String>])
-    ensures { ⟦<&'a [Vec<String>] as CellRows>⟧.table rows.now ≡ texts rows.now.now }
 {}

@@ -11,7 +11,7 @@ ghost use Rattle.tabled_config.specs.Picture.{printed};
 ghost use Rattle.tabled_config.specs.Texts.{Table, texts};
 ghost use Rattle.tabled_painting.specs.Margin.{is_without_room};
 ghost use Rattle.tabled_painting.specs.PaintedTable.{plain_text, colored_text};
-ghost use Rattle.tabled_text.specs.Cells.{placed_rows, cells_set, margin_set};
+ghost use Rattle.tabled_text.specs.Cells.{cell_texts, margin_set};
 ghost use Rattle.tabled_config.specs.declared.print_error.PrintError.{PrintError as Fault};
 ghost use Rattle.tabled_text.specs.Refusal.{of_printer, unequal};
 ghost use Rattle.tabled_text.specs.Sizes.{column_count, column_widths, row_heights, unequal_row};
@@ -145,7 +145,7 @@ pub fn text_written<W: fmt::Write>(table: &TextTable, out: &mut W) -> Result<(),
 pub fn text_without_margin()
     ensures { (events : List ConfigEvent) (table : Table) → is_without_room (margin_set events) ≡ true
         → text_of events table ≡ printed events (length table, column_count table) (slice_index (column_widths table)) (slice_index (row_heights table))
-        (placed_rows (cells_set events) (column_widths table) (row_heights table) table) }
+        (cell_texts events table) }
 {}
 
 /// The text of a table in color is that of its painted lines, whose characters are the table's text: what its options make of its

@@ -3,8 +3,9 @@ pub mod MadeInTurn
 pub mod LookLemmas
 pub mod LineLemmas
 pub mod MarkLemmas
-pub mod KnownLemmas
+pub mod AlikeLemmas
 pub mod TextLemmas
 pub mod PieceLemmas
 pub mod TimesLemmas
 pub mod LookedLemmas
+pub mod ViewedLemmas

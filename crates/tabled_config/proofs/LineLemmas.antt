@@ -31,6 +31,10 @@ along_pieces view (LineOf.Vertical c) there =
 pub horizontal_there : (shape : ℕ × ℕ) (r : ℕ) → is_empty shape ≡ false → r ≤ shape.0 → has_line shape (LineOf.Horizontal r) ≡ true
 horizontal_there shape r any within = ap (λ empty. not empty && nat_le r shape.0) any ∙ le-leb r shape.0 within
 
+-- and so is the first vertical line
+pub vertical_there : (shape : ℕ × ℕ) → is_empty shape ≡ false → has_line shape (LineOf.Vertical 0) ≡ true
+vertical_there shape any = ap (λ empty. not empty && nat_le 0 shape.1) any ∙ le-leb 0 shape.1 (omega arith)
+
 -- a line that is not there has none
 past_last : (empty : Bool) (number last : ℕ) → not empty && nat_le number last ≡ false → empty || nat_lt last number ≡ true
 past_last true number last h = refl

@@ -1,6 +1,7 @@
--- What a line shows where the class record alone decides it.
-use Rattle.std.proofs.Common.{◌≡◌, ◌∙◌, ℕ, ◌<◌, ◌≤◌, true, sym, ap, subst, arith}
+-- What a horizontal line shows where the class record alone decides it.
+use Rattle.std.proofs.Common.{◌≡◌, ◌∙◌, ℕ, ◌<◌, ◌≤◌, Bool, true, false, None, Option, if◌then◌else◌, sym, ap, refl, arith}
 use Rattle.std.proofs.lemmas.Bool.Decides.{nat_tests}
+use Rattle.tabled_border.specs.Texts.{Texts}
 use Rattle.tabled_grid.specs.declared.borders.Borders.{Borders}
 use Rattle.tabled_grid.specs.declared.lines.HorizontalLine.{HorizontalLine}
 use Rattle.tabled_grid.specs.declared.place.Place.{Place}
@@ -11,10 +12,14 @@ use Rattle.tabled_grid.specs.declared.site.Class.TheVariants.{Crossings as cross
 use Rattle.tabled_grid.specs.Borders.{horizontal_of}
 use Rattle.tabled_grid.specs.ClassAlone.{ShowsClasses}
 use Rattle.tabled_grid.specs.Site.{rank, class_value}
-use Rattle.tabled_grid.specs.State.{State, state_at}
+use Rattle.tabled_grid.specs.State.{state_at}
 use Rattle.tabled_grid.specs.Value.{has_spot, plain_value}
-use Rattle.tabled_config.specs.LinePieces.{has_line, pieces_of, crossing_of, edge_of}
-use Rattle.tabled_config.proofs.KnownLemmas.{between}
+use Rattle.tabled_configuration.specs.Configuration.{Configuration}
+use Rattle.tabled_config.specs.LinePieces.{has_line}
+use Rattle.tabled_config.specs.Picture.{Shown}
+use Rattle.tabled_config.specs.Beside.{plain_mark}
+use Rattle.tabled_config.proofs.AlikeLemmas.{between}
+use Rattle.tabled_config.proofs.MarkLemmas.{mark_by}
 
 -- of a line that is there: the table has columns, its first edge, and each of its crossings
 has_cols : (shape : ℕ × ℕ) (row : ℕ) → has_line shape (LineOf.Horizontal row) ≡ true → 0 < shape.1
@@ -29,33 +34,30 @@ crossing_there shape row n there within = grind (arith, nat_tests)
 last_one : (count : ℕ) → 0 < count → rank count count ≡ last
 last_one count some = grind (arith, nat_tests)
 
-module _ {T : Type 0} (state : State T) (shape : ℕ × ℕ) (line : LineOf) (row : ℕ) (is : line ≡ LineOf.Horizontal row) (there : has_line shape line ≡ true) (shows : ShowsClasses state)
-    (class : Borders T) (its : class ≡ state.class_record) (place : Rank) (ranked : place ≡ rank shape.0 row) (looks : HorizontalLine T) (are : looks ≡ horizontal_of place class) where
-  there_too : has_line shape (LineOf.Horizontal row) ≡ true
-  there_too = sym (ap (has_line shape) is) ∙ there
+-- a mark without a color, where no colors are wanted
+uncolored : (wanted : Bool) (color : Option Texts) → wanted ≡ false → None ≡ (if wanted then color else None)
+uncolored wanted color plain = sym (ap (λ b. if b then color else None) plain)
 
-  looks_are : looks ≡ horizontal_of (rank shape.0 row) state.class_record
-  looks_are = are ∙ (λ i. horizontal_of (ranked i) (its i))
+module _ (cfg : Configuration) (wanted : Bool) (shape : ℕ × ℕ) (row : ℕ) (plain : wanted ≡ false) (there : has_line shape (LineOf.Horizontal row) ≡ true) (shows : ShowsClasses cfg.characters)
+    (class : Borders ℕ) (its : class ≡ cfg.characters.class_record) (place : Rank) (ranked : place ≡ rank shape.0 row) (line : HorizontalLine ℕ) (are : line ≡ horizontal_of place class) where
+  line_is : line ≡ horizontal_of (rank shape.0 row) cfg.characters.class_record
+  line_is = are ∙ (λ i. horizontal_of (ranked i) (its i))
 
-  pub main_looks : looks.main ≡ plain_value (state_at state) shape (edge_of line 0 0)
-  main_looks =
-      ap (λ look. look.main) looks_are ∙ sym (shows shape (Place.Horizontal row 0 0) (edge_there shape row there_too))
-      ∙ ap (λ l. plain_value (state_at state) shape (edge_of l 0 0)) (sym is)
+  marked : (at : Place) (shown : Option ℕ) → shown ≡ plain_value (state_at cfg.characters) shape at → ◌≡◌ {A = Shown} (shown, None) (plain_mark cfg wanted shape at)
+  marked at shown is = mark_by _ _ _ _ is (uncolored wanted (plain_value (state_at cfg.colors) shape at) plain)
 
-  pub left_looks : looks.left ≡ plain_value (state_at state) shape (crossing_of line 0)
-  left_looks =
-      ap (λ look. look.left) looks_are ∙ sym (shows shape (Place.Cross row 0) (crossing_there shape row 0 there_too (omega arith)))
-      ∙ ap (λ l. plain_value (state_at state) shape (crossing_of l 0)) (sym is)
+  pub edge_looks : ◌≡◌ {A = Shown} (line.main, None) (plain_mark cfg wanted shape (Place.Horizontal row 0 0))
+  edge_looks = marked _ _ (ap (λ look. look.main) line_is ∙ sym (shows shape (Place.Horizontal row 0 0) (edge_there shape row there)))
 
-  pub intersection_looks : 1 < pieces_of shape line → looks.intersection ≡ plain_value (state_at state) shape (crossing_of line 1)
-  intersection_looks more =
-      let some : 1 < shape.1 = subst (λ l. 1 < pieces_of shape l) is more in
-      ap (λ look. look.intersection) looks_are ∙ ap (λ r. class_value (crossings (rank shape.0 row) r) state.class_record) (sym (between shape.1 1 (omega arith) some))
-      ∙ sym (shows shape (Place.Cross row 1) (crossing_there shape row 1 there_too (omega (arith, some))))
-      ∙ ap (λ l. plain_value (state_at state) shape (crossing_of l 1)) (sym is)
+  pub first_looks : ◌≡◌ {A = Shown} (line.left, None) (plain_mark cfg wanted shape (Place.Cross row 0))
+  first_looks = marked _ _ (ap (λ look. look.left) line_is ∙ sym (shows shape (Place.Cross row 0) (crossing_there shape row 0 there (omega arith))))
 
-  pub right_looks : looks.right ≡ plain_value (state_at state) shape (crossing_of line (pieces_of shape line))
-  right_looks =
-      ap (λ look. look.right) looks_are ∙ ap (λ r. class_value (crossings (rank shape.0 row) r) state.class_record) (sym (last_one shape.1 (has_cols shape row there_too)))
-      ∙ sym (shows shape (Place.Cross row shape.1) (crossing_there shape row shape.1 there_too (omega arith)))
-      ∙ ap (λ l. plain_value (state_at state) shape (crossing_of l (pieces_of shape l))) (sym is)
+  pub inner_looks : 1 < shape.1 → ◌≡◌ {A = Shown} (line.intersection, None) (plain_mark cfg wanted shape (Place.Cross row 1))
+  inner_looks some =
+      marked _ _ (ap (λ look. look.intersection) line_is ∙ ap (λ r. class_value (crossings (rank shape.0 row) r) cfg.characters.class_record) (sym (between shape.1 1 (omega arith) some))
+      ∙ sym (shows shape (Place.Cross row 1) (crossing_there shape row 1 there (omega (arith, some)))))
+
+  pub last_looks : ◌≡◌ {A = Shown} (line.right, None) (plain_mark cfg wanted shape (Place.Cross row shape.1))
+  last_looks =
+      marked _ _ (ap (λ look. look.right) line_is ∙ ap (λ r. class_value (crossings (rank shape.0 row) r) cfg.characters.class_record) (sym (last_one shape.1 (has_cols shape row there)))
+      ∙ sym (shows shape (Place.Cross row shape.1) (crossing_there shape row shape.1 there (omega arith))))

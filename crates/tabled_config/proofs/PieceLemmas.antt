@@ -9,7 +9,7 @@ use Rattle.std.proofs.lemmas.List.Sums.{fails_before_first}
 use denote.Ref.{Bor}
 use Rattle.tabled_config.specs.Texts.{pieces}
 use Rattle.tabled_config.specs.Pieces.{lent, first_piece, after_first_piece}
-use Rattle.tabled_config.specs.Picture.{Look, line_of_pieces, cell_line}
+use Rattle.tabled_config.specs.Picture.{Look, line_of_pieces, row_line}
 
 -- a text that has lost its first piece, or not
 abbrev pub cut_if : Bool → List ℕ → List ℕ
@@ -91,6 +91,6 @@ rests_more n texts rests less before cut c k =
     ∙ ap (λ m. get_or (pieces (get_or texts c [])) m []) (omega arith)
 
 -- the first pieces of the rests are the next pieces of the texts
-pub line_of_rests : (view : Look) (r n : ℕ) (texts rests : List (List ℕ)) → AreRests n texts rests → line_of_pieces view r n (λ c. first_piece (get_or rests c [])) ≡ cell_line view r texts n
+pub line_of_rests : (view : Look) (r n : ℕ) (texts rests : List (List ℕ)) → AreRests n texts rests → line_of_pieces view r n (λ c. first_piece (get_or rests c [])) ≡ row_line view r texts n
 line_of_rests view r n texts rests before =
     λ i. line_of_pieces view r n (λ c. (sym (first_of_pieces (get_or rests c [])) ∙ before c 0 ∙ ap (λ m. get_or (pieces (get_or texts c [])) m []) (add-zero n)) i)

@@ -1,5 +1,5 @@
 -- The bytes of a text, written part by part.
-use Rattle.std.proofs.Common.{◌≡◌, ℕ, ◌+◌, ◌-◌, ◌<◌, ◌≤◌, Bool, true, false, cond, Option, List, [], ◌∷◌, ◌++◌, length, take, map, refl, sym, ap, subst, ◌∙◌, arith, lit<, if◌then◌else◌, get_or, encode_utf8, encode_utf8_all, ◌||◌, nat_lt, Result, Ok, Err, MatchResult, is_err, rules, String, string_len, Vec, string_bytes}
+use Rattle.std.proofs.Common.{◌≡◌, ℕ, ◌+◌, ◌-◌, ◌<◌, ◌≤◌, Bool, true, false, cond, Option, List, [], ◌∷◌, ◌++◌, length, take, map, refl, sym, ap, subst, ◌∙◌, arith, lit<, if◌then◌else◌, get_or, encode_utf8, encode_utf8_all, ◌||◌, nat_lt, Result, Ok, Err, IsErr, MatchResult, is_err, rules, String, string_len, Vec, string_bytes}
 use Rattle.std.specs.List.{flat_map, join_with_byte}
 use Rattle.std.proofs.lemmas.List.{append-nil, append_assoc, map-append, take_at, take_all, length-append, take-take, get_or-map, get_or_at}
 use Rattle.std.proofs.lemmas.List.Concat.{flat_map-append}
@@ -71,6 +71,9 @@ kept_after start more middle end e h =
 pub kept_all : (start end : List ℕ) → end ≡ start → take (length start) end ≡ start
 kept_all start end e = ap (take (length start)) e ∙ take_all (length start) start (omega arith)
 
+pub starts_as_before : (start more end : List ℕ) → end ≡ start ++ more → take (length start) end ≡ start
+starts_as_before start more end e = ap (take (length start)) e ∙ take_at start more (length start) refl
+
 -- parts that were written in turn are one part
 pub written_both : (start first second third x y z w : List ℕ) → first ≡ start ++ x → second ≡ first ++ y → third ≡ second ++ z → w ≡ x ++ (y ++ z) → third ≡ start ++ w
 written_both start first second third x y z w p q r e =
@@ -95,25 +98,11 @@ pub ends_joined : (start end : List ℕ) (lines : List (List ℕ)) → end ≡ s
 ends_joined start end [] e h = absurd (let l : length end ≡ length start = ap length (e ∙ append-nil start) in omega arith)
 ends_joined start end (line ∷ lines) e h = e ∙ ap (λ bs. start ++ bs) (ended_joined line lines) ∙ sym (append_assoc start (join_with_byte 10 (line ∷ lines)) (10 ∷ []))
 
-pub cut_joined : (start end : List ℕ) (lines : List (List ℕ)) → end ≡ start ++ flat_map ended lines → length start < length end → take (length end - 1) end ≡ start ++ join_with_byte 10 lines
-cut_joined start end lines e h =
-    let whole = ends_joined start end lines e h in
-    let l : length (start ++ join_with_byte 10 lines) ≡ length end - 1 = omega (arith, ap length whole, length-append (start ++ join_with_byte 10 lines) (10 ∷ [])) in
-    ap (take (length end - 1)) whole ∙ take_at (start ++ join_with_byte 10 lines) (10 ∷ []) (length end - 1) l
-
 -- no line was written
 pub none_joined : (start end : List ℕ) (lines : List (List ℕ)) → end ≡ start ++ flat_map ended lines → length end ≤ length start → end ≡ start ++ join_with_byte 10 lines
 none_joined start end [] e h = e
 none_joined start end (line ∷ lines) e h =
     absurd (let l = ap length e in omega (arith, l, length-append start (flat_map ended (line ∷ lines)), length-append (ended line) (flat_map ended lines), length-append line (10 ∷ [])))
-
--- such a text may be cut before its last line feed
-pub cut_at_end : (start end : List ℕ) (lines : List (List ℕ)) → end ≡ start ++ flat_map ended lines → length start < length end → IsSplitPoint end (length end - 1)
-cut_at_end start end lines e h =
-    let whole = ends_joined start end lines e h in
-    let l : length (start ++ join_with_byte 10 lines) ≡ length end - 1 = omega (arith, ap length whole, length-append (start ++ join_with_byte 10 lines) (10 ∷ [])) in
-    let last : get_or end (length end - 1) 0 ≡ 10 = ap (λ bs. get_or bs (length end - 1) 0) whole ∙ get_or_at (start ++ join_with_byte 10 lines) 10 [] 0 (length end - 1) l in
-    (omega arith, λ _ _ large. absurd (omega (arith, last, large)))
 
 -- a text may be cut where a text once ended that it keeps
 pub cut_at_start : {Z : Type 0} (old new : String Z) (n : ℕ) → n ≡ length (string_bytes old) → take (length (string_bytes old)) (string_bytes new) ≡ string_bytes old → n ≤ length (string_bytes new) → IsSplitPoint (string_bytes new) n
@@ -121,6 +110,11 @@ cut_at_start old new n same kept within =
     let boundary = IsCharBoundary-from_take (string_bytes new) n (IsUtf8-string_bytes new) within
     (subst IsUtf8 (sym (ap (λ k. take k (string_bytes new)) same ∙ kept)) (IsUtf8-string_bytes old)) in
     (boundary.0, λ _ inside large. boundary.1 inside large)
+
+-- a refusal
+pub refused : {T E : Type 0} (r : Result T E) (old new bytes : List ℕ) → IsErr r → take (length old) new ≡ old → MatchResult r (λ _. new ≡ old ++ bytes) (λ _. take (length old) new ≡ old)
+refused (Ok x) old new bytes is kept = absurd cc
+refused (Err y) old new bytes is kept = kept
 
 -- what a call that appends has done, by what it returns
 pub appended : {T E : Type 0} (r : Result T E) (old new bytes : List ℕ) → is_err r ≡ false → MatchResult r (λ _. new ≡ old ++ bytes) (λ _. take (length old) new ≡ old) → new ≡ old ++ bytes
@@ -134,28 +128,20 @@ not_appended (Err y) old new bytes e p = p
 pub string_len-is : {Z : Type 0} (text : String Z) → string_len text ≡ length (string_bytes text)
 string_len-is text = search rules
 
--- the same of two states of a text, by their lengths
-module _ {Z : Type 0} (old new : String Z) (n m : ℕ) (lines : List (List ℕ)) where
-  pub text_cut_at_end : n ≡ string_len old → m ≡ string_len new → n < m → string_bytes new ≡ string_bytes old ++ flat_map ended lines → IsSplitPoint (string_bytes new) (m - 1)
-  text_cut_at_end p q h e =
-      let k : m ≡ length (string_bytes new) = q ∙ string_len-is new in
-      let l : n ≡ length (string_bytes old) = p ∙ string_len-is old in
-      let longer : length (string_bytes old) < length (string_bytes new) = omega arith in
-      subst (λ j. IsSplitPoint (string_bytes new) (j - 1)) (sym k) (cut_at_end (string_bytes old) (string_bytes new) lines e longer)
+-- lines after a beginning lose the last line feed, if there are some
+pub feed_off : {Z : Type 0} (old new : String Z) (before : List ℕ) (lines : List (List ℕ)) (start length_now : ℕ) → length_now ≡ string_len old → length before ≡ start → string_bytes old ≡ before ++ flat_map ended lines → start < length_now
+    → (0 < string_len old → get_or (string_bytes old) (string_len old - 1) 0 < 128 → string_bytes new ≡ take (string_len old - 1) (string_bytes old)) → string_bytes new ≡ before ++ join_with_byte 10 lines
+feed_off old new before lines start length_now measured began are more popped =
+    let counted = string_len-is old in
+    let whole = ends_joined before (string_bytes old) lines are (omega (arith, counted, measured, began, more)) in
+    let kept : List ℕ = before ++ join_with_byte 10 lines in
+    let long : length kept ≡ string_len old - 1 = omega (arith, ap length whole, length-append kept (10 ∷ []), counted) in
+    let feed : get_or (string_bytes old) (string_len old - 1) 0 ≡ 10 = ap (λ bs. get_or bs (string_len old - 1) 0) whole ∙ get_or_at kept 10 [] 0 (string_len old - 1) long in
+    popped (omega (arith, measured, more)) (omega (arith, feed)) ∙ ap (take (string_len old - 1)) whole ∙ take_at kept (10 ∷ []) (string_len old - 1) long
 
-  pub text_cut_joined : n ≡ string_len old → m ≡ string_len new → n < m → string_bytes new ≡ string_bytes old ++ flat_map ended lines → take (m - 1) (string_bytes new) ≡ string_bytes old ++ join_with_byte 10 lines
-  text_cut_joined p q h e =
-      let k : m ≡ length (string_bytes new) = q ∙ string_len-is new in
-      let l : n ≡ length (string_bytes old) = p ∙ string_len-is old in
-      let longer : length (string_bytes old) < length (string_bytes new) = omega arith in
-      ap (λ j. take (j - 1) (string_bytes new)) k ∙ cut_joined (string_bytes old) (string_bytes new) lines e longer
-
-  pub text_none_joined : n ≡ string_len old → m ≡ string_len new → m ≤ n → string_bytes new ≡ string_bytes old ++ flat_map ended lines → string_bytes new ≡ string_bytes old ++ join_with_byte 10 lines
-  text_none_joined p q h e =
-      let k : m ≡ length (string_bytes new) = q ∙ string_len-is new in
-      let l : n ≡ length (string_bytes old) = p ∙ string_len-is old in
-      let no_longer : length (string_bytes new) ≤ length (string_bytes old) = omega arith in
-      none_joined (string_bytes old) (string_bytes new) lines e no_longer
+pub no_feed : {Z : Type 0} (text : String Z) (before : List ℕ) (lines : List (List ℕ)) (start length_now : ℕ) → length_now ≡ string_len text → length before ≡ start → string_bytes text ≡ before ++ flat_map ended lines → length_now ≤ start
+    → string_bytes text ≡ before ++ join_with_byte 10 lines
+no_feed text before lines start length_now measured began are none = none_joined before (string_bytes text) lines are (let counted = string_len-is text in omega (arith, counted, measured, began, none))
 
 -- what writes a text in parts
 pub ruleset writing = (append_assoc, append-nil, kept_after, kept_all, shown_one)

@@ -18,10 +18,11 @@ pub mod Along
 pub mod Picture
 pub mod LinePieces
 pub mod Marks
-pub mod Known
+pub mod Alike
 pub mod Sinks
+pub mod Beside
+pub mod Sides
 pub mod Viewed
 pub mod TextOrder
-pub mod Framed
 pub mod Refusal
 pub mod Headline

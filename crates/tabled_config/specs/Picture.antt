@@ -74,8 +74,8 @@ module _ (view : Look) where
   line_of_pieces r k piece = flat_map (λ c. text_shown (side_shown r k c) ++ piece c) (below view.shape.1) ++ text_shown (side_shown r k view.shape.1)
 
   -- line k of text of row r: each cell gives its piece k, and nothing where it has no piece of that number
-  abbrev pub cell_line : ℕ → List (List ℕ) → ℕ → List ℕ
-  cell_line r cells k = line_of_pieces r k (λ c. slice_index_or (pieces (slice_index_or cells c [])) k [])
+  abbrev pub row_line : ℕ → List (List ℕ) → ℕ → List ℕ
+  row_line r cells k = line_of_pieces r k (λ c. slice_index_or (pieces (slice_index_or cells c [])) k [])
 
   -- horizontal line r as a line of text, if it is drawn: the characters of its marks
   abbrev pub line_if_drawn : ℕ → List (List ℕ)
@@ -83,7 +83,7 @@ module _ (view : Look) where
 
   -- a row as lines of text
   abbrev pub row_lines : ℕ → List (List ℕ) → List (List ℕ)
-  row_lines r cells = map (cell_line r cells) (below (view.heights r))
+  row_lines r cells = map (row_line r cells) (below (view.heights r))
 
   -- the lines of the text, from top to bottom: for each row the line above it and its cells, and finally the last line
   abbrev pub text_lines : Table → List (List ℕ)

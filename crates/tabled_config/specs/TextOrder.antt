@@ -4,7 +4,7 @@ use Rattle.std.specs.List.{flat_map}
 use Rattle.tabled_grid.specs.declared.place.Place.{Place}
 use Rattle.tabled_grid.specs.declared.place.LineOf.{LineOf}
 use Rattle.tabled_object.specs.Entities.{below}
-use Rattle.tabled_config.specs.Picture.{Look, text_marked, marks_along, cell_line}
+use Rattle.tabled_config.specs.Picture.{Look, text_marked, marks_along, row_line}
 use Rattle.tabled_config.specs.Texts.{Table}
 
 -- a line of the text: a horizontal line, or one line of the text of a row
@@ -24,7 +24,7 @@ module _ (view : Look) where
   -- such a line as text, where these are the texts of the cells
   abbrev pub line_text : Table → TextLine → List ℕ
   line_text cells (of_line r) = text_marked (marks_along view (LineOf.Horizontal r))
-  line_text cells (of_row r k) = cell_line view r (slice_index_or cells r []) k
+  line_text cells (of_row r k) = row_line view r (slice_index_or cells r []) k
 
 -- the place of vertical line c in such a line
 abbrev pub place_in : ℕ → TextLine → Place

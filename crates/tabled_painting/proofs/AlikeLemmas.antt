@@ -1,42 +1,41 @@
--- Places that look alike, since nothing is kept for one of them alone.
-use Rattle.std.proofs.Common.{◌≡◌, ℕ, ◌-◌, ◌≤◌, ◌<◌, ◌==◌, Bool, true, false, ◌&&◌, ◌||◌, eq-eqb, is_some, nat_le, nat_lt, if◌then◌else◌, Option, Some, None, option_map, option_and_then, List, [], ◌∷◌, ◌++◌, map, length, refl, sym, ap, ◌∙◌, arith, encode_utf8}
+-- Horizontal lines that look alike, since nothing is kept for one of them alone.
+use Rattle.std.proofs.Common.{◌≡◌, ℕ, ◌-◌, ◌≤◌, ◌<◌, Bool, true, false, ◌&&◌, ◌||◌, is_some, nat_le, nat_lt, if◌then◌else◌, Option, Some, None, option_map, option_and_then, List, [], ◌∷◌, ◌++◌, map, refl, sym, ap, subst, unwrap_or, ◌∙◌, arith}
+use Rattle.std.specs.Prelude.{slice_index}
 use Rattle.std.specs.List.{flat_map}
-use Rattle.std.specs.FinMap.{empty, get}
-use Rattle.std.specs.Ordering.{nat_cmp}
-use Rattle.std.proofs.lemmas.Bool.{le-leb, lt-ltb}
-use Rattle.std.proofs.lemmas.Bool.Decides.{nat_tests}
-use Rattle.std.proofs.lemmas.List.{append-nil, map-append, length-map}
-use Rattle.tabled_border.specs.Texts.{Texts}
+use Rattle.std.specs.FinMap.{get}
+use Rattle.std.proofs.lemmas.Bool.{le-leb}
+use Rattle.std.proofs.lemmas.List.{map-append}
 use Rattle.tabled_grid.specs.declared.place.Place.{Place}
 use Rattle.tabled_grid.specs.declared.place.LineOf.{LineOf}
 use Rattle.tabled_grid.specs.declared.offset.Offset.{Offset}
 use Rattle.tabled_grid.specs.declared.event.Written.TheVariants.{Sign as sign}
-use Rattle.tabled_grid.specs.declared.site.Direction.TheVariants.{Horizontal, Vertical}
+use Rattle.tabled_grid.specs.declared.site.Direction.TheVariants.{Horizontal}
 use Rattle.tabled_grid.specs.declared.site.Spot.TheVariants.{Edge, Crossing}
 use Rattle.tabled_grid.specs.declared.site.Class.{Class}
 use Rattle.tabled_grid.specs.declared.site.Class.TheVariants.{Edges as edges, Crossings as crossings}
 use Rattle.tabled_grid.specs.declared.site.Part.TheVariants.{Edges as main_edges, Crossings as meeting}
 use Rattle.tabled_grid.specs.declared.site.Site.TheVariants.{Default as the_default, Class as of_class}
-use Rattle.tabled_grid.specs.ClassAlone.{ShowsClasses}
-use Rattle.tabled_grid.specs.declared.place.Rank.{Rank}
-use Rattle.tabled_grid.specs.Site.{rank, class_value}
-use Rattle.tabled_grid.specs.Value.{has_spot, inside, sign_or, value, plain_value}
+use Rattle.tabled_grid.specs.Site.{rank}
+use Rattle.tabled_grid.specs.Value.{inside, sign_or, value}
 use Rattle.tabled_grid.specs.State.{State, state_at, edge_place, horizontal_part, vertical_part, HasNoCells, HasNoOffsets}
 use Rattle.tabled_grid.specs.Keys.{spot_cmp, edge_place_cmp}
+use Rattle.tabled_object.specs.declared.dimension.FixedDimension.{FixedDimension}
 use Rattle.tabled_object.specs.Entities.{below}
 use Rattle.tabled_configuration.specs.Configuration.{Configuration, all_writes}
+use Rattle.tabled_config.specs.declared.frame.Frame.{Frame}
 use Rattle.tabled_config.specs.Along.{is_empty}
+use Rattle.tabled_config.specs.Alike.{NoneForPlaces}
 use Rattle.tabled_config.specs.LinePieces.{edge_of, crossing_places, edge_places, piece_places, places_before, all_places}
-use Rattle.tabled_config.specs.Along.{along}
-use Rattle.tabled_config.specs.Picture.{Look, Shown, look, character, edge_size, mark_at, marks_along, text_marked, text_shown}
-use Rattle.tabled_config.specs.Viewed.{colored_if}
-use Rattle.tabled_painting.specs.Painted.{Painted, paint}
-use Rattle.tabled_config.proofs.KnownLemmas.{absent, between, edges_same}
-use Rattle.tabled_config.proofs.LookLemmas.{own_shown, own_color, plain_edge}
+use Rattle.tabled_config.specs.Picture.{Look, look, edge_size, mark_at, marks_along}
+use Rattle.tabled_config.specs.Viewed.{with_colors_if}
+use Rattle.tabled_config.proofs.AlikeLemmas.{absent, between, if_same}
+use Rattle.tabled_config.proofs.LookLemmas.{own_shown, own_color}
 use Rattle.tabled_config.proofs.LineLemmas.{along_pieces, horizontal_there}
-use Rattle.tabled_painting.specs.Alike.{LinesAlike, SidesAlike, IsPlainLine}
+use Rattle.tabled_config.proofs.MarkLemmas.{mark_by}
+use Rattle.tabled_painting.specs.Between.{IsPlainLine, IsBetweenRows}
+use Rattle.tabled_painting.specs.Pages.{written}
 use Rattle.tabled_painting.specs.PaintedTable.{painted_marks}
-use Rattle.tabled_painting.specs.Repeated.{IsBetweenRows}
+use Rattle.tabled_painting.specs.Viewed.{viewed}
 use Rattle.tabled_painting.proofs.FrameLemmas.{flat_map_same}
 
 -- a line that is no custom one, neither of characters nor of colors
@@ -100,88 +99,44 @@ module _ {T : Type 0} (state : State T) (shape : ℕ × ℕ) where
         ∙ (λ i. if nat_lt 0 shape.0 && nat_lt 0 shape.1 && within i && nat_le c shape.1 then sign_or (option_and_then (vertical_part (meeting (ranked i))) (get state.vertical_lines c)) (by_class (crossings (ranked i) (rank shape.1 c))) else None)
         ∙ sym (crossing_by_class s c cells line_s)
 
-  side_by_line : (r c : ℕ) → HasNoCells state
-      → plain_value (state_at state) shape (Place.Vertical r c 0) ≡ (if has_spot shape (Place.Vertical r c 0) then sign_or (option_and_then (vertical_part main_edges) (get state.vertical_lines c)) (by_class (edges Vertical (rank shape.1 c))) else None)
-  unfolding plain_value by_class
-  side_by_line r c cells = λ i.
-      if has_spot shape (Place.Vertical r c 0) then
-      sign_or (option_map sign (absent spot_cmp state.cells (Edge Vertical r c) cells i))
-      (sign_or (option_and_then (vertical_part main_edges) (get state.vertical_lines c)) (by_class (edges Vertical (rank shape.1 c))))
-      else None
+-- ---- how a table looks, with colors or without them
 
-  -- two vertical lines beside one row, neither the first one nor the last one, where none is a custom one
-  side_by_class : (r c : ℕ) → HasNoCells state → state.vertical_lines ≡ empty
-      → plain_value (state_at state) shape (Place.Vertical r c 0) ≡ (if has_spot shape (Place.Vertical r c 0) then by_class (edges Vertical (rank shape.1 c)) else None)
-  side_by_class r c cells none =
-      side_by_line r c cells
-      ∙ (λ i. if has_spot shape (Place.Vertical r c 0) then sign_or (option_and_then (vertical_part main_edges) (absent nat_cmp state.vertical_lines c none i)) (by_class (edges Vertical (rank shape.1 c))) else None)
+module _ (cfg : Configuration) (wanted : Bool) (shape : ℕ × ℕ) (widths heights : ℕ → ℕ) where
+  abbrev whole : Look
+  whole = look (all_writes cfg) shape widths heights
 
-  pub inner_sides : (r c d : ℕ) → HasNoCells state → state.vertical_lines ≡ empty → 0 < c → c < shape.1 → 0 < d → d < shape.1 → plain_value (state_at state) shape (Place.Vertical r c 0) ≡ plain_value (state_at state) shape (Place.Vertical r d 0)
-  inner_sides r c d cells none some_c in_c some_d in_d =
-      let within : nat_le c shape.1 ≡ nat_le d shape.1 = le-leb c shape.1 (omega (arith, in_c)) ∙ sym (le-leb d shape.1 (omega (arith, in_d))) in
-      let ranked : rank shape.1 c ≡ rank shape.1 d = between shape.1 c some_c in_c ∙ sym (between shape.1 d some_d in_d) in
-      side_by_class r c cells none
-      ∙ (λ i. if nat_lt 0 shape.1 && nat_lt r shape.0 && within i then by_class (edges Vertical (ranked i)) else None)
-      ∙ sym (side_by_class r d cells none)
-
--- ---- what vertical lines show by their ranks, where the class record alone decides that
-
-last_rank : (n : ℕ) → 0 < n → rank n n ≡ Rank.Last
-last_rank n some = λ i. if not_zero i then Rank.First else (if eq-eqb n n refl i then Rank.Last else Rank.Inner)
-  where
-    not_zero : (n == 0) ≡ false
-    not_zero = grind (arith, nat_tests)
-
-module _ {T : Type 0} (state : State T) (shows : ShowsClasses state) (shape : ℕ × ℕ) (rows : 0 < shape.0) (cols : 0 < shape.1) where
-  side_there : (c : ℕ) → c ≤ shape.1 → has_spot shape (Place.Vertical 0 c 0) ≡ true
-  side_there c within = λ i. lt-ltb 0 shape.1 cols i && lt-ltb 0 shape.0 rows i && le-leb c shape.1 within i
-
-  pub first_side : state.class_record.left ≡ plain_value (state_at state) shape (Place.Vertical 0 0 0)
-  first_side = sym (shows shape (Place.Vertical 0 0 0) (side_there 0 (omega arith)))
-
-  pub inner_side : 1 < shape.1 → state.class_record.vertical ≡ plain_value (state_at state) shape (Place.Vertical 0 1 0)
-  inner_side some =
-      sym (shows shape (Place.Vertical 0 1 0) (side_there 1 (omega (arith, some)))
-      ∙ ap (λ rank. class_value (edges Vertical rank) state.class_record) (between shape.1 1 (omega arith) some))
-
-  pub last_side : state.class_record.right ≡ plain_value (state_at state) shape (Place.Vertical 0 shape.1 0)
-  last_side =
-      sym (shows shape (Place.Vertical 0 shape.1 0) (side_there shape.1 (omega arith))
-      ∙ ap (λ rank. class_value (edges Vertical rank) state.class_record) (last_rank shape.1 cols))
-
--- ---- how a table looks
-
-module _ (cfg : Configuration) (shape : ℕ × ℕ) (widths heights : ℕ → ℕ) where
   abbrev view : Look
-  view = look (all_writes cfg) shape widths heights
+  view = with_colors_if wanted whole
 
-  shown_by : (place : Place) → view.shown place ≡ value (state_at cfg.characters) shape (edge_size widths heights place) place
+  shown_by : (place : Place) → whole.shown place ≡ value (state_at cfg.characters) shape (edge_size widths heights place) place
   shown_by place = sym (own_shown cfg shape widths heights place (edge_size widths heights place) (value (state_at cfg.characters) shape (edge_size widths heights place) place) refl refl)
 
-  colored_by : (place : Place) → view.color place ≡ value (state_at cfg.colors) shape (edge_size widths heights place) place
+  colored_by : (place : Place) → whole.color place ≡ value (state_at cfg.colors) shape (edge_size widths heights place) place
   colored_by place = sym (own_color cfg shape widths heights place (edge_size widths heights place) (value (state_at cfg.colors) shape (edge_size widths heights place) place) refl refl)
 
   -- two horizontal lines of one rank
-  module _ (r s : ℕ) (in_r : r ≤ shape.0) (in_s : s ≤ shape.0) (ranked : rank shape.0 r ≡ rank shape.0 s) (alike : LinesAlike cfg) (plain_r : IsPlainLine cfg r) (plain_s : IsPlainLine cfg s) where
+  module _ (r s : ℕ) (in_r : r ≤ shape.0) (in_s : s ≤ shape.0) (ranked : rank shape.0 r ≡ rank shape.0 s) (alike : NoneForPlaces cfg wanted Horizontal) (plain_r : IsPlainLine cfg r) (plain_s : IsPlainLine cfg s) where
     edge_mark : (c k : ℕ) → mark_at view (Place.Horizontal r c k) ≡ mark_at view (Place.Horizontal s c k)
-    edge_mark c k = λ i. (
-      (shown_by (Place.Horizontal r c k)
-          ∙ edges_alike cfg.characters shape r s in_r in_s ranked alike.no_cells plain_r.no_characters plain_s.no_characters c k (widths c) alike.no_offsets
-          ∙ sym (shown_by (Place.Horizontal s c k))) i,
-      (colored_by (Place.Horizontal r c k)
-          ∙ edges_alike cfg.colors shape r s in_r in_s ranked alike.no_colored_cells plain_r.no_colors plain_s.no_colors c k (widths c) alike.no_colored_offsets
-          ∙ sym (colored_by (Place.Horizontal s c k))) i,
-    )
+    edge_mark c k =
+        mark_by _ _ _ _
+        (shown_by (Place.Horizontal r c k)
+        ∙ edges_alike cfg.characters shape r s in_r in_s ranked alike.characters.0 plain_r.no_characters plain_s.no_characters c k (widths c) alike.characters.1
+        ∙ sym (shown_by (Place.Horizontal s c k)))
+        (if_same wanted _ _ (λ yes.
+        colored_by (Place.Horizontal r c k)
+        ∙ edges_alike cfg.colors shape r s in_r in_s ranked (alike.colors yes).0 plain_r.no_colors plain_s.no_colors c k (widths c) (alike.colors yes).1
+        ∙ sym (colored_by (Place.Horizontal s c k))))
 
     crossing_mark : (c : ℕ) → mark_at view (Place.Cross r c) ≡ mark_at view (Place.Cross s c)
-    crossing_mark c = λ i. (
-      (shown_by (Place.Cross r c)
-          ∙ crossings_alike cfg.characters shape r s in_r in_s ranked alike.no_cells plain_r.no_characters plain_s.no_characters c
-          ∙ sym (shown_by (Place.Cross s c))) i,
-      (colored_by (Place.Cross r c)
-          ∙ crossings_alike cfg.colors shape r s in_r in_s ranked alike.no_colored_cells plain_r.no_colors plain_s.no_colors c
-          ∙ sym (colored_by (Place.Cross s c))) i,
-    )
+    crossing_mark c =
+        mark_by _ _ _ _
+        (shown_by (Place.Cross r c)
+        ∙ crossings_alike cfg.characters shape r s in_r in_s ranked alike.characters.0 plain_r.no_characters plain_s.no_characters c
+        ∙ sym (shown_by (Place.Cross s c)))
+        (if_same wanted _ _ (λ yes.
+        colored_by (Place.Cross r c)
+        ∙ crossings_alike cfg.colors shape r s in_r in_s ranked (alike.colors yes).0 plain_r.no_colors plain_s.no_colors c
+        ∙ sym (colored_by (Place.Cross s c))))
 
     crossing_part : (b : Bool) (c : ℕ) → map (mark_at view) (if b then Place.Cross r c ∷ [] else []) ≡ map (mark_at view) (if b then Place.Cross s c ∷ [] else [])
     crossing_part true c = ap (λ mark. mark ∷ []) (crossing_mark c)
@@ -226,62 +181,15 @@ module _ (cfg : Configuration) (shape : ℕ × ℕ) (widths heights : ℕ → �
         ∙ pieces_alike
         ∙ sym (ap (map (mark_at view)) (along_pieces view (LineOf.Horizontal s) (horizontal_there shape s any in_s)))
 
-  -- a line of text of two rows
-  pub side_marks_alike : (with_colors : Bool) (r s c k : ℕ) (shown : Option ℕ) (color : Option Texts) → SidesAlike cfg → r < shape.0 → s < shape.0 → k < heights r
-      → shown ≡ plain_value (state_at cfg.characters) shape (Place.Vertical s c 0) → color ≡ (if with_colors then plain_value (state_at cfg.colors) shape (Place.Vertical s c 0) else None)
-      → ◌≡◌ {A = Shown} (shown, color) (mark_at (colored_if with_colors view) (Place.Vertical r c k))
-  side_marks_alike with_colors r s c k shown color alike in_r in_s within is in_color = λ i. (
-    (is ∙ edges_same cfg.characters shape (LineOf.Vertical c) s r alike.no_cells in_s in_r
-        ∙ sym (plain_edge cfg.characters shape (heights r) (LineOf.Vertical c) r k alike.no_offsets within)
-        ∙ sym (shown_by (Place.Vertical r c k))) i,
-    (in_color ∙ ap (λ found. if with_colors then found else None) (edges_same cfg.colors shape (LineOf.Vertical c) s r alike.no_colored_cells in_s in_r
-        ∙ sym (plain_edge cfg.colors shape (heights r) (LineOf.Vertical c) r k alike.no_colored_offsets within)
-        ∙ sym (colored_by (Place.Vertical r c k)))) i,
-  )
+-- one line between two rows is written as all are
+pub all_between : (frame : Frame FixedDimension) (s : ℕ) (text : List ℕ) → NoneForPlaces frame.cfg.now frame.with_colors Horizontal → 0 < s → s < frame.shape.0 → IsPlainLine frame.cfg.now s
+    → text ≡ written frame.with_colors (painted_marks (marks_along (viewed frame) (LineOf.Horizontal s))) → IsBetweenRows frame text
+all_between frame s text alike some within plain_s is r above below plain_r =
+    let shape = frame.shape in
+    is ∙ ap (λ marks. written frame.with_colors (painted_marks marks))
+    (marks_alike frame.cfg.now frame.with_colors shape (slice_index frame.dims.now.widths.items) (slice_index frame.dims.now.heights.items) s r (omega arith) (omega arith)
+    (between shape.0 s some within ∙ sym (between shape.0 r above below)) alike plain_s plain_r frame.has_places)
 
--- ---- with colors, or without them
-
--- a mark with its color, or without it
-abbrev pub kept_if : Bool → Shown → Shown
-kept_if wanted mark = (mark.0, if wanted then mark.1 else None)
-
-pub kept_marks : (wanted : Bool) (view : Look) (line : LineOf) → marks_along (colored_if wanted view) line ≡ map (kept_if wanted) (marks_along view line)
-kept_marks wanted view line = kept (along view.horizontal view.vertical view.shape view.widths view.heights line)
-  where
-    kept : (places : List Place) → map (mark_at (colored_if wanted view)) places ≡ map (kept_if wanted) (map (mark_at view) places)
-    kept [] = refl
-    kept (place ∷ places) = ap (λ rest. mark_at (colored_if wanted view) place ∷ rest) (kept places)
-
--- as many, and the same characters
-pub kept_count : (wanted : Bool) (view : Look) (line : LineOf) → length (marks_along (colored_if wanted view) line) ≡ length (marks_along view line)
-kept_count wanted view line = ap length (kept_marks wanted view line) ∙ length-map (marks_along view line) (kept_if wanted)
-
-pub kept_text : (wanted : Bool) (view : Look) (line : LineOf) → text_marked (marks_along (colored_if wanted view) line) ≡ text_marked (marks_along view line)
-kept_text wanted view line = ap text_marked (kept_marks wanted view line) ∙ ap text_shown (dropped (marks_along view line))
-  where
-    dropped : (marks : List Shown) → map (λ mark. mark.0) (map (kept_if wanted) marks) ≡ map (λ mark. mark.0) marks
-    dropped [] = refl
-    dropped (mark ∷ marks) = ap (λ rest. mark.0 ∷ rest) (dropped marks)
-
--- marks without colors are their text
-pub without_colors : (view : Look) (line : LineOf) → paint None (text_marked (marks_along (colored_if false view) line)) ≡ painted_marks (marks_along (colored_if false view) line)
-without_colors view line = by_place (along view.horizontal view.vertical view.shape view.widths view.heights line)
-  where
-    by_place : (places : List Place) → paint None (text_marked (map (mark_at (colored_if false view)) places)) ≡ painted_marks (map (mark_at (colored_if false view)) places)
-    by_place [] = refl
-    by_place (place ∷ places) =
-        let shown : List ℕ = encode_utf8 (character (view.shown place)) in
-        map-append (λ byte. (byte, None)) shown (text_marked (map (mark_at (colored_if false view)) places))
-        ∙ (λ i. paint None (sym (append-nil shown) i) ++ by_place places i)
-
--- ---- what repeats down a table
-
--- one line between two rows is painted as all are
-pub all_between : (cfg : Configuration) (shape : ℕ × ℕ) (widths heights : ℕ → ℕ) (with_colors : Bool) (s : ℕ) (line : Painted) → is_empty shape ≡ false → LinesAlike cfg → 0 < s → s < shape.0 → IsPlainLine cfg s
-    → line ≡ painted_marks (marks_along (colored_if with_colors (look (all_writes cfg) shape widths heights)) (LineOf.Horizontal s))
-    → IsBetweenRows (colored_if with_colors (look (all_writes cfg) shape widths heights)) cfg line
-all_between cfg shape widths heights with_colors s line any alike some within plain_s is r above below plain_r =
-    let view : Look = look (all_writes cfg) shape widths heights in
-    is ∙ ap painted_marks (kept_marks with_colors view (LineOf.Horizontal s)
-    ∙ ap (map (kept_if with_colors)) (marks_alike cfg shape widths heights s r (omega arith) (omega arith) (between shape.0 s some within ∙ sym (between shape.0 r above below)) alike plain_s plain_r any)
-    ∙ sym (kept_marks with_colors view (LineOf.Horizontal r)))
+-- what holds of what is there
+pub of_that : {A : Type 0} (P : A → Type 0) (x y : A) → Some x ≡ Some y → P x → P y
+of_that P x y same = subst P (ap (λ o. unwrap_or o x) same)

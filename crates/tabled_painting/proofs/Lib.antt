@@ -6,5 +6,4 @@ pub mod MarginLemmas
 pub mod Plain
 pub mod StretchLemmas
 pub mod AlikeLemmas
-pub mod RepeatLemmas
 pub mod BareLemmas

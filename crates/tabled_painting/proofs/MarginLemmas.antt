@@ -1,18 +1,17 @@
 -- How large a table is, and what its margin is where it has none.
-use Rattle.std.proofs.Common.{◌≡◌, ℕ, ◌+◌, Bool, true, false, not, ◌&&◌, ◌||◌, ◌==◌, nat_le, if◌then◌else◌, List, [], ◌∷◌, ◌++◌, map, length, replicate, refl, sym, ap, subst, ◌∙◌, arith, Result, Ok, Err, IfOk}
+use Rattle.std.proofs.Common.{◌≡◌, ℕ, ◌+◌, Bool, true, false, ◌||◌, ◌==◌, if◌then◌else◌, List, [], ◌∷◌, ◌++◌, map, length, replicate, refl, sym, ap, subst, ◌∙◌, arith, Result, Ok, Err, IfOk}
 use Rattle.std.specs.List.{flat_map, join_with_byte}
-use Rattle.std.proofs.lemmas.Bool.{le-leb}
 use Rattle.std.proofs.lemmas.Bool.Decides.{nat_tests}
 use Rattle.std.proofs.lemmas.List.{append-nil, length-append}
 use Rattle.std.proofs.lemmas.List.FromFn.{length-map-range_with_len}
 use Rattle.tabled_object.specs.Entities.{below}
 use Rattle.tabled_grid.specs.declared.place.LineOf.{LineOf}
 use Rattle.tabled_config.specs.Along.{is_empty}
-use Rattle.tabled_config.specs.LinePieces.{has_line, crossing_of, edge_of, crossing_places, edge_places, piece_places, places_before, all_places}
+use Rattle.tabled_config.specs.LinePieces.{crossing_of, edge_of, crossing_places, edge_places, piece_places, places_before, all_places}
 use Rattle.tabled_config.specs.Picture.{Look, marks_along}
-use Rattle.tabled_config.proofs.LineLemmas.{marks_count}
+use Rattle.tabled_config.proofs.LineLemmas.{marks_count, vertical_there}
+use Rattle.tabled_config.proofs.TextLemmas.{ended}
 use Rattle.tabled_layout.specs.declared.margin.Margin.{Margin}
-use Rattle.tabled_cells.specs.Placed.{ended}
 use Rattle.tabled_painting.specs.declared.painter.Painter.{Painter}
 use Rattle.tabled_painting.specs.declared.page.Page.{Page}
 use Rattle.tabled_painting.specs.declared.margin_sides.MarginSides.{MarginSides}
@@ -57,9 +56,6 @@ same_lengths f g (n ∷ ns) same = length-append (f n) (flat_map f ns) ∙ (λ i
 one_or_none : {A B : Type 0} (b : Bool) (x : A) (y : B) → length (if b then x ∷ [] else []) ≡ length (if b then y ∷ [] else [])
 one_or_none true x y = refl
 one_or_none false x y = refl
-
-pub vertical_there : (shape : ℕ × ℕ) → is_empty shape ≡ false → has_line shape (LineOf.Vertical 0) ≡ true
-vertical_there shape any = ap (λ empty. not empty && nat_le 0 shape.1) any ∙ le-leb 0 shape.1 (omega arith)
 
 module _ (view : Look) (cells : Cells) where
   row_lengths : (r : ℕ) → length (painted_if_drawn view r ++ painted_row view cells r) ≡ length (piece_places view (LineOf.Vertical 0) r)

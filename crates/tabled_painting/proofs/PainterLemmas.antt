@@ -1,15 +1,19 @@
 -- Painted lines as texts in color, part by part.
-use Rattle.std.proofs.Common.{◌≡◌, eq-eqb, ℕ, Bool, true, false, ◌==◌, ◌&&◌, if◌then◌else◌, Option, Some, None, List, [], ◌∷◌, ◌++◌, refl, sym, ap, ◌∙◌, string_bytes, option_copied, zero, suc, ◌+◌, ◌-◌, ◌≤◌, length, subst, arith, replicate, encode_utf8, lit<}
+use Rattle.std.proofs.Common.{◌≡◌, eq-eqb, ℕ, Bool, true, false, ◌==◌, ◌&&◌, if◌then◌else◌, Option, Some, None, List, [], ◌∷◌, ◌++◌, refl, sym, ap, ◌∙◌, string_bytes, option_copied, option_map, zero, suc, ◌+◌, ◌≤◌, length, subst, arith, replicate, encode_utf8, lit<, Result, Ok, Err, OnOk}
 use Rattle.std.specs.Cmp.Lexicographic.{pointwise}
 use Rattle.std.proofs.lemmas.List.{append-nil, append_assoc, map-append, length-replicate}
 use Rattle.std.proofs.lemmas.Str.{encode_ascii, length-le-encodes}
 use Rattle.tabled_cells.specs.Placed.{times}
+use Rattle.tabled_config.specs.Picture.{character}
+use Rattle.tabled_config.specs.Marks.{mark_of}
+use Rattle.tabled_config.specs.declared.mark.Mark.{Mark}
+use Rattle.tabled_painting.specs.PaintedTable.{side_painted}
 use Rattle.tabled_border.specs.Texts.{Texts}
 use Rattle.std.specs.List.{flat_map}
 use Rattle.tabled_object.specs.Entities.{below}
 use Rattle.tabled_configuration.proofs.Below.{flat_map_below}
 use Rattle.tabled_painting.specs.Pages.{written}
-use Rattle.tabled_painting.specs.BareCells.{at_left, side_text}
+pub use Rattle.tabled_painting.specs.Put.{paints_none, paints_both}
 use Rattle.tabled_painting.specs.declared.painter.Painter.{Painter}
 use Rattle.tabled_painting.specs.Painted.{Painted, paint, plain, colored_if}
 use Rattle.tabled_painting.specs.InColor.{same_color, prefix_of, suffix_of, between, colored, last_color, color_if, Paints}
@@ -31,22 +35,6 @@ pub between_self : (color : Option Texts) → between color color ≡ []
 unfolding between
 between_self color = ap (λ b. if b then [] else suffix_of color ++ prefix_of color) (same_self color)
 
--- ---- parts of a line
-
-pub colored_both : (color : Option Texts) (xs ys : Painted) → colored color (xs ++ ys) ≡ colored color xs ++ colored (last_color color xs) ys
-colored_both color [] ys = refl
-colored_both color (x ∷ xs) ys =
-    ap (λ rest. between color x.1 ++ x.0 ∷ rest) (colored_both x.1 xs ys)
-    ∙ sym (append_assoc (between color x.1) (x.0 ∷ colored x.1 xs) (colored (last_color x.1 xs) ys))
-
-pub last_both : (color : Option Texts) (xs ys : Painted) → last_color color (xs ++ ys) ≡ last_color (last_color color xs) ys
-last_both color [] ys = refl
-last_both color (x ∷ xs) ys = last_both x.1 xs ys
-
-pub if_both : (wanted : Bool) (xs ys : Painted) → colored_if wanted (xs ++ ys) ≡ colored_if wanted xs ++ colored_if wanted ys
-if_both true xs ys = refl
-if_both false xs ys = ap (paint None) (map-append (λ painted. painted.0) xs ys) ∙ map-append (λ byte. (byte, None)) (plain xs) (plain ys)
-
 -- ---- a text in one color
 
 pub plain_paint : (color : Option Texts) (text : List ℕ) → plain (paint color text) ≡ text
@@ -64,47 +52,6 @@ goes_on color (b ∷ bs) = ap (λ front. front ++ b ∷ colored color (paint col
 pub stays : (color : Option Texts) (text : List ℕ) → last_color color (paint color text) ≡ color
 stays color [] = refl
 stays color (b ∷ bs) = stays color bs
-
--- ---- what a painter has done
-
-if_nothing : (wanted : Bool) → colored_if wanted [] ≡ []
-if_nothing true = refl
-if_nothing false = refl
-
-pub paints_none : (painter : Painter) → Paints [] painter painter
-paints_none painter =
-    let color = option_copied painter.color in
-    record {
-      text = sym (append-nil (string_bytes painter.text)) ∙ ap (λ line. string_bytes painter.text ++ colored color line) (sym (if_nothing painter.with_colors));
-      color = ap (last_color color) (sym (if_nothing painter.with_colors));
-      same_colors = refl;
-    }
-
--- parts that are painted in turn are painted
-pub paints_both : (xs ys : Painted) (old middle new : Painter) → Paints xs old middle → Paints ys middle new → Paints (xs ++ ys) old new
-paints_both xs ys old middle new p q =
-    let color = option_copied old.color in
-    let wanted = old.with_colors in
-    let first = colored_if wanted xs in
-    let more = colored_if wanted ys in
-    let both : colored_if wanted (xs ++ ys) ≡ first ++ more = if_both wanted xs ys in
-    record {
-      text =
-          q.text
-          ∙ ap (λ w. string_bytes middle.text ++ colored (option_copied middle.color) (colored_if w ys)) p.same_colors
-          ∙ ap (λ c. string_bytes middle.text ++ colored c more) p.color
-          ∙ ap (λ bs. bs ++ colored (last_color color first) more) p.text
-          ∙ append_assoc (string_bytes old.text) (colored color first) (colored (last_color color first) more)
-          ∙ ap (λ bs. string_bytes old.text ++ bs) (sym (colored_both color first more))
-          ∙ ap (λ line. string_bytes old.text ++ colored color line) (sym both);
-      color =
-          q.color
-          ∙ ap (λ w. last_color (option_copied middle.color) (colored_if w ys)) p.same_colors
-          ∙ ap (λ c. last_color c more) p.color
-          ∙ sym (last_both color first more)
-          ∙ ap (last_color color) (sym both);
-      same_colors = q.same_colors ∙ p.same_colors;
-    }
 
 -- a text that is not empty is painted after its color was begun
 text_begun : (color next : Option Texts) (byte : ℕ) (bytes : List ℕ) → colored color (paint next (byte ∷ bytes)) ≡ between color next ++ byte ∷ bytes
@@ -130,7 +77,7 @@ paints_begun color (byte ∷ bytes) old begun new some began is same wrote kept 
     }
 
 -- without a color there is none, whether colors are wanted or not
-color_if-None : (wanted : Bool) → color_if wanted None ≡ None
+pub color_if-None : (wanted : Bool) → color_if wanted None ≡ None
 color_if-None true = refl
 color_if-None false = refl
 
@@ -149,22 +96,6 @@ paints_uncolored bytes old new none wrote kept still =
           ∙ ap (last_color (option_copied old.color)) (sym line);
       same_colors = still;
     }
-
--- the parts of a text at the left of a column
-left_written : (start first second text : List ℕ) (width free : ℕ) → free ≡ width - 2 - length text → first ≡ start ++ encode_utf8 32 → second ≡ first ++ text
-    → second ++ times (free + 1) 32 ≡ start ++ at_left width text
-left_written start first second text width free is space wrote =
-    ap (λ n. second ++ times (n + 1) 32) is
-    ∙ ap (λ bs. bs ++ times ((width - 2 - length text) + 1) 32) (wrote ∙ ap (λ bs. bs ++ text) (space ∙ ap (λ bs. start ++ bs) (encode_ascii 32 (lit< tt))))
-    ∙ append_assoc (start ++ 32 ∷ []) text (times ((width - 2 - length text) + 1) 32)
-    ∙ append_assoc start (32 ∷ []) (text ++ times ((width - 2 - length text) + 1) 32)
-
--- and what stands after it
-pub at_left_written : (start first second end text : List ℕ) (side : Option ℕ) (width free : ℕ) → free ≡ width - 2 - length text → first ≡ start ++ encode_utf8 32 → second ≡ first ++ text
-    → end ≡ second ++ times (free + 1) 32 ++ side_text side → end ≡ start ++ (at_left width text ++ side_text side)
-at_left_written start first second end text side width free is space wrote spaces =
-    spaces ∙ ap (λ bs. bs ++ side_text side) (left_written start first second text width free is space wrote)
-    ∙ append_assoc start (at_left width text) (side_text side)
 
 -- a text that is said not to be empty
 pub some_bytes : (bytes : List ℕ) (empty : Bool) → empty ≡ false → empty ≡ (length bytes == 0) → bytes ≡ [] → ⊥
@@ -202,5 +133,19 @@ line_written line side start middle new none p q text wrote =
 pub parts_more : (part : ℕ → Painted) (n : ℕ) (old middle new : Painter) → Paints (flat_map part (below n)) old middle → Paints (part n) middle new → Paints (flat_map part (below (n + 1))) old new
 parts_more part n old middle new p q =
     subst (λ line. Paints line old new) (sym (flat_map_below part n)) (paints_both (flat_map part (below n)) (part n) old middle new p q)
+
+-- spaces and the character of a side without color
+pub spaces_and_side : (count code : ℕ) (side : Option Mark) (mark : Mark) → side ≡ Some mark → option_copied mark.color ≡ None → code ≡ character mark.shown
+    → paint None (times count 32 ++ encode_utf8 code) ≡ paint None (times count 32) ++ side_painted (option_map mark_of side)
+spaces_and_side count code side mark there plain shown =
+    map-append (λ byte. (byte, None)) (times count 32) (encode_utf8 code)
+    ∙ ap (λ bs. paint None (times count 32) ++ paint None bs) (ap encode_utf8 shown ∙ sym (append-nil (encode_utf8 (character mark.shown))))
+    ∙ ap (λ color. paint None (times count 32) ++ paint color (encode_utf8 (character mark.shown) ++ [])) (sym plain)
+    ∙ ap (λ found. paint None (times count 32) ++ side_painted (option_map mark_of found)) (sym there)
+
+-- what follows where a call has succeeded
+pub on_done : {T E P Q : Type 0} (r : Result T E) → OnOk r P → (P → Q) → OnOk r Q
+on_done (Ok x) p so = so p
+on_done (Err e) p so = tt
 
 pub ruleset painting = (paints_none, paints_both)

@@ -1,6 +1,5 @@
 -- Cells with nothing set: their texts are shown whole, at the left and at the top, between spaces, and without colors.
-use Rattle.std.specs.Prelude.{◌≡◌, ℕ, false, ◌+◌, ◌-◌, Option, Some, None, List, [], ◌∷◌, ◌++◌, length}
-use Rattle.std.specs.Char.{encode_utf8}
+use Rattle.std.specs.Prelude.{◌≡◌, ℕ, false, ◌+◌, ◌-◌, Option, None, List, ◌∷◌, ◌++◌, length}
 use Rattle.tabled_border.specs.Texts.{Texts}
 use Rattle.tabled_settings.specs.declared.alignment.AlignmentHorizontal.{AlignmentHorizontal}
 use Rattle.tabled_settings.specs.declared.alignment.AlignmentVertical.{AlignmentVertical}
@@ -26,11 +25,6 @@ pub record IsBareCell (how : Placement) (colors : Coloring) : Type 0 where
 -- each cell is such a one
 abbrev pub AreBare : CellSettings → Option (Live Texts) → Type 0
 AreBare settings colors = (r c : ℕ) → IsBareCell (placement_at settings r c) (coloring_at settings colors r c)
-
--- the character of the vertical line after such a cell, if there is one
-abbrev pub side_text : Option ℕ → List ℕ
-side_text None = []
-side_text (Some character) = encode_utf8 character
 
 -- a text in such a cell of a column of that width: a space before it and spaces after it, at least one
 abbrev pub at_left : ℕ → List ℕ → List ℕ

@@ -4,8 +4,9 @@ pub mod CellLines
 pub mod Margin
 pub mod PaintedTable
 pub mod Pages
-pub mod Alike
-pub mod Repeated
+pub mod Between
+pub mod Put
 pub mod Viewed
+pub mod Rows
 pub mod Stretches
 pub mod BareCells

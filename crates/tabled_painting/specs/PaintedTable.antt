@@ -1,5 +1,5 @@
 -- The picture of a table with its colors.
-use Rattle.std.specs.Prelude.{ℕ, if◌then◌else◌, Option, List, [], ◌∷◌, ◌++◌, map, length, slice_index, slice_index_or}
+use Rattle.std.specs.Prelude.{ℕ, if◌then◌else◌, Option, Some, None, List, [], ◌∷◌, ◌++◌, map, length, slice_index, slice_index_or}
 use Rattle.std.specs.List.{flat_map, join_with_byte}
 use Rattle.tabled_border.specs.Texts.{Texts}
 use Rattle.tabled_object.specs.Entities.{below}
@@ -26,6 +26,11 @@ painted_mark mark = paint mark.1 (text_shown (mark.0 ∷ []))
 
 abbrev pub painted_marks : List Shown → Painted
 painted_marks marks = flat_map painted_mark marks
+
+-- what a vertical line shows, painted, if there is something
+abbrev pub side_painted : Option Shown → Painted
+side_painted None = []
+side_painted (Some mark) = painted_mark mark
 
 -- the lines of each cell of a table, by its row, its column and the number of the line
 abbrev pub Cells : Type 0

@@ -6,7 +6,7 @@ ghost use Rattle.tabled_painting.specs.CellLines.{coloring_of};
 
 use crate::CellColors;
 use tabled_cells::Placement;
-use tabled_config::ColoredConfig;
+use tabled_config::{ColorMap, SpannedConfig};
 use tabled_grid::Position;
 use tabled_settings::{AlignmentHorizontal, AlignmentVertical};
 
@@ -26,14 +26,13 @@ fn is_bare(how: &Placement, colors: &CellColors) -> bool
 }
 
 /// Whether all cells are known to be such ones: since all have the same settings, and one of them is.
-pub(crate) fn has_bare_cells(cfg: &ColoredConfig) -> bool
-    ensures { IsTrue result → AreBare cfg.now.spanned.settings.cells cfg.now.cell_colors }
+pub(crate) fn has_bare_cells(cfg: &SpannedConfig, colors: &ColorMap) -> bool
+    ensures { IsTrue result → AreBare cfg.now.settings.cells colors.now }
 {
-    if !cfg.config().has_alike_cells() || !cfg.get_colors().is_empty() {
+    if !cfg.has_alike_cells() || !colors.is_empty() {
         return false;
     }
     let first = Position::new(0, 0);
-    let how = Placement::of(cfg.config(), first);
-    let colors = CellColors::of(cfg, first);
-    is_bare(&how, &colors)
+    let how = Placement::of(cfg, first);
+    is_bare(&how, &CellColors::of(cfg, colors, first))
 }

@@ -3,7 +3,7 @@
 ghost use Rattle.std.specs.Prelude.{◌≡◌};
 
 use tabled_border::ANSIBuf;
-use tabled_config::ColoredConfig;
+use tabled_config::{ColorMap, Colors, SpannedConfig};
 use tabled_grid::Position;
 use tabled_settings::Sides;
 
@@ -24,13 +24,13 @@ impl<'a> CellColors<'a> {
     /// The colors that are set for a cell.
     #[inline(always)]
     #[tactic(auto, unfolding(crate::specs::CellLines::coloring_at))]
-    pub(crate) fn of(cfg: &'a ColoredConfig, position: Position) -> Self
-        ensures { coloring_of result ≡ coloring_at cfg.now.spanned.settings.cells cfg.now.cell_colors position.row position.col }
+    pub(crate) fn of(cfg: &'a SpannedConfig, colors: &'a ColorMap, position: Position) -> Self
+        ensures { coloring_of result ≡ coloring_at cfg.now.settings.cells colors.now position.row position.col }
     {
         CellColors {
-            text: cfg.get_color(position),
-            fill: cfg.config().get_justification_color(position),
-            padding: cfg.config().get_padding_color(position),
+            text: colors.get_color(position),
+            fill: cfg.get_justification_color(position),
+            padding: cfg.get_padding_color(position),
         }
     }
 }

@@ -1,55 +1,64 @@
 //! The lines of a cell, as they are painted.
 
-ghost use Rattle.std.specs.Prelude.{◌≡◌, ◌≢◌, false, map, OnOk};
+ghost use Rattle.std.specs.Prelude.{◌≡◌, ◌≢◌, ℕ, false, map, OnOk, IfOk};
 ghost use Rattle.tabled_settings.specs.declared.alignment.AlignmentHorizontal.{AlignmentHorizontal as Side};
 ghost use Rattle.tabled_config.specs.Texts.{width_of_text};
 ghost use Rattle.tabled_config.specs.Pieces.{lent};
 ghost use Rattle.tabled_cells.specs.Placed.{aligned_width, greatest};
+ghost use Rattle.tabled_cells.specs.Trimmed.{lines_shown};
 ghost use Rattle.tabled_painting.specs.InColor.{Paints};
 ghost use Rattle.tabled_painting.specs.CellLines.{coloring_of, painted_line, cell_line};
 
 use crate::{CellColors, Painter};
 use std::alloc::{AllocError, Global};
-use tabled_cells::{Placement, aligned, free_above, line_parts, widest};
+use tabled_cells::{Placement, aligned, free_above, line_parts, show_lines, widest};
 
 /// A cell whose lines are painted one by one.
 #[derive(Drop)]
-pub(crate) struct CellLines<'a, 'b> {
+pub(crate) struct CellLines<'a> {
     alloc: Global,
     how: Placement,
     colors: CellColors<'a>,
     width: usize,
     height: usize,
-    lines: &'b [&'a str],
+    lines: Vec<&'a str>,
     widest: usize,
-    ghost aligned_as_one: { how.line_alignment ≡ false → how.alignment_horizontal ≢ Side.Left → widest ≡ greatest (map width_of_text (lent lines.now)) },
+    ghost aligned_as_one: { how.line_alignment ≡ false → how.alignment_horizontal ≢ Side.Left → widest ≡ greatest (map width_of_text (lent lines.items)) },
 }
 
-impl<'a, 'b> CellLines<'a, 'b> {
-    /// A cell of these lines, in a column and a row of that width and height.
-    pub(crate) fn new(
+impl<'a> CellLines<'a> {
+    ghost use Rattle.tabled_painting.specs.Rows.{line_of};
+
+    /// A cell with the lines of a text that are shown, in a column and a row of that width and height. They stand in `room`, in place
+    /// of what that had.
+    pub(crate) fn of(
         alloc: Global,
         how: Placement,
         colors: CellColors<'a>,
         size: (usize, usize),
-        lines: &'b [&'a str],
-    ) -> Self
-        ensures how { result.how ≡ how }
-        ensures colors { result.colors ≡ colors.entry }
-        ensures width { result.width ≡ size.0 }
-        ensures height { result.height ≡ size.1 }
-        ensures lines { result.lines ≡ lines.entry }
+        text: &'a str,
+        room: Vec<&'a str>,
+    ) -> Result<Self, AllocError>
+        ensures { IfOk result (λ cell. (at : ℕ) → line_of at cell ≡ cell_line how (coloring_of colors.entry) size.0 size.1 (lines_shown how text.now) at) }
     {
         let (width, height) = size;
-        CellLines {
+        let mut lines = room;
+        show_lines(&mut lines, &how, text)?;
+        let widest = widest(&how, &lines);
+        Ok(CellLines {
             alloc,
             how,
             colors,
             width,
             height,
             lines,
-            widest: widest(&how, lines),
-        }
+            widest,
+        })
+    }
+
+    /// Its room.
+    pub(crate) fn into_lines(self) -> Vec<&'a str> {
+        self.lines
     }
 
     /// Paints a line of the text.
@@ -74,7 +83,7 @@ impl<'a, 'b> CellLines<'a, 'b> {
 
     /// Paints line `n` of the cell.
     pub(crate) fn paint_line(&self, painter: &mut Painter<'a>, n: usize) -> Result<(), AllocError>
-        ensures { OnOk result (Paints (cell_line self.now.how (coloring_of self.now.colors) self.now.width self.now.height (lent self.now.lines.now) n) painter.old painter.new) }
+        ensures { OnOk result (Paints (cell_line self.now.how (coloring_of self.now.colors) self.now.width self.now.height (lent self.now.lines.items) n) painter.old painter.new) }
     {
         let padding = self.colors.padding;
         let free = self.height.saturating_sub(self.lines.len());
@@ -90,7 +99,7 @@ impl<'a, 'b> CellLines<'a, 'b> {
 
     /// How wide what is aligned is, of which a line is a part.
     fn aligned(&self, line: &str) -> usize
-        ensures { painted_line self.now.how (coloring_of self.now.colors) self.now.width result line.now ≡ painted_line self.now.how (coloring_of self.now.colors) self.now.width (aligned_width self.now.how (lent self.now.lines.now) line.now) line.now }
+        ensures { painted_line self.now.how (coloring_of self.now.colors) self.now.width result line.now ≡ painted_line self.now.how (coloring_of self.now.colors) self.now.width (aligned_width self.now.how (lent self.now.lines.items) line.now) line.now }
     {
         aligned(&self.how, self.widest, line)
     }

@@ -1,5 +1,5 @@
-//! The text of a table in color, and with its margin: each line of it is painted, character by character, and written with the
-//! texts of the colors or without them.
+//! The text of a table, plain or in color, with its margin: each line of it is painted, part by part, and written with the texts of the
+//! colors or without them.
 //!
 //! `docs/DEFINITIONS.md` explains the words of the contracts.
 #![tactic(auto)]
@@ -8,13 +8,12 @@ mod alike;
 mod bare_cells;
 mod cell_colors;
 mod cell_lines;
-mod frame;
 mod margin_side;
 mod margin_sides;
 mod page;
 mod painter;
 mod painting;
-mod stretch;
+mod table_lines;
 
 pub(crate) use cell_colors::CellColors;
 pub(crate) use margin_side::MarginSide;

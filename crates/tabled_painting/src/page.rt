@@ -1,10 +1,10 @@
 //! The lines of a table between the sides of its margin.
 
-ghost use Rattle.std.specs.Prelude.{◌≡◌, ◌+◌, ◌++◌, None, List, OnOk, option_copied, string_bytes};
+ghost use Rattle.std.specs.Prelude.{◌≡◌, ◌↔◌, ◌+◌, ◌++◌, [], ◌∷◌, None, IsFalse, OnOk, option_copied, string_bytes};
 ghost use Rattle.tabled_painting.specs.Painted.{Painted};
 ghost use Rattle.tabled_painting.specs.InColor.{Paints};
 ghost use Rattle.tabled_painting.specs.Margin.{side_of, side_at};
-ghost use Rattle.tabled_painting.specs.Pages.{SamePage, written};
+ghost use Rattle.tabled_painting.specs.Pages.{SamePage, PaintsLines, written};
 
 use crate::{MarginSide, Painter};
 use tabled_border::OutOfMemory;
@@ -49,6 +49,25 @@ impl<'a> Page<'a> {
         }
         let right = self.right;
         right.paint_at(&mut self.painter, self.high, self.number, right.size)?;
+        Ok(())
+    }
+
+    /// Whether something stands at the sides of lines.
+    pub(crate) fn has_sides(&self) -> bool
+        ensures { IsFalse result ↔ ((self.now.left.size ≡ 0) × (self.now.right.size ≡ 0)) }
+    {
+        self.left.size != 0 || self.right.size != 0
+    }
+
+    /// Writes the next line as it was written before, with its line feed, where nothing stands at its sides.
+    pub(crate) fn push_line(&mut self, line: &str) -> Result<(), OutOfMemory>
+        requires left { self.old.left.size ≡ 0 }
+        requires right { self.old.right.size ≡ 0 }
+        requires ended { option_copied self.old.painter.color ≡ None }
+        ensures { (painted : Painted) → line.now ≡ written self.old.painter.with_colors painted → OnOk result (PaintsLines (painted ∷ []) self.old self.new) }
+    {
+        self.painter.push_line(line)?;
+        self.number = self.number.checked_add(1).ok_or(OutOfMemory)?;
         Ok(())
     }
 

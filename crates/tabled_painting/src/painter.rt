@@ -1,19 +1,19 @@
 //! Writes painted lines.
 
-ghost use Rattle.std.specs.Prelude.{◌≡◌, ◌↔◌, ◌+◌, ◌++◌, ◌∷◌, [], if◌then◌else◌, true, None, IsFalse, OnOk, map, option_copied, slice_index, string_bytes};
-ghost use Rattle.tabled_object.specs.Entities.{below};
-ghost use Rattle.tabled_configuration.specs.Configuration.{all_writes};
-ghost use Rattle.tabled_config.specs.LinePieces.{has_line, pieces_of, crossed_after};
-ghost use Rattle.tabled_config.specs.Picture.{marks, text_marked};
+ghost use Rattle.std.specs.Prelude.{◌≡◌, ◌++◌, ◌∷◌, [], None, OnOk, option_copied, option_map, string_bytes};
+ghost use Rattle.tabled_config.specs.Marks.{mark_of};
+ghost use Rattle.tabled_config.specs.Sinks.{anything};
 ghost use Rattle.tabled_cells.specs.Placed.{times};
-ghost use Rattle.tabled_painting.specs.BareCells.{at_left, side_text};
+ghost use Rattle.tabled_painting.specs.BareCells.{at_left};
 ghost use Rattle.tabled_painting.specs.Painted.{paint};
+ghost use Rattle.tabled_painting.specs.PaintedTable.{side_painted};
 ghost use Rattle.tabled_painting.specs.InColor.{Paints, between, prefix_of, suffix_of, color_if};
+ghost use Rattle.tabled_painting.specs.Put as put;
 
 use std::alloc::{AllocError, Global};
 use tabled_border::ANSIBuf;
-use tabled_config::{SpannedConfig, push_spaces_before, push_times, write_across};
-use tabled_grid::{FixedDimension, LineOf, OutOfMemory, Probes};
+use tabled_config::{Mark, Run, Sink, push_spaces_before, push_times};
+use tabled_grid::OutOfMemory;
 
 /// A text that painted lines are written into, one after another, and the color of what was written last.
 #[derive(Drop)]
@@ -158,72 +158,58 @@ impl<'a> Painter<'a> {
     }
 
     /// Writes a text at the left of a column between spaces without color: one before it, and after it as many as the column has
-    /// room for, but at least one; and then the character of a vertical line, if there is one. The text takes as many terminal
-    /// columns as it has bytes.
+    /// room for, but at least one; and then a side, if there is one. The text takes as many terminal columns as it has bytes.
     #[inline(always)]
     pub(crate) fn push_at_left(
         &mut self,
         width: usize,
         text: &str,
-        side: Option<char>,
+        side: Option<Mark<'a>>,
     ) -> Result<(), AllocError>
-        ensures { OnOk result (Paints (paint None (at_left width text.now ++ side_text side)) self.old self.new) }
+        ensures { OnOk result (Paints (paint None (at_left width text.now) ++ side_painted (option_map mark_of side.entry)) self.old self.new) }
     {
         let free = width.saturating_sub(2).saturating_sub(text.len());
         self.begin(None)?;
         self.text.push(' ')?;
         self.text.push_str(text)?;
-        self.push_spaces(free + 1, side)?;
-        Ok(())
+        self.push_spaces(free + 1, side)
     }
 
-    /// Writes so many spaces, and then a character, if there is one.
+    /// Writes the given number of spaces, and then a side, if there is one, after what has no color.
     #[inline(always)]
-    fn push_spaces(&mut self, count: usize, side: Option<char>) -> Result<(), AllocError>
-        ensures text { OnOk result (string_bytes self.new.text ≡ string_bytes self.old.text ++ times count 32 ++ side_text side) }
-        ensures color { self.new.color ≡ self.old.color }
-        ensures same_colors { self.new.with_colors ≡ self.old.with_colors }
+    fn push_spaces(&mut self, count: usize, side: Option<Mark<'a>>) -> Result<(), AllocError>
+        requires { option_copied self.old.color ≡ None }
+        ensures { OnOk result (Paints (paint None (times count 32) ++ side_painted (option_map mark_of side.entry)) self.old self.new) }
     {
         match side {
-            Some(character) => push_spaces_before(&mut self.text, count, character),
-            None => push_times(&mut self.text, count, ' '),
+            Some(mark) if mark.color.is_none() => {
+                push_spaces_before(&mut self.text, count, mark.shown.unwrap_or(' '))
+            }
+            _ => {
+                push_times(&mut self.text, count, ' ')?;
+                self.push_side(side)
+            }
         }
     }
 
-    /// Writes the character of a vertical line without color, if there is one.
+    /// Writes what a vertical line shows, if there is something.
     #[inline(always)]
-    pub(crate) fn push_side(&mut self, side: Option<char>) -> Result<(), AllocError>
-        ensures { OnOk result (Paints (paint None (side_text side)) self.old self.new) }
+    pub(crate) fn push_side(&mut self, side: Option<Mark<'a>>) -> Result<(), AllocError>
+        ensures { OnOk result (Paints (side_painted (option_map mark_of side.entry)) self.old self.new) }
     {
         match side {
-            Some(character) => self.push_times(None, 1, character),
+            Some(mark) => self.push_times(mark.color, 1, mark.shown.unwrap_or(' ')),
             None => Ok(()),
         }
     }
 
-    /// Whether what was written last has a color.
-    pub(crate) fn is_colored(&self) -> bool
-        ensures { IsFalse result ↔ (option_copied self.now.color ≡ None) }
+    /// Writes a line as it was written before, with its line feed.
+    pub(crate) fn push_line(&mut self, line: &str) -> Result<(), AllocError>
+        ensures text { OnOk result (string_bytes self.new.text ≡ string_bytes self.old.text ++ line.now) }
+        ensures color { self.new.color ≡ self.old.color }
+        ensures same_colors { self.new.with_colors ≡ self.old.with_colors }
     {
-        self.color.is_some()
-    }
-
-    /// Writes the characters of a line, as `write_across` does, where what was written last has no color.
-    pub(crate) fn push_across(
-        &mut self,
-        cfg: &SpannedConfig,
-        sizes: &FixedDimension,
-        shape: (usize, usize),
-        line: LineOf,
-        crossed: &[bool],
-    ) -> Result<(), OutOfMemory>
-        requires there { has_line shape line ≡ true }
-        requires crossed { crossed.now ≡ map (λ n. crossed_after (all_writes cfg.now) shape line n) (below (pieces_of shape line + 1)) }
-        requires color { option_copied self.old.color ≡ None }
-        ensures { OnOk result (Paints (paint None (text_marked (marks (all_writes cfg.now) shape (slice_index sizes.now.widths.items) (slice_index sizes.now.heights.items) line))) self.old self.new) }
-    {
-        let probes = &mut Probes::new();
-        write_across(&mut self.text, cfg, sizes, shape, line, crossed, probes)?;
+        self.text.push_str(line)?;
         Ok(())
     }
 
@@ -238,4 +224,22 @@ impl<'a> Painter<'a> {
         self.text.push('\n')?;
         Ok(())
     }
+}
+
+/// A painter takes the characters in their colors.
+impl<'a> Sink<'a> for Painter<'a> {
+    ghost puts = { put.paints_marks };
+
+    ghost leaves = { anything };
+
+    fn put(&mut self, run: Run<'a>) -> Result<(), OutOfMemory> {
+        self.push_times(run.mark.color, run.count, run.mark.shown.unwrap_or(' '))?;
+        Ok(())
+    }
+
+    ghost puts_none = { put.marks_none };
+
+    ghost puts_both = { put.marks_both };
+
+    ghost leaves_after = { λ ms old between new put left. left };
 }

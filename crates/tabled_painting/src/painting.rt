@@ -3,20 +3,18 @@
 ghost use Rattle.std.specs.Prelude.{◌≡◌, ◌+◌, true, None, length, IfOk, string_bytes, slice_index, option_copied};
 ghost use Rattle.std.specs.List.{All};
 ghost use Rattle.tabled_configuration.specs.Configuration.{all_writes};
-ghost use Rattle.tabled_config.specs.LinePieces.{has_line};
-ghost use Rattle.tabled_config.specs.Picture.{marks_along};
 ghost use Rattle.tabled_config.specs.Texts.{texts};
 ghost use Rattle.tabled_painting.specs.Margin.{side_of, between_sides};
 ghost use Rattle.tabled_painting.specs.Pages.{PaintsWhole, Strips, text_of_lines};
 ghost use Rattle.tabled_painting.specs.PaintedTable.{Cells, painted_by, painted_lines, painted_table, plain_text, colored_text};
-ghost use Rattle.tabled_painting.specs.Viewed.{viewed, cells_of};
+ghost use Rattle.tabled_painting.specs.Rows.{cells_of};
+ghost use Rattle.tabled_painting.specs.Viewed.{viewed};
 
-use crate::frame::Frame;
 use crate::page::Page;
+use crate::table_lines::TableLines;
 use crate::{MarginSides, Painter};
-use tabled_cells::join_lines;
-use tabled_config::{ColoredConfig, drawn_across, runs_across};
-use tabled_grid::{FixedDimension, LineOf, OutOfMemory, Probes};
+use tabled_config::{ColoredConfig, Frame, join_lines};
+use tabled_grid::{FixedDimension, OutOfMemory};
 
 /// The sum of two numbers. Refused where no number says it: no memory holds so many characters.
 fn sum_of(first: usize, second: usize) -> Result<usize, OutOfMemory>
@@ -25,43 +23,26 @@ fn sum_of(first: usize, second: usize) -> Result<usize, OutOfMemory>
     first.checked_add(second).ok_or(OutOfMemory)
 }
 
-/// How many places a line has that is there: for a horizontal one, how many columns the table is long, and for a vertical one, how
-/// many lines it is high. Refused where memory is, and where no number says it.
-fn line_length(frame: &Frame, line: LineOf) -> Result<usize, OutOfMemory>
-    requires { has_line frame.now.shape line ≡ true }
-    ensures { IfOk result (λ found. found ≡ length (marks_along (viewed frame.now) line)) }
-{
-    let cfg = frame.cfg.config();
-    let probes = &mut Probes::new();
-    let crossed = drawn_across(cfg, frame.shape, line, probes)?;
-    let runs = runs_across(cfg, frame.sizes, frame.shape, line, &crossed, probes)?;
-    let mut found = 0usize;
-    for run in &runs {
-        found = sum_of(found, run.count)?;
-    }
-    Ok(found)
-}
-
 /// How many lines a table has, where that matters: where nothing stands at its sides, any number does.
-fn lines_high(frame: &Frame, margin: &MarginSides) -> Result<usize, OutOfMemory>
+fn lines_high(frame: &Frame<FixedDimension>, margin: &MarginSides) -> Result<usize, OutOfMemory>
     ensures { IfOk result (λ high. (cells : Cells) → let lines = painted_lines (viewed frame.now) cells in
         between_sides (side_of margin.now.left) (side_of margin.now.right) high 0 lines ≡ between_sides (side_of margin.now.left) (side_of margin.now.right) (length lines) 0 lines) }
 {
     if margin.left.size == 0 && margin.right.size == 0 {
         return Ok(0);
     }
-    line_length(frame, LineOf::Vertical(0))
+    frame.count_lines()
 }
 
 /// How many columns a table is long with the sides of its margin, where that matters: where nothing stands above it and below it,
 /// any number does.
-fn columns_long(frame: &Frame, margin: &MarginSides) -> Result<usize, OutOfMemory>
+fn columns_long(frame: &Frame<FixedDimension>, margin: &MarginSides) -> Result<usize, OutOfMemory>
     ensures { IfOk result (λ long. Strips (viewed frame.now) margin.now long) }
 {
     if margin.top.size == 0 && margin.bottom.size == 0 {
         return Ok(0);
     }
-    let columns = line_length(frame, LineOf::Horizontal(0))?;
+    let columns = frame.count_columns()?;
     let left = sum_of(margin.left.size, columns)?;
     sum_of(left, margin.right.size)
 }
@@ -69,19 +50,20 @@ fn columns_long(frame: &Frame, margin: &MarginSides) -> Result<usize, OutOfMemor
 /// Paints a table that has places, with its margin.
 fn paint_in_margin<'a>(
     mut painter: Painter<'a>,
-    frame: &Frame<'a, '_>,
+    lines: &TableLines<'a, '_>,
     rows: &'a [Vec<String>],
 ) -> Result<Painter<'a>, OutOfMemory>
-    requires rows { length rows.now ≡ frame.now.shape.0 }
-    requires cols { All (λ row. length row ≡ frame.now.shape.1) (texts rows.now) }
+    requires rows { length rows.now ≡ lines.now.frame.shape.0 }
+    requires cols { All (λ row. length row ≡ lines.now.frame.shape.1) (texts rows.now) }
     requires ended { option_copied painter.color ≡ None }
-    ensures { IfOk result (λ painted. PaintsWhole (painted_table (viewed frame.now) frame.now.cfg.now.spanned.settings.margin (cells_of frame.now (texts rows.now))) painter.entry painted) }
+    requires colors { painter.with_colors ≡ lines.now.frame.with_colors }
+    ensures { IfOk result (λ painted. PaintsWhole (painted_table (viewed lines.now.frame) lines.now.frame.cfg.now.settings.margin (cells_of lines.now (texts rows.now))) painter.entry painted) }
 {
-    let margin = MarginSides::of(frame.cfg.config());
-    let high = lines_high(frame, &margin)?;
-    let long = columns_long(frame, &margin)?;
+    let margin = MarginSides::of(lines.frame.cfg);
+    let high = lines_high(&lines.frame, &margin)?;
+    let long = columns_long(&lines.frame, &margin)?;
     let sides = margin.left.size.saturating_add(margin.right.size);
-    let bytes = frame.least_bytes();
+    let bytes = lines.least_bytes();
     painter.reserve(bytes.saturating_add(high.saturating_mul(sides)))?;
     margin.top.paint_strips(&mut painter, long)?;
     let mut page = Page {
@@ -91,7 +73,7 @@ fn paint_in_margin<'a>(
         high,
         number: 0,
     };
-    frame.paint_table(&mut page, rows)?;
+    lines.paint(&mut page, rows)?;
     let Page { mut painter, .. } = page;
     margin.bottom.paint_strips(&mut painter, long)?;
     Ok(painter)
@@ -113,16 +95,10 @@ fn written<'a>(
     if shape.0 == 0 || shape.1 == 0 {
         return Ok(String::new(alloc));
     }
-    let sides = drawn_across(
-        cfg.config(),
-        shape,
-        LineOf::Horizontal(0),
-        &mut Probes::new(),
-    )?;
-    let frame = Frame::new(cfg, sizes, shape, &sides, with_colors)?;
-    let painter = paint_in_margin(Painter::new(alloc, with_colors), &frame, rows)?;
+    let lines = TableLines::new(cfg, sizes, shape, with_colors)?;
+    let painter = paint_in_margin(Painter::new(alloc, with_colors), &lines, rows)?;
     let mut text = painter.into_text();
-    join_lines(&mut text);
+    join_lines(&mut text, 0);
     Ok(text)
 }
 

@@ -1,4 +1,4 @@
 pub mod Measuring
 pub mod CellLemmas
-pub mod Fits
+pub mod EqualRows
 pub mod Painting

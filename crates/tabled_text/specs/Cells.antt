@@ -1,5 +1,6 @@
--- The cells of a table as they are printed: each as its placement says, in the width of its column and the height of its row.
-use Rattle.std.specs.Prelude.{ℕ, Option, None, List, [], map, length, slice_index, slice_index_or}
+-- What is set for a table after a list of events, besides its borders.
+use Rattle.std.specs.Prelude.{Option, None, List, map, length, slice_index}
+use Rattle.std.specs.List.{join_with_byte}
 use Rattle.tabled_object.specs.Entities.{below}
 use Rattle.tabled_settings.specs.declared.cell_settings.CellSettings.{CellSettings}
 use Rattle.tabled_layout.specs.TableSettings.{settings_after, first_settings}
@@ -9,18 +10,9 @@ use Rattle.tabled_border.specs.Texts.{Texts}
 use Rattle.tabled_settings.specs.Live.{Live}
 use Rattle.tabled_layout.specs.declared.margin.Margin.{Margin}
 use Rattle.tabled_config.specs.Texts.{Table}
-use Rattle.tabled_cells.specs.declared.placement.Placement.{Placement}
-use Rattle.tabled_cells.specs.Placements.{placement_at}
-use Rattle.tabled_cells.specs.Placed.{placed}
-
--- each cell of a row
-unfoldable pub placed_row : (ℕ → Placement) → List ℕ → ℕ → List (List ℕ) → List (List ℕ)
-placed_row how widths height row = map (λ col. placed (how col) (slice_index widths col) height (slice_index_or row col [])) (below (length row))
-
--- each row of a table, by what is set for its cells
-unfoldable pub placed_rows : CellSettings → List ℕ → List ℕ → Table → Table
-placed_rows settings widths heights table =
-    map (λ row. placed_row (placement_at settings row) widths (slice_index heights row) (slice_index_or table row [])) (below (length table))
+use Rattle.tabled_painting.specs.Painted.{plain}
+use Rattle.tabled_painting.specs.PaintedTable.{painted_cells}
+use Rattle.tabled_text.specs.Sizes.{column_count, column_widths, row_heights}
 
 -- what is set for cells after a list of events
 abbrev pub cells_set : List ConfigEvent → CellSettings
@@ -32,3 +24,9 @@ margin_set es = (settings_after first_settings (settings_of es)).margin
 
 abbrev pub cell_colors : List ConfigEvent → Option (Live Texts)
 cell_colors es = colors_after None (cell_colors_of es)
+
+-- the text of each cell as it is shown: its lines, joined by line feeds
+unfoldable pub cell_texts : List ConfigEvent → Table → Table
+cell_texts es table =
+    let lines = painted_cells (cells_set es) (cell_colors es) (column_widths table) (row_heights table) table in
+    map (λ r. map (λ c. join_with_byte 10 (map (λ k. plain (lines r c k)) (below (slice_index (row_heights table) r)))) (below (column_count table))) (below (length table))

@@ -6,14 +6,14 @@ use Rattle.tabled_object.specs.declared.dimension.FixedDimension.{FixedDimension
 use Rattle.tabled_object.specs.declared.records.Shape.{Shape}
 use Rattle.tabled_config.specs.Colored.{Colored}
 use Rattle.tabled_config.specs.Configuration.{ConfigEvent}
-use Rattle.tabled_config.specs.Picture.{Look, look, text_lines}
-use Rattle.tabled_painting.specs.Painted.{Painted, paint}
-use Rattle.tabled_painting.specs.PaintedTable.{with_margin, painted_table, painted_cells, plain_text}
+use Rattle.tabled_config.specs.Picture.{Look, look}
+use Rattle.tabled_painting.specs.Painted.{Painted}
+use Rattle.tabled_painting.specs.PaintedTable.{painted_table, painted_cells, plain_text}
 use Rattle.tabled_config.specs.Texts.{Table}
 use Rattle.tabled_config.specs.Pieces.{lent}
 use denote.Ref.{Bor}
 use Rattle.tabled_text.specs.Sizes.{column_count, column_widths, row_heights}
-use Rattle.tabled_text.specs.Cells.{placed_rows, cells_set, margin_set, cell_colors}
+use Rattle.tabled_text.specs.Cells.{cells_set, margin_set, cell_colors}
 
 -- the text of each cell, the sizes, and the configuration
 pub record Drawing : Type 0 where
@@ -38,11 +38,9 @@ look_of es table = look es (length table, column_count table) (slice_index (colu
 unfoldable pub painted : List ConfigEvent → Table → List Painted
 painted es table = painted_table (look_of es table) (margin_set es) (painted_cells (cells_set es) (cell_colors es) (column_widths table) (row_heights table) table)
 
--- its text after a list of events: its cells as the events set them, what the events draw around them, and the margin around all
+-- its text after a list of events: the characters of these lines
 unfoldable pub text_of : List ConfigEvent → Table → List ℕ
-text_of es table =
-    plain_text (with_margin (look_of es table) (margin_set es)
-    (map (paint None) (text_lines (look_of es table) (placed_rows (cells_set es) (column_widths table) (row_heights table) table))))
+text_of es table = plain_text (painted es table)
 
 -- the texts of rows that are lent
 abbrev pub lent_rows : List (Bor (List (Bor (List ℕ)))) → Table

@@ -140,4 +140,15 @@ impl<M: Meter> SpannedConfig<M> {
             LineOf::Vertical(_) => self.characters.has_vlines(probes),
         }
     }
+
+    /// Whether a custom line of colors of the direction of this line stands at some index: one reading.
+    pub fn has_color_lines(&self, line: LineOf, probes: &mut M) -> bool
+        ensures value { IsFalse result ↔ HasNoLines (direction_of line) self.now.colors }
+        ensures probes { IsRaised 1 (M.made probes.old) (M.made probes.new) }
+    {
+        match line {
+            LineOf::Horizontal(_) => self.colors.has_hlines(probes),
+            LineOf::Vertical(_) => self.colors.has_vlines(probes),
+        }
+    }
 }

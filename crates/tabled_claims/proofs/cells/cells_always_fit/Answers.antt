@@ -1,14 +1,15 @@
--- The pieces of a cell are its lines.
-use Rattle.std.proofs.Common.{◌==◌, length, ap, ◌∙◌}
-use Rattle.std.specs.List.{list_all}
+-- The characters of a line are its text as it is placed.
+use Rattle.std.proofs.Common.{ap, sym, subst, ◌∙◌}
+use Rattle.tabled_cells.specs.Trimmed.{lines_shown}
 use Rattle.tabled_config.specs.Texts.{width_of_text}
-use Rattle.tabled_cells.proofs.Fits.{cut_placed, placed_high, placed_wide}
+use Rattle.tabled_cells.proofs.Fits.{Lacks, placed_at_lacks, placed_at_wide}
+use Rattle.tabled_painting.proofs.Plain.{plain_cell}
 use Rattle.tabled_claims.proofs.cells.cells_always_fit.Goals as goal
 
-pub returns-clause-high : goal.returns-clause-high
-returns-clause-high c how width height text utf8 room high some =
-    ap length (cut_placed how width height text utf8 room high some) ∙ placed_high how width height text utf8 room high
-
 pub returns-clause-wide : goal.returns-clause-wide
-returns-clause-wide c how width height text utf8 room high some =
-    ap (list_all (λ piece. width_of_text piece == width)) (cut_placed how width height text utf8 room high some) ∙ placed_wide how width height text utf8 room high
+returns-clause-wide c how colors width height text line utf8 room =
+    ap width_of_text (plain_cell how colors width height (lines_shown how text) line) ∙ placed_at_wide how width height text line utf8 room
+
+pub returns-clause-one_line : goal.returns-clause-one_line
+returns-clause-one_line c how colors width height text line =
+    subst Lacks (sym (plain_cell how colors width height (lines_shown how text) line)) (placed_at_lacks how width height text line)

@@ -4,14 +4,14 @@ use Rattle.tabled_configuration.specs.Configuration.{all_writes}
 use Rattle.tabled_config.specs.Picture.{Look, look, mark_at, marks_along}
 use Rattle.tabled_config.specs.LinePieces.{has_line, pieces_of, all_places, lines_met}
 use Rattle.tabled_config.proofs.LineLemmas.{marks_are, marks_count, all_met}
-use Rattle.tabled_config.proofs.MarkLemmas.{put_same, raised_both}
+use Rattle.tabled_config.proofs.MarkLemmas.{put_same, raised_least}
 use Rattle.tabled_config.proofs.marks.put_line.Goals as goal
 
 pub returns-clause-put : goal.returns-clause-put
 returns-clause-put g c =
     let view : Look = look (all_writes c.args.cfg.now) c.args.shape (g.D.Dimension.width_of c.args.dims.now) (g.D.Dimension.height_of c.args.dims.now) in
     let there : has_line c.args.shape c.args.line ≡ true = sym c.has_line.ensures ∙ c.if-not-has_line.false in
-    put_same g.S.Sink.puts c.put_all.result (map (mark_at view) (all_places view c.args.line)) (marks_along view c.args.line) c.args.sink.now c.put_all.new.sink (sym (marks_are view c.args.line there)) c.put_all.ensures.put
+    put_same g.S.Sink.puts g.S.Sink.leaves c.put_all.result (map (mark_at view) (all_places view c.args.line)) (marks_along view c.args.line) c.args.sink.now c.put_all.new.sink (sym (marks_are view c.args.line there)) c.put_all.ensures.put
 
 pub returns-clause-probes : goal.returns-clause-probes
 returns-clause-probes g c =
@@ -19,5 +19,5 @@ returns-clause-probes g c =
     let there : has_line c.args.shape c.args.line ≡ true = sym c.has_line.ensures ∙ c.if-not-has_line.false in
     let counted = marks_count view c.args.line there in
     let met = all_met c.args.shape c.args.line there in
-    raised_both (6 * (pieces_of c.args.shape c.args.line + 1)) (12 * length (all_places view c.args.line) + 4) (12 * length (marks_along view c.args.line) + 6 * lines_met c.args.shape c.args.line + 4)
-    c.args.probes.now c.drawn_across.new.probes c.put_all.new.probes c.drawn_across.ensures.probes c.put_all.ensures.probes (omega (arith, counted, met))
+    raised_least (12 * length (all_places view c.args.line) + 6 * (pieces_of c.args.shape c.args.line + 1) + 2) (12 * length (marks_along view c.args.line) + 6 * lines_met c.args.shape c.args.line + 4)
+    c.args.probes.now c.put_all.new.probes c.put_all.ensures.probes (omega (arith, counted, met))

@@ -17,6 +17,6 @@ returns-then-margin-eq0-2 c cells =
 pub returns : goal.returns
 returns c =
     let frame = c.args.frame.now in
-    on_value c.line_length.result _ _ c.line_length.ensures (λ high is cells.
+    on_value c.count_lines.result _ _ c.count_lines.ensures (λ high is cells.
     let lines = painted_lines (viewed frame) cells in
     ap (λ n. between_sides (side_of c.args.margin.now.left) (side_of c.args.margin.now.right) n 0 lines) (is ∙ sym (lines_count (viewed frame) cells frame.has_places)))

@@ -1,21 +1,20 @@
 -- The lines above, the table between its sides, and the lines below.
-use Rattle.std.proofs.Common.{[], ap, ◌∙◌}
+use Rattle.std.proofs.Common.{[]}
 use Rattle.tabled_config.specs.Texts.{texts}
-use Rattle.tabled_painting.specs.Margin.{left_side, right_side, top_side, bottom_side}
-use Rattle.tabled_painting.specs.Viewed.{viewed, cells_of}
+use Rattle.tabled_painting.specs.Rows.{cells_of}
+use Rattle.tabled_painting.specs.Viewed.{viewed}
 use Rattle.tabled_painting.proofs.PageLemmas.{none_whole, whole_both}
 use Rattle.tabled_painting.proofs.MarginLemmas.{in_its_margin, painted_in_margin, lines_whole}
 use Rattle.tabled_painting.proofs.painting.paint_in_margin.Goals as goal
 
 pub returns : goal.returns
 returns c =
-    let frame = c.args.frame.now in
-    let cells = cells_of frame (texts c.args.rows.now) in
+    let lines = c.args.lines.now in
+    let frame = lines.frame in
+    let cells = cells_of lines (texts c.args.rows.now) in
     let sides = c.of-margin.ensures in
-    painted_in_margin c.args.painter c.paint_strips.new.painter c.paint_table.new.page.painter c.paint_strips-2.new.painter _ _ _ _
-    (in_its_margin (viewed frame) c.of-margin.result frame.cfg.now.spanned.settings.margin cells c.in_ok-high.high c.in_ok-long.long
-    (sides.left ∙ ap (λ cfg. left_side cfg.settings.margin) c.config.ensures) (sides.right ∙ ap (λ cfg. right_side cfg.settings.margin) c.config.ensures)
-    (sides.top ∙ ap (λ cfg. top_side cfg.settings.margin) c.config.ensures) (sides.bottom ∙ ap (λ cfg. bottom_side cfg.settings.margin) c.config.ensures)
-    frame.has_places c.in_ok-long.ensures (c.in_ok-high.ensures cells))
+    painted_in_margin c.args.painter c.paint_strips.new.painter c.paint.new.page.painter c.paint_strips-2.new.painter _ _ _ _
+    (in_its_margin (viewed frame) c.of-margin.result frame.cfg.now.settings.margin cells c.in_ok-high.high c.in_ok-long.long
+    sides.left sides.right sides.top sides.bottom frame.has_places c.in_ok-long.ensures (c.in_ok-high.ensures cells))
     (whole_both [] _ c.args.painter c.reserve.new.self c.paint_strips.new.painter
-    (none_whole c.args.painter c.reserve.new.self c.requires.ended c.reserve.ensures.text c.reserve.ensures.color c.reserve.ensures.same_colors) c.in_ok-paint_strips.ensures) (lines_whole _ _ c.paint_table.new.page c.in_ok-paint_table.ensures) c.in_ok-paint_strips-2.ensures
+    (none_whole c.args.painter c.reserve.new.self c.requires.ended c.reserve.ensures.text c.reserve.ensures.color c.reserve.ensures.same_colors) c.in_ok-paint_strips.ensures) (lines_whole _ _ c.paint.new.page c.in_ok-paint.ensures) c.in_ok-paint_strips-2.ensures

@@ -1,11 +1,13 @@
 -- The lines, joined; a table without places has none.
-use Rattle.std.proofs.Common.{ap, sym, ◌∙◌, slice_index, string_bytes}
+use Rattle.std.proofs.Common.{[], ap, refl, sym, ◌∙◌, slice_index, string_bytes}
 use Rattle.tabled_config.specs.Texts.{texts}
 use Rattle.tabled_painting.specs.Pages.{text_of_lines}
 use Rattle.tabled_configuration.specs.Configuration.{all_writes}
 use Rattle.tabled_config.specs.Picture.{look}
-use Rattle.tabled_painting.specs.PaintedTable.{painted_table, painted_cells}
-use Rattle.tabled_painting.specs.Repeated.{looks_of}
+use Rattle.tabled_config.specs.Viewed.{with_colors_if}
+use Rattle.tabled_object.specs.declared.dimension.FixedDimension.{FixedDimension}
+use Rattle.tabled_configuration.specs.Colored.{Colored}
+use Rattle.tabled_painting.specs.PaintedTable.{Cells, painted_table, painted_cells}
 use Rattle.tabled_painting.proofs.Plain.{written_if}
 use Rattle.tabled_painting.proofs.MarginLemmas.{lines_written, no_places, no_rows, no_columns}
 use Rattle.tabled_painting.proofs.painting.written.Goals as goal
@@ -23,10 +25,12 @@ returns-then-shape-eq0 c =
 pub returns : goal.returns
 unfolding text_of_lines
 returns c =
-    let is = c.in_ok-frame.ensures in
-    c.join_lines.ensures _ (ap string_bytes c.into_text-text.ensures
-    ∙ lines_written c.args.with_colors c.new-4.result.with_colors _ _ _ c.new-4.ensures.text c.new-4.ensures.with_colors c.in_ok-painter.ensures.text)
-    ∙ (λ i. text_of_lines c.args.with_colors (painted_table (looks_of (is.with_colors i) (is.cfg i).now (is.shape i) (is.sizes i).now) (is.cfg i).now.spanned.settings.margin
-    (painted_cells (is.cfg i).now.spanned.settings.cells (is.cfg i).now.cell_colors (is.sizes i).now.widths.items (is.sizes i).now.heights.items (texts c.args.rows.now))))
-    ∙ written_if c.args.with_colors (look (all_writes c.args.cfg.now.spanned) c.args.shape (slice_index c.args.sizes.now.widths.items) (slice_index c.args.sizes.now.heights.items)) c.args.cfg.now.spanned.settings.margin
-    (painted_cells c.args.cfg.now.spanned.settings.cells c.args.cfg.now.cell_colors c.args.sizes.now.widths.items c.args.sizes.now.heights.items (texts c.args.rows.now))
+    let is = c.in_ok-lines.ensures in
+    let wanted = c.args.with_colors in
+    let cells : Colored → FixedDimension → Cells = λ cfg sizes. painted_cells cfg.spanned.settings.cells cfg.cell_colors sizes.widths.items sizes.heights.items (texts c.args.rows.now) in
+    c.join_lines.ensures [] _ refl
+    (ap string_bytes c.into_text-text.ensures ∙ lines_written wanted c.new-3.result.with_colors _ _ _ c.new-3.ensures.text c.new-3.ensures.with_colors c.in_ok-painter.ensures.text)
+    ∙ (λ i. text_of_lines wanted (painted_table (with_colors_if (is.with_colors i) (look (all_writes (is.cfg i)) (is.shape i) (slice_index (is.sizes i).now.widths.items) (slice_index (is.sizes i).now.heights.items))) (is.cfg i).settings.margin
+    (painted_cells (is.cfg i).settings.cells (is.colors i) (is.sizes i).now.widths.items (is.sizes i).now.heights.items (texts c.args.rows.now))))
+    ∙ written_if wanted (look (all_writes c.args.cfg.now.spanned) c.args.shape (slice_index c.args.sizes.now.widths.items) (slice_index c.args.sizes.now.heights.items)) c.args.cfg.now.spanned.settings.margin
+    (cells c.args.cfg.now c.args.sizes.now)

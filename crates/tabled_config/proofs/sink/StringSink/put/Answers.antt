@@ -1,9 +1,10 @@
 -- The characters of the run, or of some of its places.
 use Rattle.std.proofs.Common.{◌++◌, ◌∙◌, ap, sym, string_bytes}
 use Rattle.tabled_config.specs.Marks.{run_marks}
-use Rattle.tabled_config.specs.Sinks.{text_gains}
+use Rattle.tabled_config.specs.Sinks.{text_gains, text_kept}
 use Rattle.tabled_config.specs.Texts.{times}
-use Rattle.tabled_config.proofs.MarkLemmas.{put_some, some_marks, marked_times}
+use Rattle.tabled_config.proofs.MarkLemmas.{put_refused, marked_times}
+use Rattle.tabled_config.proofs.TextLemmas.{starts_as_before}
 use Rattle.tabled_config.proofs.sink.StringSink.put.Goals as goal
 
 pub returns : goal.returns
@@ -11,5 +12,5 @@ returns c = c.in_ok-push_times.ensures.ok ∙ ap (λ bs. string_bytes c.args.sel
 
 pub returns-in_err-push_times : goal.returns-in_err-push_times
 returns-in_err-push_times c =
-    put_some text_gains c.from_residual.result (some_marks c.args.run c.in_err-push_times.ensures.err.0) (run_marks c.args.run) c.args.self.now c.push_times.new.text c.from_residual.ensures.0
-    (c.in_err-push_times.ensures.err.1 ∙ ap (λ bs. string_bytes c.args.self.now ++ bs) (ap (times c.in_err-push_times.ensures.err.0) c.printed_as.ensures ∙ sym (marked_times _ c.in_err-push_times.ensures.err.0)))
+    put_refused text_gains text_kept c.from_residual.result (run_marks c.args.run) c.args.self.now c.push_times.new.text c.from_residual.ensures.0
+    (starts_as_before (string_bytes c.args.self.now) _ (string_bytes c.push_times.new.text) c.in_err-push_times.ensures.err.1)

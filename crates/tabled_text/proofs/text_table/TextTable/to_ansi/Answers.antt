@@ -1,12 +1,12 @@
 -- The painted table, in color.
-use Rattle.std.proofs.Common.{◌≡◌, ap, sym, subst, ◌∙◌}
+use Rattle.std.proofs.Common.{refl, ap, sym, subst, ◌∙◌}
 use Rattle.tabled_config.specs.Texts.{texts}
 use Rattle.tabled_configuration.specs.Colored.{Shows}
-use Rattle.tabled_painting.specs.PaintedTable.{painted_by, colored_text, plain_text}
+use Rattle.tabled_painting.specs.PaintedTable.{painted_by, colored_text}
 use Rattle.tabled_text.specs.Sizes.{column_count}
 use Rattle.tabled_text.specs.TextTable.{text_of, painted}
-use Rattle.tabled_text.proofs.Fits.{utf8_cells, all_equal}
-use Rattle.tabled_text.proofs.Painting.{is_colored_text, characters_of, rows_equal}
+use Rattle.tabled_text.proofs.EqualRows.{all_equal}
+use Rattle.tabled_text.proofs.Painting.{is_colored_text, rows_equal}
 use Rattle.tabled_text.proofs.text_table.TextTable.to_ansi.Goals as goal
 
 pub colored_text-requires-clause-cols : goal.colored_text-requires-clause-cols
@@ -25,7 +25,5 @@ returns-clause-text c es shows =
     ∙ ap (λ table. colored_text (painted es table.texts)) c.self.view_is
 
 pub returns-clause-characters : goal.returns-clause-characters
-returns-clause-characters c es =
-    let rows = c.self.inside.cells.items in
-    subst (λ table. text_of es table.texts ≡ plain_text (painted es table.texts)) c.self.view_is
-    (characters_of es (texts rows) (utf8_cells rows) (all_equal (column_count (texts rows)) 0 (texts rows) c.self.invariant.0))
+unfolding text_of
+returns-clause-characters c es = refl

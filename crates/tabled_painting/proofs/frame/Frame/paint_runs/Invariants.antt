@@ -1,9 +1,0 @@
--- The runs so far.
-use Rattle.std.proofs.Common.{take}
-use Rattle.tabled_config.specs.Marks.{marks_of}
-use Rattle.tabled_painting.specs.InColor.{Paints}
-use Rattle.tabled_painting.specs.PaintedTable.{painted_marks}
-use Rattle.tabled_painting.proofs.frame.Frame.paint_runs.Given as goal
-
-abbrev pub invariant-loop-run : goal.invariant-loop-run
-invariant-loop-run l = Paints (painted_marks (marks_of (take l.run-index l.run-items))) l.initial.painter l.painter

@@ -1,0 +1,14 @@
+-- The lines so far, and the cells of the others.
+use Rattle.std.proofs.Common.{◌≡◌, [], None, map, slice_index_or, string_bytes, option_copied}
+use Rattle.tabled_object.specs.Entities.{below}
+use Rattle.tabled_painting.specs.Pages.{PaintsLines}
+use Rattle.tabled_painting.specs.PaintedTable.{painted_between}
+use Rattle.tabled_painting.specs.Rows.{row_cell}
+use Rattle.tabled_painting.specs.Viewed.{viewed}
+use Rattle.tabled_painting.proofs.table_lines.TableLines.paint_row.Given as goal
+
+abbrev pub invariant-loop-at : goal.invariant-loop-at
+invariant-loop-at l = record {
+  ended : option_copied l.page.painter.color ≡ None;
+  painted : PaintsLines (map (λ k. painted_between (viewed l.self.frame) l.row k (λ c. row_cell l.self l.row c (slice_index_or (map string_bytes l.texts) c []) k)) (below l.at)) l.fn.page l.page;
+}

@@ -1,0 +1,1 @@
+-- The painter had written nothing.

@@ -1,0 +1,20 @@
+-- What repeats between the rows of a table, so that it is painted once.
+use Rattle.std.specs.Prelude.{◌≡◌, ℕ, ◌<◌, None, List}
+use Rattle.std.specs.FinMap.{get}
+use Rattle.tabled_grid.specs.declared.place.LineOf.{LineOf}
+use Rattle.tabled_object.specs.declared.dimension.FixedDimension.{FixedDimension}
+use Rattle.tabled_configuration.specs.Configuration.{Configuration}
+use Rattle.tabled_config.specs.Picture.{marks_along}
+use Rattle.tabled_config.specs.declared.frame.Frame.{Frame}
+use Rattle.tabled_painting.specs.Pages.{written}
+use Rattle.tabled_painting.specs.PaintedTable.{painted_marks}
+use Rattle.tabled_painting.specs.Viewed.{viewed}
+
+-- a horizontal line is no custom one
+pub record IsPlainLine (cfg : Configuration) (r : ℕ) : Type 0 where
+  pub no_characters : get cfg.characters.horizontal_lines r ≡ None
+  pub no_colors : get cfg.colors.horizontal_lines r ≡ None
+
+-- so is each horizontal line between two rows written that is no custom one
+abbrev pub IsBetweenRows : Frame FixedDimension → List ℕ → Type 0
+IsBetweenRows frame text = (r : ℕ) → 0 < r → r < frame.shape.0 → IsPlainLine frame.cfg.now r → text ≡ written frame.with_colors (painted_marks (marks_along (viewed frame) (LineOf.Horizontal r)))

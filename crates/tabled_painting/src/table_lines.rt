@@ -1,0 +1,321 @@
+//! The lines of a table: its horizontal lines, and its rows, cell by cell.
+
+ghost use Rattle.std.specs.Prelude.{◌≡◌, ◌≢◌, ◌++◌, ◌<◌, ◌≤◌, ℕ, [], ◌∷◌, true, false, None, OnOk, IfOk, IfSome, length, map, option_copied, option_map, string_bytes, slice_index, slice_index_or};
+ghost use Rattle.std.specs.Option.{ForSome};
+ghost use Rattle.std.specs.List.{All};
+ghost use Rattle.tabled_object.specs.Entities.{below};
+ghost use Rattle.tabled_config.specs.Along.{is_empty};
+ghost use Rattle.tabled_config.specs.Marks.{mark_of};
+ghost use Rattle.tabled_config.specs.Picture.{marks_along};
+ghost use Rattle.tabled_config.specs.Texts.{texts};
+ghost use Rattle.tabled_grid.specs.declared.place.LineOf.{LineOf as Line};
+ghost use Rattle.tabled_painting.specs.InColor.{Paints};
+ghost use Rattle.tabled_painting.specs.Pages.{PaintsLines, written};
+ghost use Rattle.tabled_painting.specs.PaintedTable.{painted_marks, side_painted};
+ghost use Rattle.tabled_painting.specs.Viewed as looks;
+ghost use Rattle.tabled_painting.specs.BareCells.{AreBare};
+ghost use Rattle.tabled_painting.specs.Between.{IsBetweenRows};
+
+use crate::alike::first_plain_line;
+use crate::bare_cells::has_bare_cells;
+use crate::cell_lines::CellLines;
+use crate::page::Page;
+use crate::{CellColors, Painter};
+use std::alloc::Global;
+use tabled_cells::{Placement, is_printable};
+use tabled_config::{ColorMap, ColoredConfig, Frame, Mark};
+use tabled_grid::{Dimension, FixedDimension, OutOfMemory, Position, Probes};
+
+/// From how many rows on it pays to keep what stands between them.
+const MANY_ROWS: usize = 3;
+
+/// The lines of a table that has places, which are painted one after another.
+#[derive(Drop)]
+pub(crate) struct TableLines<'a, 'b> {
+    pub(crate) frame: Frame<'a, 'b, FixedDimension>,
+    /// The colors of cells.
+    pub(crate) colors: &'a ColorMap,
+    /// Whether nothing is set for cells.
+    bare_cells: bool,
+    /// A horizontal line between two rows as it is written, with its line feed, where all of them but custom ones look alike.
+    between: Option<String>,
+    ghost are_bare: { bare_cells ≡ true → AreBare frame.cfg.now.settings.cells colors.now },
+    ghost is_between: { ForSome between (λ text. IsBetweenRows frame (string_bytes text)) },
+}
+
+impl<'a, 'b> TableLines<'a, 'b> {
+    ghost use Rattle.tabled_painting.specs.Rows.{line_of};
+    ghost use Rattle.tabled_painting.specs.PaintedTable.{painted_between, painted_if_drawn, painted_lines};
+    ghost use Rattle.tabled_painting.specs.Rows.{cells_of, row_cell, row_painted};
+    ghost use Rattle.tabled_painting.specs.Viewed.{viewed};
+
+    /// The lines of a table that has rows and columns. What repeats down the table is looked up here.
+    pub(crate) fn new(
+        cfg: &'a ColoredConfig,
+        sizes: &'b FixedDimension,
+        shape: (usize, usize),
+        with_colors: bool,
+    ) -> Result<Self, OutOfMemory>
+        requires { is_empty shape ≡ false }
+        ensures cfg { IfOk result (λ lines. lines.frame.cfg.now ≡ cfg.now.spanned) }
+        ensures colors { IfOk result (λ lines. lines.colors.now ≡ cfg.now.cell_colors) }
+        ensures sizes { IfOk result (λ lines. lines.frame.dims ≡ sizes.entry) }
+        ensures shape { IfOk result (λ lines. lines.frame.shape ≡ shape) }
+        ensures with_colors { IfOk result (λ lines. lines.frame.with_colors ≡ with_colors) }
+    {
+        let (config, colors) = (cfg.config(), cfg.get_colors());
+        let bare_cells = has_bare_cells(config, colors);
+        let frame = Frame::new(config, sizes, shape, with_colors)?;
+        let between = line_between(config.allocator(), &frame)?;
+        Ok(TableLines {
+            frame,
+            colors,
+            bare_cells,
+            between,
+        })
+    }
+
+    /// The line that is painted between two rows as a whole: it is no custom one, and nothing stands at its sides.
+    fn whole_line(&self, page: &Page<'a>, row: usize) -> Option<&str>
+        ensures written { IfSome result (λ text. (0 < row) × (row < self.now.frame.shape.0) × (text.now ≡ written self.now.frame.with_colors (painted_marks (marks_along (viewed self.now.frame) (Line.Horizontal row))))) }
+        ensures sides { IfSome result (λ text. (page.now.left.size ≡ 0) × (page.now.right.size ≡ 0)) }
+    {
+        let line = self.between.as_ref()?;
+        let is_between = 0 < row && row < self.frame.shape.0;
+        if !is_between || page.has_sides() || self.frame.cfg.has_custom_line(row) {
+            return None;
+        }
+        Some(line.as_str())
+    }
+
+    /// Paints a horizontal line, which is not past the last one, if the line is drawn.
+    fn paint_line(&self, page: &mut Page<'a>, row: usize) -> Result<(), OutOfMemory>
+        requires within { row ≤ self.now.frame.shape.0 }
+        requires ended { option_copied page.old.painter.color ≡ None }
+        requires colors { page.old.painter.with_colors ≡ self.now.frame.with_colors }
+        ensures { OnOk result (PaintsLines (painted_if_drawn (viewed self.now.frame) row) page.old page.new) }
+    {
+        if !self.frame.draws(row) {
+            return Ok(());
+        }
+        if let Some(line) = self.whole_line(page, row) {
+            return page.push_line(line);
+        }
+        page.begin_line()?;
+        let probes = &mut Probes::new();
+        self.frame.put_line(row, &mut page.painter, probes)?;
+        page.end_line()?;
+        Ok(())
+    }
+
+    /// Paints the first line of a cell, and then a side, if there is one. The cell goes behind the other ones, whose room it may
+    /// take where its row is one line high.
+    fn paint_set(
+        &self,
+        painter: &mut Painter<'a>,
+        position: Position,
+        text: &'a str,
+        cells: &mut Vec<CellLines<'a>>,
+        is_low: bool,
+    ) -> Result<(), OutOfMemory>
+        ensures painted { OnOk result (Paints (row_cell self.now position.row position.col text.now 0) painter.old painter.new) }
+        ensures kept { is_low ≡ false → OnOk result ((at : ℕ) → map (line_of at) cells.new.items ≡ map (line_of at) cells.old.items ++ row_cell self.now position.row position.col text.now at ∷ []) }
+    {
+        let alloc = self.frame.cfg.allocator();
+        let room = room_of(alloc, cells, is_low);
+        let how = Placement::of(self.frame.cfg, position);
+        let colors = CellColors::of(self.frame.cfg, self.colors, position);
+        let sizes = self.frame.dims;
+        let size = (
+            sizes.get_width(position.col),
+            sizes.get_height(position.row),
+        );
+        let cell = CellLines::of(alloc, how, colors, size, text, room)?;
+        cell.paint_line(painter, 0)?;
+        cells.push(cell)?;
+        Ok(())
+    }
+
+    /// Paints the first line of a cell, and then a side, if there is one.
+    #[inline(always)]
+    fn paint_cell(
+        &self,
+        painter: &mut Painter<'a>,
+        position: Position,
+        text: &'a str,
+        cells: &mut Vec<CellLines<'a>>,
+        is_low: bool,
+        side: Option<Mark<'a>>,
+    ) -> Result<(), OutOfMemory>
+        ensures painted { OnOk result (Paints (row_cell self.now position.row position.col text.now 0 ++ side_painted (option_map mark_of side.entry)) painter.old painter.new) }
+        ensures kept { is_low ≡ false → OnOk result ((at : ℕ) → map (line_of at) cells.new.items ≡ map (line_of at) cells.old.items ++ row_cell self.now position.row position.col text.now at ∷ []) }
+    {
+        if is_low && self.bare_cells && is_printable(text) {
+            let width = self.frame.dims.get_width(position.col);
+            painter.push_at_left(width, text, side)?;
+            return Ok(());
+        }
+        self.paint_set(painter, position, text, cells, is_low)?;
+        painter.push_side(side)?;
+        Ok(())
+    }
+
+    /// Paints the first line of text of a row, and keeps the cells of a row that has more.
+    fn paint_first(
+        &self,
+        painter: &mut Painter<'a>,
+        row: usize,
+        texts: &'a [String],
+        cells: &mut Vec<CellLines<'a>>,
+    ) -> Result<(), OutOfMemory>
+        requires row { row < self.now.frame.shape.0 }
+        requires high { 0 < slice_index self.now.frame.dims.now.heights.items row }
+        requires texts { length texts.now ≡ self.now.frame.shape.1 }
+        ensures painted { OnOk result (Paints (painted_between (viewed self.now.frame) row 0 (λ c. row_cell self.now row c (slice_index_or (map string_bytes texts.now) c []) 0)) painter.old painter.new) }
+        ensures kept { slice_index self.now.frame.dims.now.heights.items row ≢ 1
+            → OnOk result ((at : ℕ) → map (line_of at) cells.new.items ≡ map (λ c. row_cell self.now row c (slice_index_or (map string_bytes texts.now) c []) at) (below (length texts.now))) }
+    {
+        let is_low = self.frame.dims.get_height(row) == 1;
+        if !is_low {
+            cells.clear();
+        }
+        painter.push_side(self.frame.side(row, 0, 0))?;
+        for (col, text) in texts.iter().enumerate() {
+            let side = self.frame.side(row, col + 1, 0);
+            let position = Position::new(row, col);
+            self.paint_cell(painter, position, text.as_str(), cells, is_low, side)?;
+        }
+        Ok(())
+    }
+
+    /// Paints a further line of text of a row, of which these are the cells.
+    fn paint_further(
+        &self,
+        painter: &mut Painter<'a>,
+        row: usize,
+        at: usize,
+        cells: &[CellLines<'a>],
+    ) -> Result<(), OutOfMemory>
+        requires row { row < self.now.frame.shape.0 }
+        requires at { at < slice_index self.now.frame.dims.now.heights.items row }
+        requires cells { length cells.now ≡ self.now.frame.shape.1 }
+        ensures { OnOk result (Paints (painted_between (viewed self.now.frame) row at (λ c. slice_index_or (map (line_of at) cells.now) c [])) painter.old painter.new) }
+    {
+        painter.push_side(self.frame.side(row, 0, at))?;
+        for (col, cell) in cells.iter().enumerate() {
+            cell.paint_line(painter, at)?;
+            painter.push_side(self.frame.side(row, col + 1, at))?;
+        }
+        Ok(())
+    }
+
+    /// Paints the lines of text of a row. `cells` is for its cells, whatever it had.
+    fn paint_row(
+        &self,
+        page: &mut Page<'a>,
+        row: usize,
+        texts: &'a [String],
+        cells: &mut Vec<CellLines<'a>>,
+    ) -> Result<(), OutOfMemory>
+        requires row { row < self.now.frame.shape.0 }
+        requires texts { length texts.now ≡ self.now.frame.shape.1 }
+        requires ended { option_copied page.old.painter.color ≡ None }
+        ensures { OnOk result (PaintsLines (row_painted self.now row (map string_bytes texts.now)) page.old page.new) }
+    {
+        let height = self.frame.dims.get_height(row);
+        if height == 0 {
+            return Ok(());
+        }
+        page.begin_line()?;
+        self.paint_first(&mut page.painter, row, texts, cells)?;
+        page.end_line()?;
+        for at in 1..height {
+            page.begin_line()?;
+            self.paint_further(&mut page.painter, row, at, cells)?;
+            page.end_line()?;
+        }
+        Ok(())
+    }
+
+    /// Paints the lines of a table.
+    pub(crate) fn paint(
+        &self,
+        page: &mut Page<'a>,
+        rows: &'a [Vec<String>],
+    ) -> Result<(), OutOfMemory>
+        requires rows { length rows.now ≡ self.now.frame.shape.0 }
+        requires cols { All (λ row. length row ≡ self.now.frame.shape.1) (texts rows.now) }
+        requires ended { option_copied page.old.painter.color ≡ None }
+        requires colors { page.old.painter.with_colors ≡ self.now.frame.with_colors }
+        ensures { OnOk result (PaintsLines (painted_lines (viewed self.now.frame) (cells_of self.now (texts rows.now))) page.old page.new) }
+    {
+        let mut cells = Vec::new(self.frame.cfg.allocator());
+        for (row, texts) in rows.iter().enumerate() {
+            self.paint_line(page, row)?;
+            self.paint_row(page, row, texts, &mut cells)?;
+        }
+        self.paint_line(page, rows.len())
+    }
+
+    /// How many bytes the lines of a table take at least, or nearly so: each column of a line is one or more. It saturates.
+    pub(crate) fn least_bytes(&self) -> usize {
+        let (rows, cols) = self.frame.shape;
+        let mut high = 0usize;
+        for row in 0..rows {
+            high = high.saturating_add(self.frame.dims.get_height(row));
+        }
+        let mut line = 1usize;
+        for col in 0..cols {
+            line = line.saturating_add(self.frame.dims.get_width(col));
+        }
+        line = line.saturating_add(self.frame.side_bytes());
+        let between = match &self.between {
+            Some(line) => line.len(),
+            None => 0,
+        };
+        let between = between.saturating_mul(rows.saturating_add(1));
+        line.saturating_mul(high).saturating_add(between)
+    }
+}
+
+/// A horizontal line between two rows as it is written, where all of them but custom ones look alike, and one is drawn.
+fn line_between(alloc: Global, frame: &Frame<FixedDimension>) -> Result<Option<String>, OutOfMemory>
+    ensures { IfOk result (λ found. ForSome found (λ text. IsBetweenRows frame.now (string_bytes text))) }
+{
+    let (rows, _) = frame.shape;
+    if rows < MANY_ROWS || !frame.has_alike_lines {
+        return Ok(None);
+    }
+    match first_plain_line(frame.cfg, rows) {
+        Some(row) if frame.draws(row) => Ok(Some(line_written(alloc, frame, row)?)),
+        _ => Ok(None),
+    }
+}
+
+/// A horizontal line as it is written, with its line feed.
+fn line_written(
+    alloc: Global,
+    frame: &Frame<FixedDimension>,
+    row: usize,
+) -> Result<String, OutOfMemory>
+    requires { row ≤ frame.now.shape.0 }
+    ensures { IfOk result (λ text. string_bytes text ≡ written frame.now.with_colors (painted_marks (marks_along (looks.viewed frame.now) (Line.Horizontal row)))) }
+{
+    let mut painter = Painter::new(alloc, frame.with_colors);
+    frame.put_line(row, &mut painter, &mut Probes::new())?;
+    painter.end_line()?;
+    Ok(painter.into_text())
+}
+
+/// The room of a cell that was painted before, if there is one and it is not needed any more.
+fn room_of<'a>(alloc: Global, cells: &mut Vec<CellLines<'a>>, is_free: bool) -> Vec<&'a str>
+    ensures { is_free ≡ false → cells.new ≡ cells.old }
+{
+    if !is_free {
+        return Vec::new(alloc);
+    }
+    match cells.pop() {
+        Some(cell) => cell.into_lines(),
+        None => Vec::new(alloc),
+    }
+}
