@@ -1,9 +1,10 @@
-"""What scripts of this repository share: its crates, scratch repositories over them, and the blocks of code of a page."""
+"""What scripts of this repository share: its crates, scratch repositories over them, wrong edits, and the blocks of code of a page."""
 import pathlib
 import re
 
 ROOT = pathlib.Path(__file__).resolve().parent.parent
 CRATES = ROOT / "crates"
+MORE_EDITS = ROOT / "more-edits"
 PARTS = ("src", "specs", "proofs")
 
 
@@ -35,6 +36,11 @@ def add_crate(room, name, texts, libraries):
     with open(room / "crates.txt", "a", encoding="utf-8") as listed:
         listed.write(f"{name}: {' '.join(library for library in libraries if library in words)}\n")
     return folder
+
+
+def split_edits(text):
+    """The edits of a file of more-edits/, each with its name: the line `# NAME` begins one, which goes on to the next such line."""
+    return re.findall(r"^# (\w+)\b[^\n]*\n(.*?)(?=^# |\Z)", text, re.M | re.S)
 
 
 def blocks(text):

@@ -1,6 +1,6 @@
 //! How one call is made with one of its requests for memory refused.
 //!
-//! `docs/try_refusals` has one request of a run refused, always of the same number. The program has two arguments: the number of
+//! `tools/try_refusals` has one request of a run refused, always of the same number. The program has two arguments: the number of
 //! the call, and how many requests are spent right before it. So the refused one becomes the call's first, its second or a later
 //! one, and what comes before the call is not refused.
 
