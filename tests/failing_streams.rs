@@ -31,7 +31,7 @@ fn fault_at(fault: Fault, number: usize) -> io::Result<()> {
     }
 }
 
-/// A reader of bytes that gives so many in each read, and fails once.
+/// A reader of bytes that gives the given number in each read, and fails once.
 #[derive(Drop)]
 struct Reads<'a> {
     bytes: &'a [u8],
@@ -55,7 +55,7 @@ impl Read for Reads<'_> {
     }
 }
 
-/// A writer that takes so many bytes in each write, and fails once.
+/// A writer that takes the given number of bytes in each write, and fails once.
 #[derive(Drop)]
 struct Writes {
     room: [u8; 128],
@@ -223,7 +223,7 @@ fn a_write_that_is_interrupted_is_made_again(rt: HostRuntime) -> Result<(), Fail
     Ok(())
 }
 
-/// A writer of text that takes so many pieces, and counts those it was given.
+/// A writer of text that takes the given number of pieces, and counts those it was given.
 #[derive(Drop)]
 struct Takes {
     pieces: usize,
@@ -241,7 +241,7 @@ impl fmt::Write for Takes {
     }
 }
 
-/// A writer of text that takes so many pieces.
+/// A writer of text that takes the given number of pieces.
 fn takes(pieces: usize) -> Takes {
     Takes { pieces, given: 0 }
 }
