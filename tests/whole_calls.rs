@@ -4,9 +4,10 @@ use crate::common::configs::{ascii_borders, begins, config, prints, seen};
 use std::alloc::Global;
 use std::test::Fail;
 use tabled_border::{ANSIBuf, Border};
-use tabled_config::{ColoredConfig, Frame, Run, Sink, SpannedConfig};
+use tabled_config::{ColoredConfig, Frame, Mark, Run, Sink, SpannedConfig};
 use tabled_grid::{
-    Borders, Entity, FixedDimension, Layers, LineOf, OutOfMemory, Position, Probes, border_writes,
+    Borders, Entity, FixedDimension, Layers, OutOfMemory, Position, Probes, VerticalLine,
+    border_writes,
 };
 use tabled_painting::{colored_text, plain_text};
 use tabled_settings::EntityMap;
@@ -109,20 +110,67 @@ fn a_line_is_put_into_what_takes_marks(rt: HostRuntime) -> Result<(), Fail> {
     let dims = FixedDimension::new(vec![in alloc; 3usize; 2]?, vec![in alloc; 1usize; 2]?);
     let frame = Frame::new(&cfg, &dims, (2, 2), true)?;
     let probes = &mut Probes::new();
-    let mut runs = Vec::new(alloc);
+    let mut runs: Vec<Run> = Vec::new(alloc);
     frame.put_line(1, &mut runs, probes)?;
     let expected = [('+', 1), ('-', 3), ('+', 1), ('-', 3), ('+', 1)];
     assert!(rt; are_runs(&runs, &expected));
     let mut text = String::from_str(alloc, "line ")?;
     frame.put_line(1, &mut text, probes)?;
     assert_eq!(rt; text.as_str(), "line +---+---+");
-    let mut marks = Vec::new(alloc);
+    let mut marks: Vec<Mark> = Vec::new(alloc);
     frame.put_line(1, &mut marks, probes)?;
     assert_eq!(rt; marks.len(), 9);
     let mut count = 1usize;
     frame.put_line(1, &mut count, probes)?;
     assert_eq!(rt; count, 10);
     assert_eq!(rt; (frame.count_columns()?, frame.count_lines()?), (9, 5));
+    Ok(())
+}
+
+#[test]
+fn a_run_is_put_into_what_takes_marks(rt: HostRuntime) -> Result<(), Fail> {
+    let alloc = rt.alloc();
+    let mark = Mark {
+        shown: None,
+        color: None,
+    };
+    let run = Run { mark, count: 2 };
+    let mut text = String::from_str(alloc, "run ")?;
+    text.put(run)?;
+    assert_eq!(rt; text.as_str(), "run   ");
+    let mut marks = Vec::new(alloc);
+    marks.push(mark)?;
+    marks.put(run)?;
+    assert_eq!(rt; marks.len(), 3);
+    let mut runs = Vec::new(alloc);
+    runs.push(run)?;
+    runs.put(run)?;
+    assert_eq!(rt; runs.len(), 2);
+    let mut count = 1usize;
+    count.put(run)?;
+    assert_eq!(rt; count, 3);
+    let mut most = usize::MAX;
+    assert!(rt; most.put(run).is_err());
+    assert_eq!(rt; most, usize::MAX);
+    Ok(())
+}
+
+#[test]
+fn a_custom_line_crosses_in_its_own_way(rt: HostRuntime) -> Result<(), Fail> {
+    let alloc = rt.alloc();
+    let mut cfg = SpannedConfig::new(alloc);
+    cfg.set_borders(ascii_borders());
+    let dims = FixedDimension::new(vec![in alloc; 1usize; 3]?, vec![in alloc; 1usize; 2]?);
+    let line = VerticalLine {
+        intersection: Some('x'),
+        ..VerticalLine::empty()
+    };
+    cfg.insert_vertical_line(1, line)?;
+    let frame = Frame::new(&cfg, &dims, (2, 3), false)?;
+    let mut text = String::new(alloc);
+    frame.put_line(1, &mut text, &mut Probes::new())?;
+    assert_eq!(rt; text.as_str(), "+-x-+-+");
+    assert_eq!(rt; (frame.draws(0), frame.draws(2), frame.draws(3)), (true, true, false));
     Ok(())
 }
 
@@ -141,7 +189,12 @@ fn a_side_is_shown_where_its_line_is_drawn(rt: HostRuntime) -> Result<(), Fail> 
         assert_eq!(rt; frame.side(1, col, 0).map(|mark| mark.shown), *side);
         assert_eq!(rt; frame.sides.at(col).map(|mark| mark.shown), *side);
     }
-    cfg.set_border(Position::new(1, 0), Border::new().left('<'))?;
+    drop(frame);
+    let border = Border {
+        left: Some('<'),
+        ..Border::empty()
+    };
+    cfg.set_border(Position::new(1, 0), border)?;
     let frame = Frame::new(&cfg, &dims, (2, 3), false)?;
     assert_eq!(rt; frame.side(0, 0, 0).map(|mark| mark.shown), Some(None));
     assert_eq!(rt; frame.side(1, 0, 0).map(|mark| mark.shown), Some(Some('<')));

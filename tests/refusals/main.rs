@@ -51,7 +51,7 @@ fn main(rt: HostRuntime) -> ExitCode {
             &placing::calls(),
             &printing::plain(),
             &printing::tables(),
-            &painting::lines(),
+            &painting::texts(),
             &painting::tables(),
             &pages::calls(),
         ],

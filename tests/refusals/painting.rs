@@ -1,45 +1,15 @@
-//! The text of tables in color and with a margin, and what the printers walk along.
+//! The text of tables in color and with a margin.
 
 use crate::printing::{Counts, cells_of};
 use crate::sample::{Sample, color};
 use crate::turn::{Named, Outcome, Turn};
 use std::alloc::Global;
 use tabled::{TableError, TextTable};
-use tabled_config::{PrintError, TableOption, drawn_across, runs_across, write_across};
-use tabled_grid::{Cell, LineOf, OutOfMemory, Probes};
+use tabled_config::{PrintError, TableOption};
+use tabled_grid::{Cell, OutOfMemory};
 use tabled_options::{Justification, Shadow};
 use tabled_painting::{colored_text, plain_text};
 use tabled_style::Style;
-
-/// What becomes of the list of the lines that a line meets.
-fn list_crossed(turn: &mut Turn) -> Result<Outcome, OutOfMemory> {
-    let sample = Sample::new(turn.alloc())?;
-    turn.spend();
-    let (cfg, line) = (sample.cfg.config(), LineOf::Horizontal(1));
-    let crossed = drawn_across(cfg, (2, 2), line, &mut Probes::new());
-    Ok(Outcome::of_value(crossed.map(|crossed| crossed.len() == 3)))
-}
-
-/// What becomes of the runs of a line, where that list is there.
-fn list_runs(turn: &mut Turn) -> Result<Outcome, OutOfMemory> {
-    let sample = Sample::new(turn.alloc())?;
-    let (cfg, line, probes) = (sample.cfg.config(), LineOf::Vertical(1), &mut Probes::new());
-    let crossed = drawn_across(cfg, (2, 2), line, probes)?;
-    turn.spend();
-    let runs = runs_across(cfg, &sample.dims, (2, 2), line, &crossed, probes);
-    Ok(Outcome::of_value(runs.map(|runs| !runs.is_empty())))
-}
-
-/// What becomes of the characters of a line, where that list is there.
-fn write_characters(turn: &mut Turn) -> Result<Outcome, OutOfMemory> {
-    let sample = Sample::new(turn.alloc())?;
-    let (cfg, line) = (sample.cfg.config(), LineOf::Vertical(1));
-    let crossed = drawn_across(cfg, (2, 2), line, &mut Probes::new())?;
-    let mut text = String::new(turn.alloc());
-    turn.spend();
-    let returned = write_across(&mut text, cfg, &sample.dims, (2, 2), line, &crossed);
-    Ok(Outcome::of_value(returned.map(|()| !text.is_empty())))
-}
 
 /// What becomes of the text of a configuration, in color or without.
 fn paint(turn: &mut Turn, with_colors: bool) -> Result<Outcome, OutOfMemory> {
@@ -57,12 +27,9 @@ fn paint(turn: &mut Turn, with_colors: bool) -> Result<Outcome, OutOfMemory> {
     Ok(Outcome::of_value(text.map(|text| text.len() > 40)))
 }
 
-/// What the printers walk along, and the text of a configuration.
-pub(crate) fn lines() -> [Named; 5] {
+/// The text of a configuration.
+pub(crate) fn texts() -> [Named; 2] {
     [
-        ("drawn_across", list_crossed),
-        ("runs_across", list_runs),
-        ("write_across", write_characters),
         ("plain_text", |turn| paint(turn, false)),
         ("colored_text", |turn| paint(turn, true)),
     ]

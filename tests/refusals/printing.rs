@@ -49,27 +49,56 @@ fn print(
     }
 }
 
-/// What becomes of a frame, and of a line of it in a text. Where memory is refused the text begins as it did.
+/// What becomes of a frame.
 fn frame_a_table(turn: &mut Turn) -> Result<Outcome, OutOfMemory> {
     let sample = Sample::new(turn.alloc())?;
+    turn.spend();
+    let frame = Frame::new(sample.cfg.config(), &sample.dims, (2, 2), true);
+    Ok(Outcome::of_value(frame.map(|frame| frame.draws(1))))
+}
+
+/// What becomes of a line of a frame that is put into a text. Where memory is refused the text begins as it did.
+fn put_a_line(turn: &mut Turn) -> Result<Outcome, OutOfMemory> {
+    let sample = Sample::new(turn.alloc())?;
+    let frame = Frame::new(sample.cfg.config(), &sample.dims, (2, 2), true)?;
     let mut text = String::from_str(turn.alloc(), "before:")?;
     turn.spend();
-    let cfg = sample.cfg.config();
-    let returned = Frame::new(cfg, &sample.dims, (2, 2), true)
-        .and_then(|frame| frame.put_line(1, &mut text, &mut Probes::new()));
-    Ok(Outcome::of(returned, text.len() > 10, text.as_str().starts_with("before:")))
+    let returned = frame.put_line(1, &mut text, &mut Probes::new());
+    let begins = text.as_str().starts_with("before:");
+    Ok(Outcome::of(returned, begins && text.len() > 10, begins))
+}
+
+/// A run of two places.
+const RUN: Run = Run {
+    mark: Mark {
+        shown: Some('='),
+        color: None,
+    },
+    count: 2,
+};
+
+/// What becomes of a run in a text.
+fn put_into_a_text(turn: &mut Turn) -> Result<Outcome, OutOfMemory> {
+    let mut text = String::new(turn.alloc());
+    turn.spend();
+    let returned = text.put(RUN);
+    Ok(Outcome::of(returned, text.as_str() == "==", text.len() < 2))
 }
 
 /// What becomes of a run in a list of marks. Where memory is refused some may have been put.
-fn put_a_run(turn: &mut Turn) -> Result<Outcome, OutOfMemory> {
-    let mut marks = Vec::new(turn.alloc());
-    let mark = Mark {
-        shown: Some('='),
-        color: None,
-    };
+fn put_into_marks(turn: &mut Turn) -> Result<Outcome, OutOfMemory> {
+    let mut marks: Vec<Mark> = Vec::new(turn.alloc());
     turn.spend();
-    let returned = marks.put(Run { mark, count: 2 });
+    let returned = marks.put(RUN);
     Ok(Outcome::of(returned, marks.len() == 2, marks.len() < 2))
+}
+
+/// What becomes of a run in a list of runs.
+fn put_into_runs(turn: &mut Turn) -> Result<Outcome, OutOfMemory> {
+    let mut runs: Vec<Run> = Vec::new(turn.alloc());
+    turn.spend();
+    let returned = runs.put(RUN);
+    Ok(Outcome::of(returned, runs.len() == 1, runs.is_empty()))
 }
 
 /// What becomes of the marks of a line.
@@ -96,8 +125,8 @@ const TOO_WIDE: &[&[&str]] = &[&[" a ", " b "], &[" c ", " dd "]];
 
 const SHORT: &[&[&str]] = &[&[" a ", " b "], &[" c "]];
 
-/// The printer, and the marks of lines.
-pub(crate) fn plain() -> [Named; 7] {
+/// The printer, frames, what takes marks, and the marks of lines.
+pub(crate) fn plain() -> [Named; 10] {
     [
         ("print_plain", |turn| print(turn, FITTING, Ok(()))),
         (
@@ -108,8 +137,11 @@ pub(crate) fn plain() -> [Named; 7] {
             "print_plain (a row too short)",
             |turn| { print(turn, SHORT, Err(PrintError::ColumnCount(1))) },
         ),
-        ("Frame::put_line", frame_a_table),
-        ("<Vec<Mark> as Sink>::put", put_a_run),
+        ("Frame<'a, 'b, D>::new", frame_a_table),
+        ("Frame<'a, 'b, D>::put_line", put_a_line),
+        ("<String as Sink<'a>>::put", put_into_a_text),
+        ("<Vec<Mark<'a>> as Sink<'a>>::put", put_into_marks),
+        ("<Vec<Run<'a>> as Sink<'a>>::put", put_into_runs),
         ("line_marks", mark_a_line),
         ("line_runs", list_runs),
     ]
