@@ -9,6 +9,7 @@
 
 pub mod cells;
 pub mod colors;
+pub mod formats;
 pub mod lists;
 pub mod objects;
 pub mod options;

@@ -15,8 +15,6 @@ ghost use Rattle.tabled_style.specs.Named.{ready_applied, shown};
 ghost use Rattle.tabled_theme.specs.Events.{theme_applied};
 ghost use Rattle.tabled_highlight.specs.Highlighting.{highlight_events};
 ghost use Rattle.tabled_colorization.specs.Turns.{colorization, exact_colorization};
-ghost use Rattle.tabled_formatting.specs.Formatting.{alignment_set, justification_set, padding_set, strategy_set, trim_set};
-ghost use Rattle.tabled_margin.specs.Margins.{margin_colored, shadow_set};
 ghost use Rattle.tabled_correction.specs.Correction.{correction_events};
 ghost use Rattle.tabled_options.specs.LineChar.{line_char_events};
 ghost use Rattle.tabled_options.specs.LineText.{text_events};
@@ -25,7 +23,7 @@ ghost use Rattle.std.specs.List.{filter};
 ghost use Rattle.tabled_object.specs.Entities.{cells_of, is_inside};
 
 use std::alloc::Global;
-use tabled_border::{AnsiText, Border as GridBorder, OutOfMemory};
+use tabled_border::{Border as GridBorder, OutOfMemory};
 use tabled_color::{BorderColor, Color};
 use tabled_config::{CellOption, ColoredConfig, TableOption, modify};
 use tabled_grid::Borders;
@@ -34,8 +32,7 @@ use tabled_object::{
     LastRow, LastRowOffset, Object, Records, Row,
 };
 use tabled_options::{
-    Alignment, AlignmentStrategy, BorderCorrection, Colorization, ExactColorization, Highlight,
-    Justification, LineChar, LineText, MarginColor, PaddingColor, Shadow, TrimStrategy,
+    BorderCorrection, Colorization, ExactColorization, Highlight, LineChar, LineText,
 };
 use tabled_style::{Border, EmptyBorder, ReadyStyle, Style};
 use tabled_theme::Theme;
@@ -476,157 +473,4 @@ where
     ensures { OnOk result (Changes (entities_colored (exact_colorization option.colors (O.listing option.target (R.row_count records.old) (R.column_count records.old)))) cfg.old cfg.new) }
 {
     option.change(records, cfg, dims)
-}
-
-/// The colors of the padding of all cells.
-pub fn padding_colors_on_a_table<C, R, D>(
-    option: PaddingColor<C>,
-    records: &mut R,
-    cfg: &mut ColoredConfig,
-    dims: &mut D,
-) -> Result<(), OutOfMemory>
-where
-    C: AnsiText + Drop,
-    ensures { OnOk result (Changes (padding_set C.prefix_text C.suffix_text option cells.Global) cfg.old cfg.new) }
-{
-    option.change(records, cfg, dims)
-}
-
-/// The colors of the padding of the cells of an entity.
-pub fn padding_colors_on_cells<C, R>(
-    option: &PaddingColor<C>,
-    records: &mut R,
-    cfg: &mut ColoredConfig,
-    entity: Entity,
-) -> Result<(), OutOfMemory>
-where
-    C: AnsiText,
-    ensures { OnOk result (Changes (padding_set C.prefix_text C.suffix_text option.now entity) cfg.old cfg.new) }
-{
-    option.change(records, cfg, entity)
-}
-
-/// The colors of the margin.
-pub fn margin_colors_on_a_table<C, R, D>(
-    option: MarginColor<C>,
-    records: &mut R,
-    cfg: &mut ColoredConfig,
-    dims: &mut D,
-) -> Result<(), OutOfMemory>
-where
-    C: AnsiText + Drop,
-    ensures { OnOk result (Changes (margin_colored C.prefix_text C.suffix_text option) cfg.old cfg.new) }
-{
-    option.change(records, cfg, dims)
-}
-
-/// A shadow: the margin of the sides on which it falls, where it begins, and its color where it has one.
-pub fn shadow_on_a_table<R, D>(
-    option: Shadow,
-    records: &mut R,
-    cfg: &mut ColoredConfig,
-    dims: &mut D,
-) -> Result<(), OutOfMemory>
-    ensures { OnOk result (Changes (shadow_set option) cfg.old cfg.new) }
-{
-    option.change(records, cfg, dims)
-}
-
-/// How the texts of all cells are aligned in the direction of the alignment; no memory is asked for.
-pub fn alignment_on_a_table<R, D>(
-    option: Alignment,
-    records: &mut R,
-    cfg: &mut ColoredConfig,
-    dims: &mut D,
-) -> Result<(), OutOfMemory>
-    ensures changed { OnOk result (Changes (alignment_set option cells.Global) cfg.old cfg.new) }
-    ensures always { IsOk result }
-{
-    option.change(records, cfg, dims)
-}
-
-/// How the texts of the cells of an entity are aligned in the direction of the alignment.
-pub fn alignment_on_cells<R>(
-    option: &Alignment,
-    records: &mut R,
-    cfg: &mut ColoredConfig,
-    entity: Entity,
-) -> Result<(), OutOfMemory>
-    ensures { OnOk result (Changes (alignment_set option.now entity) cfg.old cfg.new) }
-{
-    option.change(records, cfg, entity)
-}
-
-/// Whether the lines of all texts are aligned by themselves; no memory is asked for.
-pub fn alignment_by_line_on_a_table<R, D>(
-    option: AlignmentStrategy,
-    records: &mut R,
-    cfg: &mut ColoredConfig,
-    dims: &mut D,
-) -> Result<(), OutOfMemory>
-    ensures changed { OnOk result (Changes (strategy_set option cells.Global) cfg.old cfg.new) }
-    ensures always { IsOk result }
-{
-    option.change(records, cfg, dims)
-}
-
-/// Whether the lines of the texts of an entity are aligned by themselves.
-pub fn alignment_by_line_on_cells<R>(
-    option: &AlignmentStrategy,
-    records: &mut R,
-    cfg: &mut ColoredConfig,
-    entity: Entity,
-) -> Result<(), OutOfMemory>
-    ensures { OnOk result (Changes (strategy_set option.now entity) cfg.old cfg.new) }
-{
-    option.change(records, cfg, entity)
-}
-
-/// What of all texts is trimmed; no memory is asked for.
-pub fn trim_on_a_table<R, D>(
-    option: TrimStrategy,
-    records: &mut R,
-    cfg: &mut ColoredConfig,
-    dims: &mut D,
-) -> Result<(), OutOfMemory>
-    ensures changed { OnOk result (Changes (trim_set option cells.Global) cfg.old cfg.new) }
-    ensures always { IsOk result }
-{
-    option.change(records, cfg, dims)
-}
-
-/// What of the texts of an entity is trimmed.
-pub fn trim_on_cells<R>(
-    option: &TrimStrategy,
-    records: &mut R,
-    cfg: &mut ColoredConfig,
-    entity: Entity,
-) -> Result<(), OutOfMemory>
-    ensures { OnOk result (Changes (trim_set option.now entity) cfg.old cfg.new) }
-{
-    option.change(records, cfg, entity)
-}
-
-/// What fills all cells beside their texts, and in which color.
-pub fn filling_on_a_table<R, D>(
-    option: Justification,
-    records: &mut R,
-    cfg: &mut ColoredConfig,
-    dims: &mut D,
-) -> Result<(), OutOfMemory>
-    ensures { OnOk result (Changes (justification_set option cells.Global) cfg.old cfg.new) }
-{
-    option.change(records, cfg, dims)
-}
-
-/// What fills the cells of an entity beside their texts, and in which color.
-pub fn filling_on_cells<R>(
-    option: &Justification,
-    records: &mut R,
-    cfg: &mut ColoredConfig,
-    entity: Entity,
-) -> Result<(), OutOfMemory>
-    ensures { OnOk result (Changes (justification_set option.now entity) cfg.old cfg.new) }
-{
-    option.change(records, cfg, entity)
 }
