@@ -91,7 +91,10 @@ pub fn has_lines<M: Meter>(cfg: &SpannedConfig<M>, line: LineOf, probes: &mut M)
     ensures colors { IsFalse result.1 ↔ HasNoLines (direction_of line) cfg.now.colors }
     ensures readings { IsRaised 2 (M.made probes.old) (M.made probes.new) }
 {
-    (cfg.has_char_lines(line, probes), cfg.has_color_lines(line, probes))
+    (
+        cfg.has_char_lines(line, probes),
+        cfg.has_color_lines(line, probes),
+    )
 }
 
 /// Whether nothing is set for some cells alone.

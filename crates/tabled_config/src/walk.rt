@@ -12,8 +12,8 @@ ghost use Rattle.tabled_config.specs.Picture.{mark_at};
 ghost use Rattle.tabled_config.specs.Sides.{side_at};
 ghost use Rattle.tabled_config.specs.Sinks.{Put};
 
-use crate::mark::{mark_seen, plain_mark};
 use crate::line_pieces::{crossing_line, crossing_of, edge_of, pieces_of, size_of};
+use crate::mark::{mark_seen, plain_mark};
 use crate::sink::Sink;
 use crate::{Run, Sides, SpannedConfig};
 use tabled_grid::{Dimension, LineOf, OutOfMemory, Probes};
