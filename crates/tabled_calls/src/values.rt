@@ -268,7 +268,7 @@ pub fn vertical_crossing_set<T: Copy>(line: &mut VerticalLine<T>, rank: Rank, va
     line.set_crossing(rank, value);
 }
 
-/// Whether a place lies inside a table of so many rows and columns, where its edge has this length.
+/// Whether a place lies inside a table of the given numbers of rows and columns, where its edge has this length.
 pub fn place_is_inside(place: Place, shape: (usize, usize), size: usize) -> bool
     ensures { result ≡ inside shape size place }
 {

@@ -19,7 +19,7 @@ free_above AlignmentVertical.Top free = 0
 free_above AlignmentVertical.Center free = free / 2
 free_above AlignmentVertical.Bottom free = free
 
--- a line between two spaces, with so many of a character before it and after it
+-- a line between two spaces, with the given numbers of a character before it and after it
 abbrev pub filled : ℕ → ℕ → ℕ → List ℕ → List ℕ
 filled character before after line = 32 ∷ times before character ++ line ++ times after character ++ 32 ∷ []
 

@@ -25,7 +25,7 @@ pub struct LineParts {
     pub fill: char,
 }
 
-/// Writes a line between two spaces, with so many of a character before it and after it.
+/// Writes a line between two spaces, with the given numbers of a character before it and after it.
 fn push_filled(
     cell: &mut String,
     character: char,

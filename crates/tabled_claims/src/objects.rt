@@ -33,8 +33,8 @@ where
     object.cells(alloc, records)
 }
 
-/// Rows list themselves, the first and the last one where there is a row, and the one so many rows before the last where there
-/// are so many.
+/// Rows list themselves, the first and the last one where there is a row, and the one the given number of rows before the last where there
+/// are that many.
 pub fn rows_are_listed<R: Records + ExactRecords>(
     row: &Row,
     first: &FirstRow,
@@ -145,7 +145,7 @@ pub fn listed_without_memory<'a, R: Records + ExactRecords, const N: usize>(
     ensures array { ⟦<[Entity; N] as Object<R>>⟧.takes_no_memory array.now }
 {}
 
-/// One row, and the row so many rows before the last one.
+/// One row, and the row the given number of rows before the last one.
 pub fn rows_named(index: usize, offset: usize) -> (Row, LastRowOffset)
     ensures one { result.0.index ≡ index }
     ensures before_last { result.1.offset ≡ offset }
@@ -153,7 +153,7 @@ pub fn rows_named(index: usize, offset: usize) -> (Row, LastRowOffset)
     (Rows::one(index), Rows::last().offset(offset))
 }
 
-/// One column, and the column so many columns before the last one.
+/// One column, and the column the given number of columns before the last one.
 pub fn columns_named(index: usize, offset: usize) -> (Column, LastColumnOffset)
     ensures one { result.0.index ≡ index }
     ensures before_last { result.1.offset ≡ offset }

@@ -275,7 +275,7 @@ where
     option.change(records, cfg, dims)
 }
 
-/// A text on the line above the row so many rows before the last one.
+/// A text on the line above the row the given number of rows before the last one.
 pub fn text_above_a_row_before_the_last<R, D>(
     option: LineText<LastRowOffset>,
     records: &mut R,
@@ -335,7 +335,7 @@ where
     option.change(records, cfg, dims)
 }
 
-/// A text on the line left of the column so many columns before the last one.
+/// A text on the line left of the column the given number of columns before the last one.
 pub fn text_left_of_a_column_before_the_last<R, D>(
     option: LineText<LastColumnOffset>,
     records: &mut R,

@@ -10,7 +10,7 @@ use Rattle.std.proofs.lemmas.Str.Ascii.{IsAscii-nil, IsAscii-cons}
 use Rattle.std.proofs.Math.Nat.{zero-mul, suc-mul}
 use Rattle.tabled_config.specs.Texts.{times}
 
--- so many times and so many more
+-- one number of times, and another one more
 pub times_both : (n m character : ℕ) → times (n + m) character ≡ times n character ++ times m character
 times_both n m character = ap encode_utf8_all (sym (replicate-append-replicate n m character)) ∙ encodes-append (replicate n character) (replicate m character)
 

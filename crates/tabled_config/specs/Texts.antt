@@ -22,7 +22,7 @@ pieces text = slice_split (λ byte. byte == 10) text
 abbrev pub width_of_text : List ℕ → ℕ
 width_of_text text = str_width false (chars text)
 
--- a character, so many times
+-- a character, the given number of times
 abbrev pub times : ℕ → ℕ → List ℕ
 times count character = encode_utf8_all (replicate count character)
 

@@ -42,7 +42,7 @@ fn piece_of(character: char) -> Option<&'static str>
     }
 }
 
-/// Writes so many characters of a text that has one character alone.
+/// Writes the given number of characters of a text that has one character alone.
 fn push_part(
     text: &mut String,
     piece: &str,
@@ -58,7 +58,7 @@ fn push_part(
     Ok(())
 }
 
-/// Writes a character so many times, as pieces of a text that has it alone.
+/// Writes a character the given number of times, as pieces of a text that has it alone.
 fn push_pieces(
     text: &mut String,
     piece: &str,
@@ -78,7 +78,7 @@ fn push_pieces(
     Ok(())
 }
 
-/// Writes a character so many times, each by itself.
+/// Writes a character the given number of times, each by itself.
 fn push_each(text: &mut String, count: usize, character: char) -> Result<(), AllocError>
     ensures ok { OnOk result (string_bytes text.new ≡ string_bytes text.old ++ times count character) }
     ensures err { OnErr result ((some : ℕ) × (string_bytes text.new ≡ string_bytes text.old ++ times some character)) }
@@ -98,7 +98,7 @@ fn first_ones(character: char, count: usize) -> usize
     few.min(count)
 }
 
-/// Writes a character so many times: the first ones, and then copies of what was written.
+/// Writes a character the given number of times: the first ones, and then copies of what was written.
 fn push_copies(text: &mut String, count: usize, character: char) -> Result<(), AllocError>
     ensures ok { OnOk result (string_bytes text.new ≡ string_bytes text.old ++ times count character) }
     ensures err { OnErr result ((some : ℕ) × (string_bytes text.new ≡ string_bytes text.old ++ times some character)) }
@@ -114,7 +114,7 @@ fn push_copies(text: &mut String, count: usize, character: char) -> Result<(), A
     Ok(())
 }
 
-/// Writes a character so many times, other than once.
+/// Writes a character the given number of times, other than once.
 fn push_many(text: &mut String, count: usize, character: char) -> Result<(), AllocError>
     ensures ok { OnOk result (string_bytes text.new ≡ string_bytes text.old ++ times count character) }
     ensures err { OnErr result ((some : ℕ) × (string_bytes text.new ≡ string_bytes text.old ++ times some character)) }
@@ -125,7 +125,7 @@ fn push_many(text: &mut String, count: usize, character: char) -> Result<(), All
     }
 }
 
-/// Writes a character so many times. Where memory is refused it may have been written fewer times.
+/// Writes a character the given number of times. Where memory is refused it may have been written fewer times.
 #[inline(always)]
 pub fn push_times(text: &mut String, count: usize, character: char) -> Result<(), AllocError>
     ensures ok { OnOk result (string_bytes text.new ≡ string_bytes text.old ++ times count character) }
@@ -151,7 +151,7 @@ fn spaces_before(character: char) -> Option<&'static str>
     }
 }
 
-/// Writes the last so many spaces of a text that has spaces and then a character, and that character.
+/// Writes the given number of spaces at the end of a text that has spaces and then a character, and that character.
 fn push_end(text: &mut String, piece: &str, count: usize, character: char) -> Result<(), AllocError>
     requires within { count ≤ 64 }
     requires piece { piece.now ≡ times 64 32 ++ encode_utf8 character }
@@ -162,7 +162,7 @@ fn push_end(text: &mut String, piece: &str, count: usize, character: char) -> Re
     Ok(())
 }
 
-/// Writes so many spaces, and then a character, each by itself.
+/// Writes the given number of spaces, and then a character, each by itself.
 fn push_in_turn(text: &mut String, count: usize, character: char) -> Result<(), AllocError>
     ensures ok { OnOk result (string_bytes text.new ≡ string_bytes text.old ++ times count 32 ++ encode_utf8 character) }
     ensures err { OnErr result ((some : ℕ) × (string_bytes text.new ≡ string_bytes text.old ++ times some 32)) }
@@ -172,7 +172,7 @@ fn push_in_turn(text: &mut String, count: usize, character: char) -> Result<(), 
     Ok(())
 }
 
-/// Writes so many spaces and then a character. Where memory is refused some of the spaces may have been written, and the
+/// Writes the given number of spaces and then a character. Where memory is refused some of the spaces may have been written, and the
 /// character was not.
 pub fn push_spaces_before(
     text: &mut String,

@@ -32,7 +32,7 @@ fn first_line(input: &str) -> Option<(&str, &str)>
     }
 }
 
-/// The cells of a line, copied. Room is made for so many at first.
+/// The cells of a line, copied. Room is made for the given number at first.
 fn cells_of(alloc: Global, line: &str, room: usize) -> Result<Vec<String>, AllocError>
     ensures { IfOk result (λ cells. map string_bytes cells.items ≡ cells_of line.now) }
 {

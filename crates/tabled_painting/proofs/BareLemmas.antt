@@ -126,7 +126,7 @@ module _ (how : Placement) (colors : Coloring) (is : IsBareCell how colors) (wid
       ∙ ap (λ rest. paint None (32 ∷ []) ++ rest) (painted_in_turn text (times after 32) (32 ∷ []))
       ∙ ap (λ bs. paint None (32 ∷ bs)) (append_assoc text (times after 32) (32 ∷ []) ∙ ap (λ bs. text ++ bs) (sym spaces_after))
 
-  -- line 0 of it, where so many lines stand above the text
+  -- line 0 of it, where that many lines stand above the text
   abbrev by_place : ℕ → Painted
   by_place above =
       let own = slice_index_or (text ∷ []) (0 - above) [] in

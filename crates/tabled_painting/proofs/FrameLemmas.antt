@@ -20,7 +20,7 @@ use Rattle.tabled_painting.specs.InColor.{Paints}
 use Rattle.tabled_painting.specs.PaintedTable.{painted_mark, painted_marks, side_painted, painted_side, painted_between}
 use Rattle.tabled_painting.proofs.PainterLemmas.{paints_both}
 
--- a run is its character, so many times
+-- a run is its character, the given number of times
 same_marks : {X : Type 0} (mark : Shown) (xs : List X) → painted_marks (map (λ _. mark) xs) ≡ paint mark.1 (times (length xs) (character mark.0))
 same_marks mark [] = refl
 same_marks mark (x ∷ xs) =

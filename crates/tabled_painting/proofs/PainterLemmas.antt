@@ -101,7 +101,7 @@ paints_uncolored bytes old new none wrote kept still =
 pub some_bytes : (bytes : List ℕ) (empty : Bool) → empty ≡ false → empty ≡ (length bytes == 0) → bytes ≡ [] → ⊥
 some_bytes bytes empty not_empty is none = let yes : empty ≡ true = is ∙ ap (λ bs. length bs == 0) none in absurd cc
 
--- no character, no bytes, and so many of one are some
+-- no character, no bytes, and the given number of one are some
 pub some_times : (count character : ℕ) → (count ≡ 0 → ⊥) → times count character ≡ [] → ⊥
 some_times zero character some none = some refl
 some_times (suc count) character some none =

@@ -28,12 +28,12 @@ top_side margin = record { size = margin.size.top.size; fill = margin.size.top.f
 abbrev pub bottom_side : Margin → Side
 bottom_side margin = record { size = margin.size.bottom.size; fill = margin.size.bottom.fill; offset = margin.offset.bottom; color = margin.color.bottom }
 
--- whether an offset leaves number n of so many out: the first ones, or the last ones
+-- whether an offset leaves number n of an extent out: the first ones, or the last ones
 abbrev pub is_left_out : Offset → ℕ → ℕ → Bool
 is_left_out (Offset.Start count) extent n = nat_lt n count
 is_left_out (Offset.End count) extent n = nat_le (extent - count) n
 
--- so many characters of a side at number n of its extent: what fills it in its color, or spaces where its offset leaves that out
+-- the given number of characters of a side at number n of its extent: what fills it in its color, or spaces where its offset leaves that out
 unfoldable pub side_at : Side → ℕ → ℕ → ℕ → Painted
 side_at side extent n count = if is_left_out side.offset extent n then paint None (times count 32) else paint side.color (times count side.fill)
 
@@ -42,11 +42,11 @@ abbrev pub between_sides : Side → Side → ℕ → ℕ → List Painted → Li
 between_sides left right high n [] = []
 between_sides left right high n (line ∷ lines) = (side_at left high n left.size ++ line ++ side_at right high n right.size) ∷ between_sides left right high (n + 1) lines
 
--- a line above or below, of so many columns
+-- a line above or below, of the given number of columns
 abbrev pub strip : Side → ℕ → Painted
 strip side long = flat_map (λ n. side_at side long n 1) (below long)
 
--- lines of so many columns with their margin around them
+-- lines of the given number of columns with their margin around them
 abbrev pub in_margin : Margin → ℕ → List Painted → List Painted
 in_margin margin columns lines =
     let left = left_side margin in

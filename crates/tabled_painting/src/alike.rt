@@ -5,7 +5,7 @@ ghost use Rattle.tabled_painting.specs.Between.{IsPlainLine};
 
 use tabled_config::SpannedConfig;
 
-/// The first horizontal line between two of so many rows that is no custom one.
+/// The first horizontal line between two of the given number of rows that is no custom one.
 #[tactic(auto, using(crate::proofs::AlikeLemmas::plain_line))]
 pub(crate) fn first_plain_line(cfg: &SpannedConfig, rows: usize) -> Option<usize>
     ensures within { IfSome result (λ row. (0 < row) × (row < rows)) }

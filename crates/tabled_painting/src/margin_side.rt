@@ -25,7 +25,7 @@ pub(crate) struct MarginSide<'a> {
     pub(crate) color: Option<&'a ANSIBuf>,
 }
 
-/// Whether an offset leaves number `n` of so many out.
+/// Whether an offset leaves number `n` of an extent out.
 fn is_left_out(offset: Offset, extent: usize, n: usize) -> bool
     ensures { result ≡ margin.is_left_out offset extent n }
 {
@@ -49,7 +49,7 @@ impl<'a> MarginSide<'a> {
         }
     }
 
-    /// Paints so many characters of the side at number `n` of its extent.
+    /// Paints the given number of characters of the side at number `n` of its extent.
     #[tactic(auto, unfolding(crate::specs::Margin::side_at))]
     pub(crate) fn paint_at(
         &self,
@@ -67,7 +67,7 @@ impl<'a> MarginSide<'a> {
         }
     }
 
-    /// Paints a line above or below the table, of so many columns.
+    /// Paints a line above or below the table, of the given number of columns.
     fn paint_strip(&self, painter: &mut Painter<'a>, long: usize) -> Result<(), AllocError>
         ensures { OnOk result (Paints (strip (side_of self.now) long) painter.old painter.new) }
     {
@@ -77,7 +77,7 @@ impl<'a> MarginSide<'a> {
         Ok(())
     }
 
-    /// Paints the lines above or below the table, each of so many columns.
+    /// Paints the lines above or below the table, each of the given number of columns.
     pub(crate) fn paint_strips(
         &self,
         painter: &mut Painter<'a>,

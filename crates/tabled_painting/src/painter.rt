@@ -50,7 +50,7 @@ impl<'a> Painter<'a> {
         text
     }
 
-    /// Asks for room for so many bytes more, so that a text that no memory holds is refused before any of it is written.
+    /// Asks for room for the given number of bytes more, so that a text that no memory holds is refused before any of it is written.
     pub(crate) fn reserve(&mut self, bytes: usize) -> Result<(), AllocError>
         ensures text { string_bytes self.new.text ≡ string_bytes self.old.text }
         ensures color { self.new.color ≡ self.old.color }
@@ -140,7 +140,7 @@ impl<'a> Painter<'a> {
         Ok(())
     }
 
-    /// Writes a character so many times in a color.
+    /// Writes a character the given number of times in a color.
     pub(crate) fn push_times(
         &mut self,
         color: Option<&'a ANSIBuf>,

@@ -16,7 +16,7 @@ use crate::{MarginSides, Painter};
 use tabled_config::{ColoredConfig, Frame, join_lines};
 use tabled_grid::{FixedDimension, OutOfMemory};
 
-/// The sum of two numbers. Refused where no number says it: no memory holds so many characters.
+/// The sum of two numbers. Refused where no number says it: no memory holds that many characters.
 fn sum_of(first: usize, second: usize) -> Result<usize, OutOfMemory>
     ensures { IfOk result (λ sum. sum ≡ first + second) }
 {

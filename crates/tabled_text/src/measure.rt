@@ -128,7 +128,7 @@ fn row_height(row: &[String]) -> usize
         .unwrap_or(0)
 }
 
-/// How high a row is, of which it is said whether so many of its cells are known to be one line each.
+/// How high a row is, of which it is said whether the given number of its cells are known to be one line each.
 fn height_of(row: &[String], count: usize, are_lines: bool) -> usize
     requires { are_lines ≡ true → (col : ℕ) → col < count → height_asked (cell (map string_bytes row.now) col) ≡ 1 }
     ensures { result ≡ row_height (map string_bytes row.now) }

@@ -1,4 +1,4 @@
--- The texts of the wide characters are their bytes, so many times.
+-- The texts of the wide characters are their bytes, the given number of times.
 use Rattle.std.proofs.Common.{ap, sym}
 use Rattle.tabled_config.specs.Texts.{times}
 use Rattle.tabled_config.proofs.repeat.piece_of.Goals as goal

@@ -1,4 +1,4 @@
--- The part has so many characters.
+-- The part has the given number of characters.
 use Rattle.std.proofs.Common.{◌∙◌, ◌++◌, ap, string_bytes, rules}
 use Rattle.std.specs.Char.{IsScalar}
 use Rattle.tabled_config.proofs.TimesLemmas.{part_of, part_split}

@@ -1,4 +1,4 @@
--- A run is its character, so many times.
+-- A run is its character, the given number of times.
 use Rattle.std.proofs.Common.{subst}
 use Rattle.tabled_painting.specs.InColor.{Paints}
 use Rattle.tabled_painting.proofs.FrameLemmas.{run_painted}
