@@ -97,10 +97,10 @@ impl<T, M: Meter> Layers<T, M> {
         self.class_record.get().top.is_some() //~ the method `get` takes `self` as `&One<V>` //= self.class_record.read(probes).top.is_some()
     }
 
-    /// Looks at a count without a reading.
-    pub fn number_by_its_field(&self, probes: &mut M) -> bool {
+    /// Looks at the numbers of custom lines without a reading.
+    pub fn numbers_by_a_getter(&self, probes: &mut M) -> bool {
         probes.raise();
-        self.tops.kept > 0 //~ field `kept` of struct `Number` is private //= self.tops.read(probes) > 0
+        self.vertical_numbers.get().first > 0 //~ the method `get` takes `self` as `&One<V>` //= self.vertical_numbers.read(probes).first > 0
     }
 }
 

@@ -1,6 +1,5 @@
 -- What colors do to cells and to tables, call by call.
-use Rattle.std.proofs.Common.{◌≡◌, ◌==◌, ◌||◌, ℕ, ◌+◌, Bool, true, false, cond, if◌then◌else◌, Option, Some, None, is_some, List, [], ◌∷◌, ◌++◌, map, refl, sym, ap, subst, ◌∙◌, append_assoc, arith}
-use Rattle.std.specs.List.{flat_map}
+use Rattle.std.proofs.Common.{◌≡◌, ◌==◌, ◌||◌, ℕ, ◌+◌, Bool, true, false, cond, if◌then◌else◌, Option, Some, None, is_some, List, [], ◌∷◌, ◌++◌, map, refl, sym, ap, subst, ◌∙◌, append_assoc, arith, flat_map}
 use Rattle.std.proofs.lemmas.List.{append-nil, map-append}
 use Rattle.std.proofs.lemmas.List.Elements.{filter_map-append}
 use Rattle.std.proofs.lemmas.Grind.{flat_map-append}
@@ -20,7 +19,7 @@ use Rattle.tabled_grid.specs.declared.writes.Write.{Write}
 use Rattle.tabled_grid.specs.Calls.{spot_of, entity_border_set, edge_of, crossing_of}
 use Rattle.tabled_grid.specs.Writes.{given_event, writes_made}
 use Rattle.tabled_configuration.specs.Configuration as borders
-use Rattle.tabled_configuration.specs.Configuration.{Configuration, ConfigEvent, of_colors, by_characters, by_colors, default_color_set, cell_colors_of, writes_applied}
+use Rattle.tabled_configuration.specs.Configuration.{Configuration, of_colors, by_characters, by_colors, cell_colors_of, writes_applied}
 use Rattle.tabled_configuration.specs.ChangeLaws.{none_change_borders, both_change_borders}
 use Rattle.tabled_configuration.proofs.ColoredLemmas.{none_by_colors}
 use Rattle.tabled_configuration.proofs.ConfigurationLemmas.{both_passed_over}

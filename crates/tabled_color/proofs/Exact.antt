@@ -1,6 +1,5 @@
 -- Colors that compare alike are the same.
-use Rattle.std.proofs.Common.{◌≡◌, ℕ, Bool, true, false, List, refl, ap, subst}
-use Rattle.std.specs.declared.cmp.Ordering.TheVariants.{Equal}
+use Rattle.std.proofs.Common.{◌≡◌, ℕ, Bool, true, false, List, refl, ap, subst, Equal}
 use Rattle.std.specs.Ordering.{nat_cmp, bool_cmp, ordering_then}
 use Rattle.std.specs.Cmp.Lexicographic.{slice_cmp}
 use Rattle.std.proofs.lemmas.Cmp.{tied_itself}
@@ -10,10 +9,9 @@ use Rattle.tabled_color.specs.Order.{shade_cmp}
 use Rattle.tabled_color.specs.contracts.comparing.ColorOrd.TheImpl.Laws.{total-law}
 
 exact_bool : CmpEqualImpliesEq bool_cmp
-exact_bool true true h = refl
 exact_bool true false h = absurd cc
 exact_bool false true h = absurd cc
-exact_bool false false h = refl
+exact_bool a b h = refl
 
 pub exact_shades : (a b : Shade) → shade_cmp a b ≡ Equal → a ≡ b
 exact_shades a b h =

@@ -4,8 +4,7 @@ use Rattle.std.specs.Cmp.Lexicographic.{pointwise}
 use Rattle.std.specs.Fmt.{decimal}
 use Rattle.tabled_border.specs.Texts.{Texts}
 
--- whether the texts are owned or static, and what is written before and after what is colored, each as the bytes of a
--- text
+-- whether the texts are owned or static, and what is written before and after what is colored, each as the bytes of a text
 pub record Shade : Type 0 where
   pub owned : Bool
   pub prefix : List ℕ

@@ -12,9 +12,8 @@ use tabled_border::{ANSIBuf, Border, Keep, OutOfMemory};
 
 /// A color for each side and each corner of one cell. What is missing is not given.
 ///
-/// Here the cell (0, 0) of a table of the style `ascii` has the eight colors of
-/// `BorderColor::full(t, b, l, r, c1, c2, c3, c4)`. Each place that is colored shows a letter for its color instead of its
-/// character, `1` for the color `c1` and so on:
+/// Here the cell (0, 0) of a table of the style `ascii` has the eight colors of `BorderColor::full(t, b, l, r, c1, c2, c3, c4)`.
+/// Each place that is colored shows a letter for its color instead of its character, `1` for the color `c1` and so on:
 ///
 /// ```text
 /// 1ttt2---+

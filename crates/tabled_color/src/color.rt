@@ -1,6 +1,6 @@
 //! A color, as the texts that a terminal reads before and after what is colored.
 
-ghost use Rattle.std.specs.Prelude.{◌≡◌, ◌↔◌, ◌++◌, [], true, false, codes, if◌then◌else◌, IsTrue, IfOk, IsOk, OnOk, None, Some, option_map};
+ghost use Rattle.std.specs.Prelude.{◌≡◌, ◌↔◌, ◌++◌, [], false, codes, if◌then◌else◌, IsTrue, IfOk, IsOk, OnOk, None, Some, option_map};
 ghost use Rattle.std.specs.String.{string_bytes};
 ghost use Rattle.tabled_border.specs.LentTexts.{lent_texts};
 ghost use Rattle.tabled_color.specs.Shade.{texts_of, owned_shade, static_shade, sequence, rgb_sequence, joined_text, joined};

@@ -1,11 +1,11 @@
 -- Which color each cell of a chess board has.
-use Rattle.std.proofs.Common.{◌≡◌, ℕ, zero, suc, ◌+◌, ◌%◌, ◌<◌, ◌≤◌, ◌==◌, ◌&&◌, Bool, true, false, cond, if◌then◌else◌, None, Some, List, [], ◌∷◌, ◌++◌, map, filter, slice_get, unwrap_or, refl, ap, ◌∙◌, arith}
+use Rattle.std.proofs.Common.{◌≡◌, ℕ, zero, suc, ◌+◌, ◌%◌, ◌<◌, ◌≤◌, ◌==◌, ◌&&◌, Bool, true, false, cond, if◌then◌else◌, None, Some, List, [], ◌∷◌, ◌++◌, map, filter, slice_get, unwrap_or, refl, ap, ◌∙◌, arith, option_and_then}
 use Rattle.std.specs.List.{flat_map, range_with_len, last_or}
-use Rattle.std.specs.Option.{option_and_then}
 use Rattle.std.proofs.lemmas.Bool.Decides.{nat_tests}
 use Rattle.std.proofs.lemmas.List.{map-append}
 use Rattle.std.proofs.lemmas.List.Elements.{filter-append}
 use Rattle.std.proofs.lemmas.Grind.{flat_map-append}
+use mathlib.Core.Bool.{and-false}
 use Rattle.tabled_border.specs.Texts.{Texts}
 use Rattle.tabled_object.specs.declared.entity.Entity.{Entity}
 use Rattle.tabled_object.specs.declared.entity.Entity.TheVariants.{Cell}
@@ -16,10 +16,6 @@ use Rattle.tabled_configuration.specs.EntitiesColored.{text_writes}
 use Rattle.tabled_color.specs.Shade.{Shade, texts_of}
 use Rattle.tabled_colorization.specs.declared.pattern.Pattern.TheVariants.{Chess}
 use Rattle.tabled_colorization.specs.Turns.{in_its_turn, in_turn, numbered, with_color}
-
-and_false : (b : Bool) → (b && false) ≡ false
-and_false true = refl
-and_false false = refl
 
 -- ---- of one write for each cell, the one that covers a cell
 
@@ -43,7 +39,7 @@ module _ (color : ℕ → ℕ → Texts) (cell : Position) where
       let rest = covered (writes row (range_with_len (a + 1) n)) in
       let other : (cell.col == a) ≡ false = grind (arith, nat_tests) in
       ap (λ b. cond ((cell.row == row) && b) (write_of (Cell row a) (color row a) ∷ rest) rest) other
-      ∙ ap (λ b. cond b (write_of (Cell row a) (color row a) ∷ rest) rest) (and_false (cell.row == row))
+      ∙ ap (λ b. cond b (write_of (Cell row a) (color row a) ∷ rest) rest) (and-false (cell.row == row))
       ∙ later_columns row (a + 1) n (omega arith)
 
   in_row : (row a n : ℕ) → (cell.row == row) ≡ true → a ≤ cell.col → cell.col < a + n → covered (writes row (range_with_len a n)) ≡ write_of (Cell row cell.col) (color row cell.col) ∷ []

@@ -24,8 +24,7 @@ abbrev pub with_color : Entity → Option Shade → List (Entity × Texts)
 with_color entity None = []
 with_color entity (Some color) = (entity, texts_of color) ∷ []
 
--- an entity with a number has the color of that number, where the colors are counted round and round; without colors there
--- is none
+-- an entity with a number has the color of that number, where the colors are counted round and round; without colors there is none
 abbrev pub in_its_turn : List Shade → Entity × ℕ → List (Entity × Texts)
 in_its_turn colors numbered = with_color numbered.0 (slice_get colors (numbered.1 % length colors))
 

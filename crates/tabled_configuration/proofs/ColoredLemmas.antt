@@ -1,6 +1,5 @@
 -- The configuration that options change, by the events of its parts.
-use Rattle.std.proofs.Common.{◌≡◌, ◌==◌, ◌||◌, ℕ, Bool, true, false, cond, Option, Some, None, List, [], ◌∷◌, ◌++◌, map, refl, sym, ap, subst, ◌∙◌}
-use Rattle.std.proofs.lemmas.List.{append-nil}
+use Rattle.std.proofs.Common.{◌≡◌, ◌==◌, ◌||◌, ℕ, Bool, true, false, cond, Option, Some, None, List, [], ◌∷◌, ◌++◌, map, refl, sym, ap, subst, ◌∙◌, append-nil}
 use Rattle.std.proofs.lemmas.List.Elements.{filter_map-append}
 use Rattle.tabled_border.specs.Texts.{Texts}
 use Rattle.tabled_border.specs.declared.border.Border.{Border}
@@ -11,9 +10,9 @@ use Rattle.tabled_grid.specs.declared.lines.VerticalLine.{VerticalLine}
 use Rattle.tabled_grid.specs.declared.writes.Write.{Write}
 use Rattle.tabled_grid.specs.declared.event.Event.TheVariants.{Erase as erase}
 use Rattle.tabled_grid.specs.declared.event.Region.TheVariants.{All as every_site}
+use Rattle.tabled_grid.specs.declared.event.Event.{Event}
 use Rattle.tabled_grid.specs.Writes.{writes_made}
 use Rattle.tabled_grid.specs.Calls.{entity_border_set, entity_border_erased, frame_erased}
-use Rattle.tabled_grid.specs.declared.event.Event.{Event}
 use Rattle.tabled_grid.specs.State.{state_at, class_record_set, writes_of}
 use Rattle.tabled_grid.proofs.EntityBorders.{nothing_written}
 use Rattle.tabled_grid.proofs.Replay.{Changes-nil}
@@ -24,7 +23,7 @@ use Rattle.tabled_configuration.specs.CellColors.{given, changed, colors_after_e
 use Rattle.tabled_configuration.specs.ChangeLaws.{colors_after-append, none_change_borders}
 use Rattle.tabled_configuration.specs.Configuration as borders
 use Rattle.tabled_configuration.specs.Configuration.{Configuration, ConfigEvent, of_characters, of_colors, of_settings, of_cell_colors, cell_color_event, cell_colors_of, by_characters, by_colors, borders_set, borders_replaced, horizontal_lines_put, vertical_lines_put, writes_applied}
-use Rattle.tabled_configuration.specs.Options.{entity_bordered, framed, table_bordered, entity_unbordered, inner_of, table_unbordered}
+use Rattle.tabled_configuration.specs.Options.{entity_bordered, entity_unbordered, inner_of, table_unbordered}
 use Rattle.tabled_configuration.specs.Colored.{Colored, Shows, Changes, by_cell_color, colors_given, all_writes}
 use Rattle.tabled_configuration.proofs.ConfigurationLemmas.{passed_over, both_passed_over, Shows_after_change, Shows-all_writes}
 
@@ -118,10 +117,6 @@ pub none_in_borders_replaced : (class : Borders ℕ) (horizontals : List (ℕ ×
 unfolding borders_replaced
 none_in_borders_replaced class horizontals verticals = none_by_both (erase every_site ∷ horizontal_lines_put horizontals ++ vertical_lines_put verticals ++ class_record_set class) (erase every_site ∷ [])
 
-pub none_in_writes_applied : (characters : List (Write ℕ)) (colors : List (Write Texts)) → cell_colors_of (writes_applied characters colors) ≡ []
-unfolding writes_applied
-none_in_writes_applied characters colors = none_by_both (writes_made characters) (writes_made colors)
-
 -- the events of writes of characters alone
 pub characters_applied : (characters : List (Write ℕ)) (colors : List (Write Texts)) (es : List (Event ℕ)) → writes_made characters ≡ es → colors ≡ [] → writes_applied characters colors ≡ by_characters es
 unfolding writes_applied
@@ -131,10 +126,6 @@ characters_applied characters colors es made none =
 pub none_in_entity_bordered : (border : Border ℕ) (shape : ℕ × ℕ) (entity : Entity) → cell_colors_of (entity_bordered border shape entity) ≡ []
 unfolding entity_bordered
 none_in_entity_bordered border shape entity = none_by_characters (entity_border_set entity shape border)
-
-pub none_in_table_bordered : (border : Border ℕ) (class : Borders ℕ) → cell_colors_of (table_bordered border class) ≡ []
-unfolding table_bordered
-none_in_table_bordered border class = none_in_borders_set (framed border class)
 
 pub none_in_entity_unbordered : (shape : ℕ × ℕ) (entity : Entity) → cell_colors_of (entity_unbordered shape entity) ≡ []
 unfolding entity_unbordered

@@ -1,6 +1,5 @@
 -- Changes of entities in a row, and borders as options.
-use Rattle.std.proofs.Common.{◌≡◌, ◌==◌, ◌||◌, true, false, cond, ℕ, List, [], ◌∷◌, ◌++◌, map, refl, sym, ap, subst, ◌∙◌, append_assoc, Result, Ok, Err, IsOk, OnOk, OnErr}
-use Rattle.std.proofs.lemmas.List.{append-nil}
+use Rattle.std.proofs.Common.{◌≡◌, ◌==◌, ◌||◌, true, false, cond, ℕ, List, [], ◌∷◌, ◌++◌, map, refl, sym, ap, subst, ◌∙◌, append_assoc, Result, Ok, Err, IsOk, OnOk, OnErr, append-nil, flat_map}
 use Rattle.tabled_object.specs.declared.entity.Entity.{Entity}
 use Rattle.tabled_border.specs.declared.border.Border.{Border}
 use Rattle.tabled_grid.specs.declared.borders.Borders.{Borders}
@@ -14,7 +13,6 @@ use Rattle.tabled_configuration.specs.Options.{MakesInTurn, entity_bordered, ent
 use Rattle.tabled_layout.specs.declared.table_settings.TableSettings.{TableSettings}
 use Rattle.tabled_configuration.specs.ChangeLaws.{none_change_borders}
 use Rattle.tabled_configuration.proofs.ConfigurationLemmas.{Changes_by_characters}
-use Rattle.std.specs.List.{flat_map}
 
 module _ {C E : Type 0} (changes : List E → C → C → Type 0) where
   -- one more step at the end

@@ -1,9 +1,9 @@
 -- Configurations that are equal are one.
 use Rattle.std.proofs.Common.{◌≡◌, ◌↔◌, Bool, true, ◌&&◌, nat_eq, Some, None, IsTrue, refl, sym, ap, subst, ◌∙◌}
-use Rattle.std.proofs.lemmas.Bool.{eqb-true}
+use Rattle.std.proofs.lemmas.Bool.{eqb-true, and_parts}
 use Rattle.std.specs.Cmp.Lexicographic.{pointwise, same_text}
 use Rattle.tabled_grid.specs.Same.{same_state}
-use Rattle.tabled_grid.proofs.SameLemmas.{IsExact, both, exact_state}
+use Rattle.tabled_grid.proofs.SameLemmas.{IsExact, exact_state}
 use Rattle.tabled_layout.specs.contracts.table_settings.TableSettingsPartialEq.TheImpl.{eq-value as same_settings}
 use Rattle.tabled_settings.proofs.SameSettings.{exact_live}
 use Rattle.tabled_layout.proofs.SameLayout.{exact_settings}
@@ -13,19 +13,19 @@ use Rattle.tabled_configuration.specs.SameConfiguration.{same_texts, same_stores
 
 -- where the first test is passed, the second one decides for both
 pub second_answers : (first second p q whole : Bool) → first ≡ p → first ≡ true → second ≡ q → p && q ≡ whole → second ≡ whole
-second_answers first second p q whole is holds other both = other ∙ ap (λ b. b && q) (sym holds ∙ is) ∙ both
+second_answers first second p q whole is holds other and_parts = other ∙ ap (λ b. b && q) (sym holds ∙ is) ∙ and_parts
 
 -- colors with the same texts are one
 exact_texts : IsExact same_texts
 exact_texts a b h =
-    let texts = both (pointwise nat_eq a.prefix b.prefix) (pointwise nat_eq a.suffix b.suffix) h in
+    let texts = and_parts (pointwise nat_eq a.prefix b.prefix) (pointwise nat_eq a.suffix b.suffix) h in
     λ i. record { prefix = same_text a.prefix b.prefix (sym texts.0) i; suffix = same_text a.suffix b.suffix (sym texts.1) i }
 
 exact_configurations : IsExact same_configuration
 unfolding same_configuration same_stores
 exact_configurations a b h =
-    let parts = both (same_stores a b) (same_settings.it a.settings b.settings) h in
-    let stores = both (same_state nat_eq a.characters b.characters) (same_state same_texts a.colors b.colors) parts.0 in
+    let parts = and_parts (same_stores a b) (same_settings.it a.settings b.settings) h in
+    let stores = and_parts (same_state nat_eq a.characters b.characters) (same_state same_texts a.colors b.colors) parts.0 in
     λ i. record {
       characters = exact_state eqb-true a.characters b.characters stores.0 i;
       colors = exact_state exact_texts a.colors b.colors stores.1 i;
@@ -40,13 +40,12 @@ same_configuration-exact a b =
 -- and so do what options change
 exact_colors : IsExact same_colors
 exact_colors None None h = refl
-exact_colors None (Some b) h = absurd cc
-exact_colors (Some a) None h = absurd cc
 exact_colors (Some a) (Some b) h = ap Some (exact_live same_texts exact_texts a b h)
+exact_colors a b h = absurd cc
 
 exact_colored : IsExact same_colored
 exact_colored a b h =
-    let parts = both (same_configuration a.spanned b.spanned) (same_colors a.cell_colors b.cell_colors) h in
+    let parts = and_parts (same_configuration a.spanned b.spanned) (same_colors a.cell_colors b.cell_colors) h in
     λ i. record { spanned = exact_configurations a.spanned b.spanned parts.0 i; cell_colors = exact_colors a.cell_colors b.cell_colors parts.1 i }
 
 pub same_colored-exact : (a b : Colored) → IsTrue (same_colored a b) ↔ (a ≡ b)

@@ -1,8 +1,7 @@
 -- What a configuration keeps, and what changes it.
-use Rattle.std.specs.Prelude.{◌≡◌, ℕ, Bool, ◌==◌, ◌&&◌, Option, Some, None, List, [], ◌∷◌, ◌++◌, map}
+use Rattle.std.specs.Prelude.{◌≡◌, ℕ, Bool, ◌==◌, ◌&&◌, Option, Some, None, List, [], ◌∷◌, ◌++◌, map, flat_map, filter_map}
 use Rattle.std.specs.Coded.{Coded, codes}
 use Rattle.std.specs.FinMap as finmap
-use Rattle.std.specs.List.{flat_map, filter_map}
 use Rattle.tabled_grid.specs.declared.lines.HorizontalLine.{HorizontalLine}
 use Rattle.tabled_grid.specs.declared.lines.VerticalLine.{VerticalLine}
 use Rattle.tabled_grid.specs.declared.borders.Borders.{Borders}

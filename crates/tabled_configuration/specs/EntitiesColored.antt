@@ -1,6 +1,5 @@
 -- Entities colored: the texts of their cells, what fills the cells beside these, and the padding.
-use Rattle.std.specs.Prelude.{Option, Some, List, [], ◌∷◌, map}
-use Rattle.std.specs.List.{flat_map}
+use Rattle.std.specs.Prelude.{Option, Some, List, [], ◌∷◌, map, flat_map}
 use Rattle.tabled_border.specs.Texts.{Texts}
 use Rattle.tabled_object.specs.declared.entity.Entity.{Entity}
 use Rattle.tabled_settings.specs.declared.sides.Sides.{Sides}

@@ -1,7 +1,6 @@
 //! The border of a cell as an option: around cells, and around a whole table.
 
-ghost use Rattle.std.specs.Prelude.{◌≡◌, [], Some, IsOk, OnOk, OnErr, if◌then◌else◌};
-ghost use Rattle.std.specs.List.{filter};
+ghost use Rattle.std.specs.Prelude.{◌≡◌, [], Some, IsOk, OnOk, OnErr, if◌then◌else◌, filter};
 ghost use Rattle.tabled_object.specs.Entities.{cells_of, is_inside};
 ghost use Rattle.tabled_object.specs.declared.entity.Entity.TheVariants as cells;
 ghost use Rattle.tabled_configuration.specs.Colored.{Changes};
@@ -15,9 +14,8 @@ impl<R: Records + ExactRecords> CellOption<R, ColoredConfig> for Border<char> {
 
     ghost hinted = { λ border. Some cells.Global };
 
-    /// Writes the given sides and corners of each cell of the entity that lies in the table, row by row: for
-    /// what two cells share the later one counts. What is not given stays as it is. Without a cell inside it takes no
-    /// memory and returns Ok.
+    /// Writes the given sides and corners of each cell of the entity that lies in the table, row by row: for what two cells share
+    /// the later one counts. What is not given stays as it is. Without a cell inside it takes no memory and returns Ok.
     ///
     /// A border of `#` on the cell (0, 0) of a table of the style `ascii`:
     ///

@@ -28,10 +28,9 @@ pub trait CellOption<R, C: Configured> {
         ensures { result ≡ hinted self.now };
 }
 
-/// Makes the option's change for each entity that the object lists, in its order, by the events that it makes of what
-/// stands before it. Where memory is refused, the changes for the first ones of them may have been made, each whole.
-/// `alloc` gives the memory for the listing, where that needs any; where it needs none and nothing is listed, the call
-/// returns Ok.
+/// Makes the option's change for each entity that the object lists, in its order, by the events that it makes of what stands before
+/// it. Where memory is refused, the changes for the first ones of them may have been made, each whole. `alloc` gives the memory for
+/// the listing, where that needs any; where it needs none and nothing is listed, the call returns Ok.
 pub fn modify<R, C, O, P>(
     alloc: Global,
     records: &mut R,

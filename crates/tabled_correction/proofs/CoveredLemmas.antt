@@ -1,6 +1,5 @@
 -- Sets of covered cells.
-use Rattle.std.proofs.Common.{◌≡◌, ℕ, ◌+◌, ◌<◌, ◌≤◌, ◌^◌, ◌-◌, ◌==◌, ◌&&◌, ◌||◌, Bool, true, false, cond, nat_lt, List, [], ◌∷◌, refl, sym, ap, subst, ◌∙◌, arith}
-use Rattle.std.specs.Prelude.{nat_le, min, max}
+use Rattle.std.proofs.Common.{◌≡◌, ℕ, ◌+◌, ◌<◌, ◌≤◌, ◌-◌, ◌==◌, ◌&&◌, ◌||◌, Bool, true, false, cond, nat_lt, List, [], ◌∷◌, refl, sym, ap, subst, ◌∙◌, arith, nat_le, max}
 use Rattle.std.specs.List.{list_any}
 use Rattle.std.specs.Cmp.{eq_by_cmp_equiv}
 use Rattle.std.specs.FinMap.{entries}
@@ -9,6 +8,8 @@ use Rattle.std.specs.Map.{keys_of}
 use Rattle.std.specs.BTreeMap.{is_at}
 use Rattle.std.specs.BTreeSet.{BTreeSet, Updates, contains}
 use Rattle.std.proofs.lemmas.Bool.Decides.{nat_tests}
+use mathlib.Core.Bool.{or-true}
+use Rattle.std.proofs.lemmas.Bool.{or_right}
 use Rattle.tabled_object.specs.declared.position.Position.{Position}
 use Rattle.tabled_object.specs.contracts.position.PositionOrd.TheImpl.Laws.{total-law}
 use Rattle.tabled_object.specs.Entities.{is_inside}
@@ -18,12 +19,6 @@ use Rattle.tabled_layout.proofs.SpanLemmas.{is_same_position, entries_are}
 use Rattle.tabled_correction.specs.Covered.{has, covered_by, AreThose}
 
 -- ---- stretches
-
-pub one_number : (at length n : ℕ) → length < 2 ^ 64 → (nat_le at n && nat_lt n (min length (min (at + 1) (2 ^ 64 - 1)))) ≡ ((n == at) && nat_lt n length)
-one_number at length n bound = grind (arith, nat_tests)
-
-pub numbers_after : (at count length n : ℕ) → length < 2 ^ 64 → (nat_le (min (at + 1) (2 ^ 64 - 1)) n && nat_lt n (min length (min (at + count) (2 ^ 64 - 1)))) ≡ ((nat_lt at n && nat_lt n (at + count)) && nat_lt n length)
-numbers_after at count length n bound = grind (arith, nat_tests)
 
 -- ---- cells put into a set
 
@@ -49,11 +44,7 @@ pub one_cell_more : (row start col r c : ℕ) (old : Bool) → start ≤ col →
 one_cell_more row start col r c old h = by (r == row) (c == col) old (nat_le start c) (nat_lt c col) (nat_lt c (col + 1)) (grind (arith, nat_tests))
   where
     by : (same here old from below then : Bool) → (here || (from && below)) ≡ (from && then) → ((same && here) || (old || (same && (from && below)))) ≡ (old || (same && (from && then)))
-    by true here true from below then e = always here
-      where
-        always : (b : Bool) → (b || true) ≡ true
-        always true = refl
-        always false = refl
+    by true here true from below then e = or-true here
     by true here false from below then e = e
     by false here old from below then e = refl
 
@@ -185,11 +176,7 @@ all_inside cells walked shape test those is cell h = first (is_inside shape.0 sh
     first false b e = e
 
 pub rest_inside : (left rest : List Position) (cell : Position) (inside : Position → Bool) → left ≡ cell ∷ rest → ((other : Position) → has left other ≡ true → inside other ≡ true) → (other : Position) → has rest other ≡ true → inside other ≡ true
-rest_inside left rest cell inside next all other h = all other (ap (λ list. has list other) next ∙ by (same_position other cell) (has rest other) h)
-  where
-    by : (a b : Bool) → b ≡ true → (a || b) ≡ true
-    by true b e = refl
-    by false b e = e
+rest_inside left rest cell inside next all other h = all other (ap (λ list. has list other) next ∙ or_right (same_position other cell) (has rest other) h)
 
 pub next_inside : (left rest : List Position) (cell : Position) (inside : Position → Bool) → left ≡ cell ∷ rest → ((other : Position) → has left other ≡ true → inside other ≡ true) → inside cell ≡ true
 next_inside left rest cell inside next all = all cell (ap (λ list. has list cell) next ∙ ap (λ b. b || has rest cell) (itself cell))

@@ -1,6 +1,5 @@
 -- The picture after crossings were written.
-use Rattle.std.proofs.Common.{◌≡◌, ℕ, Bool, true, false, cond, Option, Some, None, List, [], ◌∷◌, ◌++◌, refl, sym, ap, ◌∙◌}
-use Rattle.std.specs.Prelude.{filter, option_map}
+use Rattle.std.proofs.Common.{◌≡◌, ℕ, Bool, true, false, cond, Option, Some, None, List, [], ◌∷◌, ◌++◌, refl, sym, ap, ◌∙◌, filter, option_map}
 use Rattle.std.specs.List.{last_or}
 use Rattle.std.specs.Option.{option_or}
 use Rattle.std.specs.Cmp.{eq_by_cmp_equiv}
@@ -64,11 +63,9 @@ shown_after writes old new shown stands (Place.Cross r c) = ap (λ o. option_or 
     by : (a b : Option ℕ) → option_or (option_or a b) (shown (Place.Cross r c)) ≡ option_or a (option_or b (shown (Place.Cross r c)))
     by None b = refl
     by (Some x) b = refl
-shown_after writes old new shown stands (Place.Horizontal r c k) = refl
-shown_after writes old new shown stands (Place.Vertical r c k) = refl
+shown_after writes old new shown stands place = refl
 
 -- a map in which nothing stands shows the picture as it is
 pub nothing_written_over : (written : BTreeMap Position ℕ) (shown : Shown) → written.entries ≡ [] → (place : Place) → shown_through written shown place ≡ shown place
 nothing_written_over written shown none (Place.Cross r c) = ap (λ es. option_or (lookup (is_at (position_cmp (position r c))) es) (shown (Place.Cross r c))) none
-nothing_written_over written shown none (Place.Horizontal r c k) = refl
-nothing_written_over written shown none (Place.Vertical r c k) = refl
+nothing_written_over written shown none place = refl

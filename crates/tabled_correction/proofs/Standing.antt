@@ -1,25 +1,24 @@
 -- What stands when crossings were written, and that each step of the correction reads it.
-use Rattle.std.proofs.Common.{◌≡◌, ◌==◌, ◌||◌, ◌&&◌, ◌+◌, ℕ, Bool, true, false, cond, Option, Some, None, is_some, List, [], ◌∷◌, ◌++◌, map, refl, sym, ap, subst, ◌∙◌, filter, option_map, option_and_then}
-use Rattle.std.specs.Prelude.{◌-◌, min, nat_lt, if◌then◌else◌}
+use Rattle.std.proofs.Common.{◌≡◌, ◌==◌, ◌||◌, ◌&&◌, ◌+◌, ℕ, Bool, true, false, cond, Option, Some, None, is_some, List, [], ◌∷◌, ◌++◌, map, refl, sym, ap, subst, ◌∙◌, filter, option_map, option_and_then, ◌-◌, min, nat_lt, if◌then◌else◌}
 use Rattle.std.specs.List.{last_or, flat_map}
 use Rattle.std.specs.Option.{option_or}
 use Rattle.std.specs.FinMap.{entries}
-use Rattle.std.proofs.lemmas.Bool.{eqb-true}
+use Rattle.std.proofs.lemmas.Bool.{eqb-true, and_parts}
 use Rattle.std.proofs.lemmas.List.{map-append}
 use Rattle.std.proofs.lemmas.List.Elements.{filter-append}
 use Rattle.tabled_object.specs.declared.position.Position.{Position}
 use Rattle.tabled_object.specs.Entities.{position, below}
 use Rattle.tabled_grid.specs.declared.place.LineOf.{LineOf}
 use Rattle.tabled_grid.specs.declared.place.Place.{Place}
-use Rattle.tabled_grid.specs.declared.event.Event.{Event}
-use Rattle.tabled_grid.specs.declared.event.Written.{Written}
-use Rattle.tabled_grid.specs.declared.event.Written.TheVariants.{Sign as sign}
 use Rattle.tabled_grid.specs.declared.site.Direction.TheVariants.{Horizontal, Vertical}
 use Rattle.tabled_grid.specs.declared.site.Part.TheVariants.{Edges as main_edges, Crossings as meeting}
 use Rattle.tabled_grid.specs.declared.site.Spot.TheVariants.{Edge, Crossing}
 use Rattle.tabled_grid.specs.declared.site.Site.{Site}
 use Rattle.tabled_grid.specs.declared.site.Site.TheVariants.{Default as the_default, Class as of_class, Line as of_line, Cell as at_spot, Offset as at_offset}
 use Rattle.tabled_grid.specs.Site.{rank, same_site}
+use Rattle.tabled_grid.specs.declared.event.Event.{Event}
+use Rattle.tabled_grid.specs.declared.event.Written.{Written}
+use Rattle.tabled_grid.specs.declared.event.Written.TheVariants.{Sign as sign}
 use Rattle.tabled_grid.specs.Event.{covers, covered, left_by, replay}
 use Rattle.tabled_grid.specs.Event as grid
 use Rattle.tabled_grid.specs.State.{state_at}
@@ -153,10 +152,6 @@ missing_at r c row col (Some x) apart = ap (λ b. cond b ((position row col, x) 
 missing_last : (r c : ℕ) (writes : List Write) → IsMissing r c writes → last_at writes (position r c) ≡ None
 missing_last r c writes none = ap (λ mine. option_map (λ (e : Write). e.1) (last_or None mine)) none
 
-both : (a b : Bool) → (a && b) ≡ true → (a ≡ true) × (b ≡ true)
-both true b h = (refl, h)
-both false b h = absurd cc
-
 module _ (table : Spanned) (r c : ℕ) (nothing : table.shown (Place.Cross r c) ≡ None) where
   -- where something is shown is another crossing
   another : (row col : ℕ) → is_some (table.shown (Place.Cross row col)) ≡ true → own r c (position row col, 0) ≡ false
@@ -165,14 +160,14 @@ module _ (table : Spanned) (r c : ℕ) (nothing : table.shown (Place.Cross r c) 
       by : (b : Bool) → own r c (position row col, 0) ≡ b → b ≡ false
       by false same = refl
       by true same =
-          let parts = both (r == row) (c == col) same in
+          let parts = and_parts (r == row) (c == col) same in
           let none : is_some {T = ℕ} None ≡ true = subst (λ o. is_some o ≡ true) ((λ i. table.shown (Place.Cross (sym (eqb-true r row parts.0) i) (sym (eqb-true c col parts.1) i))) ∙ nothing) shows in
           absurd cc
 
   none_at_edge : (row col : ℕ) (becomes : Option ℕ) → IsMissing r c (at_edge table row col becomes)
   unfolding at_edge
   none_at_edge row col becomes = missing_where r c (crossing row col && edge row col) (written_at row col becomes) (λ holds.
-      missing_at r c row col becomes (another row col (both (crossing row col) (edge row col) holds).0))
+      missing_at r c row col becomes (another row col (and_parts (crossing row col) (edge row col) holds).0))
     where
       crossing : ℕ → ℕ → Bool
       crossing row col = is_some (table.shown (Place.Cross row col))

@@ -60,8 +60,7 @@ unfoldable pub joined : Bool → Bool → (both beyond first edge : Option ℕ) 
 joined is_beyond is_first both beyond first edge = if is_beyond then (if is_first then both else beyond) else (if is_first then first else edge)
 
 module _ (table : Spanned) where
-  -- whether a cell of the table that no span of its row covers has something at its left: its edge or one of its crossings
-  -- there
+  -- whether a cell of the table that no span of its row covers has something at its left: its edge or one of its crossings there
   unfoldable pub has_left : Position → Bool
   has_left cell =
       is_inside table.shape.0 table.shape.1 cell

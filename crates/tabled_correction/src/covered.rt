@@ -4,8 +4,8 @@ ghost use Rattle.std.specs.Prelude.{◌≡◌, ◌||◌, ◌&&◌, ◌==◌, IfO
 ghost use Rattle.tabled_object.specs.declared.position.Position.{Position as At};
 ghost use Rattle.tabled_grid.specs.Table.{table};
 ghost use Rattle.tabled_layout.specs.Spans.{position_cmp};
-ghost use Rattle.tabled_layout.specs.Covering.{within_columns, within_rows, within_its_rows, covered_by_column_span, covered_by_row_span, covered_by_both_spans};
-ghost use Rattle.tabled_correction.specs.Covered.{has, is_in, covered_by, AreThose};
+ghost use Rattle.tabled_layout.specs.Covering.{covered_by_column_span, covered_by_row_span, covered_by_both_spans};
+ghost use Rattle.tabled_correction.specs.Covered.{has, is_in, AreThose};
 
 use crate::stretch::Stretch;
 use std::alloc::Global;

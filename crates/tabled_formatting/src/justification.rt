@@ -118,11 +118,7 @@ impl<R> CellOption<R, ColoredConfig> for Justification {
         _records: &mut R,
         cfg: &mut ColoredConfig,
         entity: Entity,
-    ) -> Result<(), OutOfMemory>
-        ensures ok { OnOk result (Changes (justification_set self.now entity) cfg.old cfg.new) }
-        ensures err { OnErr result (cfg.new ≡ cfg.old) }
-        ensures records { _records.new ≡ _records.old }
-    {
+    ) -> Result<(), OutOfMemory> {
         self.set(cfg.config_mut(), entity)
     }
 
@@ -143,12 +139,7 @@ impl<R, D> TableOption<R, ColoredConfig, D> for Justification {
         _records: &mut R,
         cfg: &mut ColoredConfig,
         _dims: &mut D,
-    ) -> Result<(), OutOfMemory>
-        ensures ok { OnOk result (Changes (justification_set self cells.Global) cfg.old cfg.new) }
-        ensures err { OnErr result (cfg.new ≡ cfg.old) }
-        ensures records { _records.new ≡ _records.old }
-        ensures sizes { _dims.new ≡ _dims.old }
-    {
+    ) -> Result<(), OutOfMemory> {
         self.set(cfg.config_mut(), Entity::Global)
     }
 

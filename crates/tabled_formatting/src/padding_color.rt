@@ -150,11 +150,7 @@ where
         _records: &mut R,
         cfg: &mut ColoredConfig,
         entity: Entity,
-    ) -> Result<(), OutOfMemory>
-        ensures ok { OnOk result (Changes (padding_set C.prefix_text C.suffix_text self.now entity) cfg.old cfg.new) }
-        ensures err { OnErr result (cfg.new ≡ cfg.old) }
-        ensures records { _records.new ≡ _records.old }
-    {
+    ) -> Result<(), OutOfMemory> {
         self.set(cfg.config_mut(), entity)
     }
 
@@ -177,12 +173,7 @@ where
         _records: &mut R,
         cfg: &mut ColoredConfig,
         _dims: &mut D,
-    ) -> Result<(), OutOfMemory>
-        ensures ok { OnOk result (Changes (padding_set C.prefix_text C.suffix_text self cells.Global) cfg.old cfg.new) }
-        ensures err { OnErr result (cfg.new ≡ cfg.old) }
-        ensures records { _records.new ≡ _records.old }
-        ensures sizes { _dims.new ≡ _dims.old }
-    {
+    ) -> Result<(), OutOfMemory> {
         self.set(cfg.config_mut(), Entity::Global)
     }
 

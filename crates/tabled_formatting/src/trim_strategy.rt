@@ -51,11 +51,7 @@ impl<R> CellOption<R, ColoredConfig> for TrimStrategy {
         _records: &mut R,
         cfg: &mut ColoredConfig,
         entity: Entity,
-    ) -> Result<(), OutOfMemory>
-        ensures ok { OnOk result (Changes (trim_set self.now entity) cfg.old cfg.new) }
-        ensures err { OnErr result (cfg.new ≡ cfg.old) }
-        ensures records { _records.new ≡ _records.old }
-    {
+    ) -> Result<(), OutOfMemory> {
         self.set(cfg.config_mut(), entity)
     }
 

@@ -1,30 +1,12 @@
 -- What the events of one level leave, and what those of several levels in a row do.
-use Rattle.std.proofs.Common.{◌≡◌, ℕ, Bool, true, false, cond, ◌&&◌, ◌||◌, ◌==◌, Option, Some, List, [], ◌∷◌, ◌++◌, refl, sym, ap, ◌∙◌, option_and_then, inl, inr, arith, ltb}
-use Rattle.std.proofs.lemmas.Bool.{ltb-true}
-use Rattle.std.proofs.lemmas.Bool.Decides.{eqb_tells}
-use Rattle.std.specs.Ordering.{nat_cmp, ordering_then, eq_by_cmp, is_eq}
-use Rattle.std.specs.declared.cmp.Ordering.{Ordering}
-use Rattle.std.specs.declared.cmp.Ordering.TheVariants.{Less, Equal, Greater}
+use Rattle.std.proofs.Common.{◌≡◌, Bool, true, false, cond, ◌||◌, Option, Some, List, [], ◌∷◌, ◌++◌, refl, sym, ap, ◌∙◌, option_and_then, Ordering}
+use Rattle.std.specs.Ordering.{eq_by_cmp}
 use Rattle.std.specs.FinMap as map
 use Rattle.tabled_grid.specs.Site.{Site}
 use Rattle.tabled_grid.specs.Event.{Written, Event, covered, replay}
 use Rattle.tabled_grid.specs.State.{entry_events}
 use Rattle.tabled_grid.proofs.Replay.{replay-nil, replay-append, covered-append, replay_uncovered}
 use Rattle.tabled_grid.proofs.Counting.{tied}
-
-pub is_eq-then : (a b : Ordering) → is_eq (ordering_then a b) ≡ (is_eq a && is_eq b)
-is_eq-then Less b = refl
-is_eq-then Equal b = refl
-is_eq-then Greater b = refl
-
--- numbers compare as equal where they are equal
-pub is_eq-nat_cmp : (n m : ℕ) → is_eq (nat_cmp n m) ≡ (n == m)
-is_eq-nat_cmp n m = chosen (ltb n m) (n == m) (λ less. elim (eqb_tells n m) [ inl same ↦ absurd (omega (arith, ltb-true n m less, same.1)) | inr other ↦ other.0 ])
-  where
-    chosen : (less same : Bool) → (less ≡ true → same ≡ false) → is_eq (cond less Less (cond same Equal Greater)) ≡ same
-    chosen true same h = sym (h refl)
-    chosen false true h = refl
-    chosen false false h = refl
 
 module _ {T : Type 0} (q : Site) where
   -- events that do not cover the site, in front of others

@@ -2,6 +2,7 @@
 use mathlib.Core.Bool.{beq}
 use Rattle.std.proofs.Common.{◌≡◌, subst, Bool, true, false, not, ◌||◌, Option, Some, None, is_some, List, [], ◌∷◌, refl, sym, ap, ◌∙◌, ◌↔◌, IsTrue}
 use Rattle.std.specs.List.{list_any}
+use Rattle.std.proofs.lemmas.Bool.{not-true}
 use Rattle.tabled_grid.specs.declared.borders.Borders.{Borders}
 use Rattle.tabled_grid.specs.Site.{Horizontal, Vertical, first, inner, last, Class, edges, crossings, class_value, same_class}
 use Rattle.tabled_grid.specs.State.{line_classes, has_class, HasNothing}
@@ -11,22 +12,13 @@ or_false : (a b : Bool) → (a || b) ≡ false → (a ≡ false) × (b ≡ false
 or_false true b h = absurd cc
 or_false false b h = (refl, h)
 
-not_true : (b : Bool) → not b ≡ true → b ≡ false
-not_true true h = absurd cc
-not_true false h = refl
-
 no_value : {T : Type 0} (o : Option T) → is_some o ≡ false → o ≡ None
 no_value None h = refl
 no_value (Some x) h = absurd cc
 
 many_false : (a b c d e f : Bool) → a ≡ false → b ≡ false → c ≡ false → d ≡ false → e ≡ false → f ≡ false → not (a || (b || (c || (d || (e || (f || false)))))) ≡ true
-many_false true b c d e f p q r s t u = absurd cc
-many_false false true c d e f p q r s t u = absurd cc
-many_false false false true d e f p q r s t u = absurd cc
-many_false false false false true e f p q r s t u = absurd cc
-many_false false false false false true f p q r s t u = absurd cc
-many_false false false false false false true p q r s t u = absurd cc
 many_false false false false false false false p q r s t u = refl
+many_false a b c d e f p q r s t u = absurd cc
 
 module _ {T : Type 0} (borders : Borders T) where
   none_of : (cs : List Class) → has_class borders cs ≡ false → (c : Class) → list_any (same_class c) cs ≡ true → class_value c borders ≡ None
@@ -45,7 +37,7 @@ module _ {T : Type 0} (borders : Borders T) where
   pub nothing_answer : IsTrue (not (has_class borders (line_classes Horizontal first) || (has_class borders (line_classes Horizontal inner) || (has_class borders (line_classes Horizontal last) || (has_class borders (line_classes Vertical first) || (has_class borders (line_classes Vertical inner) || (has_class borders (line_classes Vertical last) || false))))))) ↔ HasNothing borders
   nothing_answer = (
     λ h.
-        let top = or_false (has_class borders (line_classes Horizontal first)) _ (not_true _ h) in
+        let top = or_false (has_class borders (line_classes Horizontal first)) _ (not-true _ h) in
         let horizontal = or_false (has_class borders (line_classes Horizontal inner)) _ top.1 in
         let bottom = or_false (has_class borders (line_classes Horizontal last)) _ horizontal.1 in
         let left = or_false (has_class borders (line_classes Vertical first)) _ bottom.1 in

@@ -1,8 +1,8 @@
 -- The sides and corners of one cell, read together and erased together.
-use Rattle.std.proofs.Common.{◌≡◌, ℕ, ◌<◌, Bool, true, false, cond, ◌&&◌, ◌||◌, nat_lt, Option, Some, None, List, [], ◌∷◌, ◌++◌, refl, ap, sym, ◌∙◌, subst, option_and_then, arith}
-use Rattle.std.specs.Option.{option_map}
+use Rattle.std.proofs.Common.{◌≡◌, ℕ, ◌<◌, true, cond, ◌&&◌, nat_lt, Option, Some, None, List, [], ◌∷◌, ◌++◌, ap, sym, ◌∙◌, subst, option_and_then, arith, option_map}
 use Rattle.std.proofs.lemmas.Bool.Decides.{nat_tests}
 use Rattle.std.proofs.lemmas.List.Elements.{filter_map-append}
+use mathlib.Core.Bool.{or-false}
 use Rattle.tabled_border.specs.declared.border.Border.{Border}
 use Rattle.tabled_grid.specs.declared.place.Place.{Place}
 use Rattle.tabled_object.specs.declared.position.Position.{Position}
@@ -14,10 +14,6 @@ use Rattle.tabled_border.specs.Border.{no_border}
 use Rattle.tabled_grid.specs.Calls.{spot_of, cell_erased, places_erased, border_erased}
 use Rattle.tabled_grid.specs.CellBorder.{border_places, border_fields, border_shown}
 use Rattle.tabled_grid.proofs.Replay.{replay-nil, replay_cleared, Changes-append, Changes-nil}
-
-or-none : (b : Bool) → (b || false) ≡ b
-or-none true = refl
-or-none false = refl
 
 both_below : (r c rows cols : ℕ) → r < rows → c < cols → (nat_lt r rows && nat_lt c cols) ≡ true
 both_below r c rows cols h k = grind (arith, nat_tests)
@@ -45,7 +41,7 @@ border_inside keep shape pos places border h k are is =
 pub by_erasure : {T : Type 0} (region : Region) (old new : Site → Option (Written T)) → Changes (erase region ∷ []) old new → (q : Site) → new q ≡ cond (within region q) None (old q)
 unfolding Changes
 by_erasure region old new h q =
-    h q ∙ ap (λ b. cond b (replay (erase region ∷ []) q) (old q)) (or-none (within region q))
+    h q ∙ ap (λ b. cond b (replay (erase region ∷ []) q) (old q)) (or-false (within region q))
     ∙ ap (λ k. cond (within region q) k (old q)) (replay_cleared region [] q ∙ replay-nil q)
 
 -- two erasures of places are the erasure of all of them

@@ -1,10 +1,10 @@
 -- What the writes of a class record leave.
-use Rattle.std.proofs.Common.{◌≡◌, Bool, true, false, cond, ◌&&◌, ◌||◌, Option, Some, None, is_some, List, [], ◌∷◌, refl, sym, ap, ◌∙◌}
-use Rattle.std.specs.Option.{option_map}
+use Rattle.std.proofs.Common.{◌≡◌, Bool, true, false, cond, ◌&&◌, ◌||◌, Option, Some, None, is_some, List, [], ◌∷◌, refl, sym, ap, ◌∙◌, option_map}
 use Rattle.std.specs.List.{list_any, cons_option}
 use Rattle.tabled_grid.specs.declared.borders.Borders.{Borders}
 use Rattle.tabled_grid.specs.Site.{Horizontal, Vertical, first, inner, last, Class, edges, crossings, Site, of_class, class_value, same_class, same_site}
 use Rattle.tabled_grid.specs.Event.{Written, sign, Event, write, covered, replay}
+use Rattle.tabled_grid.specs.CustomLines.{no_borders}
 use Rattle.tabled_grid.specs.State.{classes, class_writes, HasNothing}
 use Rattle.tabled_grid.proofs.SameSite.{same_class-eq}
 use Rattle.tabled_grid.proofs.Replay.{replay-nil, replay-cons}
@@ -103,23 +103,7 @@ uncovered_other borders q other [] = refl
 uncovered_other borders q other (d ∷ ds) = uncovered_step q d (class_value d borders) (class_writes borders ds) (other d) (uncovered_other borders q other ds)
 
 -- the record with every field missing has nothing
-pub nothing_in : {T : Type 0} (borders : Borders T) → borders ≡ record {
-  top = None;
-  bottom = None;
-  left = None;
-  right = None;
-  top_left = None;
-  top_right = None;
-  bottom_left = None;
-  bottom_right = None;
-  top_intersection = None;
-  bottom_intersection = None;
-  left_intersection = None;
-  right_intersection = None;
-  horizontal = None;
-  vertical = None;
-  intersection = None;
-} → HasNothing borders
+pub nothing_in : {T : Type 0} (borders : Borders T) → borders ≡ no_borders → HasNothing borders
 nothing_in borders e (edges Horizontal first) = ap (λ b. b.top) e
 nothing_in borders e (edges Horizontal inner) = ap (λ b. b.horizontal) e
 nothing_in borders e (edges Horizontal last) = ap (λ b. b.bottom) e

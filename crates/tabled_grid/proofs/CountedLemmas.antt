@@ -1,16 +1,14 @@
 -- The numbers of lines stay right.
-use Rattle.std.proofs.Common.{◌≡◌, ℕ, Bool, true, ◌&&◌, Option, Some, None, is_some, IsSome, unwrap_or, refl, sym, ap, subst, ◌∙◌, Result, Ok, Err, OnOk, OnErr, ◌+◌, ◌<◌, ◌≤◌, ◌^◌, arith}
-use Rattle.std.specs.Ordering.{nat_cmp}
+use Rattle.std.proofs.Common.{◌≡◌, ℕ, Bool, true, ◌&&◌, Option, Some, None, is_some, IsSome, unwrap_or, refl, sym, ap, subst, ◌∙◌, Result, Ok, Err, OnOk, OnErr, ◌+◌, ◌-◌, ◌<◌, ◌^◌, min, arith, nat_cmp}
 use Rattle.std.specs.Cmp.{nat_cmp_total}
 use Rattle.std.specs.FinMap as map
 use Rattle.tabled_grid.specs.declared.place.LineOf.{LineOf}
-use Rattle.tabled_grid.specs.declared.lines.HorizontalLine.{HorizontalLine}
-use Rattle.tabled_grid.specs.declared.lines.VerticalLine.{VerticalLine}
+use Rattle.tabled_grid.specs.declared.line_numbers.LineNumbers.{LineNumbers}
 use Rattle.tabled_grid.specs.Keys.{line_cmp, spot_cmp, spots_total, exact_spots}
-use Rattle.tabled_grid.specs.Site.{Horizontal, Vertical, Spot, Edge, Crossing, same_line}
+use Rattle.tabled_grid.specs.Site.{Rank, first, inner, last, Spot}
 use Rattle.tabled_grid.specs.Drawn.{lies_on}
 use Rattle.tabled_grid.specs.Table.{count, passes, one_if}
-use Rattle.tabled_grid.specs.Counted.{number_at, first_line, second_line, CellsCounted, VerticalCounted, HorizontalCounted}
+use Rattle.tabled_grid.specs.Counted.{number_at, CellsCounted, number_of, numbers_of, exchanged, LinesCounted}
 use Rattle.tabled_grid.proofs.Counting.{count-insert, count-remove, count-empty, count_positive, count_from, count-le}
 
 here : {T : Type 0} (o : Option T) (b : Bool) → is_some o ≡ true → b ≡ true → (is_some o && b) ≡ true
@@ -87,138 +85,45 @@ no_cells_counted {T} numbers cells n c = record {
   few_cells = omega (arith, ap map.len c, map.len-empty spot_cmp T);
 }
 
--- a spot lies on its lines alone
-pub on_one_line : (line : LineOf) (spot : Spot) → second_line spot ≡ None → lies_on line spot ≡ same_line (first_line spot) line
-on_one_line (LineOf.Horizontal n) (Edge Horizontal r c) h = refl
-on_one_line (LineOf.Horizontal n) (Edge Vertical r c) h = refl
-on_one_line (LineOf.Vertical n) (Edge Horizontal r c) h = refl
-on_one_line (LineOf.Vertical n) (Edge Vertical r c) h = refl
-on_one_line line (Crossing r c) h = absurd cc
+module _ {L : Type 0} (draws : Rank → L → Bool) (numbers : LineNumbers) (lines : map.FinMap nat_cmp L) (h : LinesCounted draws numbers lines) (n : ℕ) where
+  -- the number of the lines that draw those of a rank
+  abbrev drawing : Rank → map.FinMap nat_cmp L → ℕ
+  drawing rank m = count (λ _ line. draws rank line) m
 
-pub on_two_lines : (line second : LineOf) (spot : Spot) → second_line spot ≡ Some second → one_if (lies_on line spot) ≡ one_if (same_line (first_line spot) line) + one_if (same_line second line)
-on_two_lines line second (Edge d r c) h = absurd cc
-on_two_lines line second (Crossing r c) h = ap (λ o. one_if (lies_on line (Crossing r c))) h ∙ crossed line ∙ ap (λ o. one_if (same_line (LineOf.Horizontal r) line) + one_if (same_line (unwrap_or o second) line)) h
-  where
-    crossed : (l : LineOf) → one_if (lies_on l (Crossing r c)) ≡ one_if (same_line (LineOf.Horizontal r) l) + one_if (same_line (LineOf.Vertical c) l)
-    crossed (LineOf.Horizontal n) = omega arith
-    crossed (LineOf.Vertical n) = omega arith
-
-module _ {T : Type 0} (tops bottoms : ℕ) (lines : map.FinMap nat_cmp (VerticalLine T)) (h : VerticalCounted tops bottoms lines) where
-  pub tops_small : tops < 2 ^ 64
-  tops_small = omega (arith, h.tops_are, count-le nat_cmp_total map.nat_cmp-IsAntisymmetric (λ _ x. is_some x.top) lines, h.few)
-
-  pub tops_taken : (n : ℕ) (line : VerticalLine T) → one_if (passes (λ old. is_some old.top) (map.get lines n)) ≤ tops + one_if (is_some line.top)
-  tops_taken n line = omega (arith, h.tops_are, count-insert nat_cmp_total map.nat_cmp-IsAntisymmetric (λ _ x. is_some x.top) lines n line)
-
-  pub tops_let_go : (n : ℕ) → one_if (passes (λ old. is_some old.top) (map.get lines n)) ≤ tops + 0
-  tops_let_go n = omega (arith, h.tops_are, count-remove nat_cmp_total map.nat_cmp-IsAntisymmetric (λ _ x. is_some x.top) lines n)
-
-  pub bottoms_small : bottoms < 2 ^ 64
-  bottoms_small = omega (arith, h.bottoms_are, count-le nat_cmp_total map.nat_cmp-IsAntisymmetric (λ _ x. is_some x.bottom) lines, h.few)
-
-  pub bottoms_taken : (n : ℕ) (line : VerticalLine T) → one_if (passes (λ old. is_some old.bottom) (map.get lines n)) ≤ bottoms + one_if (is_some line.bottom)
-  bottoms_taken n line = omega (arith, h.bottoms_are, count-insert nat_cmp_total map.nat_cmp-IsAntisymmetric (λ _ x. is_some x.bottom) lines n line)
-
-  pub bottoms_let_go : (n : ℕ) → one_if (passes (λ old. is_some old.bottom) (map.get lines n)) ≤ bottoms + 0
-  bottoms_let_go n = omega (arith, h.bottoms_are, count-remove nat_cmp_total map.nat_cmp-IsAntisymmetric (λ _ x. is_some x.bottom) lines n)
-
-  pub vertical_put : (tops' bottoms' : ℕ) (lines' : map.FinMap nat_cmp (VerticalLine T)) (n : ℕ) (line : VerticalLine T) → lines' ≡ map.insert lines n line
-      → tops' + one_if (passes (λ old. is_some old.top) (map.get lines n)) ≡ tops + one_if (is_some line.top)
-      → bottoms' + one_if (passes (λ old. is_some old.bottom) (map.get lines n)) ≡ bottoms + one_if (is_some line.bottom)
-      → map.len lines' < 2 ^ 64 → VerticalCounted tops' bottoms' lines'
-  vertical_put tops' bottoms' lines' n line e by_tops by_bottoms small = record {
-    tops_are = let same : count (λ _ x. is_some x.top) lines' ≡ count (λ _ x. is_some x.top) (map.insert lines n line) = ap (count (λ _ x. is_some x.top)) e in omega (arith, h.tops_are, by_tops, count-insert nat_cmp_total map.nat_cmp-IsAntisymmetric (λ _ x. is_some x.top) lines n line, same);
-    bottoms_are = let same : count (λ _ x. is_some x.bottom) lines' ≡ count (λ _ x. is_some x.bottom) (map.insert lines n line) = ap (count (λ _ x. is_some x.bottom)) e in omega (arith, h.bottoms_are, by_bottoms, count-insert nat_cmp_total map.nat_cmp-IsAntisymmetric (λ _ x. is_some x.bottom) lines n line, same);
-    few = small;
+  exchanged_right : (put : Option L) (lines' : map.FinMap nat_cmp L) → map.len lines' < 2 ^ 64
+      → ((rank : Rank) → drawing rank lines' + one_if (passes (draws rank) (map.get lines n)) ≡ drawing rank lines + one_if (passes (draws rank) put))
+      → LinesCounted draws (exchanged numbers (numbers_of draws (map.get lines n)) (numbers_of draws put)) lines'
+  exchanged_right put lines' few balance = record {
+    numbers_are = elim [ first ↦ right first | inner ↦ right inner | last ↦ right last ];
+    few = few;
   }
+    where
+      right : (rank : Rank) → min (number_of rank numbers - one_if (passes (draws rank) (map.get lines n)) + one_if (passes (draws rank) put)) (2 ^ 64 - 1) ≡ drawing rank lines'
+      right rank =
+          let there = count-remove nat_cmp_total map.nat_cmp-IsAntisymmetric (λ _ line. draws rank line) lines n in
+          omega (arith, few, h.numbers_are rank, balance rank, there, count-le nat_cmp_total map.nat_cmp-IsAntisymmetric (λ _ line. draws rank line) lines')
 
-  pub vertical_taken : (tops' bottoms' : ℕ) (lines' : map.FinMap nat_cmp (VerticalLine T)) (n : ℕ) → lines' ≡ map.remove lines n
-      → tops' + one_if (passes (λ old. is_some old.top) (map.get lines n)) ≡ tops + 0
-      → bottoms' + one_if (passes (λ old. is_some old.bottom) (map.get lines n)) ≡ bottoms + 0
-      → map.len lines' < 2 ^ 64 → VerticalCounted tops' bottoms' lines'
-  vertical_taken tops' bottoms' lines' n e by_tops by_bottoms small = record {
-    tops_are = let same : count (λ _ x. is_some x.top) lines' ≡ count (λ _ x. is_some x.top) (map.remove lines n) = ap (count (λ _ x. is_some x.top)) e in omega (arith, h.tops_are, by_tops, count-remove nat_cmp_total map.nat_cmp-IsAntisymmetric (λ _ x. is_some x.top) lines n, same);
-    bottoms_are = let same : count (λ _ x. is_some x.bottom) lines' ≡ count (λ _ x. is_some x.bottom) (map.remove lines n) = ap (count (λ _ x. is_some x.bottom)) e in omega (arith, h.bottoms_are, by_bottoms, count-remove nat_cmp_total map.nat_cmp-IsAntisymmetric (λ _ x. is_some x.bottom) lines n, same);
-    few = small;
-  }
+  pub line_put : (line : L) (numbers' : LineNumbers) (lines' : map.FinMap nat_cmp L) → lines' ≡ map.insert lines n line → map.len lines' < 2 ^ 64
+      → numbers' ≡ exchanged numbers (numbers_of draws (map.get lines n)) (numbers_of draws (Some line)) → LinesCounted draws numbers' lines'
+  line_put line numbers' lines' e few f =
+      subst (λ x. LinesCounted draws x lines') (sym f) (exchanged_right (Some line) lines' few (λ rank.
+      ap (λ m. drawing rank m + one_if (passes (draws rank) (map.get lines n))) e ∙ count-insert nat_cmp_total map.nat_cmp-IsAntisymmetric (λ _ line. draws rank line) lines n line))
 
-  pub vertical_kept : (lines' : map.FinMap nat_cmp (VerticalLine T)) → lines' ≡ lines → VerticalCounted tops bottoms lines'
-  vertical_kept lines' e = subst (VerticalCounted tops bottoms) (sym e) h
-
-module _ {T : Type 0} (lefts rights betweens : ℕ) (lines : map.FinMap nat_cmp (HorizontalLine T)) (h : HorizontalCounted lefts rights betweens lines) where
-  pub lefts_small : lefts < 2 ^ 64
-  lefts_small = omega (arith, h.lefts_are, count-le nat_cmp_total map.nat_cmp-IsAntisymmetric (λ _ x. is_some x.left) lines, h.few)
-
-  pub lefts_taken : (n : ℕ) (line : HorizontalLine T) → one_if (passes (λ old. is_some old.left) (map.get lines n)) ≤ lefts + one_if (is_some line.left)
-  lefts_taken n line = omega (arith, h.lefts_are, count-insert nat_cmp_total map.nat_cmp-IsAntisymmetric (λ _ x. is_some x.left) lines n line)
-
-  pub lefts_let_go : (n : ℕ) → one_if (passes (λ old. is_some old.left) (map.get lines n)) ≤ lefts + 0
-  lefts_let_go n = omega (arith, h.lefts_are, count-remove nat_cmp_total map.nat_cmp-IsAntisymmetric (λ _ x. is_some x.left) lines n)
-
-  pub rights_small : rights < 2 ^ 64
-  rights_small = omega (arith, h.rights_are, count-le nat_cmp_total map.nat_cmp-IsAntisymmetric (λ _ x. is_some x.right) lines, h.few)
-
-  pub rights_taken : (n : ℕ) (line : HorizontalLine T) → one_if (passes (λ old. is_some old.right) (map.get lines n)) ≤ rights + one_if (is_some line.right)
-  rights_taken n line = omega (arith, h.rights_are, count-insert nat_cmp_total map.nat_cmp-IsAntisymmetric (λ _ x. is_some x.right) lines n line)
-
-  pub rights_let_go : (n : ℕ) → one_if (passes (λ old. is_some old.right) (map.get lines n)) ≤ rights + 0
-  rights_let_go n = omega (arith, h.rights_are, count-remove nat_cmp_total map.nat_cmp-IsAntisymmetric (λ _ x. is_some x.right) lines n)
-
-  pub betweens_small : betweens < 2 ^ 64
-  betweens_small = omega (arith, h.betweens_are, count-le nat_cmp_total map.nat_cmp-IsAntisymmetric (λ _ x. is_some x.intersection) lines, h.few)
-
-  pub betweens_taken : (n : ℕ) (line : HorizontalLine T) → one_if (passes (λ old. is_some old.intersection) (map.get lines n)) ≤ betweens + one_if (is_some line.intersection)
-  betweens_taken n line = omega (arith, h.betweens_are, count-insert nat_cmp_total map.nat_cmp-IsAntisymmetric (λ _ x. is_some x.intersection) lines n line)
-
-  pub betweens_let_go : (n : ℕ) → one_if (passes (λ old. is_some old.intersection) (map.get lines n)) ≤ betweens + 0
-  betweens_let_go n = omega (arith, h.betweens_are, count-remove nat_cmp_total map.nat_cmp-IsAntisymmetric (λ _ x. is_some x.intersection) lines n)
-
-  pub horizontal_put : (lefts' rights' betweens' : ℕ) (lines' : map.FinMap nat_cmp (HorizontalLine T)) (n : ℕ) (line : HorizontalLine T) → lines' ≡ map.insert lines n line
-      → lefts' + one_if (passes (λ old. is_some old.left) (map.get lines n)) ≡ lefts + one_if (is_some line.left)
-      → rights' + one_if (passes (λ old. is_some old.right) (map.get lines n)) ≡ rights + one_if (is_some line.right)
-      → betweens' + one_if (passes (λ old. is_some old.intersection) (map.get lines n)) ≡ betweens + one_if (is_some line.intersection)
-      → map.len lines' < 2 ^ 64 → HorizontalCounted lefts' rights' betweens' lines'
-  horizontal_put lefts' rights' betweens' lines' n line e by_lefts by_rights by_betweens small = record {
-    lefts_are = let same : count (λ _ x. is_some x.left) lines' ≡ count (λ _ x. is_some x.left) (map.insert lines n line) = ap (count (λ _ x. is_some x.left)) e in omega (arith, h.lefts_are, by_lefts, count-insert nat_cmp_total map.nat_cmp-IsAntisymmetric (λ _ x. is_some x.left) lines n line, same);
-    rights_are = let same : count (λ _ x. is_some x.right) lines' ≡ count (λ _ x. is_some x.right) (map.insert lines n line) = ap (count (λ _ x. is_some x.right)) e in omega (arith, h.rights_are, by_rights, count-insert nat_cmp_total map.nat_cmp-IsAntisymmetric (λ _ x. is_some x.right) lines n line, same);
-    betweens_are = let same : count (λ _ x. is_some x.intersection) lines' ≡ count (λ _ x. is_some x.intersection) (map.insert lines n line) = ap (count (λ _ x. is_some x.intersection)) e in omega (arith, h.betweens_are, by_betweens, count-insert nat_cmp_total map.nat_cmp-IsAntisymmetric (λ _ x. is_some x.intersection) lines n line, same);
-    few = small;
-  }
-
-  pub horizontal_taken : (lefts' rights' betweens' : ℕ) (lines' : map.FinMap nat_cmp (HorizontalLine T)) (n : ℕ) → lines' ≡ map.remove lines n
-      → lefts' + one_if (passes (λ old. is_some old.left) (map.get lines n)) ≡ lefts + 0
-      → rights' + one_if (passes (λ old. is_some old.right) (map.get lines n)) ≡ rights + 0
-      → betweens' + one_if (passes (λ old. is_some old.intersection) (map.get lines n)) ≡ betweens + 0
-      → map.len lines' < 2 ^ 64 → HorizontalCounted lefts' rights' betweens' lines'
-  horizontal_taken lefts' rights' betweens' lines' n e by_lefts by_rights by_betweens small = record {
-    lefts_are = let same : count (λ _ x. is_some x.left) lines' ≡ count (λ _ x. is_some x.left) (map.remove lines n) = ap (count (λ _ x. is_some x.left)) e in omega (arith, h.lefts_are, by_lefts, count-remove nat_cmp_total map.nat_cmp-IsAntisymmetric (λ _ x. is_some x.left) lines n, same);
-    rights_are = let same : count (λ _ x. is_some x.right) lines' ≡ count (λ _ x. is_some x.right) (map.remove lines n) = ap (count (λ _ x. is_some x.right)) e in omega (arith, h.rights_are, by_rights, count-remove nat_cmp_total map.nat_cmp-IsAntisymmetric (λ _ x. is_some x.right) lines n, same);
-    betweens_are = let same : count (λ _ x. is_some x.intersection) lines' ≡ count (λ _ x. is_some x.intersection) (map.remove lines n) = ap (count (λ _ x. is_some x.intersection)) e in omega (arith, h.betweens_are, by_betweens, count-remove nat_cmp_total map.nat_cmp-IsAntisymmetric (λ _ x. is_some x.intersection) lines n, same);
-    few = small;
-  }
-
-  pub horizontal_kept : (lines' : map.FinMap nat_cmp (HorizontalLine T)) → lines' ≡ lines → HorizontalCounted lefts rights betweens lines'
-  horizontal_kept lines' e = subst (HorizontalCounted lefts rights betweens) (sym e) h
+  pub line_taken : (numbers' : LineNumbers) (lines' : map.FinMap nat_cmp L) → lines' ≡ map.remove lines n → map.len lines' < 2 ^ 64
+      → numbers' ≡ exchanged numbers (numbers_of draws (map.get lines n)) (numbers_of draws None) → LinesCounted draws numbers' lines'
+  line_taken numbers' lines' e few f =
+      subst (λ x. LinesCounted draws x lines') (sym f) (exchanged_right None lines' few (λ rank.
+      let less = ap (λ m. drawing rank m + one_if (passes (draws rank) (map.get lines n))) e ∙ count-remove nat_cmp_total map.nat_cmp-IsAntisymmetric (λ _ line. draws rank line) lines n in
+      omega (arith, less)))
 
 -- without custom lines nothing is counted
-pub no_vertical_counted : {T : Type 0} (t b : ℕ) (lines : map.FinMap nat_cmp (VerticalLine T)) → t ≡ 0 → b ≡ 0 → lines ≡ map.empty → VerticalCounted t b lines
-no_vertical_counted {T} t b lines t0 b0 e = record {
-  tops_are = t0 ∙ sym (ap (count (λ _ x. is_some x.top)) e ∙ count-empty {X = VerticalLine T} nat_cmp_total map.nat_cmp-IsAntisymmetric (λ _ x. is_some x.top));
-  bottoms_are = b0 ∙ sym (ap (count (λ _ x. is_some x.bottom)) e ∙ count-empty {X = VerticalLine T} nat_cmp_total map.nat_cmp-IsAntisymmetric (λ _ x. is_some x.bottom));
-  few = omega (arith, ap map.len e, map.len-empty nat_cmp (VerticalLine T));
+pub no_lines_counted : {L : Type 0} (draws : Rank → L → Bool) (numbers : LineNumbers) (lines : map.FinMap nat_cmp L) → numbers ≡ record { first = 0; inner = 0; last = 0 } → lines ≡ map.empty → LinesCounted draws numbers lines
+no_lines_counted {L} draws numbers lines n e = record {
+  numbers_are = λ rank. ap (number_of rank) n ∙ none rank ∙ sym (ap (count (λ _ line. draws rank line)) e ∙ count-empty {X = L} nat_cmp_total map.nat_cmp-IsAntisymmetric (λ _ line. draws rank line));
+  few = omega (arith, ap map.len e, map.len-empty nat_cmp L);
 }
-
-pub no_horizontal_counted : {T : Type 0} (l r w : ℕ) (lines : map.FinMap nat_cmp (HorizontalLine T)) → l ≡ 0 → r ≡ 0 → w ≡ 0 → lines ≡ map.empty → HorizontalCounted l r w lines
-no_horizontal_counted {T} l r w lines l0 r0 w0 e = record {
-  lefts_are = l0 ∙ sym (ap (count (λ _ x. is_some x.left)) e ∙ count-empty {X = HorizontalLine T} nat_cmp_total map.nat_cmp-IsAntisymmetric (λ _ x. is_some x.left));
-  rights_are = r0 ∙ sym (ap (count (λ _ x. is_some x.right)) e ∙ count-empty {X = HorizontalLine T} nat_cmp_total map.nat_cmp-IsAntisymmetric (λ _ x. is_some x.right));
-  betweens_are = w0 ∙ sym (ap (count (λ _ x. is_some x.intersection)) e ∙ count-empty {X = HorizontalLine T} nat_cmp_total map.nat_cmp-IsAntisymmetric (λ _ x. is_some x.intersection));
-  few = omega (arith, ap map.len e, map.len-empty nat_cmp (HorizontalLine T));
-}
-
--- results for what they say
-pub settled : (was now a b : Bool) (n : ℕ) → was ≡ a → now ≡ b → one_if a ≤ n + one_if b → one_if was ≤ n + one_if now
-settled was now a b n e f h = subst (λ x. one_if x ≤ n + one_if now) (sym e) (subst (λ x. one_if a ≤ n + one_if x) (sym f) h)
-
-pub exchanged : (was now a b : Bool) (new old : ℕ) → was ≡ a → now ≡ b → new + one_if was ≡ old + one_if now → new + one_if a ≡ old + one_if b
-exchanged was now a b new old e f h = subst (λ x. new + one_if x ≡ old + one_if b) e (subst (λ x. new + one_if was ≡ old + one_if x) f h)
+  where
+    none : (rank : Rank) → number_of rank (record { first = 0; inner = 0; last = 0 }) ≡ 0
+    none first = refl
+    none inner = refl
+    none last = refl

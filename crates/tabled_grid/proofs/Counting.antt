@@ -1,8 +1,7 @@
 -- How a count of keys goes with a map.
-use Rattle.std.proofs.Common.{◌≡◌, ℕ, Bool, true, false, cond, Option, Some, None, is_some, ◌⊎◌, inl, inr, zero, suc, List, [], ◌∷◌, length, refl, sym, ap, ◌∙◌, ◌+◌, ◌-◌, ◌<◌, ◌≤◌, arith, filter}
+use Rattle.std.proofs.Common.{◌≡◌, ℕ, Bool, true, false, cond, Option, Some, None, is_some, ◌⊎◌, inl, inr, zero, suc, List, [], ◌∷◌, length, refl, sym, ap, ◌∙◌, ◌+◌, ◌-◌, ◌<◌, ◌≤◌, arith, filter, Ordering}
 use Rattle.std.specs.Ordering.{eq_by_cmp}
 use Rattle.std.specs.Cmp.{IsTotalOrder, eq_by_cmp_equiv, Equal-is}
-use Rattle.std.specs.declared.cmp.Ordering.{Ordering}
 use Rattle.std.specs.FinMap as map
 use Rattle.tabled_grid.specs.Table.{table, passes, count, one_if}
 use Rattle.tabled_grid.proofs.Tables.{len-table}

@@ -1,7 +1,8 @@
 -- The test of drawn lines decides the fact.
 use Rattle.std.proofs.Common.{◌≡◌, ℕ, Bool, true, false, cond, ◌&&◌, ◌||◌, Option, Some, None, List, [], ◌∷◌, refl, sym, ap, ◌∙◌, IsTrue, is_some, ◌↔◌, leb, ◌⊎◌, inl, inr}
 use Rattle.std.specs.List.{list_any}
-use Rattle.std.proofs.lemmas.Bool.{leb-true, le-leb}
+use Rattle.std.proofs.lemmas.Bool.{leb-true, le-leb, or_right, and_from, and_parts}
+use Rattle.std.specs.Cmp.{both_ways}
 use Rattle.tabled_grid.specs.declared.place.LineOf.{LineOf}
 use Rattle.tabled_grid.specs.Site.{Site, same_site}
 use Rattle.tabled_grid.specs.Event.{Written, Event, write, erase, within, covered, replay, Shows}
@@ -46,32 +47,20 @@ any_of_site p (x ∷ xs) q h g =
       | true ↦ λ e _. ap (λ b. b || list_any p xs) (ap p (sym (same_site-eq q x e)) ∙ g)
       | false ↦ λ _ rest. or_right (p x) _ (any_of_site p xs q rest g)
     ] refl h
-  where
-    or_right : (a b : Bool) → b ≡ true → (a || b) ≡ true
-    or_right true b e = refl
-    or_right false b e = e
-
-both_true : (a b : Bool) → a ≡ true → b ≡ true → (a && b) ≡ true
-both_true true b e f = f
-both_true false b e f = absurd cc
-
-both_parts : (a b : Bool) → (a && b) ≡ true → (a ≡ true) × (b ≡ true)
-both_parts true b h = (refl, h)
-both_parts false b h = absurd cc
 
 -- a line is drawn by the test exactly where something that is kept draws it
 pub drawn-Drawn : {T : Type 0} (es : List (Event T)) (count : ℕ) (line : LineOf) → IsTrue (drawn es count line) ↔ Drawn (replay es) count line
 unfolding drawn
 drawn-Drawn es count line = (
   λ h.
-      let parts = both_parts (leb (number line) count) _ h in
+      let parts = and_parts (leb (number line) count) _ h in
       let found = any_found (λ q. draws count line q && is_some (replay es q)) (written es) parts.1 in
-      let halves = both_parts (draws count line found.0) (is_some (replay es found.0)) found.1 in
+      let halves = and_parts (draws count line found.0) (is_some (replay es found.0)) found.1 in
       record { no_further = leb-true (number line) count parts.0; by = found.0; draws_it = halves.0; is_kept = halves.1 },
   λ d.
-      both_true (leb (number line) count) _ (le-leb (number line) count d.no_further)
+      and_from (leb (number line) count) _ (le-leb (number line) count d.no_further)
       (any_of_site (λ q. draws count line q && is_some (replay es q)) (written es) d.by (replay_written es d.by d.is_kept)
-      (both_true (draws count line d.by) (is_some (replay es d.by)) d.draws_it d.is_kept)),
+      (and_from (draws count line d.by) (is_some (replay es d.by)) d.draws_it d.is_kept)),
 )
 
 -- a keeping that shows the events draws the same lines
@@ -82,16 +71,10 @@ Drawn-shown es keep count line shows = (
   λ d. record { no_further = d.no_further; by = d.by; draws_it = d.draws_it; is_kept = ap is_some (shows d.by) ∙ d.is_kept },
 )
 
-same_truth : (a b : Bool) → (a ≡ true → b ≡ true) → (b ≡ true → a ≡ true) → a ≡ b
-same_truth true true f g = refl
-same_truth true false f g = sym (f refl)
-same_truth false true f g = g refl
-same_truth false false f g = refl
-
 -- whether a line is drawn is the test of any list of events that is shown
 pub drawn-answer : {T : Type 0} (es : List (Event T)) (keep : Site → Option (Written T)) (count : ℕ) (line : LineOf) (answer : Bool) → Shows es keep → IsTrue answer ↔ Drawn keep count line → answer ≡ drawn es count line
 drawn-answer es keep count line answer shows says =
-    same_truth answer (drawn es count line)
+    both_ways answer (drawn es count line)
     (λ yes. (drawn-Drawn es count line).1 ((Drawn-shown es keep count line shows).0 (says.0 yes)))
     (λ yes. says.1 ((Drawn-shown es keep count line shows).1 ((drawn-Drawn es count line).0 yes)))
 

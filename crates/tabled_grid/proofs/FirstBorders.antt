@@ -1,7 +1,5 @@
 -- Borders written where nothing is kept at the cell level, and taken back by an erasure of that level.
-use Rattle.std.proofs.Common.{◌≡◌, ℕ, ◌==◌, Bool, true, false, cond, ◌||◌, Option, Some, None, List, [], ◌∷◌, ◌++◌, refl, ap, sym, ◌∙◌}
-use Rattle.std.specs.Option.{option_map}
-use Rattle.std.specs.List.{zip}
+use Rattle.std.proofs.Common.{◌≡◌, ℕ, ◌==◌, Bool, true, false, cond, ◌||◌, Option, Some, None, List, [], ◌∷◌, ◌++◌, refl, ap, sym, ◌∙◌, option_map, zip}
 use Rattle.std.specs.FinMap as map
 use Rattle.tabled_border.specs.declared.border.Border.{Border}
 use Rattle.tabled_object.specs.declared.position.Position.{Position}
@@ -11,7 +9,7 @@ use Rattle.tabled_grid.specs.declared.place.LineOf.{LineOf}
 use Rattle.tabled_grid.specs.declared.place.Place.{Place}
 use Rattle.tabled_grid.specs.CellBorder.{border_places, border_fields}
 use Rattle.tabled_grid.specs.Keys.{spot_cmp}
-use Rattle.tabled_grid.specs.Site.{Spot, Site, the_default, of_class, of_line, at_spot, at_offset, level, same_site}
+use Rattle.tabled_grid.specs.Site.{Spot, Site, of_line, at_spot, at_offset, level, same_site}
 use Rattle.tabled_grid.specs.Event.{sign, level_sites, erase, covered, replay, Changes}
 use Rattle.tabled_grid.specs.State.{State, state_at, HasNoCells}
 use Rattle.tabled_grid.specs.Calls.{spot_of, border_set, borders_of, places_set}
@@ -23,11 +21,8 @@ use Rattle.tabled_grid.proofs.Seen.{as_events}
 
 -- a site of another level is at no edge and no crossing
 other_level : (q : Site) (spot : Spot) → (level q == 4) ≡ false → same_site q (at_spot spot) ≡ false
-other_level the_default spot h = refl
-other_level (of_class c) spot h = refl
-other_level (of_line l p) spot h = refl
 other_level (at_spot s) spot h = absurd cc
-other_level (at_offset d r c o) spot h = refl
+other_level q spot h = refl
 
 module _ {T : Type 0} where
   -- a border is written at the cell level alone
@@ -49,13 +44,10 @@ module _ {T : Type 0} where
       changes q ∙ ap (λ b. cond b (replay (border_set pos border) q) (state_at between q)) (places_uncovered (zip (border_fields (border_places pos)) (border_fields border)) q h) ∙ same q h
 
   no_cell : (store : State T) → HasNoCells store → (q : Site) → (level q == 4) ≡ true → state_at store q ≡ None
-  no_cell store none the_default h = absurd cc
-  no_cell store none (of_class c) h = absurd cc
-  no_cell store none (of_line (LineOf.Horizontal n) p) h = absurd cc
-  no_cell store none (of_line (LineOf.Vertical n) p) h = absurd cc
   no_cell store none (at_spot spot) h = ap (λ cells. option_map sign (map.get cells spot)) none ∙ ap (option_map sign) (map.get-empty spot_cmp spot)
+  no_cell store none (of_line (LineOf.Vertical n) p) h = absurd cc
   no_cell store none (at_offset d r c (Offset.Start n)) h = absurd cc
-  no_cell store none (at_offset d r c (Offset.End n)) h = absurd cc
+  no_cell store none q h = absurd cc
 
   -- the cell level erased again
   pub borders_taken_back : (old between new : State T) → HasNoCells old → IsSameBesideCells old between → Changes (erase (level_sites 4) ∷ []) (state_at between) (state_at new) → new ≡ old

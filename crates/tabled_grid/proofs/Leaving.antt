@@ -1,19 +1,13 @@
 -- Lists of writes that agree with one function of the sites: what such a list leaves, in whatever order it writes and
 -- however often at one site.
-use Rattle.std.proofs.Common.{◌≡◌, Bool, true, false, cond, ◌&&◌, ◌||◌, is_some, Option, Some, None, List, [], ◌∷◌, ◌++◌, refl, sym, ap, ◌∙◌}
-use Rattle.std.specs.Option.{option_map}
+use Rattle.std.proofs.Common.{◌≡◌, Bool, true, false, cond, ◌&&◌, ◌||◌, is_some, Option, Some, None, List, [], ◌∷◌, ◌++◌, refl, sym, ap, ◌∙◌, option_map}
 use Rattle.std.specs.List.{filter_map, list_any, cons_option}
 use Rattle.tabled_grid.specs.Site.{Spot, Site, the_default, of_class, of_line, at_spot, at_offset, same_spot}
 use Rattle.tabled_grid.specs.Event.{sign, Written, Event, write, erase, covers, covered, left_by, replay, Changes}
-use Rattle.std.specs.Cmp.{eq_by_cmp_equiv}
+use Rattle.std.specs.Cmp.{eq_by_cmp_equiv, both_ways}
 use Rattle.tabled_grid.specs.Keys.{spots_total, same_spot-eq, is_same_spot}
 use Rattle.tabled_grid.proofs.SameSite.{same_site-eq}
 use Rattle.tabled_grid.proofs.Replay.{replay-cons}
-
-same_truth : (a b : Bool) → (a ≡ true → b ≡ true) → (b ≡ true → a ≡ true) → a ≡ b
-same_truth true b f g = sym (f refl)
-same_truth false true f g = g refl
-same_truth false false f g = refl
 
 either : (a b : Bool) → (a || b) ≡ true → {P : Type 0} → (a ≡ true → P) → (b ≡ true → P) → P
 either true b h f g = f refl
@@ -76,7 +70,7 @@ module _ {T : Type 0} (value : Site → Option T) where
 
   -- an event covers a site exactly where the function has something there
   pub covered_is : (es : List (Event T)) (q : Site) → Leaves es → covered es q ≡ is_some (value q)
-  covered_is es q h = same_truth (covered es q) (is_some (value q)) (there es q h.all_of) (h.everywhere q)
+  covered_is es q h = both_ways (covered es q) (is_some (value q)) (there es q h.all_of) (h.everywhere q)
 
   as_value : (es : List (Event T)) (q : Site) (o : Option (Written T)) → Leaves es → cond (covered es q) (replay es q) o ≡ cond (is_some (value q)) (option_map sign (value q)) o
   as_value es q o h =

@@ -1,12 +1,11 @@
 -- What a custom line put at its index leaves.
-use Rattle.std.proofs.Common.{◌≡◌, ℕ, Bool, true, false, cond, ◌&&◌, ◌||◌, ◌==◌, Option, Some, None, List, [], ◌∷◌, ◌++◌, refl, sym, ap, ◌∙◌, eq-eqb}
-use Rattle.std.proofs.lemmas.Bool.{eqb-true}
-use Rattle.std.specs.Option.{option_map}
+use Rattle.std.proofs.Common.{◌≡◌, ℕ, Bool, true, false, cond, ◌&&◌, ◌||◌, ◌==◌, Option, Some, None, List, [], ◌∷◌, ◌++◌, refl, sym, ap, ◌∙◌, eq-eqb, eqb-true, option_map}
+use mathlib.Core.Bool.{and-false}
+use Rattle.std.specs.Cmp.{both_ways}
 use Rattle.tabled_grid.specs.declared.place.LineOf.{LineOf}
 use Rattle.tabled_grid.specs.declared.lines.HorizontalLine.{HorizontalLine}
 use Rattle.tabled_grid.specs.declared.lines.VerticalLine.{VerticalLine}
-use Rattle.tabled_grid.specs.declared.offset.Offset.{Offset}
-use Rattle.tabled_grid.specs.Site.{Rank, first, inner, last, Part, mark, main_edges, meeting, Site, the_default, of_class, of_line, at_spot, at_offset, same_rank, same_part, same_line, same_site}
+use Rattle.tabled_grid.specs.Site.{Rank, first, inner, last, Part, mark, main_edges, meeting, Site, of_line, same_rank, same_part, same_line, same_site}
 use Rattle.tabled_grid.specs.Event.{sign, standing, Event, write, erase, line_sites, within, covered, replay}
 use Rattle.tabled_grid.specs.Lines.{part_write, horizontal_line_set, vertical_line_set}
 use Rattle.tabled_grid.specs.State.{horizontal_part, vertical_part}
@@ -26,17 +25,8 @@ same_rank-refl inner = refl
 same_rank-refl last = refl
 
 same_part-refl : (p : Part) → same_part p p ≡ true
-same_part-refl mark = refl
-same_part-refl main_edges = refl
 same_part-refl (meeting r) = same_rank-refl r
-
-and-false : (b : Bool) → (b && false) ≡ false
-and-false true = refl
-and-false false = refl
-
-or-false : (b : Bool) → (b || false) ≡ b
-or-false true = refl
-or-false false = refl
+same_part-refl p = refl
 
 -- the events of a line of either direction, by its four fields
 abbrev line_set : {T : Type 0} → LineOf → Option T → Option T → Option T → Option T → List (Event T)
@@ -135,27 +125,17 @@ module _ {T : Type 0} (l : LineOf) where
         by_test false h = ap (λ b. b || covered rest q) h ∙ outside h ∙ sym h
 
 pub number_sym : (n m : ℕ) → (n == m) ≡ (m == n)
-number_sym n m = by_test (n == m) (m == n) (λ e. eq-eqb m n (sym (eqb-true n m e))) (λ e. eq-eqb n m (sym (eqb-true m n e)))
-  where
-    by_test : (a b : Bool) → (a ≡ true → b ≡ true) → (b ≡ true → a ≡ true) → a ≡ b
-    by_test true b f g = sym (f refl)
-    by_test false true f g = g refl
-    by_test false false f g = refl
+number_sym n m = both_ways (n == m) (m == n) (λ e. eq-eqb m n (sym (eqb-true n m e))) (λ e. eq-eqb n m (sym (eqb-true m n e)))
 
 same_line-sym : (l m : LineOf) → same_line l m ≡ same_line m l
 same_line-sym (LineOf.Horizontal n) (LineOf.Horizontal m) = number_sym n m
 same_line-sym (LineOf.Vertical n) (LineOf.Vertical m) = number_sym n m
-same_line-sym (LineOf.Horizontal n) (LineOf.Vertical m) = refl
-same_line-sym (LineOf.Vertical n) (LineOf.Horizontal m) = refl
+same_line-sym l m = refl
 
 -- a site that is not of the line is none of its parts
 outside_line : (l : LineOf) (q : Site) (p : Part) → within (line_sites l) q ≡ false → same_site q (of_line l p) ≡ false
 outside_line l (of_line m r) p h = ap (λ b. b && same_part r p) (same_line-sym m l ∙ h)
-outside_line l the_default p h = refl
-outside_line l (of_class c) p h = refl
-outside_line l (at_spot s) p h = refl
-outside_line l (at_offset d r c (Offset.End n)) p h = refl
-outside_line l (at_offset d r c (Offset.Start n)) p h = refl
+outside_line l q p h = refl
 
 -- a custom line put at its index leaves its fields and its mark, and nothing else there
 pub replay-horizontal_line_set : {T : Type 0} (n : ℕ) (line : HorizontalLine T) (p : Part) → replay (horizontal_line_set n line) (of_line (LineOf.Horizontal n) p) ≡ horizontal_part p line

@@ -1,22 +1,19 @@
 -- What the value of a place and the drawing of a line come to, level by level.
-use Rattle.std.proofs.Common.{◌≡◌, ℕ, Bool, true, false, cond, ◌&&◌, ◌||◌, Option, Some, None, is_some, List, [], ◌∷◌, refl, sym, ap, ◌∙◌, ◌-◌, option_and_then, ◌⊎◌, inl, inr}
-use Rattle.std.specs.Option.{option_map}
+use Rattle.std.proofs.Common.{◌≡◌, ℕ, Bool, true, false, cond, ◌&&◌, ◌||◌, Option, Some, None, is_some, List, [], ◌∷◌, refl, sym, ap, ◌∙◌, ◌-◌, option_and_then, inl, inr, option_map, nat_cmp}
 use Rattle.tabled_grid.specs.declared.borders.Borders.{Borders}
 use Rattle.tabled_grid.specs.declared.place.Place.{Place}
 use Rattle.tabled_grid.specs.declared.place.LineOf.{LineOf}
-use Rattle.tabled_grid.specs.Site.{Direction, Horizontal, Vertical, Rank, first, inner, last, stands, Class, edges, crossings, main_edges, meeting, horizontal_meeting, vertical_meeting, rank, the_default, of_class, of_line, at_spot, Crossing, class_value}
+use Rattle.tabled_grid.specs.Site.{Direction, Horizontal, Vertical, Rank, first, inner, last, stands, Class, edges, crossings, main_edges, horizontal_meeting, vertical_meeting, rank, the_default, of_class, of_line, at_spot, Crossing, class_value}
 use Rattle.tabled_grid.specs.Event.{sign}
 use Rattle.tabled_grid.specs.Value.{has_spot, inside, class_at, plain_sites, sites, sign_or, first_sign, value, plain_value}
 use Rattle.tabled_grid.specs.Drawn.{draws, number}
 use Rattle.tabled_grid.specs.Keys.{spot_cmp}
-use Rattle.std.specs.Ordering.{nat_cmp}
 use Rattle.std.specs.FinMap.{get, get-empty}
-use Rattle.tabled_grid.specs.declared.lines.HorizontalLine.{HorizontalLine}
-use Rattle.tabled_grid.specs.declared.lines.VerticalLine.{VerticalLine}
+use Rattle.std.proofs.lemmas.Bool.{and_parts, and_from, or_cases, or_left, or_right}
 use Rattle.tabled_grid.specs.Reading.{pick, direction_of, main_of, plain_edge, plain_crossing, edge_shown, HasClassAlone}
 use Rattle.tabled_grid.specs.Calls.{edge_of}
 use Rattle.tabled_grid.specs.declared.offset.Offset.{Offset}
-use Rattle.tabled_grid.specs.State.{State, state_at, edge_place, horizontal_part, vertical_part, line_classes, has_class, rank_draws}
+use Rattle.tabled_grid.specs.State.{State, state_at, edge_place, line_classes, has_class, rank_draws}
 
 -- every class of the list draws the line
 abbrev pub AllDraw : ℕ → LineOf → List Class → Type 0
@@ -32,21 +29,10 @@ sign_or-sign : {T : Type 0} (o r : Option T) → sign_or (option_map sign o) r �
 sign_or-sign None r = refl
 sign_or-sign (Some x) r = refl
 
-sign_or-horizontal_main : {T : Type 0} (o : Option (HorizontalLine T)) (r : Option T) → sign_or (option_and_then (horizontal_part main_edges) o) r ≡ pick (option_and_then (λ line. line.main) o) r
-sign_or-horizontal_main None r = refl
-sign_or-horizontal_main (Some line) r = sign_or-sign line.main r
-
-sign_or-vertical_main : {T : Type 0} (o : Option (VerticalLine T)) (r : Option T) → sign_or (option_and_then (vertical_part main_edges) o) r ≡ pick (option_and_then (λ line. line.main) o) r
-sign_or-vertical_main None r = refl
-sign_or-vertical_main (Some line) r = sign_or-sign line.main r
-
-sign_or-horizontal_meeting : {T : Type 0} (rank : Rank) (o : Option (HorizontalLine T)) (r : Option T) → sign_or (option_and_then (horizontal_part (meeting rank)) o) r ≡ pick (option_and_then (horizontal_meeting rank) o) r
-sign_or-horizontal_meeting rank None r = refl
-sign_or-horizontal_meeting rank (Some line) r = sign_or-sign (horizontal_meeting rank line) r
-
-sign_or-vertical_meeting : {T : Type 0} (rank : Rank) (o : Option (VerticalLine T)) (r : Option T) → sign_or (option_and_then (vertical_part (meeting rank)) o) r ≡ pick (option_and_then (vertical_meeting rank) o) r
-sign_or-vertical_meeting rank None r = refl
-sign_or-vertical_meeting rank (Some line) r = sign_or-sign (vertical_meeting rank line) r
+-- what a field of a custom line has, if the line is there
+sign_or-field : {L T : Type 0} (field : L → Option T) (o : Option L) (r : Option T) → sign_or (option_and_then (λ line. option_map sign (field line)) o) r ≡ pick (option_and_then field o) r
+sign_or-field field None r = refl
+sign_or-field field (Some line) r = sign_or-sign (field line) r
 
 pick-none : {T : Type 0} (o : Option T) → pick o None ≡ o
 pick-none None = refl
@@ -67,8 +53,8 @@ module _ {T : Type 0} (k : State T) where
 
   -- what the sites below the offsets have, for each kind of place
   main_level : (line : LineOf) (rest : Option T) → sign_or (state_at k (of_line line main_edges)) rest ≡ pick (main_of k line) rest
-  main_level (LineOf.Horizontal n) rest = sign_or-horizontal_main (get k.horizontal_lines n) rest
-  main_level (LineOf.Vertical n) rest = sign_or-vertical_main (get k.vertical_lines n) rest
+  main_level (LineOf.Horizontal n) rest = sign_or-field (λ line. line.main) (get k.horizontal_lines n) rest
+  main_level (LineOf.Vertical n) rest = sign_or-field (λ line. line.main) (get k.vertical_lines n) rest
 
   plain_levels : (line : LineOf) (at : ℕ) (class : Class) → first_sign (state_at k) (at_spot (edge_of line at) ∷ of_line line main_edges ∷ of_class class ∷ the_default ∷ []) ≡ pick (get k.cells (edge_of line at)) (pick (main_of k line) (pick (class_value class k.class_record) k.default_value))
   plain_levels line at class =
@@ -82,8 +68,8 @@ module _ {T : Type 0} (k : State T) where
   pub plain-crossing : (rows cols r c : ℕ) → first_sign (state_at k) (plain_sites (rows, cols) (Place.Cross r c)) ≡ plain_crossing k rows cols r c
   plain-crossing rows cols r c =
       sign_or-sign (get k.cells (Crossing r c)) _
-      ∙ ap (pick (get k.cells (Crossing r c))) (sign_or-horizontal_meeting (rank cols c) (get k.horizontal_lines r) _
-      ∙ ap (pick (option_and_then (horizontal_meeting (rank cols c)) (get k.horizontal_lines r))) (sign_or-vertical_meeting (rank rows r) (get k.vertical_lines c) _
+      ∙ ap (pick (get k.cells (Crossing r c))) (sign_or-field (horizontal_meeting (rank cols c)) (get k.horizontal_lines r) _
+      ∙ ap (pick (option_and_then (horizontal_meeting (rank cols c)) (get k.horizontal_lines r))) (sign_or-field (vertical_meeting (rank rows r)) (get k.vertical_lines c) _
       ∙ ap (pick (option_and_then (vertical_meeting (rank rows r)) (get k.vertical_lines c))) (last_levels (class_value (class_at (rows, cols) (Place.Cross r c)) k.class_record))))
 
   -- the value of each kind of place inside
@@ -123,26 +109,6 @@ class_alone_crossing k h rows cols r c =
     ∙ ap (λ met. pick (option_and_then (horizontal_meeting (rank cols c)) met) below) (ap (λ m. get m r) h.1 ∙ get-empty nat_cmp r)
     ∙ ap (λ met. pick (option_and_then (vertical_meeting (rank rows r)) met) class) (ap (λ m. get m c) h.2 ∙ get-empty nat_cmp c))
 
-pub and_parts : (a b : Bool) → (a && b) ≡ true → (a ≡ true) × (b ≡ true)
-and_parts true b h = (refl, h)
-and_parts false b h = absurd cc
-
-pub and_both : (a b : Bool) → a ≡ true → b ≡ true → (a && b) ≡ true
-and_both true b e f = f
-and_both false b e f = absurd cc
-
-pub or_parts : (a b : Bool) → (a || b) ≡ true → (a ≡ true) ⊎ (b ≡ true)
-or_parts true b h = inl refl
-or_parts false b h = inr h
-
-pub or_left : (a b : Bool) → a ≡ true → (a || b) ≡ true
-or_left true b e = refl
-or_left false b e = absurd cc
-
-pub or_right : (a b : Bool) → b ≡ true → (a || b) ≡ true
-or_right true b e = refl
-or_right false b e = e
-
 pub is_some-sign : {T : Type 0} (o : Option T) → is_some (option_map sign o) ≡ is_some o
 is_some-sign None = refl
 is_some-sign (Some x) = refl
@@ -152,35 +118,38 @@ unfoldable pub line_of : Direction → ℕ → LineOf
 line_of Horizontal n = LineOf.Horizontal n
 line_of Vertical n = LineOf.Vertical n
 
+-- whether a test holds for a rank that line n has, of the lines 0 to count
+module _ (test : Rank → Bool) where
+  abbrev at_ranks : ℕ → ℕ → Bool
+  at_ranks count n = (stands first count n && test first) || (stands last count n && test last) || (stands inner count n && test inner)
+
+  ranked : (count n : ℕ) (rank : Rank) → (stands rank count n && test rank) ≡ true → (r : Rank) × (stands r count n ≡ true) × (test r ≡ true)
+  ranked count n rank h = let parts = and_parts (stands rank count n) (test rank) h in (rank, parts.0, parts.1)
+
+  pub some_rank : (count n : ℕ) → at_ranks count n ≡ true → (rank : Rank) × (stands rank count n ≡ true) × (test rank ≡ true)
+  some_rank count n h =
+      elim (or_cases ((stands first count n && test first) || (stands last count n && test last)) (stands inner count n && test inner) h) [
+        | inl outer ↦ elim (or_cases (stands first count n && test first) (stands last count n && test last) outer) [
+          | inl e ↦ ranked count n first e
+          | inr e ↦ ranked count n last e
+        ]
+        | inr e ↦ ranked count n inner e
+      ]
+
+  pub by_rank : (rank : Rank) (count n : ℕ) → stands rank count n ≡ true → test rank ≡ true → at_ranks count n ≡ true
+  by_rank first count n e f = or_left _ _ (or_left _ _ (and_from (stands first count n) _ e f))
+  by_rank last count n e f = or_left _ _ (or_right (stands first count n && test first) _ (and_from (stands last count n) _ e f))
+  by_rank inner count n e f = or_right ((stands first count n && test first) || (stands last count n && test last)) _ (and_from (stands inner count n) _ e f)
+
 module _ {T : Type 0} (borders : Borders T) where
   -- one of the classes has a field, and they all draw the line
   pub drawing : (count : ℕ) (line : LineOf) (cs : List Class) → AllDraw count line cs → has_class borders cs ≡ true → (c : Class) × (draws count line (of_class c) ≡ true) × (is_some (class_value c borders) ≡ true)
   drawing count line [] all h = absurd cc
   drawing count line (c ∷ cs) all h =
-      elim (or_parts (is_some (class_value c borders)) (has_class borders cs) h) [
+      elim (or_cases (is_some (class_value c borders)) (has_class borders cs) h) [
         | inl e ↦ (c, all.0, e)
         | inr e ↦ drawing count line cs all.1 e
       ]
-
-  ranked : (d : Direction) (count n : ℕ) (rank : Rank) → (stands rank count n && has_class borders (line_classes d rank)) ≡ true → (r : Rank) × (stands r count n ≡ true) × (has_class borders (line_classes d r) ≡ true)
-  ranked d count n rank h =
-      let parts = and_parts (stands rank count n) (has_class borders (line_classes d rank)) h in
-      (rank, parts.0, parts.1)
-
-  pub some_rank : (d : Direction) (count n : ℕ) → rank_draws borders count d n ≡ true → (rank : Rank) × (stands rank count n ≡ true) × (has_class borders (line_classes d rank) ≡ true)
-  some_rank d count n h =
-      elim (or_parts ((stands first count n && has_class borders (line_classes d first)) || (stands last count n && has_class borders (line_classes d last))) (stands inner count n && has_class borders (line_classes d inner)) h) [
-        | inl outer ↦ elim (or_parts (stands first count n && has_class borders (line_classes d first)) (stands last count n && has_class borders (line_classes d last)) outer) [
-          | inl e ↦ ranked d count n first e
-          | inr e ↦ ranked d count n last e
-        ]
-        | inr e ↦ ranked d count n inner e
-      ]
-
-  by_rank : (d : Direction) (rank : Rank) (count n : ℕ) → stands rank count n ≡ true → has_class borders (line_classes d rank) ≡ true → rank_draws borders count d n ≡ true
-  by_rank d first count n e f = or_left _ _ (or_left _ _ (and_both (stands first count n) _ e f))
-  by_rank d last count n e f = or_left _ _ (or_right (stands first count n && has_class borders (line_classes d first)) _ (and_both (stands last count n) _ e f))
-  by_rank d inner count n e f = or_right ((stands first count n && has_class borders (line_classes d first)) || (stands last count n && has_class borders (line_classes d last))) _ (and_both (stands inner count n) _ e f)
 
   -- the classes of the lines of a rank draw each of them
   pub all_draw : (d : Direction) (rank : Rank) (count n : ℕ) → stands rank count n ≡ true → AllDraw count (line_of d n) (line_classes d rank)
@@ -205,12 +174,11 @@ module _ {T : Type 0} (borders : Borders T) where
   -- a class that draws a line and has a field is one of those of the line's rank
   pub class_draws_it : (d : Direction) (count n : ℕ) (c : Class) → draws count (line_of d n) (of_class c) ≡ true → is_some (class_value c borders) ≡ true → rank_draws borders count d n ≡ true
   unfolding line_of
-  class_draws_it Horizontal count n (edges Horizontal rank) e f = by_rank Horizontal rank count n e (given_edge Horizontal rank f)
-  class_draws_it Horizontal count n (edges Vertical rank) e f = absurd cc
-  class_draws_it Horizontal count n (crossings row col) e f = by_rank Horizontal row count n e (given_horizontal row col f)
-  class_draws_it Vertical count n (edges Vertical rank) e f = by_rank Vertical rank count n e (given_edge Vertical rank f)
-  class_draws_it Vertical count n (edges Horizontal rank) e f = absurd cc
-  class_draws_it Vertical count n (crossings row col) e f = by_rank Vertical col count n e (given_vertical row col f)
+  class_draws_it Horizontal count n (edges Horizontal rank) e f = by_rank (λ r. has_class borders (line_classes Horizontal r)) rank count n e (given_edge Horizontal rank f)
+  class_draws_it Horizontal count n (crossings row col) e f = by_rank (λ r. has_class borders (line_classes Horizontal r)) row count n e (given_horizontal row col f)
+  class_draws_it Vertical count n (edges Vertical rank) e f = by_rank (λ r. has_class borders (line_classes Vertical r)) rank count n e (given_edge Vertical rank f)
+  class_draws_it Vertical count n (crossings row col) e f = by_rank (λ r. has_class borders (line_classes Vertical r)) col count n e (given_vertical row col f)
+  class_draws_it d count n c e f = absurd cc
 
 -- an edge or a crossing outside has no plain value
 pub plain_outside : {T : Type 0} (state : State T) (shape : ℕ × ℕ) (place : Place) → has_spot shape place ≡ false → plain_value (state_at state) shape place ≡ None

@@ -1,9 +1,8 @@
 -- Single writes, and what puts them back.
-use Rattle.std.proofs.Common.{◌≡◌, ℕ, Bool, true, false, cond, ◌&&◌, ◌||◌, ◌==◌, Option, Some, None, is_some, IsSome, [], ◌∷◌, refl, ap, sym, ◌∙◌, option_and_then, Result, Ok, Err, OnOk, OnErr}
-use Rattle.std.specs.Option.{option_map}
+use Rattle.std.proofs.Common.{◌≡◌, ℕ, Bool, true, false, cond, ◌&&◌, ◌==◌, Option, Some, None, is_some, IsSome, [], ◌∷◌, refl, ap, sym, ◌∙◌, option_and_then, Result, Ok, Err, OnOk, OnErr, option_map, Ordering}
 use Rattle.std.specs.Cmp.{IsTotalOrder, nat_cmp_total, eq_by_cmp_equiv}
-use Rattle.std.specs.declared.cmp.Ordering.{Ordering}
 use Rattle.std.specs.FinMap as map
+use mathlib.Core.Bool.{or-false}
 use Rattle.tabled_grid.specs.declared.borders.Borders.{Borders}
 use Rattle.tabled_grid.specs.declared.lines.HorizontalLine.{HorizontalLine}
 use Rattle.tabled_grid.specs.declared.lines.VerticalLine.{VerticalLine}
@@ -31,13 +30,13 @@ unsigned-sign None = refl
 unsigned-sign (Some x) = refl
 
 -- equal signs are of equal values
-of_signs : {T : Type 0} (o p : Option T) → option_map sign o ≡ option_map sign p → o ≡ p
+pub of_signs : {T : Type 0} (o p : Option T) → option_map sign o ≡ option_map sign p → o ≡ p
 of_signs o p h = sym (unsigned-sign o) ∙ ap unsigned h ∙ unsigned-sign p
 
 same_values : {K T : Type 0} {R : K → K → Ordering} → IsTotalOrder R → map.IsAntisymmetric R → (m n : map.FinMap R T) → ((k : K) → option_map sign (map.get m k) ≡ option_map sign (map.get n k)) → m ≡ n
 same_values total exact m n h = map.same_map total exact m n (λ k. of_signs (map.get m k) (map.get n k) (h k))
 
-same_horizontal : {T : Type 0} (o p : Option (HorizontalLine T)) → ((part : Part) → option_and_then (horizontal_part part) o ≡ option_and_then (horizontal_part part) p) → o ≡ p
+pub same_horizontal : {T : Type 0} (o p : Option (HorizontalLine T)) → ((part : Part) → option_and_then (horizontal_part part) o ≡ option_and_then (horizontal_part part) p) → o ≡ p
 same_horizontal None None h = refl
 same_horizontal None (Some m) h = absurd (let e = h mark in cc)
 same_horizontal (Some l) None h = absurd (let e = h mark in cc)
@@ -48,7 +47,7 @@ same_horizontal (Some l) (Some m) h = λ i. Some (record {
   right = of_signs l.right m.right (h (meeting last)) i;
 })
 
-same_vertical : {T : Type 0} (o p : Option (VerticalLine T)) → ((part : Part) → option_and_then (vertical_part part) o ≡ option_and_then (vertical_part part) p) → o ≡ p
+pub same_vertical : {T : Type 0} (o p : Option (VerticalLine T)) → ((part : Part) → option_and_then (vertical_part part) o ≡ option_and_then (vertical_part part) p) → o ≡ p
 same_vertical None None h = refl
 same_vertical None (Some m) h = absurd (let e = h mark in cc)
 same_vertical (Some l) None h = absurd (let e = h mark in cc)
@@ -59,7 +58,7 @@ same_vertical (Some l) (Some m) h = λ i. Some (record {
   bottom = of_signs l.bottom m.bottom (h (meeting last)) i;
 })
 
-same_classes : {T : Type 0} (a b : Borders T) → ((class : Class) → class_value class a ≡ class_value class b) → a ≡ b
+pub same_classes : {T : Type 0} (a b : Borders T) → ((class : Class) → class_value class a ≡ class_value class b) → a ≡ b
 same_classes a b h = λ i. record {
   top = h (edges Horizontal first) i;
   bottom = h (edges Horizontal last) i;
@@ -90,10 +89,6 @@ same_state a b h = λ i. record {
   vertical_offsets = same_values edge_places_total exact_edge_places a.vertical_offsets b.vertical_offsets (λ p. h (at_offset Vertical p.row p.col p.offset)) i;
 }
 
-or-none : (b : Bool) → (b || false) ≡ b
-or-none true = refl
-or-none false = refl
-
 once : {A : Type 0} (b : Bool) (x y z : A) → cond b (cond b x y) z ≡ cond b x z
 once true x y z = refl
 once false x y z = refl
@@ -102,7 +97,7 @@ once false x y z = refl
 pub by_write : {T : Type 0} (site : Site) (w : Written T) (old new : Site → Option (Written T)) → Changes (write site w ∷ []) old new → (q : Site) → new q ≡ cond (same_site q site) (Some w) (old q)
 unfolding Changes
 by_write site w old new h q =
-    h q ∙ ap (λ b. cond b (replay (write site w ∷ []) q) (old q)) (or-none (same_site q site))
+    h q ∙ ap (λ b. cond b (replay (write site w ∷ []) q) (old q)) (or-false (same_site q site))
     ∙ ap (λ k. cond (same_site q site) k (old q)) (replay_one q (write site w)) ∙ once (same_site q site) (Some w) None (old q)
 
 offset_itself : (r c : ℕ) (o : Offset) → ((r == r) && (c == c) && same_offset o o) ≡ true

@@ -2,6 +2,7 @@
 use Rattle.std.proofs.Common.{◌≡◌, Bool, true, Option, Some, None, refl, option_map, option_and_then}
 use Rattle.std.specs.Option.{option_eq}
 use Rattle.std.specs.Cmp.{nat_cmp_total}
+use Rattle.std.proofs.lemmas.Bool.{and_parts}
 use Rattle.tabled_grid.specs.declared.borders.Borders.{Borders}
 use Rattle.tabled_grid.specs.declared.lines.HorizontalLine.{HorizontalLine}
 use Rattle.tabled_grid.specs.declared.lines.VerticalLine.{VerticalLine}
@@ -10,7 +11,7 @@ use Rattle.tabled_grid.specs.Keys.{spots_total, edge_places_total}
 use Rattle.tabled_grid.specs.Site.{Horizontal, Vertical, first, inner, last, Class, edges, crossings, class_value, Part, mark, main_edges, meeting, Site, the_default, of_class, of_line, at_spot, at_offset}
 use Rattle.tabled_grid.specs.Event.{Written, sign}
 use Rattle.tabled_grid.specs.State.{State, state_at, edge_place, horizontal_part, vertical_part}
-use Rattle.tabled_kept.proofs.SameGets.{both, all_of, get_alike, alike_get}
+use Rattle.tabled_kept.proofs.SameGets.{all_of, get_alike, alike_get}
 use Rattle.tabled_grid.specs.Same.{same_map, same_horizontal, same_vertical, same_borders, same_below, same_lines, same_cells, same_state, same_written}
 
 abbrev SameValues : {V : Type 0} → (V → V → Bool) → Option V → Option V → Type 0
@@ -34,35 +35,33 @@ module _ {V : Type 0} (E : V → V → Bool) where
 
   horizontal_fields : (x y : HorizontalLine V) → same_horizontal E x y ≡ true → SameValues E x.main y.main × (SameValues E x.intersection y.intersection × (SameValues E x.left y.left × SameValues E x.right y.right))
   horizontal_fields x y h =
-      let f = both _ _ h in
-      let g = both _ _ f.1 in
-      (f.0, (g.0, both _ _ g.1))
+      let f = and_parts _ _ h in
+      let g = and_parts _ _ f.1 in
+      (f.0, (g.0, and_parts _ _ g.1))
 
   horizontal_parts : (a b : Option (HorizontalLine V)) → option_eq (same_horizontal E) a b ≡ true → (part : Part) → SameKept E (option_and_then (horizontal_part part) a) (option_and_then (horizontal_part part) b)
-  horizontal_parts None None h part = refl
   horizontal_parts None (Some y) h part = absurd cc
   horizontal_parts (Some x) None h part = absurd cc
-  horizontal_parts (Some x) (Some y) h mark = refl
   horizontal_parts (Some x) (Some y) h main_edges = as_signs x.main y.main (horizontal_fields x y h).0
   horizontal_parts (Some x) (Some y) h (meeting inner) = as_signs x.intersection y.intersection (horizontal_fields x y h).1.0
   horizontal_parts (Some x) (Some y) h (meeting first) = as_signs x.left y.left (horizontal_fields x y h).1.1.0
   horizontal_parts (Some x) (Some y) h (meeting last) = as_signs x.right y.right (horizontal_fields x y h).1.1.1
+  horizontal_parts a b h part = refl
 
   vertical_fields : (x y : VerticalLine V) → same_vertical E x y ≡ true → SameValues E x.main y.main × (SameValues E x.intersection y.intersection × (SameValues E x.top y.top × SameValues E x.bottom y.bottom))
   vertical_fields x y h =
-      let f = both _ _ h in
-      let g = both _ _ f.1 in
-      (f.0, (g.0, both _ _ g.1))
+      let f = and_parts _ _ h in
+      let g = and_parts _ _ f.1 in
+      (f.0, (g.0, and_parts _ _ g.1))
 
   vertical_parts : (a b : Option (VerticalLine V)) → option_eq (same_vertical E) a b ≡ true → (part : Part) → SameKept E (option_and_then (vertical_part part) a) (option_and_then (vertical_part part) b)
-  vertical_parts None None h part = refl
   vertical_parts None (Some y) h part = absurd cc
   vertical_parts (Some x) None h part = absurd cc
-  vertical_parts (Some x) (Some y) h mark = refl
   vertical_parts (Some x) (Some y) h main_edges = as_signs x.main y.main (vertical_fields x y h).0
   vertical_parts (Some x) (Some y) h (meeting inner) = as_signs x.intersection y.intersection (vertical_fields x y h).1.0
   vertical_parts (Some x) (Some y) h (meeting first) = as_signs x.top y.top (vertical_fields x y h).1.1.0
   vertical_parts (Some x) (Some y) h (meeting last) = as_signs x.bottom y.bottom (vertical_fields x y h).1.1.1
+  vertical_parts a b h part = refl
 
   whole_horizontal : (a b : Option (HorizontalLine V)) → ((part : Part) → SameKept E (option_and_then (horizontal_part part) a) (option_and_then (horizontal_part part) b)) → option_eq (same_horizontal E) a b ≡ true
   whole_horizontal None None h = refl
@@ -87,20 +86,20 @@ module _ {V : Type 0} (E : V → V → Bool) where
 
   borders_parts : (a b : Borders V) → same_borders E a b ≡ true → (class : Class) → SameValues E (class_value class a) (class_value class b)
   borders_parts a b h class =
-      let f1 = both _ _ h in
-      let f2 = both _ _ f1.1 in
-      let f3 = both _ _ f2.1 in
-      let f4 = both _ _ f3.1 in
-      let f5 = both _ _ f4.1 in
-      let f6 = both _ _ f5.1 in
-      let f7 = both _ _ f6.1 in
-      let f8 = both _ _ f7.1 in
-      let f9 = both _ _ f8.1 in
-      let f10 = both _ _ f9.1 in
-      let f11 = both _ _ f10.1 in
-      let f12 = both _ _ f11.1 in
-      let f13 = both _ _ f12.1 in
-      let f14 = both _ _ f13.1 in
+      let f1 = and_parts _ _ h in
+      let f2 = and_parts _ _ f1.1 in
+      let f3 = and_parts _ _ f2.1 in
+      let f4 = and_parts _ _ f3.1 in
+      let f5 = and_parts _ _ f4.1 in
+      let f6 = and_parts _ _ f5.1 in
+      let f7 = and_parts _ _ f6.1 in
+      let f8 = and_parts _ _ f7.1 in
+      let f9 = and_parts _ _ f8.1 in
+      let f10 = and_parts _ _ f9.1 in
+      let f11 = and_parts _ _ f10.1 in
+      let f12 = and_parts _ _ f11.1 in
+      let f13 = and_parts _ _ f12.1 in
+      let f14 = and_parts _ _ f13.1 in
       of_fields class f1.0 f2.0 f3.0 f4.0 f5.0 f6.0 f7.0 f8.0 f9.0 f10.0 f11.0 f12.0 f13.0 f14.0 f14.1
     where
       of_fields : (class : Class) → SameValues E a.top b.top → SameValues E a.bottom b.bottom → SameValues E a.left b.left → SameValues E a.right b.right → SameValues E a.top_left b.top_left → SameValues E a.top_right b.top_right → SameValues E a.bottom_left b.bottom_left → SameValues E a.bottom_right b.bottom_right → SameValues E a.top_intersection b.top_intersection → SameValues E a.bottom_intersection b.bottom_intersection → SameValues E a.left_intersection b.left_intersection → SameValues E a.right_intersection b.right_intersection → SameValues E a.horizontal b.horizontal → SameValues E a.vertical b.vertical → SameValues E a.intersection b.intersection → SameValues E (class_value class a) (class_value class b)
@@ -124,12 +123,12 @@ module _ {V : Type 0} (E : V → V → Bool) where
 pub same_at_sites : {V : Type 0} (E : V → V → Bool) (a b : State V) → same_state E a b ≡ true → (site : Site) → option_eq (same_written E) (state_at a site) (state_at b site) ≡ true
 unfolding same_below same_lines same_cells same_state
 same_at_sites E a b h =
-    let upper = both _ _ h in
-    let lower = both _ _ upper.0 in
-    let below = both _ _ lower.0 in
-    let lines = both _ _ lower.1 in
-    let offsets = both _ _ upper.1 in
-    let cells = both _ _ offsets.0 in
+    let upper = and_parts _ _ h in
+    let lower = and_parts _ _ upper.0 in
+    let below = and_parts _ _ lower.0 in
+    let lines = and_parts _ _ lower.1 in
+    let offsets = and_parts _ _ upper.1 in
+    let cells = and_parts _ _ offsets.0 in
     at_site below.0 below.1 lines.0 lines.1 cells.0 cells.1 offsets.1
   where
     at_site : option_eq E a.default_value b.default_value ≡ true → same_borders E a.class_record b.class_record ≡ true → same_map (same_vertical E) a.vertical_lines b.vertical_lines ≡ true → same_map (same_horizontal E) a.horizontal_lines b.horizontal_lines ≡ true → same_map E a.cells b.cells ≡ true → same_map E a.horizontal_offsets b.horizontal_offsets ≡ true → same_map E a.vertical_offsets b.vertical_offsets ≡ true → (site : Site) → option_eq (same_written E) (state_at a site) (state_at b site) ≡ true

@@ -1,7 +1,5 @@
 -- From a store's fields to what its contracts see.
-use Rattle.std.proofs.Common.{◌≡◌, false, Option, List, sym, ap, subst, Result, Ok, Err, IfOk, OnOk, OnErr}
-use Rattle.std.specs.Result.{is_err}
-use Rattle.std.specs.Ordering.{nat_cmp}
+use Rattle.std.proofs.Common.{◌≡◌, false, Option, List, sym, ap, subst, Result, Ok, Err, IfOk, OnOk, OnErr, is_err, nat_cmp}
 use Rattle.std.specs.FinMap as map
 use Rattle.tabled_grid.specs.declared.borders.Borders.{Borders}
 use Rattle.tabled_grid.specs.declared.lines.HorizontalLine.{HorizontalLine}

@@ -1,6 +1,5 @@
 -- Lists of writes: what is made so far, and what puts it back.
-use Rattle.std.proofs.Common.{◌≡◌, ℕ, ◌+◌, false, ◌||◌, IsTrue, is_none, Option, Some, None, List, [], ◌∷◌, ◌++◌, get_or, set, drop, refl, ap, sym, subst, ◌∙◌, arith}
-use Rattle.std.proofs.lemmas.List.{drop-drop, drop-set-lt, get_or-drop}
+use Rattle.std.proofs.Common.{◌≡◌, ℕ, ◌+◌, false, ◌||◌, IsTrue, is_none, Option, Some, None, List, [], ◌∷◌, ◌++◌, get_or, set, drop, refl, ap, sym, subst, ◌∙◌, arith, drop-drop, drop-set-lt, get_or-drop}
 use Rattle.tabled_grid.specs.declared.writes.Target.{Target}
 use Rattle.tabled_grid.specs.declared.writes.Write.{Write}
 use Rattle.tabled_grid.specs.Event.{sign, write, Changes}
@@ -38,9 +37,6 @@ module _ {T : Type 0} where
 
   pub target_back : (target : Option Target) (before : Option T) (there : Target) (old new : State T) → target ≡ Some there → PutsBackAt (site_of there) before old new → PutsBack target before old new
   target_back target before there old new at puts = subst (λ t. PutsBack t before old new) (sym at) puts
-
-  pub no_target_back : (target : Option Target) (before : Option T) (store : State T) → target ≡ None → PutsBack target before store store
-  no_target_back target before store at = subst (λ t. PutsBack t before store store) (sym at) refl
 
   -- one write more
   pub one_more_made : (all ws : List (Write T)) (entry : Write T) (old between new : State T) → all ≡ ws ++ entry ∷ [] → Changes (writes_made ws) (state_at old) (state_at between) → Changes (writes_made (entry ∷ [])) (state_at between) (state_at new) → Changes (writes_made all) (state_at old) (state_at new)

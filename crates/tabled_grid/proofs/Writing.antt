@@ -1,10 +1,9 @@
 -- A store shows the writes of all that it keeps.
-use Rattle.std.proofs.Common.{◌≡◌, ℕ, Bool, true, false, cond, ◌||◌, Option, Some, None, List, [], ◌∷◌, ◌++◌, refl, sym, ap, ◌∙◌, option_and_then}
-use Rattle.std.specs.Option.{option_map}
+use Rattle.std.proofs.Common.{◌≡◌, ℕ, false, cond, ◌||◌, Option, Some, None, List, [], ◌∷◌, ◌++◌, refl, sym, ap, ◌∙◌, option_and_then, option_map, Ordering}
 use Rattle.std.specs.Ordering.{eq_by_cmp}
-use Rattle.std.specs.Cmp.{IsTotalOrder, eq_by_cmp_equiv}
-use Rattle.std.specs.declared.cmp.Ordering.{Ordering}
+use Rattle.std.specs.Cmp.{IsTotalOrder, eq_by_cmp_equiv, unsigned_tied}
 use Rattle.std.specs.FinMap as map
+use mathlib.Core.Bool.{or-false}
 use Rattle.tabled_grid.specs.declared.place.LineOf.{LineOf}
 use Rattle.tabled_grid.specs.Keys.{spots_total, exact_spots, is_same_spot, edge_places_total, exact_edge_places, is_same_edge_place}
 use Rattle.tabled_grid.specs.Site.{Horizontal, Vertical, Class, Part, Site, the_default, of_class, of_line, at_spot, at_offset, same_site}
@@ -13,7 +12,7 @@ use Rattle.tabled_grid.specs.Lines.{horizontal_line_set, vertical_line_set}
 use Rattle.tabled_grid.specs.State.{State, state_at, classes, class_writes, default_writes, entry_events, key_writes, place_site, writes_of, edge_place, horizontal_part, vertical_part}
 use Rattle.tabled_grid.proofs.Replay.{replay-nil, replay_one}
 use Rattle.tabled_grid.proofs.ClassWrites.{replay_classes, uncovered_other}
-use Rattle.tabled_grid.proofs.Blocks.{replay_skip, replay_rest, uncovered_both, uncovered_entries, replay_entries, is_eq-nat_cmp}
+use Rattle.tabled_grid.proofs.Blocks.{replay_skip, replay_rest, uncovered_both, uncovered_entries, replay_entries}
 use Rattle.tabled_grid.proofs.LineWrites.{replay-horizontal_line_set, replay-vertical_line_set, covered-horizontal_line_set, covered-vertical_line_set, number_sym}
 
 -- blocks of events in a row
@@ -69,15 +68,11 @@ as_signs : {T : Type 0} (o : Option T) → option_and_then (λ x. Some (sign x))
 as_signs None = refl
 as_signs (Some x) = refl
 
-or-none : (b : Bool) → (b || false) ≡ b
-or-none true = refl
-or-none false = refl
-
 -- what the writes of the values under keys leave at the site of one of them
 replay_key : {K T : Type 0} {R : K → K → Ordering} → IsTotalOrder R → map.IsAntisymmetric R → (site : K → Site) (values : map.FinMap R T) (k : K) → ((j : K) → same_site (site k) (site j) ≡ eq_by_cmp R k j) → replay (key_writes site values) (site k) ≡ option_map sign (map.get values k)
 replay_key {R = R} total exact site values k same =
     replay_entries (site k) exact (λ j x. write (site j) (sign x) ∷ []) k (λ x. Some (sign x))
-    (λ j x. or-none (same_site (site k) (site j)) ∙ same j)
+    (λ j x. or-false (same_site (site k) (site j)) ∙ same j)
     (λ x. replay_one (site k) (write (site k) (sign x)) ∙ ap (λ b. cond b (Some (sign x)) None) (same k ∙ (eq_by_cmp_equiv total).refl k))
     (map.entries values)
     ∙ as_signs (map.find R k (map.entries values)) ∙ ap (option_map sign) (sym (map.get-entries values k))
@@ -86,14 +81,14 @@ module _ {T : Type 0} (state : State T) where
   replay_vertical : (n : ℕ) (p : Part) → replay (entry_events vertical_line_set (map.entries state.vertical_lines)) (of_line (LineOf.Vertical n) p) ≡ state_at state (of_line (LineOf.Vertical n) p)
   replay_vertical n p =
       replay_entries (of_line (LineOf.Vertical n) p) map.nat_cmp-IsAntisymmetric vertical_line_set n (vertical_part p)
-      (λ m line. covered-vertical_line_set m line (of_line (LineOf.Vertical n) p) ∙ number_sym m n ∙ sym (is_eq-nat_cmp n m))
+      (λ m line. covered-vertical_line_set m line (of_line (LineOf.Vertical n) p) ∙ number_sym m n ∙ sym (unsigned_tied n m))
       (λ line. replay-vertical_line_set n line p) (map.entries state.vertical_lines)
       ∙ ap (option_and_then (vertical_part p)) (sym (map.get-entries state.vertical_lines n))
 
   replay_horizontal : (n : ℕ) (p : Part) → replay (entry_events horizontal_line_set (map.entries state.horizontal_lines)) (of_line (LineOf.Horizontal n) p) ≡ state_at state (of_line (LineOf.Horizontal n) p)
   replay_horizontal n p =
       replay_entries (of_line (LineOf.Horizontal n) p) map.nat_cmp-IsAntisymmetric horizontal_line_set n (horizontal_part p)
-      (λ m line. covered-horizontal_line_set m line (of_line (LineOf.Horizontal n) p) ∙ number_sym m n ∙ sym (is_eq-nat_cmp n m))
+      (λ m line. covered-horizontal_line_set m line (of_line (LineOf.Horizontal n) p) ∙ number_sym m n ∙ sym (unsigned_tied n m))
       (λ line. replay-horizontal_line_set n line p) (map.entries state.horizontal_lines)
       ∙ ap (option_and_then (horizontal_part p)) (sym (map.get-entries state.horizontal_lines n))
 

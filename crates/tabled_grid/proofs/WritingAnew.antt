@@ -2,16 +2,13 @@
 use Rattle.std.proofs.Common.{◌≡◌, Bool, true, false, cond, ◌||◌, IsTrue, is_some, is_none, Option, Some, None, List, [], ◌∷◌, ◌++◌, refl, ap, sym, ◌∙◌}
 use Rattle.std.specs.List.{list_any}
 use Rattle.std.proofs.lemmas.List.Folds.{list_any-append}
+use mathlib.Core.Bool.{or-true}
 use Rattle.tabled_grid.specs.Site.{Site, same_site}
 use Rattle.tabled_grid.specs.Event.{Written, Event, write, erase, Changes}
 use Rattle.tabled_grid.specs.Drawn.{written}
 use Rattle.tabled_grid.specs.Calls.{writes_anew}
 use Rattle.tabled_grid.specs.Writes.{Stays}
 use Rattle.tabled_grid.proofs.PuttingBack.{by_write}
-
-pub or-true : (b : Bool) → (b || true) ≡ true
-or-true true = refl
-or-true false = refl
 
 either_more : (a b c d : Bool) → (a ≡ true → c ≡ true) → (b ≡ true → d ≡ true) → (a || b) ≡ true → (c || d) ≡ true
 either_more true b c d f g h = ap (λ x. x || d) (f refl)

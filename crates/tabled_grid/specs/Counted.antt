@@ -1,14 +1,15 @@
 -- The numbers that a store keeps beside what is kept, so that a line is found drawn in a few readings.
-use Rattle.std.specs.Prelude.{◌≡◌, ℕ, ◌<◌, ◌^◌, is_some, unwrap_or, Option, Some, None}
+use Rattle.std.specs.Prelude.{◌≡◌, ℕ, ◌+◌, ◌-◌, ◌<◌, ◌^◌, min, Bool, false, is_some, unwrap_or, Option, Some, None}
 use Rattle.std.specs.Ordering.{nat_cmp}
 use Rattle.std.specs.FinMap.{FinMap, get, len}
 use Rattle.tabled_grid.specs.declared.lines.HorizontalLine.{HorizontalLine}
 use Rattle.tabled_grid.specs.declared.lines.VerticalLine.{VerticalLine}
+use Rattle.tabled_grid.specs.declared.line_numbers.LineNumbers.{LineNumbers}
 use Rattle.tabled_grid.specs.declared.place.LineOf.{LineOf}
 use Rattle.tabled_grid.specs.Drawn.{lies_on}
 use Rattle.tabled_grid.specs.Keys.{line_cmp, spot_cmp}
-use Rattle.tabled_grid.specs.Site.{Horizontal, Vertical, Spot, Edge, Crossing}
-use Rattle.tabled_grid.specs.Table.{count}
+use Rattle.tabled_grid.specs.Site.{Horizontal, Vertical, Rank, first, inner, last, horizontal_meeting, Spot, Edge, Crossing}
+use Rattle.tabled_grid.specs.Table.{count, passes, one_if}
 
 -- the number that is kept for a line: 0 where none is kept
 abbrev pub number_at : FinMap line_cmp ℕ → LineOf → ℕ
@@ -29,15 +30,34 @@ pub record CellsCounted {T : Type 0} (numbers : FinMap line_cmp ℕ) (cells : Fi
   pub on_lines : (line : LineOf) → number_at numbers line ≡ count (λ spot _. lies_on line spot) cells
   pub few_cells : len cells < 2 ^ 64
 
--- the two numbers are those of the custom vertical lines that have an upper end, and that have a lower end
-pub record VerticalCounted {T : Type 0} (tops bottoms : ℕ) (lines : FinMap nat_cmp (VerticalLine T)) : Type 0 where
-  pub tops_are : tops ≡ count (λ _ line. is_some line.top) lines
-  pub bottoms_are : bottoms ≡ count (λ _ line. is_some line.bottom) lines
-  pub few : len lines < 2 ^ 64
+-- whether a custom line draws the lines of a rank that it crosses
+abbrev pub horizontal_draws : {T : Type 0} → Rank → HorizontalLine T → Bool
+horizontal_draws rank line = is_some (horizontal_meeting rank line)
 
--- the three numbers are those of the custom horizontal lines that have a left end, a right end, and an intersection
-pub record HorizontalCounted {T : Type 0} (lefts rights betweens : ℕ) (lines : FinMap nat_cmp (HorizontalLine T)) : Type 0 where
-  pub lefts_are : lefts ≡ count (λ _ line. is_some line.left) lines
-  pub rights_are : rights ≡ count (λ _ line. is_some line.right) lines
-  pub betweens_are : betweens ≡ count (λ _ line. is_some line.intersection) lines
+abbrev pub vertical_draws : {T : Type 0} → Rank → VerticalLine T → Bool
+vertical_draws first line = is_some line.top
+vertical_draws inner line = false
+vertical_draws last line = is_some line.bottom
+
+-- how many custom lines draw the lines of a rank that they cross
+abbrev pub number_of : Rank → LineNumbers → ℕ
+number_of first numbers = numbers.first
+number_of inner numbers = numbers.inner
+number_of last numbers = numbers.last
+
+-- the numbers of one line, or of none
+abbrev pub numbers_of : {L : Type 0} → (Rank → L → Bool) → Option L → LineNumbers
+numbers_of draws line = record { first = one_if (passes (draws first) line); inner = one_if (passes (draws inner) line); last = one_if (passes (draws last) line) }
+
+-- the numbers without those of what was taken, and with those of what was put
+abbrev pub exchanged : LineNumbers → LineNumbers → LineNumbers → LineNumbers
+exchanged numbers taken put = record {
+  first = min (numbers.first - taken.first + put.first) (2 ^ 64 - 1);
+  inner = min (numbers.inner - taken.inner + put.inner) (2 ^ 64 - 1);
+  last = min (numbers.last - taken.last + put.last) (2 ^ 64 - 1);
+}
+
+-- the numbers are those of the custom lines of one direction
+pub record LinesCounted {L : Type 0} (draws : Rank → L → Bool) (numbers : LineNumbers) (lines : FinMap nat_cmp L) : Type 0 where
+  pub numbers_are : (rank : Rank) → number_of rank numbers ≡ count (λ _ line. draws rank line) lines
   pub few : len lines < 2 ^ 64

@@ -1,8 +1,8 @@
 -- The slots of the keys of a store: where both numbers of an edge or a crossing are small, or the number of a line.
-use Rattle.std.specs.Prelude.{◌≡◌, ℕ, zero, suc, ◌+◌, ◌*◌, ◌<◌, Bool, true, false, ◌&&◌, ◌==◌, nat_lt, if◌then◌else◌, Option, Some, None, refl}
+use Rattle.std.specs.Prelude.{◌≡◌, ℕ, zero, suc, ◌+◌, ◌*◌, ◌<◌, Bool, true, false, ◌&&◌, ◌==◌, nat_lt, if◌then◌else◌, Option, Some, None, refl, unwrap_or}
 use Rattle.std.proofs.Common.{sym, ap, ◌∙◌, tests, arith}
 use Rattle.std.proofs.lemmas.Bool.Decides.{nat_tests}
-use Rattle.std.specs.Option.{unwrap_or}
+use Rattle.std.proofs.lemmas.Bool.{and_parts}
 use Rattle.tabled_grid.specs.declared.keys.EdgePlace.{EdgePlace}
 use Rattle.tabled_grid.specs.declared.offset.Offset.{Offset}
 use Rattle.tabled_grid.specs.declared.place.LineOf.{LineOf}
@@ -28,7 +28,7 @@ slot_of_spot (Edge Horizontal r c) = if small r c then Some (slot r (3 * c)) els
 slot_of_spot (Edge Vertical r c) = if small r c then Some (slot r (3 * c + 1)) else None
 slot_of_spot (Crossing r c) = if small r c then Some (slot r (3 * c + 2)) else None
 
--- what stands so many slots after the horizontal edge of a row and a column
+-- what stands the given number of slots after the horizontal edge of a row and a column
 abbrev pub spot_after : ℕ → ℕ → ℕ → Spot
 spot_after r c zero = Edge Horizontal r c
 spot_after r c (suc zero) = Edge Vertical r c
@@ -52,10 +52,6 @@ same_slot s t e = ap (λ o. unwrap_or o s) e
 given : (b : Bool) (s t : Slot) → (if b then Some s else None) ≡ Some t → (b ≡ true) × (s ≡ t)
 given true s t e = (refl, same_slot s t e)
 given false s t e = absurd cc
-
-both : (a b : Bool) → (a && b) ≡ true → (a ≡ true) × (b ≡ true)
-both true b h = (refl, h)
-both false b h = absurd cc
 
 less : (n : ℕ) → nat_lt n 256 ≡ true → n < 256
 less n h = grind (arith, tests, nat_tests, h)
@@ -104,7 +100,7 @@ spots_back (Crossing r c) s e = ap spot_at (sym (given (small r c) (slot r (3 * 
 narrow_spot : (r c n : ℕ) (s : Slot) → n < 3 → (if small r c then Some (slot r (3 * c + n)) else None) ≡ Some s → (s.row < 256) × (s.col < 1024)
 narrow_spot r c n s part e =
     let it = given (small r c) (slot r (3 * c + n)) s e in
-    let numbers = both (nat_lt r 256) (nat_lt c 256) it.0 in
+    let numbers = and_parts (nat_lt r 256) (nat_lt c 256) it.0 in
     narrow_slot (slot r (3 * c + n)) s it.1 (less r numbers.0, omega (arith, less c numbers.1, part))
 
 pub spots_narrow : (spot : Spot) (s : Slot) → slot_of_spot spot ≡ Some s → (s.row < 256) × (s.col < 1024)

@@ -1,11 +1,10 @@
 -- How a place is read, level by level.
-use Rattle.std.specs.Prelude.{◌≡◌, ℕ, ◌-◌, Bool, ◌&&◌, ◌||◌, ◌==◌, nat_lt, is_some, Option, Some, None, option_and_then}
+use Rattle.std.specs.Prelude.{◌≡◌, ℕ, ◌-◌, Bool, ◌&&◌, ◌||◌, nat_lt, is_some, Option, Some, None, option_and_then}
 use Rattle.std.specs.Ordering.{nat_cmp}
 use Rattle.std.specs.FinMap.{FinMap, get, empty}
-use Rattle.tabled_grid.specs.declared.lines.HorizontalLine.{HorizontalLine}
-use Rattle.tabled_grid.specs.declared.lines.VerticalLine.{VerticalLine}
+use Rattle.tabled_grid.specs.declared.line_numbers.LineNumbers.{LineNumbers}
 use Rattle.tabled_grid.specs.Counted.{number_at}
-use Rattle.tabled_grid.specs.Site.{Direction, Horizontal, Vertical, Crossing, rank, edges, crossings, class_value, horizontal_meeting, vertical_meeting}
+use Rattle.tabled_grid.specs.Site.{Direction, Horizontal, Vertical, Crossing, first, inner, last, stands, rank, edges, crossings, class_value, horizontal_meeting, vertical_meeting}
 use Rattle.tabled_grid.specs.State.{State, edge_place}
 use Rattle.tabled_grid.specs.Calls.{edge_of}
 use Rattle.tabled_grid.specs.Drawn.{number}
@@ -55,12 +54,12 @@ plain_crossing k rows cols r c =
 abbrev pub HasClassAlone : {T : Type 0} → State T → Type 0
 HasClassAlone k = (k.cells ≡ empty) × (k.horizontal_lines ≡ empty) × (k.vertical_lines ≡ empty)
 
--- whether a horizontal line is drawn by a custom line, or by what is kept on it; and a vertical one
-abbrev pub row_drawn : {T : Type 0} → FinMap nat_cmp (HorizontalLine T) → ℕ → ℕ → FinMap line_cmp ℕ → ℕ → ℕ → Bool
-row_drawn lines tops bottoms numbers count n =
-    is_some (get lines n) || ((n == 0) && nat_lt 0 tops) || ((n == count) && nat_lt 0 bottoms) || nat_lt 0 (number_at numbers (LineOf.Horizontal n))
+-- whether a custom line draws line n, of the lines 0 to count, by the numbers of those that cross it
+abbrev pub across_drawn : LineNumbers → ℕ → ℕ → Bool
+across_drawn numbers count n =
+    (stands first count n && nat_lt 0 numbers.first) || (stands last count n && nat_lt 0 numbers.last) || (stands inner count n && nat_lt 0 numbers.inner)
 
-abbrev pub col_drawn : {T : Type 0} → FinMap nat_cmp (VerticalLine T) → ℕ → ℕ → ℕ → FinMap line_cmp ℕ → ℕ → ℕ → Bool
-col_drawn lines lefts rights betweens numbers count n =
-    is_some (get lines n) || ((n == 0) && nat_lt 0 lefts) || ((n == count) && nat_lt 0 rights)
-    || ((nat_lt 0 n && nat_lt n count) && nat_lt 0 betweens) || nat_lt 0 (number_at numbers (LineOf.Vertical n))
+-- whether a line is drawn by the custom line that stands there, by those that cross it, or by what is kept on it
+abbrev pub line_drawn : {L : Type 0} → FinMap nat_cmp L → LineNumbers → FinMap line_cmp ℕ → ℕ → LineOf → Bool
+line_drawn own across numbers count line =
+    is_some (get own (number line)) || across_drawn across count (number line) || nat_lt 0 (number_at numbers line)

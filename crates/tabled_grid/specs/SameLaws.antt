@@ -15,16 +15,14 @@ use Rattle.tabled_grid.specs.Same.{same_map, same_horizontal, same_vertical, sam
 module _ {T : Type 0} {E : T → T → Bool} (p : IsPartialEquivalence E) where
   option_symm : (a b : Option T) → option_eq E a b ≡ option_eq E b a
   option_symm None None = refl
-  option_symm None (Some y) = refl
-  option_symm (Some x) None = refl
   option_symm (Some x) (Some y) = p.symm x y
+  option_symm a b = refl
 
   option_trans : (a b c : Option T) → option_eq E a b ≡ true → option_eq E b c ≡ true → option_eq E a c ≡ true
   option_trans None None c h k = k
-  option_trans None (Some y) c h k = absurd cc
-  option_trans (Some x) None c h k = absurd cc
   option_trans (Some x) (Some y) None h k = k
   option_trans (Some x) (Some y) (Some z) h k = p.trans x y z h k
+  option_trans a b c h k = absurd cc
 
   option_per : IsPartialEquivalence (option_eq E)
   option_per = record { symm = option_symm; trans = option_trans }

@@ -1,5 +1,6 @@
 -- Kept maps as finite maps, and how many of their keys pass a test.
-use Rattle.std.specs.Prelude.{ℕ, Option, Some, None, Bool, true, false}
+use Rattle.std.specs.Prelude.{ℕ, Option, Some, None, Bool, false}
+use Rattle.std.specs.Int.{from_bool}
 use Rattle.std.specs.declared.cmp.Ordering.{Ordering}
 use Rattle.std.specs.FinMap.{FinMap, get, retain_keys, len}
 pub use Rattle.tabled_kept.specs.Table.{table}
@@ -15,5 +16,4 @@ count test m = len (retain_keys m (λ k. passes (test k) (get m k)))
 
 -- 1 for true, 0 for false
 abbrev pub one_if : Bool → ℕ
-one_if true = 1
-one_if false = 0
+one_if = from_bool

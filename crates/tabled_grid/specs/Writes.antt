@@ -1,6 +1,5 @@
 -- Lists of writes: what they write, and what puts that back.
-use Rattle.std.specs.Prelude.{◌≡◌, IsSome, if◌then◌else◌, Option, Some, None, option_map, List, [], ◌∷◌}
-use Rattle.std.specs.List.{filter_map}
+use Rattle.std.specs.Prelude.{◌≡◌, IsSome, if◌then◌else◌, Option, Some, None, option_map, List, [], ◌∷◌, filter_map}
 use Rattle.std.specs.FinMap.{get}
 use Rattle.tabled_grid.specs.declared.writes.Target.{Target}
 use Rattle.tabled_grid.specs.declared.writes.Write.{Write}

@@ -1,6 +1,6 @@
 //! The class record: one character for each kind of border place.
 
-ghost use Rattle.std.specs.Prelude.{◌≡◌, ◌↔◌, None, IsTrue, ⊤, option_copied};
+ghost use Rattle.std.specs.Prelude.{◌≡◌, ◌↔◌, IsTrue, ⊤, option_copied};
 
 use crate::{HorizontalLine, Rank, VerticalLine};
 use std::alloc::AllocError;
@@ -220,8 +220,7 @@ impl<T> Borders<T> {
         self.edges_vertical(Rank::of(col, cols))
     }
 
-    /// What the crossing of horizontal line `row` and vertical line `col` has, of the lines 0 to
-    /// `rows` and 0 to `cols`.
+    /// What the crossing of horizontal line `row` and vertical line `col` has, of the lines 0 to `rows` and 0 to `cols`.
     pub(crate) fn at_crossing(&self, row: usize, col: usize, rows: usize, cols: usize) -> Option<&T>
         ensures { option_copied result ≡ class_value (crossings (rank rows row) (rank cols col)) self.now }
     {

@@ -12,8 +12,7 @@ use crate::counter::{add, remove};
 use crate::{LineOf, OutOfMemory, Spot};
 use tabled_kept::CountedMap;
 
-/// Puts a value at a spot, and returns the one that stood there. Where memory is refused nothing changes, and nothing
-/// stood there.
+/// Puts a value at a spot, and returns the one that stood there. Where memory is refused nothing changes, and nothing stood there.
 pub(crate) fn put_cell<T: Drop>(
     values: &mut CountedMap<Spot, T>,
     numbers: &mut CountedMap<LineOf, u128>,

@@ -1,7 +1,5 @@
 //! The keys of what a store keeps: lines, edges and crossings, and the numbered places of edges. Small numbers have a slot.
 
-ghost use Rattle.std.specs.Prelude.{◌≡◌, Some, None};
-
 use crate::{Direction, LineOf, Offset, Spot};
 use tabled_kept::{Key, Slot};
 

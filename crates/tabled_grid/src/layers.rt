@@ -1,6 +1,6 @@
 //! The store of border characters or colors, level by level.
 
-ghost use Rattle.std.specs.Prelude.{◌≡◌, ◌↔◌, [], ◌∷◌, IsTrue, IsOk, IsSomeAnd, OnOk, OnErr, IfOk, option_copied, option_map, Option, None};
+ghost use Rattle.std.specs.Prelude.{◌≡◌, [], ◌∷◌, IsSomeAnd, OnOk, OnErr, None};
 
 mod cell_border;
 mod clearing;
@@ -10,9 +10,9 @@ mod equality;
 mod reads;
 mod writes;
 
-use crate::custom_lines::{put_horizontal, put_vertical, take_horizontal, take_vertical};
+use crate::custom_lines::{put_line, take_line};
 use crate::keys::EdgePlace;
-use crate::number::Number;
+use crate::line_numbers::LineNumbers;
 use crate::{
     Borders, HorizontalLine, LineOf, Offset, OutOfMemory, Place, Position, Probes, Spot, Target,
     VerticalLine,
@@ -48,11 +48,8 @@ pub struct Layers<T, M = Probes> {
     horizontal_offsets: CountedMap<EdgePlace, T, M>,
     vertical_offsets: CountedMap<EdgePlace, T, M>,
     on_lines: CountedMap<LineOf, u128, M>,
-    tops: Number<M>,
-    bottoms: Number<M>,
-    lefts: Number<M>,
-    rights: Number<M>,
-    betweens: Number<M>,
+    vertical_numbers: One<LineNumbers, M>,
+    horizontal_numbers: One<LineNumbers, M>,
 }
 
 /// Written out, so that dropping a store is one call wherever its life ends, and not one for each field.
@@ -68,11 +65,8 @@ impl<T: Drop, M> Drop for Layers<T, M> {
             horizontal_offsets: _,
             vertical_offsets: _,
             on_lines: _,
-            tops: _,
-            bottoms: _,
-            lefts: _,
-            rights: _,
-            betweens: _,
+            vertical_numbers: _,
+            horizontal_numbers: _,
         } = self;
     }
 }
@@ -81,7 +75,7 @@ impl<T, M> Model for Layers<T, M> {
     ghost use Rattle.tabled_grid.specs.State.{State};
     ghost use Rattle.tabled_grid.specs.Table.{table};
     ghost use Rattle.tabled_grid.specs.Keys.{line_cmp, spot_cmp, edge_place_cmp};
-    ghost use Rattle.tabled_grid.specs.Counted.{CellsCounted, VerticalCounted, HorizontalCounted};
+    ghost use Rattle.tabled_grid.specs.Counted.{CellsCounted, LinesCounted, vertical_draws, horizontal_draws};
     ghost use Rattle.std.specs.Ordering.{nat_cmp};
     ghost use Rattle.std.specs.Coded.{codes};
     ghost use Rattle.std.specs.FinMap as map;
@@ -102,15 +96,15 @@ impl<T, M> Model for Layers<T, M> {
 
     ghost invariant = { λ layers.
         CellsCounted (table line_cmp layers.on_lines) (table spot_cmp layers.cells)
-        × VerticalCounted layers.tops layers.bottoms (table nat_cmp layers.vertical_lines)
-        × HorizontalCounted layers.lefts layers.rights layers.betweens (table nat_cmp layers.horizontal_lines) };
+        × LinesCounted vertical_draws layers.vertical_numbers (table nat_cmp layers.vertical_lines)
+        × LinesCounted horizontal_draws layers.horizontal_numbers (table nat_cmp layers.horizontal_lines) };
 }
 
 impl<T> Layers<T> {
-    ghost use Rattle.tabled_grid.specs.Event.{sign, erase, level_sites, Shows, Changes};
+    ghost use Rattle.tabled_grid.specs.Event.{erase, level_sites, Shows, Changes};
     ghost use Rattle.tabled_grid.specs.State.{state_at, class_record_set};
     ghost use Rattle.tabled_grid.specs.Site.{Horizontal, Vertical, mark, of_line, at_spot};
-    ghost use Rattle.tabled_grid.specs.Calls.{default_set, line_set_horizontal, line_set_vertical, line_removed, spot_of, cell_set, cell_erased, offset_site, offset_set, edge_offset, offsets_erased, lines_erased};
+    ghost use Rattle.tabled_grid.specs.Calls.{default_set, line_set_horizontal, line_set_vertical, line_removed, spot_of, cell_set, cell_erased, offset_site, offset_set, offsets_erased, lines_erased};
     ghost use Rattle.tabled_grid.specs.declared.place.LineOf.{LineOf as Line};
 
     /// A store in which nothing was written. It keeps the allocator for the calls that need memory.
@@ -127,11 +121,8 @@ impl<T> Layers<T> {
             horizontal_offsets: CountedMap::new(alloc),
             vertical_offsets: CountedMap::new(alloc),
             on_lines: CountedMap::new(alloc),
-            tops: Number::new(),
-            bottoms: Number::new(),
-            lefts: Number::new(),
-            rights: Number::new(),
-            betweens: Number::new(),
+            vertical_numbers: One::new(LineNumbers::none()),
+            horizontal_numbers: One::new(LineNumbers::none()),
         }
     }
 
@@ -189,14 +180,8 @@ impl<T> Layers<T> {
         ensures err { OnErr result (self.new ≡ self.old) }
         ensures absent { OnErr result (state_at self.old (of_line (Line.Horizontal line) mark) ≡ None) }
     {
-        put_horizontal(
-            &mut self.horizontal_lines,
-            &mut self.lefts,
-            &mut self.rights,
-            &mut self.betweens,
-            line,
-            fields,
-        )
+        let lines = &mut self.horizontal_lines;
+        put_line(lines, &mut self.horizontal_numbers, line, fields)
     }
 
     /// Removes the custom horizontal line at index `line`, if one stands there.
@@ -205,13 +190,8 @@ impl<T> Layers<T> {
         T: Drop,
         ensures { Changes (line_removed (Line.Horizontal line)) (state_at self.old) (state_at self.new) }
     {
-        take_horizontal(
-            &mut self.horizontal_lines,
-            &mut self.lefts,
-            &mut self.rights,
-            &mut self.betweens,
-            line,
-        );
+        let lines = &mut self.horizontal_lines;
+        take_line(lines, &mut self.horizontal_numbers, line);
     }
 
     /// Puts a custom vertical line at index `line`, in place of the one that stood there. Only where none
@@ -223,13 +203,8 @@ impl<T> Layers<T> {
         ensures err { OnErr result (self.new ≡ self.old) }
         ensures absent { OnErr result (state_at self.old (of_line (Line.Vertical line) mark) ≡ None) }
     {
-        put_vertical(
-            &mut self.vertical_lines,
-            &mut self.tops,
-            &mut self.bottoms,
-            line,
-            fields,
-        )
+        let lines = &mut self.vertical_lines;
+        put_line(lines, &mut self.vertical_numbers, line, fields)
     }
 
     /// Removes the custom vertical line at index `line`, if one stands there.
@@ -238,12 +213,8 @@ impl<T> Layers<T> {
         T: Drop,
         ensures { Changes (line_removed (Line.Vertical line)) (state_at self.old) (state_at self.new) }
     {
-        take_vertical(
-            &mut self.vertical_lines,
-            &mut self.tops,
-            &mut self.bottoms,
-            line,
-        );
+        let lines = &mut self.vertical_lines;
+        take_line(lines, &mut self.vertical_numbers, line);
     }
 
     /// Erases all custom lines of both directions. The room of their tables stays.
@@ -254,11 +225,8 @@ impl<T> Layers<T> {
     {
         self.vertical_lines.clear();
         self.horizontal_lines.clear();
-        self.tops = Number::new();
-        self.bottoms = Number::new();
-        self.lefts = Number::new();
-        self.rights = Number::new();
-        self.betweens = Number::new();
+        self.vertical_numbers.replace(LineNumbers::none());
+        self.horizontal_numbers.replace(LineNumbers::none());
     }
 
     /// Writes at the cell level of a place. An edge has one site there, for all its places: `at` is not
@@ -294,9 +262,8 @@ impl<T> Layers<T> {
         self.on_lines.clear();
     }
 
-    /// Writes at a numbered place of an edge, counted from its start or back from its end. `at` is not
-    /// read; a crossing has no such place and is passed over. Only where nothing was there can memory be
-    /// refused.
+    /// Writes at a numbered place of an edge, counted from its start or back from its end. `at` is not read; a crossing has no such
+    /// place and is passed over. Only where nothing was there can memory be refused.
     pub fn set_offset(&mut self, place: Place, offset: Offset, value: T) -> Result<(), OutOfMemory>
     where
         T: Drop,

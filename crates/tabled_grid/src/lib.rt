@@ -3,8 +3,7 @@
 //! A table has R rows and C columns. Its horizontal lines are numbered 0 to R, its vertical lines 0
 //! to C; the lines R and C close the table. `docs/DEFINITIONS.md` explains the words of the contracts.
 //!
-//! What names cells is written in `tabled_object`, what stands at a border in `tabled_border`; both are passed on
-//! here.
+//! What names cells is written in `tabled_object`, what stands at a border in `tabled_border`; both are passed on here.
 #![tactic(auto)]
 
 mod borders;
@@ -15,8 +14,8 @@ mod event;
 mod keep;
 mod keys;
 mod layers;
+mod line_numbers;
 mod lines;
-mod number;
 mod offset;
 mod place;
 mod site;

@@ -1,9 +1,9 @@
 //! Custom lines, which stand at one index in place of what the class record says there.
 
-ghost use Rattle.std.specs.Prelude.{◌≡◌, is_some, ⊤, option_copied};
-ghost use Rattle.tabled_grid.specs.Table.{passes};
+ghost use Rattle.std.specs.Prelude.{◌≡◌, ⊤};
 
 use crate::Rank;
+use crate::custom_lines::CustomLine;
 use std::alloc::AllocError;
 use tabled_kept::Numbered;
 
@@ -81,58 +81,57 @@ impl<T: Copy> Clone for VerticalLine<T> {
     }
 }
 
-/// Whether there is a line with a left.
-pub(crate) fn has_left<T>(line: &Option<HorizontalLine<T>>) -> bool
-    ensures { result ≡ passes (λ x. is_some x.left) line.now }
-{
-    match line {
-        Some(line) => line.left.is_some(),
-        None => false,
+impl<T> CustomLine for HorizontalLine<T> {
+    ghost use Rattle.tabled_grid.specs.Site.{horizontal_meeting};
+    ghost use Rattle.tabled_grid.specs.Counted.{horizontal_draws};
+
+    type Value = T;
+
+    ghost meeting = { horizontal_meeting };
+
+    ghost draws = { horizontal_draws };
+
+    fn meeting(&self, rank: Rank) -> Option<&T> {
+        match rank {
+            Rank::First => self.left.as_ref(),
+            Rank::Inner => self.intersection.as_ref(),
+            Rank::Last => self.right.as_ref(),
+        }
+    }
+
+    fn draws(&self, rank: Rank) -> bool {
+        self.meeting(rank).is_some()
     }
 }
 
-/// Whether there is a line with a right.
-pub(crate) fn has_right<T>(line: &Option<HorizontalLine<T>>) -> bool
-    ensures { result ≡ passes (λ x. is_some x.right) line.now }
-{
-    match line {
-        Some(line) => line.right.is_some(),
-        None => false,
-    }
-}
+impl<T> CustomLine for VerticalLine<T> {
+    ghost use Rattle.tabled_grid.specs.Site.{vertical_meeting};
+    ghost use Rattle.tabled_grid.specs.Counted.{vertical_draws};
 
-/// Whether there is a line with an intersection.
-pub(crate) fn has_between<T>(line: &Option<HorizontalLine<T>>) -> bool
-    ensures { result ≡ passes (λ x. is_some x.intersection) line.now }
-{
-    match line {
-        Some(line) => line.intersection.is_some(),
-        None => false,
-    }
-}
+    type Value = T;
 
-/// Whether there is a line with a top.
-pub(crate) fn has_top<T>(line: &Option<VerticalLine<T>>) -> bool
-    ensures { result ≡ passes (λ x. is_some x.top) line.now }
-{
-    match line {
-        Some(line) => line.top.is_some(),
-        None => false,
-    }
-}
+    ghost meeting = { vertical_meeting };
 
-/// Whether there is a line with a bottom.
-pub(crate) fn has_bottom<T>(line: &Option<VerticalLine<T>>) -> bool
-    ensures { result ≡ passes (λ x. is_some x.bottom) line.now }
-{
-    match line {
-        Some(line) => line.bottom.is_some(),
-        None => false,
+    ghost draws = { vertical_draws };
+
+    fn meeting(&self, rank: Rank) -> Option<&T> {
+        match rank {
+            Rank::First => self.top.as_ref(),
+            Rank::Inner => self.intersection.as_ref(),
+            Rank::Last => self.bottom.as_ref(),
+        }
+    }
+
+    fn draws(&self, rank: Rank) -> bool {
+        match rank {
+            Rank::First => self.top.is_some(),
+            Rank::Inner => false,
+            Rank::Last => self.bottom.is_some(),
+        }
     }
 }
 
 impl<T> HorizontalLine<T> {
-    ghost use Rattle.tabled_grid.specs.Site.{rank, horizontal_meeting};
     ghost use Rattle.tabled_grid.specs.CustomLines.{no_horizontal, put_horizontal_meeting};
 
     /// A line of these characters: along its edges, at its crossings between, and at its two ends.
@@ -159,17 +158,6 @@ impl<T> HorizontalLine<T> {
         HorizontalLine::new(None, None, None, None)
     }
 
-    /// What the line has for its crossing with line `col` of the other direction, of the lines 0 to `cols`.
-    pub(crate) fn at_crossing(&self, col: usize, cols: usize) -> Option<&T>
-        ensures { option_copied result ≡ horizontal_meeting (rank cols col) self.now }
-    {
-        match Rank::of(col, cols) {
-            Rank::First => self.left.as_ref(),
-            Rank::Inner => self.intersection.as_ref(),
-            Rank::Last => self.right.as_ref(),
-        }
-    }
-
     /// Sets or drops what the line has at its crossings with the vertical lines of a rank.
     pub fn set_crossing(&mut self, rank: Rank, value: Option<T>)
     where
@@ -185,7 +173,6 @@ impl<T> HorizontalLine<T> {
 }
 
 impl<T> VerticalLine<T> {
-    ghost use Rattle.tabled_grid.specs.Site.{rank, vertical_meeting};
     ghost use Rattle.tabled_grid.specs.CustomLines.{no_vertical, put_vertical_meeting};
 
     /// A line of these characters: along its edges, at its crossings between, and at its two ends.
@@ -210,17 +197,6 @@ impl<T> VerticalLine<T> {
         ensures { result ≡ no_vertical }
     {
         VerticalLine::new(None, None, None, None)
-    }
-
-    /// What the line has for its crossing with line `row` of the other direction, of the lines 0 to `rows`.
-    pub(crate) fn at_crossing(&self, row: usize, rows: usize) -> Option<&T>
-        ensures { option_copied result ≡ vertical_meeting (rank rows row) self.now }
-    {
-        match Rank::of(row, rows) {
-            Rank::First => self.top.as_ref(),
-            Rank::Inner => self.intersection.as_ref(),
-            Rank::Last => self.bottom.as_ref(),
-        }
     }
 
     /// Sets or drops what the line has at its crossings with the horizontal lines of a rank.

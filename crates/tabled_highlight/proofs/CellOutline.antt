@@ -1,5 +1,6 @@
 -- What is written around one cell of a set is what the outline has there, and somewhere all of it is written.
 use Rattle.std.proofs.Common.{◌≡◌, ℕ, zero, suc, ◌||◌, Bool, true, false, is_some, Option, Some, None, option_map, List, [], ◌∷◌, refl, ap, ◌∙◌}
+use Rattle.std.proofs.lemmas.Bool.{or_left, or_right}
 use Rattle.tabled_object.specs.Entities.{position}
 use Rattle.tabled_grid.specs.declared.site.Direction.TheVariants.{Horizontal, Vertical}
 use Rattle.tabled_grid.specs.declared.site.Spot.{Spot}
@@ -11,7 +12,6 @@ use Rattle.tabled_grid.specs.Event.{covered}
 use Rattle.tabled_grid.proofs.Leaving.{AllOf, on_spots, spot_itself}
 use Rattle.tabled_highlight.specs.Outline.{Outlining, CellSet, upper_left, upper_right, lower_left, lower_right, across_value, down_value, crossing_value, outline_value}
 use Rattle.tabled_highlight.specs.Around.{all_written, unless, around}
-use Rattle.tabled_highlight.proofs.Tests.{or_left, or_right}
 
 -- an entry covers its own spot where it has a value, and those after it cover what they cover
 head_covers : {T : Type 0} (spot : Spot) (value : Option T) (rest : List (Spot × Option T)) → is_some value ≡ true → covered (all_written ((spot, value) ∷ rest)) (at_spot spot) ≡ true
@@ -27,15 +27,12 @@ tail_covers spot None rest q h = h
 module _ {T : Type 0} (given : Outlining T) where
   -- corners by the bits of their cells
   first_corner : (ul ur ll : Bool) (w : T) → unless (ul || ur || ll) (crossing_value given (false, false) (false, true)) ≡ Some w → crossing_value given (ul, ur) (ll, true) ≡ Some w
-  first_corner true ur ll w e = absurd cc
-  first_corner false true ll w e = absurd cc
-  first_corner false false true w e = absurd cc
   first_corner false false false w e = e
+  first_corner ul ur ll w e = absurd cc
 
   second_corner : (ul ur lr : Bool) (w : T) → unless (ul || ur) (crossing_value given (false, false) (true, lr)) ≡ Some w → crossing_value given (ul, ur) (true, lr) ≡ Some w
-  second_corner true ur lr w e = absurd cc
-  second_corner false true lr w e = absurd cc
   second_corner false false lr w e = e
+  second_corner ul ur lr w e = absurd cc
 
   third_corner : (ul ll lr : Bool) (w : T) → unless ul (crossing_value given (false, true) (ll, lr)) ≡ Some w → crossing_value given (ul, true) (ll, lr) ≡ Some w
   third_corner true ll lr w e = absurd cc

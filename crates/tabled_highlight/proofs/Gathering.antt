@@ -1,24 +1,23 @@
 -- The set of the cells that entities name, gathered cell by cell.
-use Rattle.std.proofs.Common.{◌≡◌, ℕ, ◌==◌, ◌≤◌, ◌&&◌, ◌||◌, Bool, true, false, cond, nat_lt, List, [], ◌∷◌, refl, sym, ap, ◌∙◌, arith}
+use Rattle.std.proofs.Common.{◌≡◌, ℕ, ◌==◌, ◌&&◌, ◌||◌, Bool, true, false, cond, List, [], ◌∷◌, refl, sym, ap, ◌∙◌, arith, nat_cmp}
 use Rattle.std.specs.List.{list_any}
-use Rattle.std.specs.Ordering.{nat_cmp}
 use Rattle.std.specs.BTreeMap.{is_at}
 use Rattle.std.specs.BTreeSet.{BTreeSet, Updates, contains}
 use Rattle.std.proofs.lemmas.Bool.Decides.{nat_tests}
+use mathlib.Core.Bool.{or-false}
+use Rattle.std.specs.Cmp.{unsigned_tied, tied_then}
 use Rattle.tabled_object.specs.declared.entity.Entity.{Entity}
-use Rattle.tabled_object.specs.declared.entity.Entity.TheVariants.{Column, Row}
 use Rattle.tabled_object.specs.declared.position.Position.{Position}
 use Rattle.tabled_object.specs.contracts.position.PositionOrd.TheImpl.{cmp-value}
 use Rattle.tabled_object.specs.Entities.{covers, cells_of, is_inside}
-use Rattle.tabled_object.specs.Listing.{covered, listed}
-use Rattle.tabled_object.proofs.Coverings.{same_number, both_equal, or_false}
+use Rattle.tabled_object.specs.Listing.{listed}
 use Rattle.tabled_object.proofs.Sets.{is_here, any_named, same_here}
 use Rattle.tabled_highlight.specs.Around.{has}
 
 -- cells that compare alike are the same
 alike_is_here : (cell other : Position) → is_at (cmp-value.it cell) other ≡ is_here cell other
 alike_is_here cell other =
-    both_equal (nat_cmp cell.row other.row) (nat_cmp cell.col other.col) ∙ (λ i. same_number cell.row other.row i && same_number cell.col other.col i)
+    sym (tied_then (nat_cmp cell.row other.row) (nat_cmp cell.col other.col)) ∙ (λ i. unsigned_tied cell.row other.row i && unsigned_tied cell.col other.col i)
 
 here_either_way : (cell other : Position) → is_here cell other ≡ is_here other cell
 here_either_way cell other = λ i. swapped cell.row other.row i && swapped cell.col other.col i
@@ -48,11 +47,6 @@ added_bits true old true rest h = all old
 added_bits true old false rest h = absurd (let e = h refl in cc)
 added_bits false old inside rest h = refl
 
-passed_bits : (here old inside rest : Bool) → (here ≡ true → inside ≡ false) → (old || (inside && rest)) ≡ (old || (inside && (here || rest)))
-passed_bits true old true rest h = absurd (let e = h refl in cc)
-passed_bits true old false rest h = refl
-passed_bits false old inside rest h = refl
-
 module _ (rows cols : ℕ) where
   -- a cell inside is added, and one outside passed over
   pub one_added : (now then items rest : List Position) (pos : Position) (whole : Position → Bool) → items ≡ pos ∷ rest → is_inside rows cols pos ≡ true
@@ -64,19 +58,12 @@ module _ (rows cols : ℕ) where
       ∙ added_bits (is_here cell pos) (has now cell) (is_inside rows cols cell) (list_any (is_here cell) rest) (λ e. ap (is_inside rows cols) (sym (same_here cell pos e)) ∙ inside)
       ∙ ap (λ list. has now cell || (is_inside rows cols cell && list_any (is_here cell) list)) (sym next) ∙ so_far cell
 
-  pub one_passed : (now items rest : List Position) (pos : Position) (whole : Position → Bool) → items ≡ pos ∷ rest → is_inside rows cols pos ≡ false
-      → ((cell : Position) → (has now cell || (is_inside rows cols cell && list_any (is_here cell) items)) ≡ whole cell)
-      → (cell : Position) → (has now cell || (is_inside rows cols cell && list_any (is_here cell) rest)) ≡ whole cell
-  one_passed now items rest pos whole next outside so_far cell =
-      passed_bits (is_here cell pos) (has now cell) (is_inside rows cols cell) (list_any (is_here cell) rest) (λ e. ap (is_inside rows cols) (sym (same_here cell pos e)) ∙ outside)
-      ∙ ap (λ list. has now cell || (is_inside rows cols cell && list_any (is_here cell) list)) (sym next) ∙ so_far cell
-
   -- the cells that an entity names, inside, are those that it covers
   pub all_named : (entity : Entity) (cell : Position) → (is_inside rows cols cell && list_any (is_here cell) (cells_of entity rows cols)) ≡ listed (entity ∷ []) rows cols cell
   all_named entity cell = where_inside (is_inside rows cols cell) (list_any (is_here cell) (cells_of entity rows cols)) (covers entity cell) (any_named entity rows cols cell)
     where
       where_inside : (b x y : Bool) → (b ≡ true → x ≡ y) → (b && x) ≡ (b && (y || false))
-      where_inside true x y h = h refl ∙ sym (or_false y)
+      where_inside true x y h = h refl ∙ sym (or-false y)
       where_inside false x y h = refl
 
   -- nothing is left
@@ -87,44 +74,3 @@ module _ (rows cols : ℕ) where
       or_none true b = refl
       or_none false true = refl
       or_none false false = refl
-
-  -- one entity more
-  pub entity_added : (now then : List Position) (items rest : List Entity) (entity : Entity) (whole : Position → Bool) → items ≡ entity ∷ rest
-      → ((cell : Position) → has then cell ≡ (has now cell || listed (entity ∷ []) rows cols cell))
-      → ((cell : Position) → (has now cell || listed items rows cols cell) ≡ whole cell)
-      → (cell : Position) → (has then cell || listed rest rows cols cell) ≡ whole cell
-  entity_added now then items rest entity whole next added so_far cell =
-      ap (λ b. b || listed rest rows cols cell) (added cell)
-      ∙ apart (has now cell) (is_inside rows cols cell) (covers entity cell) (covered rest cell)
-      ∙ ap (λ list. has now cell || listed list rows cols cell) (sym next) ∙ so_far cell
-    where
-      apart : (a b x y : Bool) → ((a || (b && (x || false))) || (b && y)) ≡ (a || (b && (x || y)))
-      apart true b x y = refl
-      apart false true true y = refl
-      apart false true false y = refl
-      apart false false x y = refl
-
-  outside_row : (row r : ℕ) (other : Bool) → rows ≤ row → ((nat_lt r rows && other) && ((r == row) || false)) ≡ false
-  outside_row row r other h = by_tests (nat_lt r rows) other (r == row) (grind (arith, nat_tests))
-    where
-      by_tests : (a b c : Bool) → (a && c) ≡ false → ((a && b) && (c || false)) ≡ false
-      by_tests true true true e = e
-      by_tests true true false e = refl
-      by_tests true false c e = refl
-      by_tests false b c e = refl
-
-  outside_col : (col c : ℕ) (other : Bool) → cols ≤ col → ((other && nat_lt c cols) && ((c == col) || false)) ≡ false
-  outside_col col c other h = by_tests (nat_lt c cols) other (c == col) (grind (arith, nat_tests))
-    where
-      by_tests : (a b c : Bool) → (a && c) ≡ false → ((b && a) && (c || false)) ≡ false
-      by_tests true true true e = e
-      by_tests true true false e = refl
-      by_tests true false c e = refl
-      by_tests false true c e = refl
-      by_tests false false c e = refl
-
-  pub row_outside : (row : ℕ) → rows ≤ row → (cell : Position) → listed (Row row ∷ []) rows cols cell ≡ false
-  row_outside row h cell = outside_row row cell.row (nat_lt cell.col cols) h
-
-  pub column_outside : (col : ℕ) → cols ≤ col → (cell : Position) → listed (Column col ∷ []) rows cols cell ≡ false
-  column_outside col h cell = outside_col col cell.col (nat_lt cell.row rows) h

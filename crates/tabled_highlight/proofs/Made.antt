@@ -1,6 +1,7 @@
 -- The writes around the cells of a set make the change that the outline makes.
 use Rattle.std.proofs.Common.{◌≡◌, ℕ, ◌+◌, ◌^◌, ◌<◌, true, nat_lt, Option, Some, None, option_map, List, [], ◌++◌, refl, sym, ap, subst, ◌∙◌, arith}
 use Rattle.std.proofs.lemmas.Bool.Decides.{nat_tests}
+use Rattle.std.proofs.lemmas.Bool.{and_parts}
 use Rattle.tabled_border.specs.declared.border.Border.{Border}
 use Rattle.tabled_border.specs.Texts.{Texts}
 use Rattle.tabled_object.specs.declared.entity.Entity.{Entity}
@@ -23,17 +24,16 @@ use Rattle.tabled_color.specs.BorderColors.{border_texts}
 use Rattle.tabled_highlight.specs.Outline.{Outlining, CellSet, outline_value, outline}
 use Rattle.tabled_highlight.specs.Around.{has, written_around_each, written_around}
 use Rattle.tabled_highlight.specs.Highlighting.{drawn_with, outline_if, highlight_events}
-use Rattle.tabled_highlight.proofs.Tests.{each_holds}
 use Rattle.tabled_highlight.proofs.Walk.{Fits, walk_leaves}
 use Rattle.tabled_highlight.proofs.Spots.{outline_leaves}
 
 -- cells that are listed lie inside
 pub listed_inside : (entities : List Entity) (rows cols : ℕ) (pos : Position) → listed entities rows cols pos ≡ true → is_inside rows cols pos ≡ true
-listed_inside entities rows cols pos h = (each_holds (is_inside rows cols pos) (covered entities pos) h).0
+listed_inside entities rows cols pos h = (and_parts (is_inside rows cols pos) (covered entities pos) h).0
 
 inside_fits : (rows cols : ℕ) (pos : Position) → rows < 2 ^ 64 → cols < 2 ^ 64 → is_inside rows cols pos ≡ true → Fits pos
 inside_fits rows cols pos row_bound col_bound h =
-    let bits = each_holds (nat_lt pos.row rows) (nat_lt pos.col cols) h in
+    let bits = and_parts (nat_lt pos.row rows) (nat_lt pos.col cols) h in
     record { row_fits = after pos.row rows row_bound bits.0; col_fits = after pos.col cols col_bound bits.1 }
   where
     after : (n m : ℕ) → m < 2 ^ 64 → nat_lt n m ≡ true → n + 1 < 2 ^ 64

@@ -2,6 +2,7 @@
 use Rattle.std.proofs.Common.{◌≡◌, ℕ, Bool, true, false, is_some, Option, Some, None, option_map, List, map, slice_index_or, refl, sym, ap, subst, ◌∙◌}
 use Rattle.std.specs.List.{list_any, Contains}
 use Rattle.std.proofs.lemmas.List.Folds.{Any-from_list_any}
+use Rattle.std.proofs.lemmas.Bool.{and_parts}
 use Rattle.tabled_border.specs.declared.border.Border.{Border}
 use Rattle.tabled_object.specs.declared.entity.Entity.{Entity}
 use Rattle.tabled_object.specs.Listing.{listed}
@@ -9,15 +10,14 @@ use Rattle.tabled_object.proofs.Sets.{any_map}
 use Rattle.tabled_grid.specs.declared.site.Spot.{Spot}
 use Rattle.tabled_grid.specs.declared.site.Site.{Site}
 use Rattle.tabled_grid.specs.declared.site.Site.TheVariants.{Default as the_default, Class as of_class, Line as of_line, Cell as at_spot, Offset as at_offset}
+use Rattle.tabled_grid.specs.Site.{same_spot, same_site}
 use Rattle.tabled_grid.specs.declared.event.Event.{Event}
 use Rattle.tabled_grid.specs.declared.event.Written.TheVariants.{Sign as sign}
-use Rattle.tabled_grid.specs.Site.{same_spot, same_site}
 use Rattle.tabled_grid.specs.Event.{covered, replay}
 use Rattle.tabled_grid.proofs.SameSite.{same_site-eq}
 use Rattle.tabled_grid.proofs.Replay.{replay_uncovered}
 use Rattle.tabled_grid.proofs.Leaving.{Leaves, on_spots, covered_is, left_is, covered_written}
 use Rattle.tabled_highlight.specs.Outline.{Outlining, across_value, down_value, outline_value, every_spot, outline, IsSpotOf}
-use Rattle.tabled_highlight.proofs.Tests.{each_holds}
 use Rattle.tabled_highlight.proofs.Spots.{outline_leaves}
 use Rattle.tabled_highlight.proofs.Made.{listed_inside}
 
@@ -55,7 +55,7 @@ unfolding outline
 at_its_spots entities rows cols given (at_spot spot) h =
     among (at_spot spot) (map at_spot (every_spot (rows, cols)))
     (any_map (same_site (at_spot spot)) at_spot (every_spot (rows, cols))
-    ∙ (each_holds (is_some (outline_value (listed entities rows cols) given spot)) (list_any (same_spot spot) (every_spot (rows, cols))) (sym (covered_written (outline_value (listed entities rows cols) given) (every_spot (rows, cols)) spot) ∙ h)).1)
+    ∙ (and_parts (is_some (outline_value (listed entities rows cols) given spot)) (list_any (same_spot spot) (every_spot (rows, cols))) (sym (covered_written (outline_value (listed entities rows cols) given) (every_spot (rows, cols)) spot) ∙ h)).1)
 at_its_spots entities rows cols given the_default h = absurd (nowhere _ (outline (rows, cols) (listed entities rows cols) given) the_default (leaves entities rows cols given) refl h)
 at_its_spots entities rows cols given (of_class class) h = absurd (nowhere _ (outline (rows, cols) (listed entities rows cols) given) (of_class class) (leaves entities rows cols given) refl h)
 at_its_spots entities rows cols given (of_line line part) h = absurd (nowhere _ (outline (rows, cols) (listed entities rows cols) given) (of_line line part) (leaves entities rows cols given) refl h)
@@ -63,13 +63,11 @@ at_its_spots entities rows cols given (at_offset d r c offset) h = absurd (nowhe
 
 -- nothing stands between two cells alike
 pub nothing_across : {T : Type 0} (border : Border T) (above below : Bool) → above ≡ below → is_some (across_value border above below) ≡ false
-nothing_across border true true e = refl
-nothing_across border false false e = refl
 nothing_across border true false e = absurd cc
 nothing_across border false true e = absurd cc
+nothing_across border above below e = refl
 
 pub nothing_down : {T : Type 0} (border : Border T) (left right : Bool) → left ≡ right → is_some (down_value border left right) ≡ false
-nothing_down border true true e = refl
-nothing_down border false false e = refl
 nothing_down border true false e = absurd cc
 nothing_down border false true e = absurd cc
+nothing_down border left right e = refl

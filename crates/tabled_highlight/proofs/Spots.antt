@@ -2,6 +2,7 @@
 use Rattle.std.proofs.Common.{◌≡◌, ℕ, suc, ◌+◌, ◌&&◌, Bool, true, nat_lt, is_some, Option, Some, None, List, [], ◌∷◌, map, ap, ◌∙◌}
 use Rattle.std.specs.List.{list_any, flat_map}
 use Rattle.std.proofs.lemmas.List.Folds.{list_any-append}
+use Rattle.std.proofs.lemmas.Bool.{or_left, or_right, and_from, and_parts}
 use Rattle.tabled_object.specs.declared.position.Position.{Position}
 use Rattle.tabled_object.specs.Entities.{position, below, is_inside}
 use Rattle.tabled_object.proofs.Sets.{any_map}
@@ -17,7 +18,7 @@ use Rattle.tabled_grid.specs.Calls.{line_spots, edge_of, crossing_of}
 use Rattle.tabled_grid.proofs.Leaving.{Leaves, on_spots, leaves_on_spots, all_agree, covered_written, spot_itself}
 use Rattle.tabled_highlight.specs.Outline.{Outlining, CellSet, outline_value, every_spot, outline}
 use Rattle.tabled_highlight.specs.Around.{all_written, around}
-use Rattle.tabled_highlight.proofs.Tests.{or_left, or_right, both_hold, each_holds, one_holds, less_here, less_next, found_below, any_flat}
+use Rattle.tabled_highlight.proofs.Tests.{one_holds, less_here, less_next, found_below, any_flat}
 use Rattle.tabled_highlight.proofs.CellOutline.{found}
 
 module _ (rows cols : ℕ) where
@@ -38,7 +39,7 @@ module _ (rows cols : ℕ) where
   unfolding across_spots down_spots
   all_listed (Edge Horizontal r c) h =
       let q = Edge Horizontal r c in
-      let inside = each_holds (nat_lt r (rows + 1)) (nat_lt c cols) h in
+      let inside = and_parts (nat_lt r (rows + 1)) (nat_lt c cols) h in
       list_any-append (same_spot q) across_spots down_spots
       ∙ or_left (list_any (same_spot q) across_spots) (list_any (same_spot q) down_spots)
       (any_flat (same_spot q) (λ line. line_spots (LineOf.Horizontal line) cols) (below (rows + 1))
@@ -48,7 +49,7 @@ module _ (rows cols : ℕ) where
       (any_map (same_spot q) (edge_of (LineOf.Horizontal r)) (below cols) ∙ found_below (λ at. same_spot q (Edge Horizontal r at)) c cols inside.1 (spot_itself q))))
   all_listed (Crossing r c) h =
       let q = Crossing r c in
-      let inside = each_holds (nat_lt r (rows + 1)) (nat_lt c (cols + 1)) h in
+      let inside = and_parts (nat_lt r (rows + 1)) (nat_lt c (cols + 1)) h in
       list_any-append (same_spot q) across_spots down_spots
       ∙ or_left (list_any (same_spot q) across_spots) (list_any (same_spot q) down_spots)
       (any_flat (same_spot q) (λ line. line_spots (LineOf.Horizontal line) cols) (below (rows + 1))
@@ -58,7 +59,7 @@ module _ (rows cols : ℕ) where
       (any_map (same_spot q) (crossing_of (LineOf.Horizontal r)) (below (cols + 1)) ∙ found_below (λ at. same_spot q (Crossing r at)) c (cols + 1) inside.1 (spot_itself q))))
   all_listed (Edge Vertical r c) h =
       let q = Edge Vertical r c in
-      let inside = each_holds (nat_lt r rows) (nat_lt c (cols + 1)) h in
+      let inside = and_parts (nat_lt r rows) (nat_lt c (cols + 1)) h in
       list_any-append (same_spot q) across_spots down_spots
       ∙ or_right (list_any (same_spot q) across_spots) (list_any (same_spot q) down_spots)
       (any_flat (same_spot q) (λ line. map (edge_of (LineOf.Vertical line)) (below rows)) (below (cols + 1))
@@ -83,14 +84,14 @@ module _ (rows cols : ℕ) where
       let next = less_next r rows hr in
       let at = less_here c cols hc in
       let right = less_next c cols hc in
-      (both_hold _ _ here hc, (both_hold _ _ next hc, (both_hold _ _ hr at, (both_hold _ _ hr right, (both_hold _ _ here at, (both_hold _ _ here right, (both_hold _ _ next at, (both_hold _ _ next right, tt))))))))
+      (and_from _ _ here hc, (and_from _ _ next hc, (and_from _ _ hr at, (and_from _ _ hr right, (and_from _ _ here at, (and_from _ _ here right, (and_from _ _ next at, (and_from _ _ next right, tt))))))))
 
 -- the outline of cells that lie in the table has something at its edges and crossings alone
 pub outline_inside : {T : Type 0} (rows cols : ℕ) (cells : CellSet) (given : Outlining T) → ((pos : Position) → cells pos ≡ true → is_inside rows cols pos ≡ true)
     → (spot : Spot) → is_some (outline_value cells given spot) ≡ true → in_table rows cols spot ≡ true
 outline_inside rows cols cells given inside spot h =
     let cell = found given cells spot h in
-    let lies = each_holds (nat_lt cell.row rows) (nat_lt cell.col cols) (inside (position cell.row cell.col) cell.chosen) in
+    let lies = and_parts (nat_lt cell.row rows) (nat_lt cell.col cols) (inside (position cell.row cell.col) cell.chosen) in
     covered_in rows cols spot (around given cells cell.row (suc cell.row) cell.col (suc cell.col)) (around_in rows cols given cells cell.row cell.col lies.0 lies.1) cell.written
 
 pub outline_leaves : {T : Type 0} (rows cols : ℕ) (cells : CellSet) (given : Outlining T) → ((pos : Position) → cells pos ≡ true → is_inside rows cols pos ≡ true)
@@ -99,4 +100,4 @@ unfolding outline
 outline_leaves rows cols cells given inside =
     leaves_on_spots (outline_value cells given) (outline (rows, cols) cells given) (all_agree (outline_value cells given) (every_spot (rows, cols)))
     (λ spot h. covered_written (outline_value cells given) (every_spot (rows, cols)) spot
-    ∙ both_hold (is_some (outline_value cells given spot)) (list_any (same_spot spot) (every_spot (rows, cols))) h (all_listed rows cols spot (outline_inside rows cols cells given inside spot h)))
+    ∙ and_from (is_some (outline_value cells given spot)) (list_any (same_spot spot) (every_spot (rows, cols))) h (all_listed rows cols spot (outline_inside rows cols cells given inside spot h)))

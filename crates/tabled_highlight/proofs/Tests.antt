@@ -1,25 +1,11 @@
 -- Tests that hold, and lists of tests.
-use Rattle.std.proofs.Common.{◌≡◌, ℕ, ◌+◌, ◌==◌, ◌&&◌, ◌||◌, suc, Bool, true, false, nat_lt, List, [], ◌∷◌, refl, ap, subst, ◌∙◌, arith}
+use Rattle.std.proofs.Common.{◌≡◌, ℕ, ◌+◌, ◌==◌, ◌||◌, suc, Bool, true, false, nat_lt, List, [], ◌∷◌, refl, ap, subst, ◌∙◌, arith}
 use Rattle.std.specs.List.{list_any, flat_map}
-use Rattle.std.proofs.lemmas.Bool.{eqb-true}
+use Rattle.std.proofs.lemmas.Bool.{eqb-true, or_left, or_right}
 use Rattle.std.proofs.lemmas.Bool.Decides.{nat_tests}
 use Rattle.std.proofs.lemmas.List.Folds.{list_any-append}
 use Rattle.tabled_object.specs.Entities.{below}
 use Rattle.tabled_object.proofs.Sets.{any_below}
-
-pub or_left : (a b : Bool) → a ≡ true → (a || b) ≡ true
-or_left a b h = ap (λ x. x || b) h
-
-pub or_right : (a b : Bool) → b ≡ true → (a || b) ≡ true
-or_right true b h = refl
-or_right false b h = h
-
-pub both_hold : (a b : Bool) → a ≡ true → b ≡ true → (a && b) ≡ true
-both_hold a b h k = λ i. h i && k i
-
-pub each_holds : (a b : Bool) → (a && b) ≡ true → (a ≡ true) × (b ≡ true)
-each_holds true b h = (refl, h)
-each_holds false b h = absurd cc
 
 pub one_holds : (a b : Bool) → (a || b) ≡ true → {P : Type 0} → (a ≡ true → P) → (b ≡ true → P) → P
 one_holds true b h f g = f refl

@@ -1,5 +1,6 @@
 -- What is written around each cell of a list is the outline of their set.
 use Rattle.std.proofs.Common.{◌≡◌, ℕ, suc, ◌+◌, ◌^◌, ◌<◌, Bool, true, List, [], ◌∷◌, ap, subst, ◌∙◌, arith}
+use Rattle.std.proofs.lemmas.Bool.{or_left, or_right}
 use Rattle.tabled_object.specs.declared.position.Position.{Position}
 use Rattle.tabled_object.specs.Entities.{position}
 use Rattle.tabled_object.proofs.Sets.{is_here, here_itself, same_here}
@@ -10,7 +11,7 @@ use Rattle.tabled_grid.proofs.Replay.{covered-append}
 use Rattle.tabled_grid.proofs.Leaving.{AllOf, all_of-append, Leaves, on_spots, leaves_on_spots}
 use Rattle.tabled_highlight.specs.Outline.{Outlining, CellSet, outline_value}
 use Rattle.tabled_highlight.specs.Around.{has, all_written, around, line_after, written_around_each}
-use Rattle.tabled_highlight.proofs.Tests.{or_left, or_right, one_holds}
+use Rattle.tabled_highlight.proofs.Tests.{one_holds}
 use Rattle.tabled_highlight.proofs.CellOutline.{found, around_agrees}
 
 -- a cell with lines after its own

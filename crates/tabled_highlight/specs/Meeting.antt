@@ -1,6 +1,5 @@
 -- The edges that meet at a crossing.
-use Rattle.std.specs.Prelude.{ℕ, zero, suc, Bool, false, not, if◌then◌else◌, List, [], ◌∷◌, ◌++◌}
-use Rattle.std.specs.List.{filter}
+use Rattle.std.specs.Prelude.{ℕ, zero, suc, Bool, false, not, if◌then◌else◌, List, [], ◌∷◌, ◌++◌, filter}
 use Rattle.tabled_grid.specs.declared.site.Direction.TheVariants.{Horizontal, Vertical}
 use Rattle.tabled_grid.specs.declared.site.Spot.{Spot}
 use Rattle.tabled_grid.specs.declared.site.Spot.TheVariants.{Edge, Crossing}

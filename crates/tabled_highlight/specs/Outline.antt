@@ -1,6 +1,5 @@
 -- The outline of a set of cells: what is written at the edges and the crossings around it.
-use Rattle.std.specs.Prelude.{ℕ, zero, suc, ◌+◌, Bool, true, false, Option, None, option_map, List, ◌++◌, map}
-use Rattle.std.specs.List.{Contains, filter_map, flat_map}
+use Rattle.std.specs.Prelude.{ℕ, zero, suc, ◌+◌, Bool, true, false, Option, None, option_map, List, ◌++◌, map, Contains, filter_map, flat_map}
 use Rattle.std.specs.Option.{option_or}
 use Rattle.tabled_border.specs.declared.border.Border.{Border}
 use Rattle.tabled_object.specs.declared.position.Position.{Position}

@@ -1,6 +1,6 @@
 //! The writes of an outline, found cell by cell.
 
-ghost use Rattle.std.specs.Prelude.{◌≡◌, ◌||◌, ◌++◌, [], Some, None, IfOk, OnOk, if◌then◌else◌, option_copied, ◌∷◌};
+ghost use Rattle.std.specs.Prelude.{◌≡◌, ◌||◌, ◌++◌, [], Some, IfOk, OnOk, option_copied, ◌∷◌};
 ghost use Rattle.std.specs.Option.{option_or};
 ghost use Rattle.tabled_grid.specs.Calls.{spot_of};
 ghost use Rattle.tabled_grid.specs.Writes.{writes_made};

@@ -52,8 +52,7 @@ impl<O> Model for Highlight<O> {
 }
 
 impl<O> Highlight<O> {
-    /// An outline around the cells that the object names, with neither characters nor colors yet: without them it changes
-    /// nothing.
+    /// An outline around the cells that the object names, with neither characters nor colors yet: without them it changes nothing.
     pub fn new(target: O) -> Self
         ensures { result ≡ record { target = target; border = None; diagonal = None; color = None } }
     {

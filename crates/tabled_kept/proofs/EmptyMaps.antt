@@ -1,9 +1,7 @@
 -- Maps with nothing in them, and maps that may never have had anything.
-use Rattle.std.proofs.Common.{◌≡◌, ◌<◌, ◌^◌, ◌∙◌, ap, sym, refl, Bool, true, false, cond, Option, None, Some, List, [], arith}
-use Rattle.std.specs.Prelude.{unwrap_or, option_map}
+use Rattle.std.proofs.Common.{◌≡◌, ◌<◌, ◌^◌, ◌∙◌, ap, sym, refl, Bool, true, false, cond, Option, None, Some, List, [], arith, unwrap_or, option_map, Ordering}
 use Rattle.std.specs.Cmp.{IsTotalOrder}
 use Rattle.std.specs.Ordering.{eq_by_cmp}
-use Rattle.std.specs.declared.cmp.Ordering.{Ordering}
 use Rattle.std.specs.FinMap as map
 
 -- nothing is under any key

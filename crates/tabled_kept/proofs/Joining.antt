@@ -1,9 +1,7 @@
 -- A kept map, found key by key: in its slot, or among the others.
-use Rattle.std.proofs.Common.{◌≡◌, Bool, true, false, cond, Option, Some, None, is_some, List, [], ◌∷◌, refl, sym, ap, ◌∙◌}
+use Rattle.std.proofs.Common.{◌≡◌, Bool, true, false, cond, Option, Some, None, is_some, List, [], ◌∷◌, refl, sym, ap, ◌∙◌, unwrap_or, Ordering}
 use Rattle.std.specs.Ordering.{is_eq, eq_by_cmp}
-use Rattle.std.specs.Option.{unwrap_or}
-use Rattle.std.specs.Cmp.{IsTotalOrder, Equal-is, tied_itself}
-use Rattle.std.specs.declared.cmp.Ordering.{Ordering}
+use Rattle.std.specs.Cmp.{IsTotalOrder, Equal-is, tied_itself, both_ways}
 use Rattle.std.specs.FinMap as map
 use Rattle.tabled_kept.specs.declared.table.Slot.{Slot}
 use Rattle.tabled_kept.specs.Slots.{slot_cmp, slots_total}
@@ -17,20 +15,13 @@ abbrev pub at_slot : {X : Type 0} → Option Slot → (Slot → Option X) → Op
 at_slot (Some s) in_slot other = in_slot s
 at_slot None in_slot other = other
 
--- two tests that hold together are one
-pub same_tests : (a b : Bool) → (a ≡ true → b ≡ true) → (b ≡ true → a ≡ true) → a ≡ b
-same_tests true true f g = refl
-same_tests true false f g = sym (f refl)
-same_tests false true f g = g refl
-same_tests false false f g = refl
-
 pub same_some : {X : Type 0} (x y : X) → Some x ≡ Some y → x ≡ y
 same_some x y e = ap (λ o. unwrap_or o x) e
 
 module _ {K : Type 0} {R : K → K → Ordering} (o : IsTotalOrder R) (exact : map.IsAntisymmetric R) {slot_of : K → Option Slot} {key_at : Slot → K} (back : (key : K) (s : Slot) → slot_of key ≡ Some s → key_at s ≡ key) where
   -- keys tie where their slots do
   pub ties_by_slot : (q : K) (s t : Slot) → slot_of q ≡ Some s → slot_of (key_at t) ≡ Some t → eq_by_cmp R q (key_at t) ≡ eq_by_cmp slot_cmp s t
-  ties_by_slot q s t of_q of_t = same_tests _ _ forth back'
+  ties_by_slot q s t of_q of_t = both_ways _ _ forth back'
     where
       forth : eq_by_cmp R q (key_at t) ≡ true → eq_by_cmp slot_cmp s t ≡ true
       forth tied =

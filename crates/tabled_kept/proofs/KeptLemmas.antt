@@ -1,19 +1,19 @@
 -- What a change of one part does to a kept map, and what the parts say of the whole.
-use Rattle.std.proofs.Common.{◌≡◌, Bool, true, false, cond, ◌&&◌, Option, Some, None, is_some, IsSome, List, length, refl, sym, ap, subst, ◌∙◌}
+use Rattle.std.proofs.Common.{◌≡◌, Bool, true, false, cond, ◌&&◌, Option, Some, None, is_some, IsSome, List, length, refl, sym, ap, subst, ◌∙◌, Ordering}
 use Rattle.std.specs.Option.{option_eq}
 use Rattle.std.specs.Ordering.{eq_by_cmp}
-use Rattle.std.specs.Cmp.{IsTotalOrder, Equal-is, eq_by_cmp_equiv}
-use Rattle.std.specs.declared.cmp.Ordering.{Ordering}
+use Rattle.std.specs.Cmp.{IsTotalOrder, Equal-is, eq_by_cmp_equiv, both_ways}
 use Rattle.std.specs.FinMap as map
+use Rattle.std.proofs.lemmas.Bool.{and_parts}
 use Rattle.tabled_kept.specs.declared.table.Slot.{Slot}
 use Rattle.tabled_kept.specs.Slots.{slot_cmp, slots_total}
 use Rattle.tabled_kept.specs.Table.{table}
 use Rattle.tabled_kept.specs.Same.{same_map}
 use Rattle.tabled_kept.specs.Kept.{joined, Parted}
-use Rattle.tabled_kept.proofs.SameGets.{both, all_of, get_alike, alike_get, both_none}
+use Rattle.tabled_kept.proofs.SameGets.{all_of, get_alike, alike_get, both_none}
 use Rattle.tabled_kept.proofs.TableLemmas.{exact_slots}
 use Rattle.tabled_kept.proofs.Tables.{no-entries}
-use Rattle.tabled_kept.proofs.Joining.{at_slot, same_tests, ties_by_slot, never_ties, get-joined}
+use Rattle.tabled_kept.proofs.Joining.{at_slot, ties_by_slot, never_ties, get-joined}
 
 pub none_or : {X : Type 0} (x : Option X) → (IsSome x → x ≡ None) → x ≡ None
 none_or None h = refl
@@ -130,11 +130,11 @@ module _ {K : Type 0} {R : K → K → Ordering} (o : IsTotalOrder R) (exact : m
 
   -- two are the same where both of their parts are
   pub same_parts : (E : V → V → Bool) (dense dense' : map.FinMap slot_cmp V) (others others' : List (K × V)) → PartedHere dense others → PartedHere dense' others' → (same_map E dense dense' && same_map E (table R others) (table R others')) ≡ same_map E (whole dense others) (whole dense' others')
-  same_parts E dense dense' others others' parted parted' = same_tests _ _ forth back'
+  same_parts E dense dense' others others' parted parted' = both_ways _ _ forth back'
     where
       forth : (same_map E dense dense' && same_map E (table R others) (table R others')) ≡ true → same_map E (whole dense others) (whole dense' others') ≡ true
       forth h =
-          let parts = both _ _ h in
+          let parts = and_parts _ _ h in
           alike_get o E _ _ (λ q.
           (λ i. option_eq E (get-joined o exact back dense others parted q i) (get-joined o exact back dense' others' parted' q i)) ∙ by_slot parts.0 parts.1 q (slot_of q))
         where

@@ -1,19 +1,13 @@
 -- Two finite maps are the same, pair by pair, exactly where they have the same under every key.
-use Rattle.std.proofs.Common.{◌≡◌, Bool, true, false, cond, ◌&&◌, Option, Some, None, List, [], ◌∷◌, refl, sym, ap, ◌∙◌, option_copied, not, Bor, IsTrue, ◌↔◌}
+use Rattle.std.proofs.Common.{◌≡◌, Bool, true, false, cond, ◌&&◌, Option, Some, None, List, [], ◌∷◌, refl, sym, ap, ◌∙◌, option_copied, not, Bor, IsTrue, ◌↔◌, T, Ordering, Less, Equal, Greater}
 use Rattle.std.specs.Option.{option_eq}
-use Rattle.std.specs.Prelude.{T}
 use Rattle.std.specs.Ordering.{eq_by_cmp, is_eq, is_lt, ordering_reverse}
 use Rattle.std.specs.Cmp.{IsTotalOrder, Equal-is, alike_right, tied_itself}
 use Rattle.std.specs.Cmp.Lexicographic.{pointwise}
-use Rattle.std.specs.declared.cmp.Ordering.{Ordering}
-use Rattle.std.specs.declared.cmp.Ordering.TheVariants.{Less, Equal, Greater}
 use Rattle.std.specs.FinMap as map
 use Rattle.std.specs.FinMap.Entries.{below_all, is_sorted}
+use Rattle.std.proofs.lemmas.Bool.{and_parts}
 use Rattle.tabled_kept.specs.Same.{same_map}
-
-pub both : (a b : Bool) → (a && b) ≡ true → (a ≡ true) × (b ≡ true)
-both true b h = (refl, h)
-both false b h = absurd cc
 
 pub all_of : {a b : Bool} → a ≡ true → b ≡ true → (a && b) ≡ true
 all_of p q = λ i. p i && q i
@@ -24,8 +18,7 @@ holds false h = absurd h
 
 less : (o : Ordering) → is_lt o ≡ true → o ≡ Less
 less Less h = refl
-less Equal h = absurd cc
-less Greater h = absurd cc
+less o h = absurd cc
 
 module _ {K X : Type 0} {R : K → K → Ordering} (o : IsTotalOrder R) (E : X → X → Bool) where
   abbrev alike : K × X → K × X → Bool
@@ -35,20 +28,20 @@ module _ {K X : Type 0} {R : K → K → Ordering} (o : IsTotalOrder R) (E : X �
   lower : (q x : K) (es : List (K × X)) → R q x ≡ Less → below_all R x es ≡ true → below_all R q es ≡ true
   lower q x [] before h = refl
   lower q x (e ∷ es) before h =
-      let f = both (is_lt (R x e.0)) (below_all R x es) h in
+      let f = and_parts (is_lt (R x e.0)) (below_all R x es) h in
       all_of (ap is_lt (o.trans q x e.0 before (less (R x e.0) f.0))) (lower q x es before f.1)
 
   level_with : (q x : K) (es : List (K × X)) → R q x ≡ Equal → below_all R x es ≡ true → below_all R q es ≡ true
   level_with q x [] tied h = refl
   level_with q x (e ∷ es) tied h =
-      let f = both (is_lt (R x e.0)) (below_all R x es) h in
+      let f = and_parts (is_lt (R x e.0)) (below_all R x es) h in
       all_of (ap is_lt (o.congr q x e.0 tied) ∙ f.0) (level_with q x es tied f.1)
 
   -- a key before all is not there
   none_found : (q : K) (es : List (K × X)) → below_all R q es ≡ true → map.find R q es ≡ None
   none_found q [] h = refl
   none_found q (e ∷ es) h =
-      let f = both (is_lt (R q e.0)) (below_all R q es) h in
+      let f = and_parts (is_lt (R q e.0)) (below_all R q es) h in
       ap (λ r. cond (is_eq r) (Some e.1) (map.find R q es)) (less (R q e.0) f.0) ∙ none_found q es f.1
 
   found_first : (e : K × X) (es : List (K × X)) → map.find R e.0 (e ∷ es) ≡ Some e.1
@@ -57,11 +50,9 @@ module _ {K X : Type 0} {R : K → K → Ordering} (o : IsTotalOrder R) (E : X �
   -- entries that are alike, pair by pair, are found alike
   found_alike : (es fs : List (K × X)) → pointwise alike es fs ≡ true → (q : K) → option_eq E (map.find R q es) (map.find R q fs) ≡ true
   found_alike [] [] h q = refl
-  found_alike [] (f ∷ fs) h q = absurd cc
-  found_alike (e ∷ es) [] h q = absurd cc
   found_alike (e ∷ es) (f ∷ fs) h q =
-      let heads = both (alike e f) (pointwise alike es fs) h in
-      let entry = both (eq_by_cmp R e.0 f.0) (E e.1 f.1) heads.0 in
+      let heads = and_parts (alike e f) (pointwise alike es fs) h in
+      let entry = and_parts (eq_by_cmp R e.0 f.0) (E e.1 f.1) heads.0 in
       let tests : eq_by_cmp R q f.0 ≡ eq_by_cmp R q e.0 = sym (ap is_eq (alike_right o e.0 f.0 q ((Equal-is (R e.0 f.0)).0 entry.0))) in
       ap (λ b. option_eq E (map.find R q (e ∷ es)) (cond b (Some f.1) (map.find R q fs))) tests
       ∙ by_test (eq_by_cmp R q e.0) entry.1 (found_alike es fs heads.1 q)
@@ -69,6 +60,7 @@ module _ {K X : Type 0} {R : K → K → Ordering} (o : IsTotalOrder R) (E : X �
       by_test : (b : Bool) → E e.1 f.1 ≡ true → option_eq E (map.find R q es) (map.find R q fs) ≡ true → option_eq E (cond b (Some e.1) (map.find R q es)) (cond b (Some f.1) (map.find R q fs)) ≡ true
       by_test true here rest = here
       by_test false here rest = rest
+  found_alike es fs h q = absurd cc
 
   some_none : (x : X) (a b : Option X) → a ≡ Some x → b ≡ None → option_eq E a b ≡ false
   some_none x a b p q = λ i. option_eq E (p i) (q i)
@@ -82,8 +74,8 @@ module _ {K X : Type 0} {R : K → K → Ordering} (o : IsTotalOrder R) (E : X �
   alike_found [] (f ∷ fs) s t h = absurd (let e = sym (h f.0) ∙ none_some f.1 None (map.find R f.0 (f ∷ fs)) refl (found_first f fs) in cc)
   alike_found (e ∷ es) [] s t h = absurd (let f = sym (h e.0) ∙ some_none e.1 (map.find R e.0 (e ∷ es)) None (found_first e es) refl in cc)
   alike_found (e ∷ es) (f ∷ fs) s t h =
-      let s' = both (below_all R e.0 es) (is_sorted R es) s in
-      let t' = both (below_all R f.0 fs) (is_sorted R fs) t in
+      let s' = and_parts (below_all R e.0 es) (is_sorted R es) s in
+      let t' = and_parts (below_all R f.0 fs) (is_sorted R fs) t in
       by_order (R e.0 f.0) refl s'.0 t'.0 (λ tied. alike_found es fs s'.1 t'.1 (others tied s'.0 t'.0))
     where
       others : R e.0 f.0 ≡ Equal → below_all R e.0 es ≡ true → below_all R f.0 fs ≡ true → (q : K) → option_eq E (map.find R q es) (map.find R q fs) ≡ true

@@ -1,9 +1,7 @@
 -- Two tables of slots are the same exactly where their rows are.
-use Rattle.std.proofs.Common.{◌≡◌, ℕ, ◌<◌, ◌≤◌, Bool, true, false, Option, List, length, inl, inr, refl, sym, ◌∙◌, arith}
-use Rattle.std.specs.Prelude.{slice_index_or, unwrap_or, option_copied}
+use Rattle.std.proofs.Common.{◌≡◌, ℕ, ◌<◌, ◌≤◌, Bool, true, false, Option, List, length, inl, inr, refl, sym, ◌∙◌, arith, slice_index_or, unwrap_or, option_copied, nat_cmp}
 use Rattle.std.specs.Borrow.{Bor}
 use Rattle.std.specs.Option.{option_eq}
-use Rattle.std.specs.Ordering.{nat_cmp}
 use Rattle.std.specs.Cmp.{nat_cmp_total}
 use Rattle.std.specs.FinMap as map
 use Rattle.std.proofs.lemmas.Bool.{cases_lt}

@@ -1,18 +1,12 @@
 -- What stands in slots.
-use Rattle.std.proofs.Common.{◌≡◌, ℕ, zero, suc, ◌+◌, ◌<◌, ◌≤◌, Bool, true, false, cond, ◌==◌, Option, Some, None, is_some, List, [], ◌∷◌, ◌++◌, length, inl, inr, refl, sym, ap, ◌∙◌, arith, tests}
-use Rattle.std.specs.Prelude.{slice_index_or, slice_set}
+use Rattle.std.proofs.Common.{◌≡◌, ℕ, zero, suc, ◌+◌, ◌<◌, ◌≤◌, Bool, true, false, cond, ◌==◌, Option, Some, None, is_some, List, [], ◌∷◌, ◌++◌, length, inl, inr, refl, sym, ap, ◌∙◌, arith, tests, slice_index_or, slice_set, Ordering}
 use Rattle.std.specs.Ordering.{nat_cmp, eq_by_cmp}
-use Rattle.std.specs.Cmp.{IsTotalOrder, Equal-is, nat_cmp_total}
-use Rattle.std.specs.declared.cmp.Ordering.{Ordering}
+use Rattle.std.specs.Cmp.{IsTotalOrder, Equal-is, nat_cmp_total, unsigned_tied}
 use Rattle.std.proofs.lemmas.List.{get_or_past}
 use Rattle.std.specs.FinMap as map
 use Rattle.std.proofs.lemmas.Bool.{cases_lt}
 use Rattle.std.proofs.lemmas.Bool.Decides.{nat_tests}
 use Rattle.tabled_kept.specs.Slots.{numbered, filled}
-
--- numbers tie where they are equal
-pub same_number : (a b : ℕ) → eq_by_cmp nat_cmp a b ≡ (a == b)
-same_number a b = grind (arith, tests, nat_tests)
 
 -- what the first of two has, and else the second
 abbrev pub or_else : {X : Type 0} → Option X → Option X → Option X
@@ -33,7 +27,7 @@ module _ {V : Type 0} where
   before_all n k [] h = refl
   before_all n k (None ∷ slots) h = before_all (suc n) k slots (omega arith)
   before_all n k (Some x ∷ slots) h =
-      let other : eq_by_cmp nat_cmp k n ≡ false = same_number k n ∙ grind (arith, tests, nat_tests) in
+      let other : eq_by_cmp nat_cmp k n ≡ false = unsigned_tied k n ∙ grind (arith, tests, nat_tests) in
       ap (λ b. cond b (Some x) (map.find nat_cmp k (numbered (suc n) slots))) other ∙ before_all (suc n) k slots (omega arith)
 
   find-numbered : (n k : ℕ) (slots : List (Option V)) → map.find nat_cmp (n + k) (numbered n slots) ≡ slice_index_or slots k None
@@ -43,11 +37,11 @@ module _ {V : Type 0} where
       let next : n + suc k ≡ suc n + k = omega arith in
       ap (λ q. map.find nat_cmp q (numbered (suc n) slots)) next ∙ find-numbered (suc n) k slots
   find-numbered n zero (Some x ∷ slots) =
-      let here : eq_by_cmp nat_cmp (n + 0) n ≡ true = same_number (n + 0) n ∙ grind (arith, tests, nat_tests) in
+      let here : eq_by_cmp nat_cmp (n + 0) n ≡ true = unsigned_tied (n + 0) n ∙ grind (arith, tests, nat_tests) in
       ap (λ b. cond b (Some x) (map.find nat_cmp (n + 0) (numbered (suc n) slots))) here
   find-numbered n (suc k) (Some x ∷ slots) =
       let next : n + suc k ≡ suc n + k = omega arith in
-      let other : eq_by_cmp nat_cmp (n + suc k) n ≡ false = same_number (n + suc k) n ∙ grind (arith, tests, nat_tests) in
+      let other : eq_by_cmp nat_cmp (n + suc k) n ≡ false = unsigned_tied (n + suc k) n ∙ grind (arith, tests, nat_tests) in
       ap (λ b. cond b (Some x) (map.find nat_cmp (n + suc k) (numbered (suc n) slots))) other
       ∙ ap (λ q. map.find nat_cmp q (numbered (suc n) slots)) next ∙ find-numbered (suc n) k slots
 
@@ -68,9 +62,8 @@ module _ {A : Type 0} where
   -- one more of what is past the end changes nothing
   pub padded : (xs : List A) (k : ℕ) (d : A) → slice_index_or (xs ++ d ∷ []) k d ≡ slice_index_or xs k d
   padded [] zero d = refl
-  padded [] (suc k) d = refl
-  padded (x ∷ xs) zero d = refl
   padded (x ∷ xs) (suc k) d = padded xs k d
+  padded xs k d = refl
 
   -- one item is another now
   pub set_item : (xs : List A) (at : ℕ) (x : A) (k : ℕ) (d : A) → at < length xs → slice_index_or (slice_set xs at x) k d ≡ cond (k == at) x (slice_index_or xs k d)
@@ -100,12 +93,12 @@ module _ {V : Type 0} where
   pub filled-put : (slots : List (Option V)) (at : ℕ) (v : V) → at < length slots → filled (slice_set slots at (Some v)) ≡ map.insert (filled slots) at v
   filled-put slots at v h = same_filled _ _ (λ k.
       get-filled (slice_set slots at (Some v)) k ∙ set_item slots at (Some v) k None h
-      ∙ sym (map.get-insert nat_cmp_total (filled slots) at v k ∙ (λ i. cond (same_number k at i) (Some v) (get-filled slots k i))))
+      ∙ sym (map.get-insert nat_cmp_total (filled slots) at v k ∙ (λ i. cond (unsigned_tied k at i) (Some v) (get-filled slots k i))))
 
   pub filled-take : (slots : List (Option V)) (at : ℕ) → at < length slots → filled (slice_set slots at None) ≡ map.remove (filled slots) at
   filled-take slots at h = same_filled _ _ (λ k.
       get-filled (slice_set slots at None) k ∙ set_item slots at None k None h
-      ∙ sym (map.get-remove nat_cmp_total (filled slots) at k ∙ (λ i. cond (same_number k at i) None (get-filled slots k i))))
+      ∙ sym (map.get-remove nat_cmp_total (filled slots) at k ∙ (λ i. cond (unsigned_tied k at i) None (get-filled slots k i))))
 
   -- where nothing stands, nothing is taken
   pub nothing_taken : {K : Type 0} {R : K → K → Ordering} → IsTotalOrder R → map.IsAntisymmetric R → (m : map.FinMap R V) (k : K) → map.get m k ≡ None → map.remove m k ≡ m

@@ -1,31 +1,22 @@
 -- What stands in rows of slots.
-use Rattle.std.proofs.Common.{◌≡◌, ℕ, zero, suc, ◌+◌, ◌<◌, ◌≤◌, Bool, true, false, cond, ◌&&◌, ◌==◌, Option, Some, None, List, [], ◌∷◌, ◌++◌, length, refl, sym, ap, ◌∙◌, arith, tests}
-use Rattle.std.specs.Prelude.{slice_index_or, slice_set}
-use Rattle.std.specs.Ordering.{nat_cmp, is_eq, eq_by_cmp, ordering_then}
-use Rattle.std.specs.Cmp.{nat_cmp_total}
-use Rattle.std.specs.declared.cmp.Ordering.{Ordering}
-use Rattle.std.specs.declared.cmp.Ordering.TheVariants.{Less, Equal, Greater}
+use Rattle.std.proofs.Common.{◌≡◌, ℕ, zero, suc, ◌+◌, ◌<◌, ◌≤◌, Bool, true, false, cond, ◌&&◌, ◌==◌, Option, Some, None, List, [], ◌∷◌, ◌++◌, length, refl, sym, ap, ◌∙◌, arith, tests, slice_index_or, slice_set}
+use Rattle.std.specs.Ordering.{nat_cmp, is_eq, eq_by_cmp}
+use Rattle.std.specs.Cmp.{nat_cmp_total, tied_then, unsigned_tied}
 use Rattle.std.specs.FinMap as map
-use Rattle.std.proofs.lemmas.Bool.{eqb-true}
+use Rattle.std.proofs.lemmas.Bool.{eqb-true, and_parts}
 use Rattle.std.proofs.lemmas.Bool.Decides.{nat_tests}
 use Rattle.std.proofs.lemmas.List.{get_or_past}
 use Rattle.tabled_kept.specs.declared.table.Slot.{Slot}
 use Rattle.tabled_kept.specs.Slots.{slot_cmp, slots_total, slot, in_row, rows_from, in_rows}
-use Rattle.tabled_kept.proofs.SlotLemmas.{same_number, padded, set_item, or_else, find-append}
-use Rattle.tabled_kept.proofs.SameGets.{both}
-
-both_equal : (a b : Ordering) → is_eq (ordering_then a b) ≡ (is_eq a && is_eq b)
-both_equal Less b = refl
-both_equal Equal b = refl
-both_equal Greater b = refl
+use Rattle.tabled_kept.proofs.SlotLemmas.{padded, set_item, or_else, find-append}
 
 -- slots tie where both of their numbers are equal
 pub same_slot : (s t : Slot) → eq_by_cmp slot_cmp s t ≡ ((s.row == t.row) && (s.col == t.col))
-same_slot s t = both_equal (nat_cmp s.row t.row) (nat_cmp s.col t.col) ∙ (λ i. same_number s.row t.row i && same_number s.col t.col i)
+same_slot s t = sym (tied_then (nat_cmp s.row t.row) (nat_cmp s.col t.col)) ∙ (λ i. unsigned_tied s.row t.row i && unsigned_tied s.col t.col i)
 
 pub exact_slots : map.IsAntisymmetric slot_cmp
 exact_slots s t h =
-    let parts = both (s.row == t.row) (s.col == t.col) (sym (same_slot s t) ∙ ap is_eq h) in
+    let parts = and_parts (s.row == t.row) (s.col == t.col) (sym (same_slot s t) ∙ ap is_eq h) in
     λ i. record { row = eqb-true s.row t.row parts.0 i; col = eqb-true s.col t.col parts.1 i }
 
 module _ {V : Type 0} where
@@ -34,11 +25,11 @@ module _ {V : Type 0} where
   find-in_row row col [] = refl
   find-in_row row col (v ∷ values) =
       let same : eq_by_cmp slot_cmp (slot row col) (slot row v.0) ≡ eq_by_cmp nat_cmp col v.0 =
-      same_slot (slot row col) (slot row v.0) ∙ ap (λ b. b && (col == v.0)) (sym (same_number row row) ∙ tied row) ∙ sym (same_number col v.0) in
+      same_slot (slot row col) (slot row v.0) ∙ ap (λ b. b && (col == v.0)) (sym (unsigned_tied row row) ∙ tied row) ∙ sym (unsigned_tied col v.0) in
       λ i. cond (same i) (Some v.1) (find-in_row row col values i)
     where
       tied : (n : ℕ) → eq_by_cmp nat_cmp n n ≡ true
-      tied n = same_number n n ∙ grind (arith, tests, nat_tests)
+      tied n = unsigned_tied n n ∙ grind (arith, tests, nat_tests)
 
   other_row : (n row col : ℕ) (values : List (ℕ × V)) → (row == n) ≡ false → map.find slot_cmp (slot row col) (in_row n values) ≡ None
   other_row n row col [] other = refl
@@ -116,25 +107,15 @@ module _ {V : Type 0} where
   in_rows-put rows at row old v h was now = same_rows _ _ (λ s.
       changed_row rows at row (Some v) h (λ k.
       ap (λ m. map.get m k) now ∙ map.get-insert nat_cmp_total old at.col v k
-      ∙ (λ i. cond (same_number k at.col i) (Some v) (map.get (was i) k))) s
+      ∙ (λ i. cond (unsigned_tied k at.col i) (Some v) (map.get (was i) k))) s
       ∙ sym (map.get-insert slots_total (in_rows rows) at v s))
 
   pub in_rows-take : (rows : List (map.FinMap nat_cmp V)) (at : Slot) (row old : map.FinMap nat_cmp V) → at.row < length rows → old ≡ slice_index_or rows at.row map.empty → row ≡ map.remove old at.col → in_rows (slice_set rows at.row row) ≡ map.remove (in_rows rows) at
   in_rows-take rows at row old h was now = same_rows _ _ (λ s.
       changed_row rows at row None h (λ k.
       ap (λ m. map.get m k) now ∙ map.get-remove nat_cmp_total old at.col k
-      ∙ (λ i. cond (same_number k at.col i) None (map.get (was i) k))) s
+      ∙ (λ i. cond (unsigned_tied k at.col i) None (map.get (was i) k))) s
       ∙ sym (map.get-remove slots_total (in_rows rows) at s))
-
-  -- one row is as it was
-  pub in_rows-same : (rows : List (map.FinMap nat_cmp V)) (at : ℕ) (row old : map.FinMap nat_cmp V) → at < length rows → old ≡ slice_index_or rows at map.empty → row ≡ old → in_rows (slice_set rows at row) ≡ in_rows rows
-  in_rows-same rows at row old h was now = same_rows _ _ (λ s.
-      in_row_set rows (slot at 0) row s h ∙ by_test s (s.row == at) refl)
-    where
-      by_test : (s : Slot) (b : Bool) → (s.row == at) ≡ b → cond b (map.get row s.col) (map.get (in_rows rows) s) ≡ map.get (in_rows rows) s
-      by_test s true here =
-          ap (λ m. map.get m s.col) (now ∙ was ∙ ap (λ k. slice_index_or rows k map.empty) (sym (eqb-true s.row at here))) ∙ sym (get-in_rows rows s)
-      by_test s false away = refl
 
   -- nothing stands in any row
   pub all_rows_empty : (rows : List (map.FinMap nat_cmp V)) → ((k : ℕ) → slice_index_or rows k map.empty ≡ map.empty) → in_rows rows ≡ map.empty
@@ -146,8 +127,3 @@ module _ {V : Type 0} where
 
   pub in_no_row : (rows : List (map.FinMap nat_cmp V)) (m : map.FinMap slot_cmp V) → in_rows rows ≡ m → (s : Slot) → length rows ≤ s.row → map.get m s ≡ None
   in_no_row rows m e s h = in_slot_of rows m e s ∙ ap (λ row. map.get row s.col) (get_or_past rows s.row map.empty h) ∙ map.get-empty nat_cmp s.col
-
-  -- a row of an empty table is empty
-  pub row_of_none : (rows : List (map.FinMap nat_cmp V)) (k : ℕ) → in_rows rows ≡ map.empty → slice_index_or rows k map.empty ≡ map.empty
-  row_of_none rows k none = map.same_map nat_cmp_total map.nat_cmp-IsAntisymmetric _ _ (λ c.
-      sym (in_slot_of rows map.empty none (slot k c)) ∙ map.get-empty slot_cmp (slot k c) ∙ sym (map.get-empty nat_cmp c))

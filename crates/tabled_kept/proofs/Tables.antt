@@ -1,8 +1,7 @@
 -- Ordered maps as finite maps, for keys of any total order that tells them apart.
-use Rattle.std.proofs.Common.{◌≡◌, ℕ, Bool, true, false, cond, Option, Some, None, is_some, List, [], ◌∷◌, length, refl, sym, ap, ◌∙◌, ◌+◌, ◌<◌, ◌≤◌, ◌^◌, arith}
+use Rattle.std.proofs.Common.{◌≡◌, ℕ, Bool, true, false, cond, Option, Some, None, is_some, List, [], ◌∷◌, length, refl, sym, ap, ◌∙◌, ◌+◌, ◌≤◌, arith, Ordering}
 use Rattle.std.specs.Ordering.{eq_by_cmp}
 use Rattle.std.specs.Cmp.{IsTotalOrder, eq_by_cmp_equiv, Equal-is}
-use Rattle.std.specs.declared.cmp.Ordering.{Ordering}
 use Rattle.std.specs.Map.{lookup}
 use Rattle.std.specs.BTreeMap.{is_at}
 use Rattle.std.specs.FinMap as map
@@ -59,10 +58,6 @@ inserted R k v es = map.insert (table R es) k v
 
 abbrev pub taken : {K X : Type 0} → (R : K → K → Ordering) → K → List (K × X) → map.FinMap R X
 taken R k es = map.remove (table R es) k
-
--- few entries make a small map
-pub few_in_table : {K X : Type 0} {R : K → K → Ordering} (o : IsTotalOrder R) (exact : map.IsAntisymmetric R) (es : List (K × X)) → length es < 2 ^ 63 → map.len (table R es) < 2 ^ 63
-few_in_table o exact es h = omega (arith, len-table o exact es, h)
 
 undone : {X : Type 0} (b : Bool) (v : X) (o : Option X) → (b ≡ true → o ≡ None) → cond b None (cond b (Some v) o) ≡ o
 undone true v o h = sym (h refl)

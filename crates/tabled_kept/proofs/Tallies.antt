@@ -1,9 +1,7 @@
 -- The number of entries goes with what is put and taken.
-use Rattle.std.proofs.Common.{◌≡◌, ℕ, ◌+◌, ◌-◌, ◌<◌, ◌≤◌, ◌^◌, Bool, true, false, not, cond, Option, is_some, refl, sym, ap, ◌∙◌, arith, tests}
+use Rattle.std.proofs.Common.{◌≡◌, ℕ, ◌+◌, ◌-◌, ◌≤◌, Bool, true, false, not, cond, Option, is_some, sym, ap, ◌∙◌, arith, tests, nat_eq, IsTrue, ◌↔◌, zero, suc, Ordering}
 use Rattle.std.proofs.lemmas.Bool.Decides.{nat_tests}
-use Rattle.std.specs.Prelude.{nat_eq, IsTrue, ◌↔◌, zero, suc}
 use Rattle.std.specs.Cmp.{IsTotalOrder}
-use Rattle.std.specs.declared.cmp.Ordering.{Ordering}
 use Rattle.std.specs.FinMap as map
 
 unset : (x b : Bool) → x ≡ not b → b ≡ true → x ≡ false

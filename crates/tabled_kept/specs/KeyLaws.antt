@@ -1,8 +1,7 @@
 -- The slots of numbers tell them apart, and are small.
-use Rattle.std.specs.Prelude.{◌≡◌, ℕ, ◌<◌, nat_lt, Bool, true, false, if◌then◌else◌, Some, None, refl}
+use Rattle.std.specs.Prelude.{◌≡◌, ℕ, ◌<◌, nat_lt, Bool, true, false, if◌then◌else◌, Some, None, refl, unwrap_or}
 use Rattle.std.proofs.Common.{ap, sym, arith, tests}
 use Rattle.std.proofs.lemmas.Bool.Decides.{nat_tests}
-use Rattle.std.specs.Option.{unwrap_or}
 use Rattle.tabled_kept.specs.declared.table.Slot.{Slot}
 use Rattle.tabled_kept.specs.Slots.{slot}
 use Rattle.tabled_kept.specs.Kept.{slot_of_number, number_at_slot}

@@ -3,7 +3,7 @@
 ghost use Rattle.std.specs.Prelude.{◌≡◌, ◌<◌, Option, Some};
 ghost use Rattle.std.specs.FinMap as map;
 ghost use Rattle.tabled_kept.specs.declared.table.Slot.{Slot as Place};
-ghost use Rattle.tabled_kept.specs.Kept.{dense_end, slot_of_number, number_at_slot};
+ghost use Rattle.tabled_kept.specs.Kept.{slot_of_number, number_at_slot};
 
 use crate::table::Slot;
 

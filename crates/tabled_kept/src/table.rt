@@ -1,6 +1,6 @@
 //! Tables of slots: rows of slots, each row as long as its writes ask for.
 
-ghost use Rattle.std.specs.Prelude.{◌≡◌, ◌<◌, ◌≤◌, ℕ, length, vec_len, slice_index_or, unwrap_or, OnOk, OnErr, IfOk, None, option_copied};
+ghost use Rattle.std.specs.Prelude.{◌≡◌, ◌<◌, ◌≤◌, ℕ, vec_len, slice_index_or, unwrap_or, OnOk, OnErr, IfOk, None, option_copied};
 ghost use Rattle.std.specs.FinMap as map;
 ghost use Rattle.tabled_kept.specs.Slots.{slot_cmp, slot, in_rows};
 ghost use Rattle.tabled_kept.specs.Same.{same_map};

@@ -1,9 +1,8 @@
 -- Where the spans that cover a cell begin.
-use Rattle.std.proofs.Common.{◌≡◌, ℕ, suc, zero, ◌+◌, ◌<◌, ◌≤◌, ◌==◌, ◌&&◌, ◌||◌, nat_lt, Bool, true, false, cond, Option, Some, None, List, [], ◌∷◌, refl, sym, ap, ◌∙◌, tests, arith}
-use Rattle.std.specs.Prelude.{T, filter, unwrap_or}
+use Rattle.std.proofs.Common.{◌≡◌, ℕ, suc, zero, ◌+◌, ◌<◌, ◌≤◌, ◌==◌, ◌&&◌, ◌||◌, nat_lt, Bool, true, false, cond, Option, Some, None, List, [], ◌∷◌, refl, sym, ap, ◌∙◌, tests, arith, T, filter, unwrap_or}
 use Rattle.std.specs.List.{list_any, range_with_len}
 use Rattle.std.specs.Ordering.{eq_by_cmp}
-use Rattle.std.specs.Cmp.{Equal-is, eq_by_cmp_equiv}
+use Rattle.std.specs.Cmp.{Equal-is, eq_by_cmp_equiv, both_ways}
 use Rattle.std.specs.FinMap.Entries.{below_all}
 use Rattle.std.specs.FinMap as map
 use Rattle.std.specs.BTreeMap.Range.{range_contains}
@@ -15,11 +14,6 @@ use Rattle.tabled_object.specs.contracts.position.PositionOrd.TheImpl.Laws.{tota
 use Rattle.tabled_layout.specs.Spans.{position_cmp, SpanMap, SpanEvent, NoLonger, ReachedFrom, spans_in_row}
 use Rattle.tabled_layout.specs.Covering.{within_columns, within_rows, within_its_rows, covered_by_row_span, covered_by_both_spans, covered_from_row}
 use Rattle.tabled_layout.proofs.SpanLemmas.{positions_apart, found_in_whole, second_half}
-
-same_truth : (a b : Bool) → (a ≡ true → b ≡ true) → (b ≡ true → a ≡ true) → a ≡ b
-same_truth true b there back = sym (there refl)
-same_truth false true there back = back refl
-same_truth false false there back = refl
 
 -- ---- an entry that passes a test is a span that is kept
 
@@ -55,7 +49,7 @@ kept_if_passed spans test h =
 
 -- two tests that the same spans pass
 same_any : (spans : SpanMap) (f g : SpanEvent → Bool) → ((event : SpanEvent) → map.get spans event.0 ≡ Some event.1 → f event ≡ true → g event ≡ true) → ((event : SpanEvent) → map.get spans event.0 ≡ Some event.1 → g event ≡ true → f event ≡ true) → list_any f (map.entries spans) ≡ list_any g (map.entries spans)
-same_any spans f g there back = same_truth (list_any f (map.entries spans)) (list_any g (map.entries spans))
+same_any spans f g there back = both_ways (list_any f (map.entries spans)) (list_any g (map.entries spans))
     (λ h. let kept = kept_if_passed spans f h in passes_if_kept spans g kept.0 kept.1 (there kept.0 kept.1 kept.2))
     (λ h. let kept = kept_if_passed spans g h in passes_if_kept spans f kept.0 kept.1 (back kept.0 kept.1 kept.2))
 
@@ -138,7 +132,7 @@ pub any_above : (spans : SpanMap) (first n : ℕ) (cell : Position) → ReachedF
 any_above spans first n cell reached end =
     let at_row : ℕ → Bool = λ row. within_its_rows spans (record { row = row; col = cell.col }) cell in
     let covers : SpanEvent → Bool = λ span. (cell.col == span.0.col) && within_rows span cell in
-    same_truth (list_any at_row (range_with_len first n)) (list_any covers (map.entries spans))
+    both_ways (list_any at_row (range_with_len first n)) (list_any covers (map.entries spans))
     (λ h.
     let found = number_of_any at_row first n h in
     let place : Position = record { row = found.0; col = cell.col } in
@@ -160,7 +154,7 @@ any_from_rows columns rows first n cell reached end =
     let covers : SpanEvent → Bool = λ span. within_columns span cell && within_its_rows rows span.0 cell in
     let from_row : ℕ → SpanEvent → Bool = λ row span. (row == span.0.row) && covers span in
     let at_row : ℕ → Bool = λ row. list_any (from_row row) (map.entries columns) in
-    same_truth (list_any at_row (range_with_len first n)) (list_any covers (map.entries columns))
+    both_ways (list_any at_row (range_with_len first n)) (list_any covers (map.entries columns))
     (λ h.
     let found = number_of_any at_row first n h in
     let kept = kept_if_passed columns (from_row found.0) found.3 in

@@ -1,6 +1,5 @@
 -- Settings of a table that are equal are one.
-use Rattle.std.proofs.Common.{◌≡◌, ◌==◌, ◌&&◌, Bool, true}
-use Rattle.std.proofs.lemmas.Bool.{eqb-true}
+use Rattle.std.proofs.Common.{◌≡◌, ◌==◌, ◌&&◌, Bool, true, eqb-true}
 use Rattle.std.specs.Cmp.{first_so, second_so}
 use Rattle.tabled_grid.specs.declared.offset.Offset.{Offset}
 use Rattle.tabled_grid.specs.contracts.offset.OffsetPartialEq.TheImpl.{eq-value as same_offset}
@@ -17,9 +16,8 @@ use Rattle.tabled_layout.specs.Same.{same_spans}
 
 exact_offset : IsExact same_offset.it
 exact_offset (Offset.Start n) (Offset.Start m) h = let e = eqb-true n m h in cc
-exact_offset (Offset.Start n) (Offset.End m) h = absurd cc
-exact_offset (Offset.End n) (Offset.Start m) h = absurd cc
 exact_offset (Offset.End n) (Offset.End m) h = let e = eqb-true n m h in cc
+exact_offset a b h = absurd cc
 
 exact_indent : IsExact same_indent.it
 exact_indent a b h = λ i. record {

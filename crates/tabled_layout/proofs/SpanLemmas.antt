@@ -1,17 +1,13 @@
 -- What calls make of the spans.
-use Rattle.std.proofs.Common.{◌≡◌, ℕ, ◌==◌, ◌&&◌, nat_lt, Bool, true, false, cond, Option, Some, None, List, [], ◌∷◌, ◌++◌, refl, sym, ap, subst, ◌∙◌, tests, arith}
-use Rattle.std.specs.Prelude.{T, if◌then◌else◌, reverse, filter, option_and_then, unwrap_or}
+use Rattle.std.proofs.Common.{◌≡◌, ℕ, ◌==◌, ◌&&◌, nat_lt, Bool, true, false, cond, Option, Some, None, List, [], ◌∷◌, ◌++◌, refl, sym, ap, subst, ◌∙◌, T, if◌then◌else◌, reverse, filter, option_and_then, unwrap_or, Ordering, Less, Equal, Greater}
 use Rattle.std.specs.List.{last_or}
-use Rattle.std.specs.Ordering.{nat_cmp, ordering_then, is_lt, is_eq, eq_by_cmp}
-use Rattle.std.specs.declared.cmp.Ordering.{Ordering}
-use Rattle.std.specs.declared.cmp.Ordering.TheVariants.{Less, Equal, Greater}
-use Rattle.std.specs.Cmp.{Equal-is, eq_by_cmp_equiv}
+use Rattle.std.specs.Ordering.{nat_cmp, is_lt, is_eq, eq_by_cmp}
+use Rattle.std.specs.Cmp.{Equal-is, eq_by_cmp_equiv, unsigned_tied, tied_then}
 use Rattle.std.specs.FinMap.Entries.{below_all}
 use Rattle.std.specs.FinMap as map
 use Rattle.std.specs.List.Sorted.{IsStrictlySortedBy}
 use Rattle.std.specs.Map.{keys_of}
-use Rattle.std.proofs.lemmas.Bool.{eqb-true}
-use Rattle.std.proofs.lemmas.Bool.Decides.{nat_tests}
+use Rattle.std.proofs.lemmas.Bool.{eqb-true, and_parts}
 use Rattle.std.proofs.lemmas.List.{reverse-append}
 use Rattle.tabled_object.specs.declared.position.Position.{Position}
 use Rattle.tabled_object.specs.contracts.position.PositionOrd.TheImpl.Laws.{total-law}
@@ -19,25 +15,13 @@ use Rattle.tabled_grid.specs.Table.{table}
 use Rattle.tabled_grid.proofs.Ascending.{entries-table}
 use Rattle.tabled_layout.specs.Spans.{position_cmp, SpanMap, SpanEvent, after_span, spans_after, spans_left, same_position, if_several, span_of}
 
-same_number : (a b : ℕ) → is_eq (nat_cmp a b) ≡ (a == b)
-same_number a b = grind (arith, tests, nat_tests)
-
-both_equal : (a b : Ordering) → is_eq (ordering_then a b) ≡ (is_eq a && is_eq b)
-both_equal Less b = refl
-both_equal Equal b = refl
-both_equal Greater b = refl
-
 -- positions that compare alike are the same
 pub is_same_position : (a b : Position) → eq_by_cmp position_cmp a b ≡ same_position a b
-is_same_position a b = both_equal (nat_cmp a.row b.row) (nat_cmp a.col b.col) ∙ (λ i. same_number a.row b.row i && same_number a.col b.col i)
-
-both : (a b : Bool) → (a && b) ≡ true → (a ≡ true) × (b ≡ true)
-both true b h = (refl, h)
-both false b h = absurd cc
+is_same_position a b = sym (tied_then (nat_cmp a.row b.row) (nat_cmp a.col b.col)) ∙ (λ i. unsigned_tied a.row b.row i && unsigned_tied a.col b.col i)
 
 equal_positions : (a b : Position) → same_position a b ≡ true → a ≡ b
 equal_positions a b h =
-    let parts = both (a.row == b.row) (a.col == b.col) h in
+    let parts = and_parts (a.row == b.row) (a.col == b.col) h in
     λ i. record { row = eqb-true a.row b.row parts.0 i; col = eqb-true a.col b.col parts.1 i }
 
 pub positions_apart : map.IsAntisymmetric position_cmp

@@ -19,10 +19,6 @@ abbrev pub cell_event : TableEvent → Option SettingEvent
 cell_event (of_cells event) = Some event
 cell_event _ = None
 
-abbrev pub margin_event : TableEvent → Option MarginEvent
-margin_event (of_margin event) = Some event
-margin_event _ = None
-
 abbrev pub column_span_event : TableEvent → Option SpanEvent
 column_span_event (of_column_spans event) = Some event
 column_span_event _ = None

@@ -1,5 +1,4 @@
-//! What is set for a table beside its borders: for its cells by entity, for the margin around it, and the spans of its
-//! cells.
+//! What is set for a table beside its borders: for its cells by entity, for the margin around it, and the spans of its cells.
 //!
 //! `docs/DEFINITIONS.md` explains the words of the contracts.
 #![tactic(auto)]

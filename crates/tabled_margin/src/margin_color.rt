@@ -125,12 +125,7 @@ where
         _records: &mut R,
         cfg: &mut ColoredConfig,
         _dims: &mut D,
-    ) -> Result<(), OutOfMemory>
-        ensures ok { OnOk result (Changes (margin_colored C.prefix_text C.suffix_text self) cfg.old cfg.new) }
-        ensures err { OnErr result (cfg.new ≡ cfg.old) }
-        ensures records { _records.new ≡ _records.old }
-        ensures sizes { _dims.new ≡ _dims.old }
-    {
+    ) -> Result<(), OutOfMemory> {
         self.set(cfg.config_mut())
     }
 

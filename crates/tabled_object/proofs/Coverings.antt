@@ -1,15 +1,12 @@
 -- Which cells a set of entities covers, asked of the set four times.
-use Rattle.std.proofs.Common.{◌≡◌, ℕ, ◌==◌, ◌&&◌, ◌||◌, Bool, true, false, List, [], ◌∷◌, Option, refl, sym, ap, map-id, ◌∙◌, arith}
-use Rattle.std.specs.declared.cmp.Ordering.{Ordering}
-use Rattle.std.specs.declared.cmp.Ordering.TheVariants.{Less, Equal, Greater}
-use Rattle.std.specs.Ordering.{nat_cmp, is_eq, ordering_then}
+use Rattle.std.proofs.Common.{◌≡◌, ◌&&◌, ◌||◌, Bool, true, false, List, [], ◌∷◌, Option, refl, sym, ap, map-id, ◌∙◌}
 use Rattle.std.specs.List.{list_any}
-use Rattle.std.proofs.Common.{tests}
-use Rattle.std.proofs.lemmas.Bool.Decides.{nat_tests}
 use Rattle.std.specs.BTreeMap.{is_at}
 use Rattle.std.specs.BTreeSet.{BTreeSet, IsFromIterResult}
 use Rattle.std.specs.Iterator.{Count, DrainsIf}
 use Rattle.std.proofs.lemmas.Iterator.{YieldsList, items_from_drains}
+use mathlib.Core.Bool.{or-false}
+use Rattle.std.specs.Cmp.{unsigned_tied, tied_then}
 use Rattle.tabled_object.specs.declared.entity.Entity.{Entity}
 use Rattle.tabled_object.specs.declared.entity.Entity.TheVariants.{Global, Column, Row, Cell}
 use Rattle.tabled_object.specs.declared.position.Position.{Position}
@@ -20,27 +17,15 @@ use Rattle.tabled_object.specs.Listing.{covered, Lists}
 abbrev pub is_same : Entity → Entity → Bool
 is_same a b = is_at (cmp-value.it a) b
 
-pub or_false : (a : Bool) → (a || false) ≡ a
-or_false true = refl
-or_false false = refl
-
-pub same_number : (a b : ℕ) → is_eq (nat_cmp a b) ≡ (a == b)
-same_number a b = grind (arith, tests, nat_tests)
-
-pub both_equal : (a b : Ordering) → is_eq (ordering_then a b) ≡ (is_eq a && is_eq b)
-both_equal Less b = refl
-both_equal Equal b = refl
-both_equal Greater b = refl
-
 -- the four entities that cover a cell
 abbrev pub covering : Position → List Entity
 covering cell = Global ∷ Column cell.col ∷ Row cell.row ∷ Cell cell.row cell.col ∷ []
 
 covers_same : (entity : Entity) (cell : Position) → covers entity cell ≡ list_any (λ q. is_same q entity) (covering cell)
 covers_same Global cell = refl
-covers_same (Column col) cell = sym (same_number cell.col col) ∙ sym (or_false _)
-covers_same (Row row) cell = sym (same_number cell.row row) ∙ sym (or_false _)
-covers_same (Cell row col) cell = (λ i. sym (same_number cell.row row) i && sym (same_number cell.col col) i) ∙ sym (both_equal _ _) ∙ sym (or_false _)
+covers_same (Column col) cell = sym (unsigned_tied cell.col col) ∙ sym (or-false _)
+covers_same (Row row) cell = sym (unsigned_tied cell.row row) ∙ sym (or-false _)
+covers_same (Cell row col) cell = (λ i. sym (unsigned_tied cell.row row) i && sym (unsigned_tied cell.col col) i) ∙ tied_then _ _ ∙ sym (or-false _)
 
 or_apart : (a b c d : Bool) → ((a || b) || (c || d)) ≡ ((a || c) || (b || d))
 or_apart true b true d = refl

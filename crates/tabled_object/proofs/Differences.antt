@@ -1,6 +1,5 @@
 -- The cells of one list without those of another.
-use Rattle.std.proofs.Common.{◌≡◌, ◌&&◌, Bool, true, false, not, List, ◌∷◌, map, refl, ap, ◌∙◌}
-use Rattle.std.specs.List.{filter}
+use Rattle.std.proofs.Common.{◌≡◌, ◌&&◌, Bool, true, false, not, List, ◌∷◌, map, refl, ap, ◌∙◌, filter}
 use Rattle.std.specs.Iterator.{YieldsFirst, item_count}
 use Rattle.std.proofs.lemmas.Iterator.Consumers.{YieldsList-from_first}
 use Rattle.tabled_object.specs.declared.entity.Entity.{Entity}

@@ -3,12 +3,13 @@ use Rattle.std.proofs.Common.{◌≡◌, ℕ, zero, suc, ◌+◌, ◌==◌, ◌&
 use Rattle.std.specs.List.{list_any, filter, range_with_len, Contains}
 use Rattle.std.proofs.lemmas.List.Folds.{list_any-append, Any-from_list_any, list_any_at}
 use Rattle.std.proofs.lemmas.Bool.Decides.{nat_tests}
+use Rattle.std.specs.Cmp.{both_ways}
+use mathlib.Core.Bool.{and-false, or-false}
 use Rattle.tabled_object.specs.declared.entity.Entity.{Entity}
 use Rattle.tabled_object.specs.declared.entity.Entity.TheVariants.{Global, Column, Row, Cell}
 use Rattle.tabled_object.specs.declared.position.Position.{Position}
 use Rattle.tabled_object.specs.Entities.{position, rectangle, below, cells_of, covers, is_inside}
 use Rattle.tabled_object.specs.Listing.{covered, listed, alone, difference}
-use Rattle.tabled_object.proofs.Coverings.{or_false}
 
 -- whether two positions are the same
 abbrev pub is_here : Position → Position → Bool
@@ -19,9 +20,8 @@ any_map p f [] = refl
 any_map p f (x ∷ xs) = ap (λ b. p (f x) || b) (any_map p f xs)
 
 any_and : {A : Type 0} (b : Bool) (p : A → Bool) (xs : List A) → list_any (λ x. b && p x) xs ≡ (b && list_any p xs)
-any_and true p xs = refl
-any_and false p [] = refl
 any_and false p (x ∷ xs) = any_and false p xs
+any_and b p xs = refl
 
 or_and : (a b c : Bool) → ((a && c) || (b && c)) ≡ ((a || b) && c)
 or_and true true true = refl
@@ -66,9 +66,9 @@ col_inside false b c h = absurd (cc)
 -- of the cells inside, those of an entity are those that it covers
 pub any_named : (entity : Entity) (rows cols : ℕ) (cell : Position) → is_inside rows cols cell ≡ true → list_any (is_here cell) (cells_of entity rows cols) ≡ covers entity cell
 any_named Global rows cols cell h = any_here cell (below rows) (below cols) ∙ (λ i. any_below cell.row rows i && any_below cell.col cols i) ∙ h
-any_named (Column col) rows cols cell h = any_here cell (below rows) (col ∷ []) ∙ (λ i. any_below cell.row rows i && or_false (cell.col == col) i) ∙ row_inside (nat_lt cell.row rows) (nat_lt cell.col cols) (cell.col == col) h
-any_named (Row row) rows cols cell h = any_here cell (row ∷ []) (below cols) ∙ (λ i. or_false (cell.row == row) i && any_below cell.col cols i) ∙ col_inside (nat_lt cell.row rows) (nat_lt cell.col cols) (cell.row == row) h
-any_named (Cell row col) rows cols cell h = any_here cell (row ∷ []) (col ∷ []) ∙ (λ i. or_false (cell.row == row) i && or_false (cell.col == col) i)
+any_named (Column col) rows cols cell h = any_here cell (below rows) (col ∷ []) ∙ (λ i. any_below cell.row rows i && or-false (cell.col == col) i) ∙ row_inside (nat_lt cell.row rows) (nat_lt cell.col cols) (cell.col == col) h
+any_named (Row row) rows cols cell h = any_here cell (row ∷ []) (below cols) ∙ (λ i. or-false (cell.row == row) i && any_below cell.col cols i) ∙ col_inside (nat_lt cell.row rows) (nat_lt cell.col cols) (cell.row == row) h
+any_named (Cell row col) rows cols cell h = any_here cell (row ∷ []) (col ∷ []) ∙ (λ i. or-false (cell.row == row) i && or-false (cell.col == col) i)
 
 pub here_itself : (cell : Position) → is_here cell cell ≡ true
 here_itself cell = grind (arith, nat_tests)
@@ -95,11 +95,6 @@ named_where_covered entity rows cols cell h = (
   (λ yes. among_from_any cell (cells_of entity rows cols) (any_named entity rows cols cell h ∙ yes)),
 )
 
-same_truth : (a b : Bool) → (a ≡ true → b ≡ true) → (b ≡ true → a ≡ true) → a ≡ b
-same_truth true b f g = sym (f refl)
-same_truth false true f g = g refl
-same_truth false false f g = refl
-
 covered_too : (these those : List Entity) (cell : Position) → ((entity : Entity) → Contains these entity → Contains those entity) → covered these cell ≡ true → covered those cell ≡ true
 covered_too these those cell among h =
     let found = Any-from_list_any (λ entity. covers entity cell) these h in
@@ -108,7 +103,7 @@ covered_too these those cell among h =
 
 -- what a listing covers, whatever its order and repeats
 pub covered_alike : (these those : List Entity) (cell : Position) → ((entity : Entity) → Contains these entity ↔ Contains those entity) → covered these cell ≡ covered those cell
-covered_alike these those cell among = same_truth (covered these cell) (covered those cell) (covered_too these those cell (λ entity. (among entity).0)) (covered_too those these cell (λ entity. (among entity).1))
+covered_alike these those cell among = both_ways (covered these cell) (covered those cell) (covered_too these those cell (λ entity. (among entity).0)) (covered_too those these cell (λ entity. (among entity).1))
 
 inside_or : (a b c : Bool) → (a && (b || c)) ≡ ((a && b) || (a && c))
 inside_or true b c = refl
@@ -121,17 +116,13 @@ any_of_one : {A : Type 0} (p : A → Bool) (b : Bool) (x : A) (xs : List A) → 
 any_of_one p true x xs = refl
 any_of_one p false x xs = refl
 
-and_false : (a : Bool) → (a && false) ≡ false
-and_false true = refl
-and_false false = refl
-
 passing_one : (passes here among cell_passes : Bool) → (here ≡ true → passes ≡ cell_passes) → ((passes && here) || (cell_passes && among)) ≡ (cell_passes && (here || among))
 passing_one passes true among true same = ap (λ b. (b && true) || among) (same refl)
 passing_one passes true among false same = ap (λ b. (b && true) || false) (same refl)
-passing_one passes false among cell_passes same = ap (λ b. b || (cell_passes && among)) (and_false passes)
+passing_one passes false among cell_passes same = ap (λ b. b || (cell_passes && among)) (and-false passes)
 
 pub any_passing : (test : Position → Bool) (cell : Position) (cells : List Position) → list_any (is_here cell) (filter test cells) ≡ (test cell && list_any (is_here cell) cells)
-any_passing test cell [] = sym (and_false (test cell))
+any_passing test cell [] = sym (and-false (test cell))
 any_passing test cell (other ∷ cells) =
     any_of_one (is_here cell) (test other) other (filter test cells)
     ∙ ap (λ b. (test other && is_here cell other) || b) (any_passing test cell cells)

@@ -1,5 +1,4 @@
-//! Which cells: the counts and sizes of a table, positions, entities, and objects that name cells before the table
-//! is known.
+//! Which cells: the counts and sizes of a table, positions, entities, and objects that name cells before the table is known.
 //!
 //! `docs/DEFINITIONS.md` explains the words of the contracts. Users name these items by `tabled_grid`.
 #![tactic(auto)]

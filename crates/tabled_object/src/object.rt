@@ -1,6 +1,6 @@
 //! Objects: cells of a table, named before the table is known.
 
-ghost use Rattle.std.specs.Prelude.{◌≡◌, ℕ, List, IfOk, IsOk};
+ghost use Rattle.std.specs.Prelude.{ℕ, List, IfOk, IsOk};
 ghost use Rattle.tabled_object.specs.declared.entity.Entity.{Entity};
 ghost use Rattle.tabled_object.specs.Listing.{Lists};
 
@@ -35,8 +35,7 @@ pub trait Object<R: Records + ExactRecords> {
     /// That listing the object takes no memory.
     ghost takes_no_memory: { Self → Type 0 } = { λ _. ⊥ };
 
-    /// The entities of the object in that table. The memory for them, where there is need of any, comes from
-    /// `alloc`.
+    /// The entities of the object in that table. The memory for them, where there is need of any, comes from `alloc`.
     fn cells(&self, alloc: Global, records: &R) -> Result<Self::Iter, OutOfMemory>
         ensures always { takes_no_memory self.now → IsOk result }
         ensures listed { IfOk result (λ items. Lists Self.Iter.can_next Self.Iter.next_gives Self.Iter.remaining items

@@ -1,6 +1,5 @@
 -- The places of a line, piece by piece.
-use Rattle.std.proofs.Common.{◌≡◌, ℕ, ◌+◌, ◌-◌, ◌^◌, min, true, is_some, Option, List, [], ◌++◌, length, take, drop, ap, sym, subst, ◌∙◌, arith, length-append, Result, OnOk}
-use Rattle.std.specs.List.{zip}
+use Rattle.std.proofs.Common.{◌≡◌, ℕ, ◌+◌, ◌-◌, ◌^◌, min, true, is_some, Option, List, [], ◌++◌, length, take, drop, ap, sym, subst, ◌∙◌, arith, length-append, Result, OnOk, zip}
 use Rattle.std.proofs.lemmas.List.{length-take, take_min}
 use Rattle.std.proofs.lemmas.List.FromFn.{length-map-range_with_len}
 use Rattle.tabled_grid.specs.declared.place.Place.{Place}

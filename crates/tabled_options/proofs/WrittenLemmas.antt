@@ -1,7 +1,5 @@
 -- What a text writes on the places that it takes.
-use Rattle.std.proofs.Common.{◌≡◌, ℕ, ◌+◌, ◌<◌, true, false, cond, Option, Some, None, option_map, List, [], ◌∷◌, ◌++◌, length, get_or, map, take, refl, ap, sym, ◌∙◌, append-nil, arith, Result, Ok, Err, IfOk}
-use Rattle.std.specs.Option.{option_and_then}
-use Rattle.std.specs.List.{filter, zip}
+use Rattle.std.proofs.Common.{◌≡◌, ℕ, ◌+◌, ◌<◌, true, false, cond, Option, Some, None, option_map, List, [], ◌∷◌, ◌++◌, length, get_or, map, take, refl, ap, sym, ◌∙◌, append-nil, arith, Result, Ok, Err, IfOk, option_and_then, filter, zip}
 use Rattle.std.proofs.lemmas.List.{take_more, map-append, drop_all}
 use Rattle.std.proofs.lemmas.List.Elements.{filter-append}
 use Rattle.tabled_border.specs.Texts.{Texts}

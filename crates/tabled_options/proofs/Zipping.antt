@@ -1,6 +1,5 @@
 -- Two lists side by side.
-use Rattle.std.proofs.Common.{◌≡◌, ℕ, zero, suc, ◌-◌, min, List, [], ◌∷◌, ◌++◌, length, take, drop, refl, ap, sym, ◌∙◌, arith}
-use Rattle.std.specs.List.{zip}
+use Rattle.std.proofs.Common.{◌≡◌, ℕ, zero, suc, ◌-◌, min, List, [], ◌∷◌, ◌++◌, length, take, drop, refl, ap, sym, ◌∙◌, arith, zip}
 use Rattle.std.proofs.lemmas.List.{length-drop, take_min}
 
 module _ {K X : Type 0} where
@@ -18,9 +17,8 @@ module _ {K X : Type 0} where
   -- the first of either
   pub zip-take : (n : ℕ) (ks : List K) (xs : List X) → zip (take n ks) xs ≡ zip ks (take n xs)
   zip-take zero ks xs = sym (zip-nil ks)
-  zip-take (suc n) [] xs = refl
-  zip-take (suc n) (k ∷ ks) [] = refl
   zip-take (suc n) (k ∷ ks) (x ∷ xs) = ap (λ rest. (k, x) ∷ rest) (zip-take n ks xs)
+  zip-take n ks xs = refl
 
 drop_in_two : {A : Type 0} (n : ℕ) (xs ys : List A) → drop n (xs ++ ys) ≡ drop n xs ++ drop (n - length xs) ys
 drop_in_two zero xs ys = let none : 0 ≡ 0 - length xs = omega arith in ap (λ n. xs ++ drop n ys) none

@@ -1,6 +1,5 @@
 -- A character at one numbered place of each of many edges.
-use Rattle.std.specs.Prelude.{ℕ, Bool, if◌then◌else◌, List, map}
-use Rattle.std.specs.List.{filter}
+use Rattle.std.specs.Prelude.{ℕ, Bool, if◌then◌else◌, List, map, filter}
 use Rattle.tabled_object.specs.declared.entity.Entity.{Entity}
 use Rattle.tabled_object.specs.declared.position.Position.{Position}
 use Rattle.tabled_object.specs.Entities.{cells_of}

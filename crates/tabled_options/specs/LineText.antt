@@ -1,6 +1,5 @@
 -- A text on a line.
-use Rattle.std.specs.Prelude.{ℕ, ◌-◌, ◌^◌, min, Bool, true, is_some, Option, Some, None, option_map, List, [], ◌++◌, map, length, take, drop}
-use Rattle.std.specs.List.{filter, zip}
+use Rattle.std.specs.Prelude.{ℕ, ◌-◌, ◌^◌, min, Bool, true, is_some, Option, Some, None, option_map, List, [], ◌++◌, map, length, take, drop, filter, zip}
 use Rattle.tabled_border.specs.Texts.{Texts}
 use Rattle.tabled_grid.specs.declared.offset.Offset.{Offset}
 use Rattle.tabled_grid.specs.declared.place.LineOf.{LineOf}

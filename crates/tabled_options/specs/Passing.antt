@@ -1,6 +1,5 @@
 -- How a pen goes along places. Only private calls cite this.
-use Rattle.std.specs.Prelude.{◌≡◌, ◌-◌, List, ◌++◌, length, drop}
-use Rattle.std.specs.List.{zip}
+use Rattle.std.specs.Prelude.{◌≡◌, ◌-◌, List, ◌++◌, length, drop, zip}
 use Rattle.tabled_grid.specs.declared.place.Place.{Place}
 use Rattle.tabled_options.specs.declared.pen.Pen.{Pen}
 

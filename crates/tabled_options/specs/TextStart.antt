@@ -41,8 +41,7 @@ abbrev pub aligned_offset : LineOf → ℕ → ℕ → ℕ → Alignment → Opt
 aligned_offset (LineOf.Horizontal n) total width count alignment = option_map (horizontal_offset total width) (horizontal_of alignment)
 aligned_offset (LineOf.Vertical n) total width count alignment = option_map (vertical_offset total width count) (vertical_of alignment)
 
--- an alignment's offset, moved by another offset: one from the start adds its number, one from the end takes it away, at
--- least to 0
+-- an alignment's offset, moved by another offset: one from the start adds its number, one from the end takes it away, at least to 0
 abbrev pub moved : Offset → Offset → Offset
 moved (Offset.Start a) (Offset.Start b) = Offset.Start (a + b)
 moved (Offset.Start a) (Offset.End b) = Offset.Start (a - b)

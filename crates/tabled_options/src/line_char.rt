@@ -1,7 +1,6 @@
 //! One character on many edges.
 
-ghost use Rattle.std.specs.Prelude.{◌≡◌, Some, None, IfOk, OnOk, OnErr, map, true, false, [], ◌∷◌};
-ghost use Rattle.std.specs.List.{filter};
+ghost use Rattle.std.specs.Prelude.{◌≡◌, Some, IfOk, OnOk, OnErr, map, true, false, [], ◌∷◌, filter};
 ghost use Rattle.tabled_object.specs.Entities.{cells_of};
 ghost use Rattle.tabled_object.specs.declared.entity.Entity.TheVariants as cells;
 ghost use Rattle.tabled_grid.specs.Writes.{writes_made};

@@ -1,6 +1,6 @@
 //! Characters laid on places, one after the other.
 
-ghost use Rattle.std.specs.Prelude.{◌≡◌, ℕ, ◌≤◌, [], ◌∷◌, OnOk, List, length, min};
+ghost use Rattle.std.specs.Prelude.{◌≡◌, [], ◌∷◌, OnOk, List, length, min};
 ghost use Rattle.tabled_grid.specs.declared.place.Place.{Place as Spot};
 
 use tabled_grid::{OutOfMemory, Place};

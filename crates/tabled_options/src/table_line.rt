@@ -1,7 +1,6 @@
 //! A line of a table, and a text laid along it.
 
-ghost use Rattle.std.specs.Prelude.{◌≡◌, ◌-◌, ◌≤◌, ◌^◌, true, OnOk, IfOk, min, take, drop, length};
-ghost use Rattle.std.specs.List.{zip};
+ghost use Rattle.std.specs.Prelude.{◌≡◌, ◌-◌, ◌^◌, true, OnOk, IfOk, min, drop, length, zip};
 
 use crate::pen::Pen;
 use std::alloc::Global;
@@ -20,7 +19,6 @@ pub(crate) struct TableLine<'a, D> {
 }
 
 impl<D: Dimension> TableLine<'_, D> {
-    ghost use Rattle.tabled_grid.specs.declared.place.Place.{Place as Spot};
     ghost use Rattle.tabled_options.specs.LineText.{takes_character, places_along};
     ghost use Rattle.tabled_config.specs.LinePieces.{has_line, pieces_of, size_of, crossed, crossing_places, edge_places, all_places};
     ghost use Rattle.tabled_options.specs.Laying.{looked};

@@ -1,7 +1,6 @@
 //! Where a text begins on a line.
 
-ghost use Rattle.std.specs.Prelude.{◌≡◌, ◌≤◌, ◌^◌, ◌-◌, option_and_then, length};
-ghost use Rattle.std.specs.Str.{chars};
+ghost use Rattle.std.specs.Prelude.{◌≡◌, option_and_then};
 ghost use Rattle.tabled_options.specs.TextStart.{widest, middle, horizontal_offset, vertical_offset, aligned_offset, moved, moved_if_aligned, place_number};
 
 use crate::Alignment;

@@ -3,11 +3,11 @@ use Rattle.std.proofs.Common.{◌≡◌, ℕ, Bool, true, false, cond, ◌||◌,
 use Rattle.std.specs.List.{list_any}
 use Rattle.std.proofs.lemmas.Bool.{le-leb, lt-leb}
 use Rattle.std.proofs.lemmas.List.{take_more, drop_all}
-use Rattle.tabled_grid.specs.declared.event.Event.TheVariants.{Write as write}
 use Rattle.tabled_grid.specs.declared.place.LineOf.{LineOf}
 use Rattle.tabled_grid.specs.declared.place.Place.{Place}
 use Rattle.tabled_grid.specs.declared.site.Site.{Site}
 use Rattle.tabled_grid.specs.Value.{inside, sites, first_sign, value}
+use Rattle.tabled_grid.specs.declared.event.Event.TheVariants.{Write as write}
 use Rattle.tabled_grid.specs.declared.event.Written.{Written}
 use Rattle.tabled_grid.specs.declared.event.Event.{Event}
 use Rattle.tabled_grid.specs.Event.{covers, left_by, replay}

@@ -3,7 +3,7 @@
 //! It keeps nothing but the list, and finds what it is asked by going over it from the start, as the
 //! definitions of the events say. The tests of the store compare the two. Nothing else calls it.
 
-ghost use Rattle.std.specs.Prelude.{◌≡◌, ◌≤◌};
+ghost use Rattle.std.specs.Prelude.{◌≡◌};
 ghost use Rattle.tabled_grid.specs.Site.{stands as stands_at, level as level_at, same_site};
 ghost use Rattle.tabled_grid.specs.Event.{within as is_within, covers as is_covering, replay as replayed};
 ghost use Rattle.tabled_grid.specs.Value.{value as value_at, first_sign as first_sign_at};
@@ -30,8 +30,7 @@ pub fn replay(events: &[Event<char>], site: Site) -> Option<Written<char>>
     found
 }
 
-/// The value of a place, in a table of `shape.0` rows and `shape.1` columns, where its edge is `size`
-/// characters long.
+/// The value of a place, in a table of `shape.0` rows and `shape.1` columns, where its edge is `size` characters long.
 pub fn value(
     events: &[Event<char>],
     shape: (usize, usize),

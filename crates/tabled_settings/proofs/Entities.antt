@@ -1,36 +1,20 @@
 -- Entities as keys: what is equal and what compares alike.
-use Rattle.std.proofs.Common.{◌≡◌, ◌==◌, ◌&&◌, Bool, true, false, refl, ap, ◌∙◌}
+use Rattle.std.proofs.Common.{◌≡◌, ◌==◌, true, refl, ap, ◌∙◌}
 use Rattle.std.specs.BTreeMap.{is_at}
-use Rattle.std.proofs.lemmas.Bool.{eqb-true}
+use Rattle.std.proofs.lemmas.Bool.{eqb-true, and_parts}
 use Rattle.tabled_object.specs.declared.entity.Entity.{Entity}
 use Rattle.tabled_object.specs.declared.entity.Entity.TheVariants.{Global, Column, Row, Cell}
 use Rattle.tabled_settings.specs.Setting.{same_entity}
 use Rattle.tabled_settings.specs.Slots.{entity_cmp}
 use Rattle.tabled_settings.specs.SameLaws.{is_same_entity, entity_equiv}
 
-both : (a b : Bool) → (a && b) ≡ true → (a ≡ true) × (b ≡ true)
-both true true h = (refl, refl)
-both true false h = absurd cc
-both false b h = absurd cc
-
 -- the same entity is equal
 pub equal_entities : (a b : Entity) → same_entity a b ≡ true → a ≡ b
 equal_entities Global Global h = refl
-equal_entities Global (Column _) h = absurd cc
-equal_entities Global (Row _) h = absurd cc
-equal_entities Global (Cell _ _) h = absurd cc
-equal_entities (Column _) Global h = absurd cc
 equal_entities (Column a) (Column b) h = ap Column (eqb-true a b h)
-equal_entities (Column _) (Row _) h = absurd cc
-equal_entities (Column _) (Cell _ _) h = absurd cc
-equal_entities (Row _) Global h = absurd cc
-equal_entities (Row _) (Column _) h = absurd cc
 equal_entities (Row a) (Row b) h = ap Row (eqb-true a b h)
-equal_entities (Row _) (Cell _ _) h = absurd cc
-equal_entities (Cell _ _) Global h = absurd cc
-equal_entities (Cell _ _) (Column _) h = absurd cc
-equal_entities (Cell _ _) (Row _) h = absurd cc
-equal_entities (Cell a b) (Cell c d) h = let parts = both (a == c) (b == d) h in λ i. Cell (eqb-true a c parts.0 i) (eqb-true b d parts.1 i)
+equal_entities (Cell a b) (Cell c d) h = let parts = and_parts (a == c) (b == d) h in λ i. Cell (eqb-true a c parts.0 i) (eqb-true b d parts.1 i)
+equal_entities a b h = absurd cc
 
 pub entity_itself : (a : Entity) → same_entity a a ≡ true
 entity_itself a = entity_equiv.refl a

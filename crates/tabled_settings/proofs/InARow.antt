@@ -8,7 +8,7 @@ use Rattle.tabled_object.specs.declared.entity.Entity.{Entity}
 use Rattle.tabled_object.specs.declared.entity.Entity.TheVariants.{Global}
 use Rattle.tabled_settings.specs.Setting.{EntityEvent, same_entity, is_global}
 use Rattle.tabled_settings.specs.Live.{Live, without, put_each, after_all, has_event}
-use Rattle.tabled_settings.specs.Slots.{standing, behind, passes, place, emptied, IsOnce, entity_cmp, HasPlaces, after_put, after_puts, places_before, all_emptied}
+use Rattle.tabled_settings.specs.Slots.{standing, behind, passes, place, emptied, IsOnce, entity_cmp, HasPlaces, HasFewHoles, IsHeld, after_put, after_puts, places_before, all_emptied, IsNoted}
 use Rattle.tabled_settings.specs.SameLaws.{entity_equiv}
 use Rattle.tabled_settings.proofs.Entities.{equal_entities, entity_itself}
 use Rattle.tabled_settings.proofs.Lasting.{entities_told, standing-put, once-put, places-put}
@@ -182,26 +182,29 @@ module _ {V : Type 0} where
   TakesBack given before noted new = (slots : List (Option (Entity × V))) → IsOnce same_entity (standing slots) → before ≡ places_before slots (take (length before) given)
       → HasPlaces noted (after_puts slots (take (length before) given)) → HasPlaces new slots
 
+  -- it was noted
+  pub noted_now : (slots reserved : List (Option (Entity × V))) (events given : List (Entity × V)) (before : List (Option ℕ)) (places : BTreeMap Entity ℕ) → reserved ≡ slots → given ≡ events
+      → IsOnce same_entity (standing slots) → HasFewHoles slots → before ≡ places_before slots given → HasPlaces places (after_puts slots given) → IsNoted places reserved events before
+  noted_now slots reserved events given before places same lent once few was has =
+      subst (λ items. IsNoted places items events before) (sym same) (subst (λ list. IsNoted places slots list before) lent (record { once = once; few_holes = few; stood = was; placed = has }))
+
   -- all of it is taken back
-  pub given_back : (slots reserved : List (Option (Entity × V))) (given : List (Entity × V)) (before : List (Option ℕ)) (noted new : BTreeMap Entity ℕ) → IsOnce same_entity (standing slots)
-      → reserved ≡ slots → before ≡ places_before slots given → HasPlaces noted (after_puts slots given)
-      → TakesBack given before noted new → IsOnce same_entity (standing reserved) × HasPlaces new reserved
-  given_back slots reserved given before noted new once same was has back =
-      let all : given ≡ take (length before) given = sym (take_all (length before) given (let many : length before ≡ length given = all_noted slots given before was in omega arith)) in
-      subst (λ items. IsOnce same_entity (standing items) × HasPlaces new items) (sym same)
-      (once, back slots once (was ∙ ap (places_before slots) all) (subst (λ events. HasPlaces noted (after_puts slots events)) all has))
+  pub given_back : (slots : List (Option (Entity × V))) (events given : List (Entity × V)) (before shown : List (Option ℕ)) (noted new : BTreeMap Entity ℕ) → given ≡ events → shown ≡ before
+      → TakesBack given shown noted new → IsNoted noted slots events before → IsHeld new slots
+  given_back slots events given before shown noted new lent seen back h =
+      let was : shown ≡ places_before slots given = seen ∙ h.stood ∙ ap (places_before slots) (sym lent) in
+      let all : given ≡ take (length shown) given = sym (take_all (length shown) given (let many : length shown ≡ length given = all_noted slots given shown was in omega arith)) in
+      (h.once, back slots h.once (was ∙ ap (places_before slots) all) (subst (λ list. HasPlaces noted (after_puts slots list)) (sym lent ∙ all) h.placed), h.few_holes)
 
 module _ {T : Type 0} where
   -- all of it is written
-  pub written : (slots reserved after : List (Option (EntityEvent T))) (events given : List (EntityEvent T)) (before shown : List (Option ℕ)) (noted : BTreeMap Entity ℕ) → IsOnce same_entity (standing slots)
-      → reserved ≡ slots → given ≡ events → before ≡ places_before slots given → HasPlaces noted (after_puts slots given)
-      → shown ≡ before → after ≡ all_emptied shown (reserved ++ map Some events)
+  pub written : (slots after : List (Option (EntityEvent T))) (events : List (EntityEvent T)) (before shown : List (Option ℕ)) (noted : BTreeMap Entity ℕ) → IsNoted noted slots events before
+      → shown ≡ before → after ≡ all_emptied shown (slots ++ map Some events)
       → (IsOnce same_entity (standing after) × HasPlaces noted after) × (standing after ≡ put_each (standing slots) events)
-  written slots reserved after events given before shown noted once same lent was has seen made =
-      let all : after ≡ after_puts slots events = made ∙ (λ i. all_emptied ((seen ∙ was ∙ ap (places_before slots) lent) i) (same i ++ map Some events)) ∙ written_at_once slots events in (
-        subst (λ items. IsOnce same_entity (standing items) × HasPlaces noted items) (sym all)
-            (once-puts slots events once, subst (λ list. HasPlaces noted (after_puts slots list)) lent has),
-        ap standing all ∙ standing-puts slots events once,
+  written slots after events before shown noted h seen made =
+      let all : after ≡ after_puts slots events = made ∙ ap (λ places. all_emptied places (slots ++ map Some events)) (seen ∙ h.stood) ∙ written_at_once slots events in (
+        subst (λ items. IsOnce same_entity (standing items) × HasPlaces noted items) (sym all) (once-puts slots events h.once, h.placed),
+        ap standing all ∙ standing-puts slots events h.once,
       )
 
 -- ---- events of which none is one of all cells

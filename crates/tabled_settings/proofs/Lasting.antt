@@ -6,6 +6,7 @@ use Rattle.std.specs.BTreeMap.{BTreeMap, get, is_at, Updates}
 use Rattle.std.proofs.lemmas.List.{take_more, drop_more, take_all}
 use Rattle.std.proofs.lemmas.List.Elements.{filter_map-append}
 use Rattle.std.proofs.lemmas.List.Folds.{list_any-append}
+use mathlib.Core.Bool.{or-false}
 use Rattle.tabled_object.specs.declared.entity.Entity.{Entity}
 use Rattle.tabled_object.specs.declared.entity.Entity.TheVariants.{Global, Column, Row, Cell}
 use Rattle.tabled_object.specs.declared.position.Position.{Position}
@@ -56,17 +57,13 @@ slots_after slots reserved holed after before found entity value same was has ho
 
 -- ---- look-ups
 
-or_false : (b : Bool) → (b || false) ≡ b
-or_false true = refl
-or_false false = refl
-
 -- an entity but the one of all cells covers a cell where it is the cell, its row or its column
 covers_by_three : (cell : Position) (entity : Entity) → same_entity Global entity ≡ false
     → covers entity cell ≡ (same_entity (Cell cell.row cell.col) entity || (same_entity (Row cell.row) entity || same_entity (Column cell.col) entity))
 covers_by_three cell Global h = absurd cc
 covers_by_three cell (Column col) h = refl
-covers_by_three cell (Row row) h = sym (or_false (cell.row == row))
-covers_by_three cell (Cell row col) h = sym (or_false ((cell.row == row) && (cell.col == col)))
+covers_by_three cell (Row row) h = sym (or-false (cell.row == row))
+covers_by_three cell (Cell row col) h = sym (or-false ((cell.row == row) && (cell.col == col)))
 
 pub last_by_three : {T : Type 0} (places : BTreeMap Entity ℕ) (slots : List (Option (EntityEvent T))) (cell : Position) → HasPlaces places slots → has_event Global (standing slots) ≡ false
     → last_or None (covering (standing slots) cell)
@@ -135,9 +132,7 @@ copied_all slots at past = ap standing (take_all at slots past)
 
 other_than_global : (entity : Entity) → (entity ≡ Global → ⊥) → same_entity Global entity ≡ false
 other_than_global Global h = absurd (h refl)
-other_than_global (Column _) h = refl
-other_than_global (Row _) h = refl
-other_than_global (Cell _ _) h = refl
+other_than_global entity h = refl
 
 pub no_global : {T : Type 0} (entity : Entity) (value : Option T) (events new : List (EntityEvent T)) → (entity ≡ Global → ⊥) → has_event Global events ≡ false
     → new ≡ without entity events ++ (entity, value) ∷ [] → has_event Global new ≡ false

@@ -61,9 +61,3 @@ module _ {V : Type 0} (slots : List (Option (Entity × V))) (before now : BTreeM
       let before_had : is_some (get entity_cmp before event.0) ≡ true = alike event.0 ∙ placed_there (same_entity event.0) slots at slot event inside is there (entity_itself event.0) in
       let had : is_some (get entity_cmp now event.0) ≡ true = ap is_some (so_far event.0) ∙ is_noted (place (same_entity event.0) (take at slots)) (get entity_cmp before event.0) before_had in
       absurd (let no : false ≡ true = sym (ap is_some absent) ∙ had in cc)
-
--- all slots were seen
-pub noted_all : {V : Type 0} (slots : List (Option (Entity × V))) (p before : Option ℕ) → is_some before ≡ is_some p → noted p before ≡ p
-noted_all slots (Some at) before alike = refl
-noted_all slots None None alike = refl
-noted_all slots None (Some at) alike = absurd cc

@@ -1,7 +1,6 @@
 -- Events in slots: what a push, a hole and closing up leave, and where events stand.
-use Rattle.std.proofs.Common.{◌≡◌, ℕ, zero, suc, pred, Bool, true, false, cond, not, ◌||◌, Option, Some, None, List, [], ◌∷◌, ◌++◌, length, set, filter, slice_get, is_some, option_map, option_and_then, refl, sym, ap, ◌∙◌, arith}
+use Rattle.std.proofs.Common.{◌≡◌, ℕ, zero, suc, pred, Bool, true, false, cond, not, ◌||◌, Option, Some, None, List, [], ◌∷◌, ◌++◌, length, set, filter, slice_get, is_some, option_map, option_and_then, refl, sym, ap, ◌∙◌, arith, length-set}
 use Rattle.std.specs.List.{list_any, last_or}
-use Rattle.std.proofs.lemmas.List.{length-set}
 use Rattle.std.proofs.lemmas.List.Elements.{filter_map-append}
 use Rattle.std.proofs.lemmas.List.Folds.{list_any-append}
 use Rattle.std.proofs.lemmas.Option.{same_Some}
@@ -36,14 +35,10 @@ behind_pushed false n p here = refl
 -- of two tests the later place is that of their `or`
 later_behind : (p q : Option ℕ) (a b : Bool) → later_of (behind p a) (behind q b) ≡ behind (later_of p q) (a || b)
 later_behind None None true true = refl
-later_behind None None true false = refl
-later_behind None None false true = refl
-later_behind None None false false = refl
 later_behind None (Some j) true b = ap Some (omega arith)
-later_behind None (Some j) false b = refl
 later_behind (Some i) None a true = ap Some (omega arith)
-later_behind (Some i) None a false = refl
 later_behind (Some i) (Some j) a b = ap Some (omega arith)
+later_behind p q a b = refl
 
 pub place_or : {K V : Type 0} (p q : K → Bool) (slots : List (Option (K × V))) → later_of (place p slots) (place q slots) ≡ place (λ k. p k || q k) slots
 place_or p q [] = refl

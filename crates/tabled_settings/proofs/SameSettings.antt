@@ -1,6 +1,5 @@
 -- Settings that are equal are one.
-use Rattle.std.proofs.Common.{◌≡◌, ◌==◌, Bool, true, false, ◌&&◌, Option, Some, None, [], ◌∷◌, refl, sym, ap}
-use Rattle.std.proofs.lemmas.Bool.{eqb-true}
+use Rattle.std.proofs.Common.{◌≡◌, ◌==◌, Bool, true, false, ◌&&◌, Option, Some, None, [], ◌∷◌, refl, sym, ap, eqb-true}
 use Rattle.std.specs.Option.{option_eq}
 use Rattle.tabled_border.specs.contracts.ansi.ANSIBufPartialEq.TheImpl.{eq-value as same_texts}
 use Rattle.std.specs.contracts.prelude.BoolPartialEq.TheImpl.{eq-value as same_bool}
@@ -24,47 +23,34 @@ IsExact {A} E = (x y : A) → E x y ≡ true → x ≡ y
 
 exact_horizontal : IsExact same_horizontal.it
 exact_horizontal horizontal.Left horizontal.Left h = refl
-exact_horizontal horizontal.Left horizontal.Center h = absurd cc
-exact_horizontal horizontal.Left horizontal.Right h = absurd cc
-exact_horizontal horizontal.Center horizontal.Left h = absurd cc
 exact_horizontal horizontal.Center horizontal.Center h = refl
-exact_horizontal horizontal.Center horizontal.Right h = absurd cc
-exact_horizontal horizontal.Right horizontal.Left h = absurd cc
-exact_horizontal horizontal.Right horizontal.Center h = absurd cc
 exact_horizontal horizontal.Right horizontal.Right h = refl
+exact_horizontal a b h = absurd cc
 
 exact_vertical : IsExact same_vertical.it
 exact_vertical vertical.Top vertical.Top h = refl
-exact_vertical vertical.Top vertical.Center h = absurd cc
-exact_vertical vertical.Top vertical.Bottom h = absurd cc
-exact_vertical vertical.Center vertical.Top h = absurd cc
 exact_vertical vertical.Center vertical.Center h = refl
-exact_vertical vertical.Center vertical.Bottom h = absurd cc
-exact_vertical vertical.Bottom vertical.Top h = absurd cc
-exact_vertical vertical.Bottom vertical.Center h = absurd cc
 exact_vertical vertical.Bottom vertical.Bottom h = refl
+exact_vertical a b h = absurd cc
 
 exact_bool : IsExact same_bool.it
-exact_bool true true h = refl
 exact_bool true false h = absurd cc
 exact_bool false true h = absurd cc
-exact_bool false false h = refl
+exact_bool a b h = refl
 
 module _ {T : Type 0} (E : T → T → Bool) (exact : IsExact E) where
   exact_option : IsExact (option_eq E)
   exact_option None None h = refl
-  exact_option None (Some y) h = absurd cc
-  exact_option (Some x) None h = absurd cc
   exact_option (Some x) (Some y) h = ap Some (exact x y h)
+  exact_option a b h = absurd cc
 
   exact_events : IsExact (pointwise (same_event E))
   exact_events [] [] h = refl
-  exact_events [] (f ∷ fs) h = absurd cc
-  exact_events (e ∷ es) [] h = absurd cc
   exact_events (e ∷ es) (f ∷ fs) h =
       let heads = first_so (same_event E e f) (pointwise (same_event E) es fs) h in
       λ i. (equal_entities e.0 f.0 (first_so (same_entity e.0 f.0) (option_eq E e.1 f.1) heads) i, exact_option e.1 f.1 (second_so (same_entity e.0 f.0) (option_eq E e.1 f.1) heads) i)
       ∷ exact_events es fs (second_so (same_event E e f) (pointwise (same_event E) es fs) h) i
+  exact_events a b h = absurd cc
 
   pub exact_live : IsExact (same_live E)
   exact_live a b h =

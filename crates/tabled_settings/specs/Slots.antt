@@ -59,6 +59,10 @@ HasPlaces places slots = (entity : Entity) → get entity_cmp places entity ≡ 
 abbrev pub HasFewHoles : {A : Type 0} → List (Option A) → Type 0
 HasFewHoles slots = length slots ≤ 2 * length (standing slots) + 1
 
+-- each entity has one event, and its place, and there are few holes
+abbrev pub IsHeld : {V : Type 0} → BTreeMap Entity ℕ → List (Option (Entity × V)) → Type 0
+IsHeld places slots = IsOnce same_entity (standing slots) × HasPlaces places slots × HasFewHoles slots
+
 -- ---- one event after the other
 
 -- a hole where the event of its entity stood, and the event at the end
@@ -78,3 +82,10 @@ places_before slots (event ∷ events) = place (same_entity event.0) slots ∷ p
 abbrev pub all_emptied : {A : Type 0} → List (Option ℕ) → List (Option A) → List (Option A)
 all_emptied [] slots = slots
 all_emptied (at ∷ places) slots = all_emptied places (emptied at slots)
+
+-- the slots hold no event of these yet, and the map has for each entity the place that its event will have
+pub record IsNoted {V : Type 0} (places : BTreeMap Entity ℕ) (slots : List (Option (Entity × V))) (events : List (Entity × V)) (before : List (Option ℕ)) : Type 0 where
+  pub once : IsOnce same_entity (standing slots)
+  pub few_holes : HasFewHoles slots
+  pub stood : before ≡ places_before slots events
+  pub placed : HasPlaces places (after_puts slots events)

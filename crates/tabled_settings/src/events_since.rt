@@ -130,7 +130,7 @@ impl<T> EventsSince<T> {
         first.put_three_lists(alloc, events, second, second_events, third, third_events)
     }
 
-    /// The value of the last event that covers a cell, or none inside for a removal. No event is one of all cells.
+    /// The value of the last event that covers a cell, or none inside for a removal.
     pub(crate) fn last(&self, cell: Position) -> Option<&Option<T>>
         requires { has_event Entity.Global self.now ≡ false }
         ensures { option_copied result ≡ option_map (λ event. event.1) (last_or None (covering self.now cell)) }

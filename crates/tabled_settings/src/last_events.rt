@@ -3,7 +3,6 @@
 ghost use Rattle.std.specs.Prelude.{◌≡◌, ◌↔◌, ◌++◌, ◌∷◌, [], None, false, IsTrue, OnOk, OnErr, option_copied, option_map};
 ghost use Rattle.std.specs.List.{last_or};
 ghost use Rattle.std.specs.Cmp.Lexicographic.{pointwise};
-ghost use Rattle.tabled_object.specs.declared.entity.Entity.{Entity as Which};
 ghost use Rattle.tabled_settings.specs.Setting.{covering};
 ghost use Rattle.tabled_settings.specs.Live.{without, has_event};
 ghost use Rattle.tabled_settings.specs.Same.{same_event};
@@ -29,16 +28,15 @@ pub(crate) struct LastEvents<T> {
 }
 
 impl<T> Model for LastEvents<T> {
-    ghost use Rattle.std.specs.Prelude.{List, Option};
-    ghost use Rattle.tabled_object.specs.declared.entity.Entity.{Entity as Which};
-    ghost use Rattle.tabled_settings.specs.Setting.{EntityEvent, same_entity};
-    ghost use Rattle.tabled_settings.specs.Slots.{standing, IsOnce, HasPlaces, HasFewHoles};
+    ghost use Rattle.std.specs.Prelude.{List};
+    ghost use Rattle.tabled_settings.specs.Setting.{EntityEvent};
+    ghost use Rattle.tabled_settings.specs.Slots.{standing, IsHeld};
 
     ghost Value = { List (EntityEvent T) };
 
     ghost view = { λ last. standing last.slots.items };
 
-    ghost invariant = { λ last. IsOnce same_entity (standing last.slots.items) × HasPlaces last.places last.slots.items × HasFewHoles last.slots.items };
+    ghost invariant = { λ last. IsHeld last.places last.slots.items };
 }
 
 impl<T> LastEvents<T> {
@@ -74,7 +72,7 @@ impl<T> LastEvents<T> {
         Ok(())
     }
 
-    /// The value of the last event that covers a cell, or none inside for a removal. No event is one of all cells.
+    /// The value of the last event that covers a cell, or none inside for a removal.
     pub(crate) fn last(&self, cell: Position) -> Option<&Option<T>>
         requires { has_event Entity.Global self.now ≡ false }
         ensures { option_copied result ≡ option_map (λ event. event.1) (last_or None (covering self.now cell)) }

@@ -27,7 +27,7 @@ pub(crate) fn empty<T: Drop>(slots: &mut Vec<Slot<T>>, place: Option<usize>)
     }
 }
 
-/// Adds the events of a list at the end, and empties the slots where those that they replace stood. There is room for them.
+/// Adds the events of a list at the end, and empties the slots where those that they replace stood.
 pub(crate) fn replace_by<T: Drop>(
     slots: &mut Vec<Slot<T>>,
     events: Vec<(Entity, Option<T>)>,
@@ -59,8 +59,7 @@ pub(crate) fn close_up<T: Drop>(slots: &mut Vec<Slot<T>>, places: &mut BTreeMap<
     }
 }
 
-/// Notes for each entity where its event stands. The entities are those that have a place already, so this takes no
-/// memory.
+/// Notes for each entity where its event stands. The entities are those that have a place already, so this takes no memory.
 pub(crate) fn number<T>(slots: &[Slot<T>], places: &mut BTreeMap<Entity, usize>)
     requires { (entity : Which) → is_some (get entity_cmp places.old entity) ≡ is_some (place (same_entity entity) slots.now) }
     ensures { HasPlaces places.new slots.now }

@@ -1,14 +1,13 @@
 -- Loops that change each custom line in its place.
-use Rattle.std.proofs.Common.{◌≡◌, ℕ, ◌+◌, ◌<◌, List, [], ◌∷◌, ◌++◌, length, take, drop, get_or, refl, ap, zero, suc}
+use Rattle.std.proofs.Common.{◌≡◌, ℕ, ◌+◌, ◌<◌, List, [], ◌∷◌, ◌++◌, length, take, drop, get_or, refl, ap, suc}
 use Rattle.std.proofs.Math.ListN.{set}
 use Rattle.std.proofs.lemmas.List.Edits.{map_over_more}
 use Rattle.tabled_style.specs.Lines.{each_line}
 
 -- an element of a list, whatever stands for a missing one
 pub get_or-self : {X : Type 0} (xs : List X) (i : ℕ) (d : X) → get_or xs i d ≡ get_or xs i (get_or xs i d)
-get_or-self [] i d = refl
-get_or-self (x ∷ xs) zero d = refl
 get_or-self (x ∷ xs) (suc i) d = get_or-self xs i d
+get_or-self xs i d = refl
 
 -- the line after those that are changed is changed
 pub each-more : {L : Type 0} (change : L → L) (xs ys : List (ℕ × L)) (i : ℕ) (d : ℕ × L) → i < length xs

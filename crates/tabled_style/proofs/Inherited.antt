@@ -41,20 +41,18 @@ dropped_horizontal last row borders has = alike_vertical last row None no_horizo
 followed_still : (rank column : Rank) (crossing : Option ℕ) (borders : Borders ℕ) → horizontal_meeting column (horizontal_of rank borders) ≡ crossing → horizontal_of rank (followed_vertical column crossing borders) ≡ horizontal_of rank borders
 unfolding followed_vertical spaced_vertical
 followed_still rank column None borders has = dropped_vertical rank column borders has
-followed_still rank first (Some c) borders has = refl
 followed_still first inner (Some c) borders has = alike_horizontal first inner (Some c) (spaced_vertical borders) borders has (ap (space_where _) has)
 followed_still inner inner (Some c) borders has = alike_horizontal inner inner (Some c) (spaced_vertical borders) borders has has
 followed_still last inner (Some c) borders has = alike_horizontal last inner (Some c) (spaced_vertical borders) borders has (ap (space_where _) has)
-followed_still rank last (Some c) borders has = refl
+followed_still rank column crossing borders has = refl
 
 still_followed : (rank row : Rank) (crossing : Option ℕ) (borders : Borders ℕ) → vertical_meeting row (vertical_of rank borders) ≡ crossing → vertical_of rank (followed_horizontal row crossing borders) ≡ vertical_of rank borders
 unfolding followed_horizontal spaced_horizontal
 still_followed rank row None borders has = dropped_horizontal rank row borders has
-still_followed rank first (Some c) borders has = refl
 still_followed first inner (Some c) borders has = alike_vertical first inner (Some c) (spaced_horizontal borders) borders has (ap (space_where _) has)
 still_followed inner inner (Some c) borders has = alike_vertical inner inner (Some c) (spaced_horizontal borders) borders has has
 still_followed last inner (Some c) borders has = alike_vertical last inner (Some c) (spaced_horizontal borders) borders has (ap (space_where _) has)
-still_followed rank last (Some c) borders has = refl
+still_followed rank row crossing borders has = refl
 
 pub horizontal_again : (rank : Rank) (line : HorizontalLine ℕ) (style : Shown) → horizontal_of rank (with_line_horizontal rank line style).borders ≡ line
 unfolding with_line_horizontal settled_horizontal

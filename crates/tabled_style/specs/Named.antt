@@ -1,6 +1,5 @@
 -- The ready styles by name.
-use Rattle.std.specs.Prelude.{ℕ, List, [], ◌∷◌, codes, Option}
-use Rattle.std.specs.List.{find}
+use Rattle.std.specs.Prelude.{ℕ, List, [], ◌∷◌, codes, Option, find}
 use Rattle.std.specs.Str.{bytes_eq}
 use Rattle.tabled_configuration.specs.Configuration.{ConfigEvent, borders_replaced}
 use Rattle.tabled_style.specs.Shown.{Shown}

@@ -9,11 +9,9 @@ use crate::{On, Style};
 use std::marker::{Model, PhantomData};
 use tabled_grid::Border as GridBorder;
 
-/// The border of one cell, or the frame of a table: a character for each side and each corner. What is
-/// missing is not given.
+/// The border of one cell, or the frame of a table: a character for each side and each corner. What is missing is not given.
 ///
-/// `T`, `B`, `L` and `R` mark which of the upper, the lower, the left and the right side are there: [`On`],
-/// or `()`.
+/// `T`, `B`, `L` and `R` mark which of the upper, the lower, the left and the right side are there: [`On`], or `()`.
 ///
 /// `Border::full('t', 'b', 'l', 'r', '1', '2', '3', '4')` on the cell (0, 0) of a table of the style `ascii`:
 ///
@@ -236,7 +234,7 @@ impl<T, B, L, R> Border<T, B, L, R> {
 }
 
 impl<B, L, R> Border<On, B, L, R> {
-    /// The upper side. Requires the character to be set, which `into_inner` shows.
+    /// The upper side. `into_inner` shows whether it is set.
     pub fn get_top(&self) -> char
         requires { IsSome self.now.top }
         ensures { self.now.top ≡ Some result }
@@ -246,7 +244,7 @@ impl<B, L, R> Border<On, B, L, R> {
 }
 
 impl<T, L, R> Border<T, On, L, R> {
-    /// The lower side. Requires the character to be set, which `into_inner` shows.
+    /// The lower side. `into_inner` shows whether it is set.
     pub fn get_bottom(&self) -> char
         requires { IsSome self.now.bottom }
         ensures { self.now.bottom ≡ Some result }
@@ -256,7 +254,7 @@ impl<T, L, R> Border<T, On, L, R> {
 }
 
 impl<T, B, R> Border<T, B, On, R> {
-    /// The left side. Requires the character to be set, which `into_inner` shows.
+    /// The left side. `into_inner` shows whether it is set.
     pub fn get_left(&self) -> char
         requires { IsSome self.now.left }
         ensures { self.now.left ≡ Some result }
@@ -266,7 +264,7 @@ impl<T, B, R> Border<T, B, On, R> {
 }
 
 impl<T, B, L> Border<T, B, L, On> {
-    /// The right side. Requires the character to be set, which `into_inner` shows.
+    /// The right side. `into_inner` shows whether it is set.
     pub fn get_right(&self) -> char
         requires { IsSome self.now.right }
         ensures { self.now.right ≡ Some result }
@@ -292,7 +290,7 @@ impl<B, R> Border<On, B, On, R> {
         self
     }
 
-    /// The upper left corner. Requires the character to be set, which `into_inner` shows.
+    /// The upper left corner. `into_inner` shows whether it is set.
     pub fn get_corner_top_left(&self) -> char
         requires { IsSome self.now.left_top_corner }
         ensures { self.now.left_top_corner ≡ Some result }
@@ -318,7 +316,7 @@ impl<B, L> Border<On, B, L, On> {
         self
     }
 
-    /// The upper right corner. Requires the character to be set, which `into_inner` shows.
+    /// The upper right corner. `into_inner` shows whether it is set.
     pub fn get_corner_top_right(&self) -> char
         requires { IsSome self.now.right_top_corner }
         ensures { self.now.right_top_corner ≡ Some result }
@@ -344,7 +342,7 @@ impl<T, R> Border<T, On, On, R> {
         self
     }
 
-    /// The lower left corner. Requires the character to be set, which `into_inner` shows.
+    /// The lower left corner. `into_inner` shows whether it is set.
     pub fn get_corner_bottom_left(&self) -> char
         requires { IsSome self.now.left_bottom_corner }
         ensures { self.now.left_bottom_corner ≡ Some result }
@@ -370,7 +368,7 @@ impl<T, L> Border<T, On, L, On> {
         self
     }
 
-    /// The lower right corner. Requires the character to be set, which `into_inner` shows.
+    /// The lower right corner. `into_inner` shows whether it is set.
     pub fn get_corner_bottom_right(&self) -> char
         requires { IsSome self.now.right_bottom_corner }
         ensures { self.now.right_bottom_corner ≡ Some result }

@@ -180,7 +180,7 @@ impl<L, R, I> HorizontalLine<L, R, I> {
         HorizontalLine::update(self.line)
     }
 
-    /// The character along the edges. Requires the character to be set, which `into_inner` shows.
+    /// The character along the edges. `into_inner` shows whether it is set.
     pub fn get_horizontal(&self) -> char
         requires { IsSome self.now.main }
         ensures { self.now.main ≡ Some result }
@@ -225,7 +225,7 @@ impl HorizontalLine<On, On, On> {
 }
 
 impl<L, R> HorizontalLine<L, R, On> {
-    /// The character at the crossings between. Requires the character to be set, which `into_inner` shows.
+    /// The character at the crossings between. `into_inner` shows whether it is set.
     pub fn get_intersection(&self) -> char
         requires { IsSome self.now.intersection }
         ensures { self.now.intersection ≡ Some result }
@@ -249,7 +249,7 @@ impl<L, R> HorizontalLine<L, R, On> {
 }
 
 impl<R, I> HorizontalLine<On, R, I> {
-    /// The character at the left end. Requires the character to be set, which `into_inner` shows.
+    /// The character at the left end. `into_inner` shows whether it is set.
     pub fn get_left(&self) -> char
         requires { IsSome self.now.left }
         ensures { self.now.left ≡ Some result }
@@ -273,7 +273,7 @@ impl<R, I> HorizontalLine<On, R, I> {
 }
 
 impl<L, I> HorizontalLine<L, On, I> {
-    /// The character at the right end. Requires the character to be set, which `into_inner` shows.
+    /// The character at the right end. `into_inner` shows whether it is set.
     pub fn get_right(&self) -> char
         requires { IsSome self.now.right }
         ensures { self.now.right ≡ Some result }

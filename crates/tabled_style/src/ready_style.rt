@@ -19,8 +19,7 @@ use tabled_grid::{Borders, Entity, OutOfMemory};
 /// One of the thirteen ready styles, chosen while the program runs. As an option of a table it does what the
 /// [`Style`] of its name does, and its pictures are those of the calls named here.
 ///
-/// A `Style` says in its type which of its borders are there, so two of them have different types; all ready styles
-/// have this one.
+/// A `Style` says in its type which of its borders are there, so two of them have different types; all ready styles have this one.
 ///
 /// `ReadyStyle::from_name("markdown")`, which is `Some(ReadyStyle::Markdown)`, as an option:
 ///

@@ -190,7 +190,7 @@ impl<T, B, I> VerticalLine<T, B, I> {
         VerticalLine::update(self.line)
     }
 
-    /// The character along the edges. Requires the character to be set, which `into_inner` shows.
+    /// The character along the edges. `into_inner` shows whether it is set.
     pub fn get_vertical(&self) -> char
         requires { IsSome self.now.main }
         ensures { self.now.main ≡ Some result }
@@ -241,7 +241,7 @@ impl VerticalLine<On, On, On> {
 }
 
 impl<T, B> VerticalLine<T, B, On> {
-    /// The character at the crossings between. Requires the character to be set, which `into_inner` shows.
+    /// The character at the crossings between. `into_inner` shows whether it is set.
     pub fn get_intersection(&self) -> char
         requires { IsSome self.now.intersection }
         ensures { self.now.intersection ≡ Some result }
@@ -269,7 +269,7 @@ impl<T, B> VerticalLine<T, B, On> {
 }
 
 impl<B, I> VerticalLine<On, B, I> {
-    /// The character at the upper end. Requires the character to be set, which `into_inner` shows.
+    /// The character at the upper end. `into_inner` shows whether it is set.
     pub fn get_top(&self) -> char
         requires { IsSome self.now.top }
         ensures { self.now.top ≡ Some result }
@@ -295,7 +295,7 @@ impl<B, I> VerticalLine<On, B, I> {
 }
 
 impl<T, I> VerticalLine<T, On, I> {
-    /// The character at the lower end. Requires the character to be set, which `into_inner` shows.
+    /// The character at the lower end. `into_inner` shows whether it is set.
     pub fn get_bottom(&self) -> char
         requires { IsSome self.now.bottom }
         ensures { self.now.bottom ≡ Some result }

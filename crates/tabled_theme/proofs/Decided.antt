@@ -1,36 +1,29 @@
 -- A configuration to which a theme was applied keeps what the theme writes, whatever it kept before.
-use Rattle.std.proofs.Common.{◌≡◌, ◌↔◌, ℕ, Option, None, Some, List, [], ◌∷◌, ◌++◌, refl, sym, ap, subst, ◌∙◌, option_and_then}
+use Rattle.std.proofs.Common.{◌≡◌, ◌↔◌, ℕ, Option, None, Some, List, [], ◌∷◌, ◌++◌, refl, sym, ap, subst, ◌∙◌, nat_cmp, append-nil}
 use Rattle.std.specs.Option.{option_map, option_or}
 use Rattle.std.specs.FinMap as map
-use Rattle.std.specs.Ordering.{nat_cmp}
-use Rattle.std.proofs.lemmas.List.{append-nil}
 use Rattle.std.proofs.lemmas.List.Elements.{filter_map-append}
 use Rattle.tabled_border.specs.Texts.{Texts}
 use Rattle.tabled_color.specs.Shade.{texts_of, owned_shade}
 use Rattle.tabled_grid.specs.declared.borders.Borders.{Borders}
-use Rattle.tabled_grid.specs.declared.lines.HorizontalLine.{HorizontalLine}
-use Rattle.tabled_grid.specs.declared.lines.VerticalLine.{VerticalLine}
 use Rattle.tabled_grid.specs.declared.place.LineOf.{LineOf}
 use Rattle.tabled_grid.specs.declared.place.Place.{Place}
-use Rattle.tabled_grid.specs.declared.place.Rank.TheVariants.{First as first, Inner as inner, Last as last}
-use Rattle.tabled_grid.specs.declared.site.Class.{Class}
-use Rattle.tabled_grid.specs.declared.site.Class.TheVariants.{Edges as edges, Crossings as crossings}
-use Rattle.tabled_grid.specs.declared.site.Direction.TheVariants.{Horizontal, Vertical}
-use Rattle.tabled_grid.specs.declared.site.Part.{Part}
-use Rattle.tabled_grid.specs.declared.site.Part.TheVariants.{Mark as mark, Edges as main_edges, Crossings as meeting}
-use Rattle.tabled_grid.specs.declared.site.Site.{Site}
-use Rattle.tabled_grid.specs.declared.site.Site.TheVariants.{Class as of_class, Line as of_line}
 use Rattle.tabled_grid.specs.declared.event.Event.{Event}
 use Rattle.tabled_grid.specs.declared.event.Event.TheVariants.{Erase as erase}
 use Rattle.tabled_grid.specs.declared.event.Region.TheVariants.{All as every_site, Level as level_sites}
 use Rattle.tabled_grid.specs.declared.event.Written.TheVariants.{Sign as sign}
 use Rattle.tabled_grid.specs.Event as grid
+use Rattle.tabled_grid.specs.declared.site.Class.{Class}
+use Rattle.tabled_grid.specs.declared.site.Direction.TheVariants.{Horizontal, Vertical}
+use Rattle.tabled_grid.specs.declared.site.Site.{Site}
+use Rattle.tabled_grid.specs.declared.site.Site.TheVariants.{Class as of_class, Line as of_line}
 use Rattle.tabled_grid.specs.Site.{class_value}
-use Rattle.tabled_grid.specs.State.{state_at, class_record_set, class_writes, classes, horizontal_part, vertical_part}
-use Rattle.tabled_grid.specs.Value.{value, sign_or}
+use Rattle.tabled_grid.specs.State.{state_at, class_record_set, class_writes, classes}
+use Rattle.tabled_grid.specs.Value.{value}
 use Rattle.tabled_grid.specs.Drawn.{Drawn}
 use Rattle.tabled_grid.proofs.DrawnLemmas.{Drawn-shown}
 use Rattle.tabled_grid.specs.CustomLines.{no_borders}
+use Rattle.tabled_grid.proofs.PuttingBack.{of_signs, same_classes, same_horizontal, same_vertical}
 use Rattle.tabled_grid.proofs.Replay.{replay_cleared}
 use Rattle.tabled_configuration.specs.Configuration.{Configuration, Changes, character_event, color_event, characters_of, colors_of, by_colors, borders_replaced, horizontal_lines_put, vertical_lines_put}
 use Rattle.tabled_configuration.proofs.ConfigurationLemmas.{characters_of-both, colors_of-both}
@@ -126,56 +119,6 @@ same_colors_left style q =
     ∙ replay_cleared every_site (class_record_set no_borders) q ∙ no_colors_left q
     ∙ sym (replay_cleared every_site [] q) ∙ ap (λ es. grid.replay es q) (sym (style_colors style))
 
--- a record is told by what it has for each class
-told : {T : Type 0} (x y : Option T) → option_map sign x ≡ option_map sign y → x ≡ y
-told x y same = sym (back x) ∙ ap (λ w. sign_or w None) same ∙ back y
-  where
-    back : {T : Type 0} (o : Option T) → sign_or (option_map sign o) None ≡ o
-    back None = refl
-    back (Some x) = refl
-
-record_told : {T : Type 0} (a b : Borders T) → ((c : Class) → option_map sign (class_value c a) ≡ option_map sign (class_value c b)) → a ≡ b
-record_told a b same = λ i. record {
-  top = told a.top b.top (same (edges Horizontal first)) i;
-  bottom = told a.bottom b.bottom (same (edges Horizontal last)) i;
-  left = told a.left b.left (same (edges Vertical first)) i;
-  right = told a.right b.right (same (edges Vertical last)) i;
-  top_left = told a.top_left b.top_left (same (crossings first first)) i;
-  top_right = told a.top_right b.top_right (same (crossings first last)) i;
-  bottom_left = told a.bottom_left b.bottom_left (same (crossings last first)) i;
-  bottom_right = told a.bottom_right b.bottom_right (same (crossings last last)) i;
-  top_intersection = told a.top_intersection b.top_intersection (same (crossings first inner)) i;
-  bottom_intersection = told a.bottom_intersection b.bottom_intersection (same (crossings last inner)) i;
-  left_intersection = told a.left_intersection b.left_intersection (same (crossings inner first)) i;
-  right_intersection = told a.right_intersection b.right_intersection (same (crossings inner last)) i;
-  horizontal = told a.horizontal b.horizontal (same (edges Horizontal inner)) i;
-  vertical = told a.vertical b.vertical (same (edges Vertical inner)) i;
-  intersection = told a.intersection b.intersection (same (crossings inner inner)) i;
-}
-
--- a line by what it has for each of its parts
-horizontal_told : {T : Type 0} (a b : Option (HorizontalLine T)) → ((p : Part) → option_and_then (horizontal_part p) a ≡ option_and_then (horizontal_part p) b) → a ≡ b
-horizontal_told None None same = refl
-horizontal_told None (Some b) same = let stands = same mark in absurd cc
-horizontal_told (Some a) None same = let stands = same mark in absurd cc
-horizontal_told (Some a) (Some b) same = λ i. Some (record {
-  main = told a.main b.main (same main_edges) i;
-  intersection = told a.intersection b.intersection (same (meeting inner)) i;
-  left = told a.left b.left (same (meeting first)) i;
-  right = told a.right b.right (same (meeting last)) i;
-})
-
-vertical_told : {T : Type 0} (a b : Option (VerticalLine T)) → ((p : Part) → option_and_then (vertical_part p) a ≡ option_and_then (vertical_part p) b) → a ≡ b
-vertical_told None None same = refl
-vertical_told None (Some b) same = let stands = same mark in absurd cc
-vertical_told (Some a) None same = let stands = same mark in absurd cc
-vertical_told (Some a) (Some b) same = λ i. Some (record {
-  main = told a.main b.main (same main_edges) i;
-  intersection = told a.intersection b.intersection (same (meeting inner)) i;
-  top = told a.top b.top (same (meeting first)) i;
-  bottom = told a.bottom b.bottom (same (meeting last)) i;
-})
-
 -- owned colors have the texts that they were made of
 texts_again : (colors : Borders Texts) → each_field texts_of (owned_colors colors) ≡ colors
 texts_again colors = λ i. record {
@@ -221,14 +164,14 @@ kept_colors theme old new changes c = colors_shown theme old new changes (of_cla
 
 pub read_again : (theme : ThemeShown) (old new : Configuration) → Changes (theme_applied theme) old new → DrawsLike (of_configuration new) theme
 read_again theme old new changes = record {
-  same_characters = record_told new.characters.class_record theme.characters (λ c. kept theme old new changes (of_class c));
-  same_colors = texts_again new.colors.class_record ∙ record_told new.colors.class_record (color_texts theme) (kept_colors theme old new changes);
+  same_characters = same_classes new.characters.class_record theme.characters (λ c. of_signs _ _ (kept theme old new changes (of_class c)));
+  same_colors = texts_again new.colors.class_record ∙ same_classes new.colors.class_record (color_texts theme) (λ c. of_signs _ _ (kept_colors theme old new changes c));
   same_horizontals = λ n.
       alone new.characters.horizontal_lines n
-      ∙ horizontal_told (map.get new.characters.horizontal_lines n) (map.get (last_under (as_style theme).horizontals) n) (λ p. kept theme old new changes (of_line (LineOf.Horizontal n) p))
+      ∙ same_horizontal (map.get new.characters.horizontal_lines n) (map.get (last_under (as_style theme).horizontals) n) (λ p. kept theme old new changes (of_line (LineOf.Horizontal n) p))
       ∙ last_put theme.set.horizontals theme.beneath.horizontals n;
   same_verticals = λ n.
       alone new.characters.vertical_lines n
-      ∙ vertical_told (map.get new.characters.vertical_lines n) (map.get (last_under (as_style theme).verticals) n) (λ p. kept theme old new changes (of_line (LineOf.Vertical n) p))
+      ∙ same_vertical (map.get new.characters.vertical_lines n) (map.get (last_under (as_style theme).verticals) n) (λ p. kept theme old new changes (of_line (LineOf.Vertical n) p))
       ∙ last_put theme.set.verticals theme.beneath.verticals n;
 }

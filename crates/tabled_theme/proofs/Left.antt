@@ -1,10 +1,6 @@
 -- What a style leaves in a configuration that it is applied to.
-use Rattle.std.proofs.Common.{◌≡◌, ℕ, false, ◌==◌, ◌||◌, None, List, [], ◌∷◌, ◌++◌, refl, sym, ap, ◌∙◌, append_assoc, option_and_then}
-use Rattle.std.specs.Option.{option_map}
-use Rattle.std.specs.Prelude.{reverse}
-use Rattle.std.specs.List.{flat_map}
-use Rattle.std.specs.Cmp.{nat_cmp_total}
-use Rattle.std.specs.Ordering.{nat_cmp}
+use Rattle.std.proofs.Common.{◌≡◌, ℕ, false, ◌==◌, ◌||◌, None, List, [], ◌∷◌, ◌++◌, refl, sym, ap, ◌∙◌, append_assoc, option_and_then, option_map, reverse, flat_map, nat_cmp}
+use Rattle.std.specs.Cmp.{nat_cmp_total, unsigned_tied}
 use Rattle.std.specs.FinMap as map
 use Rattle.std.proofs.lemmas.List.{append-nil, reverse-append}
 use Rattle.tabled_grid.specs.declared.place.LineOf.{LineOf}
@@ -26,7 +22,7 @@ use Rattle.tabled_grid.specs.Event.{within, covered, replay, Shows}
 use Rattle.tabled_grid.specs.Lines.{horizontal_line_set, vertical_line_set}
 use Rattle.tabled_grid.specs.State.{State, state_at, class_writes, classes, class_record_set, entry_events, edge_place, horizontal_part, vertical_part}
 use Rattle.tabled_grid.proofs.Replay.{replay_uncovered, replay_cleared}
-use Rattle.tabled_grid.proofs.Blocks.{replay_skip, replay_rest, uncovered_both, uncovered_entries, replay_entries, is_eq-nat_cmp}
+use Rattle.tabled_grid.proofs.Blocks.{replay_skip, replay_rest, uncovered_both, uncovered_entries, replay_entries}
 use Rattle.tabled_grid.proofs.ClassWrites.{replay_classes, uncovered_other}
 use Rattle.tabled_grid.proofs.LineWrites.{replay-horizontal_line_set, replay-vertical_line_set, covered-horizontal_line_set, covered-vertical_line_set, number_sym}
 use Rattle.tabled_configuration.specs.Configuration.{horizontal_lines_put, vertical_lines_put}
@@ -81,7 +77,7 @@ unfolding horizontal_lines_put
 at_horizontal lines n p =
     ap (λ es. replay es (of_line (LineOf.Horizontal n) p)) (in_order horizontal_line_set lines)
     ∙ replay_entries (of_line (LineOf.Horizontal n) p) map.nat_cmp-IsAntisymmetric horizontal_line_set n (horizontal_part p)
-    (λ m line. covered-horizontal_line_set m line (of_line (LineOf.Horizontal n) p) ∙ number_sym m n ∙ sym (is_eq-nat_cmp n m))
+    (λ m line. covered-horizontal_line_set m line (of_line (LineOf.Horizontal n) p) ∙ number_sym m n ∙ sym (unsigned_tied n m))
     (λ line. replay-horizontal_line_set n line p) (reverse lines)
     ∙ ap (option_and_then (horizontal_part p)) (sym (map.get-from_entries nat_cmp_total (reverse lines) n))
 
@@ -90,7 +86,7 @@ unfolding vertical_lines_put
 at_vertical lines n p =
     ap (λ es. replay es (of_line (LineOf.Vertical n) p)) (in_order vertical_line_set lines)
     ∙ replay_entries (of_line (LineOf.Vertical n) p) map.nat_cmp-IsAntisymmetric vertical_line_set n (vertical_part p)
-    (λ m line. covered-vertical_line_set m line (of_line (LineOf.Vertical n) p) ∙ number_sym m n ∙ sym (is_eq-nat_cmp n m))
+    (λ m line. covered-vertical_line_set m line (of_line (LineOf.Vertical n) p) ∙ number_sym m n ∙ sym (unsigned_tied n m))
     (λ line. replay-vertical_line_set n line p) (reverse lines)
     ∙ ap (option_and_then (vertical_part p)) (sym (map.get-from_entries nat_cmp_total (reverse lines) n))
 

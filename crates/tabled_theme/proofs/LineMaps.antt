@@ -1,20 +1,15 @@
 -- Lists of lines, and the maps of them.
-use Rattle.std.proofs.Common.{◌≡◌, ℕ, suc, ◌+◌, ◌<◌, arith, Bool, true, false, cond, ◌&&◌, ◌==◌, Option, Some, None, List, [], ◌∷◌, ◌++◌, length, take, slice_index_or, refl, sym, ap, subst, ◌∙◌}
-use Rattle.std.specs.Prelude.{T, reverse}
+use Rattle.std.proofs.Common.{◌≡◌, ℕ, suc, ◌+◌, arith, Bool, true, false, cond, ◌&&◌, ◌==◌, Option, Some, None, List, [], ◌∷◌, ◌++◌, refl, sym, ap, subst, ◌∙◌, T, reverse, Ordering, Less, Equal, Greater}
 use Rattle.std.specs.Option.{option_or}
 use Rattle.std.specs.Ordering.{nat_cmp, is_lt, is_eq, eq_by_cmp}
-use Rattle.std.specs.Cmp.{nat_cmp_total}
-use Rattle.std.specs.declared.cmp.Ordering.{Ordering}
-use Rattle.std.specs.declared.cmp.Ordering.TheVariants.{Less, Equal, Greater}
+use Rattle.std.specs.Cmp.{nat_cmp_total, unsigned_tied}
 use Rattle.std.specs.FinMap as map
 use Rattle.std.specs.FinMap.Entries as entry
-use Rattle.std.proofs.Math.Seq.{take-suc}
 use Rattle.std.proofs.lemmas.List.{append-nil, reverse-append}
 use Rattle.std.specs.List.Sorted.{IsStrictlySortedBy}
 use Rattle.std.specs.Map.{keys_of}
 use Rattle.std.specs.Cmp.Lexicographic.{pointwise}
 use Rattle.tabled_grid.specs.Table.{table}
-use Rattle.tabled_grid.proofs.Blocks.{is_eq-nat_cmp}
 use Rattle.tabled_grid.proofs.Ascending.{same-table, entries-table}
 use Rattle.tabled_theme.specs.Lines.{last_under, shown_line, lines_put}
 use Rattle.tabled_theme.specs.Same.{same_lines}
@@ -36,12 +31,6 @@ less_apart Equal h = absurd h
 less_apart Greater h = absurd h
 
 module _ {L : Type 0} where
-  -- one line more of a list
-  pub one_more_line : (lines : List (ℕ × L)) (i : ℕ) (d : ℕ × L) → i < length lines → last_under (take (i + 1) lines) ≡ map.insert (last_under (take i lines)) (slice_index_or lines i d).0 (slice_index_or lines i d).1
-  one_more_line lines i d here =
-      ap (λ n. last_under (take n lines)) (behind i) ∙ ap last_under (take-suc lines i d here)
-      ∙ ap map.from_entries (reverse-append (take i lines) (slice_index_or lines i d ∷ []))
-
   or_else : (b : Bool) (x : L) (a c : Option L) → cond b (Some x) (option_or a c) ≡ option_or (cond b (Some x) a) c
   or_else true x a c = refl
   or_else false x a c = refl
@@ -86,7 +75,7 @@ module _ {L : Type 0} where
 
 -- two lists of entries in order are the same, pair by pair, where their maps are
 pub same_in_order : {L : Type 0} (same : L → L → Bool) (es fs : List (ℕ × L)) → IsStrictlySortedBy nat_cmp (keys_of es) → IsStrictlySortedBy nat_cmp (keys_of fs) → pointwise (λ a b. (a.0 == b.0) && same a.1 b.1) es fs ≡ same_lines same (table nat_cmp es) (table nat_cmp fs)
-same_in_order same es fs ascend ascend' = same-table nat_cmp_total ◌==◌ same (λ x y. sym (is_eq-nat_cmp x y)) es fs ascend ascend'
+same_in_order same es fs ascend ascend' = same-table nat_cmp_total ◌==◌ same (λ x y. sym (unsigned_tied x y)) es fs ascend ascend'
 
 -- the entries that are walked are those of the map, in their order
 pub still_ascending : {L : Type 0} (es walked : List (ℕ × L)) → walked ≡ es → IsStrictlySortedBy nat_cmp (keys_of es) → IsStrictlySortedBy nat_cmp (keys_of walked)

@@ -1,6 +1,6 @@
 //! Custom lines of one direction, each under its index.
 
-ghost use Rattle.std.specs.Prelude.{◌≡◌, [], IsOk, ◌++◌, OnOk, OnErr, IfOk, None, option_copied, take};
+ghost use Rattle.std.specs.Prelude.{◌≡◌, [], IsOk, ◌++◌, OnOk, OnErr, IfOk, None, option_copied};
 ghost use Rattle.std.specs.Ordering.{nat_cmp};
 ghost use Rattle.std.specs.FinMap as map;
 ghost use Rattle.std.specs.BTreeMap.{insert_entry};

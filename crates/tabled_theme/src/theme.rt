@@ -1,7 +1,6 @@
 //! A theme: what a style draws, to be changed field by field.
 
 ghost use Rattle.std.specs.Prelude.{◌≡◌, [], IfOk, IsOk};
-ghost use Rattle.std.specs.FinMap as map;
 ghost use Rattle.tabled_grid.specs.CustomLines.{no_borders};
 ghost use Rattle.tabled_theme.specs.Shown.{of_borders, of_style, of_configuration};
 

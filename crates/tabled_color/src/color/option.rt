@@ -1,9 +1,9 @@
 //! A color as an option: the color of cells.
 
-ghost use Rattle.std.specs.Prelude.{◌≡◌, None, IsTrue, OnOk, OnErr};
+ghost use Rattle.std.specs.Prelude.{None};
 ghost use Rattle.tabled_object.specs.declared.entity.Entity.TheVariants as cells;
 ghost use Rattle.tabled_settings.specs.Setting.{write_of};
-ghost use Rattle.tabled_configuration.specs.Colored.{Changes, by_cell_color};
+ghost use Rattle.tabled_configuration.specs.Colored.{by_cell_color};
 ghost use Rattle.tabled_color.specs.Shade.{texts_of};
 
 use crate::Color;
@@ -22,11 +22,7 @@ impl<R> CellOption<R, ColoredConfig> for Color {
         _records: &mut R,
         cfg: &mut ColoredConfig,
         entity: Entity,
-    ) -> Result<(), OutOfMemory>
-        ensures ok { OnOk result (Changes (by_cell_color (write_of entity (texts_of self.now))) cfg.old cfg.new) }
-        ensures err { OnErr result (cfg.new ≡ cfg.old) }
-        ensures records { _records.new ≡ _records.old }
-    {
+    ) -> Result<(), OutOfMemory> {
         let alloc = cfg.config().allocator();
         let color = ANSIBuf::new(alloc, self.get_prefix(), self.get_suffix())?;
         cfg.set_color(entity, color)
@@ -48,12 +44,7 @@ impl<R, D> TableOption<R, ColoredConfig, D> for Color {
         _records: &mut R,
         cfg: &mut ColoredConfig,
         _dims: &mut D,
-    ) -> Result<(), OutOfMemory>
-        ensures ok { OnOk result (Changes (by_cell_color (write_of cells.Global (texts_of self))) cfg.old cfg.new) }
-        ensures err { OnErr result (cfg.new ≡ cfg.old) }
-        ensures records { _records.new ≡ _records.old }
-        ensures sizes { _dims.new ≡ _dims.old }
-    {
+    ) -> Result<(), OutOfMemory> {
         let alloc = cfg.config().allocator();
         cfg.set_color(Entity::Global, self.into_ansi(alloc)?)
     }

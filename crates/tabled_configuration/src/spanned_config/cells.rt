@@ -1,7 +1,6 @@
 //! Borders of single cells.
 
-ghost use Rattle.std.specs.Prelude.{◌≡◌, [], OnOk, OnErr, IsOk, IsTrue, option_copied};
-ghost use Rattle.std.specs.List.{filter};
+ghost use Rattle.std.specs.Prelude.{◌≡◌, [], OnOk, OnErr, IsOk, IsTrue, option_copied, filter};
 ghost use Rattle.tabled_object.specs.Entities.{cells_of, is_inside};
 ghost use Rattle.tabled_grid.specs.Calls.{border_set, border_erased, writes_anew};
 ghost use Rattle.tabled_grid.specs.CellBorder.{border_shown};
@@ -13,9 +12,8 @@ use super::SpannedConfig;
 use tabled_grid::{ANSIBuf, Border, Entity, OutOfMemory, Position};
 
 impl SpannedConfig {
-    /// Writes the given sides and corners of a cell, whatever the shape of the table; what is not given
-    /// stays as it is. Where memory is refused nothing changes; where each of these places had a character
-    /// of its own, none is asked for.
+    /// Writes the given sides and corners of a cell, whatever the shape of the table; what is not given stays as it is. Where
+    /// memory is refused nothing changes; where each of these places had a character of its own, none is asked for.
     ///
     /// A border with `top` and `bottom` `=` on the cell (0, 1), in a table of the style `ascii`:
     ///
@@ -78,8 +76,7 @@ impl SpannedConfig {
         }
     }
 
-    /// Erases the cell characters of a cell's sides and corners, also of those that it shares with the cells
-    /// beside it.
+    /// Erases the cell characters of a cell's sides and corners, also of those that it shares with the cells beside it.
     ///
     /// The border of the cell (0, 1) is removed, where the cell (0, 0) beside it had a border of `#` in the style `ascii`:
     ///
@@ -96,9 +93,8 @@ impl SpannedConfig {
         self.characters.erase_border(pos);
     }
 
-    /// Writes the given colors of a cell's sides and corners, whatever the shape of the table; what is not
-    /// given stays as it is. Where memory is refused nothing changes; where each of these places had a color
-    /// of its own, none is asked for.
+    /// Writes the given colors of a cell's sides and corners, whatever the shape of the table; what is not given stays as it is.
+    /// Where memory is refused nothing changes; where each of these places had a color of its own, none is asked for.
     ///
     /// Colors with `top` and `bottom` on the cell (0, 1), with `r` for each place that has one:
     ///
@@ -138,8 +134,7 @@ impl SpannedConfig {
         self.colors.get_border(pos, shape)
     }
 
-    /// Erases the cell colors of a cell's sides and corners, also of those that it shares with the cells
-    /// beside it.
+    /// Erases the cell colors of a cell's sides and corners, also of those that it shares with the cells beside it.
     pub fn remove_border_color(&mut self, pos: Position)
         ensures { Changes (by_colors (border_erased pos)) self.old self.new }
     {

@@ -10,8 +10,7 @@ use super::{SpannedConfig, erase_below_offsets};
 use tabled_grid::{ANSIBuf, Borders, Place, Target};
 
 impl SpannedConfig {
-    /// Sets the record of class colors whole: what it had before is gone, also where the new record has
-    /// nothing.
+    /// Sets the record of class colors whole: what it had before is gone, also where the new record has nothing.
     ///
     /// A record with `vertical` alone, with `r` for each place that has its color:
     ///

@@ -1,7 +1,5 @@
 //! A copy of a configuration.
 
-ghost use Rattle.std.specs.Prelude.{◌≡◌, IfOk};
-
 use super::SpannedConfig;
 use std::alloc::Global;
 use tabled_grid::{Keep, OutOfMemory};

@@ -2,9 +2,9 @@
 
 ghost use Rattle.std.specs.Prelude.{◌≡◌, None, OnOk, OnErr, option_copied};
 ghost use Rattle.tabled_grid.specs.declared.site.Direction.TheVariants.{Horizontal, Vertical};
+ghost use Rattle.tabled_grid.specs.declared.site.Site.TheVariants.{Offset as at_offset};
 ghost use Rattle.tabled_grid.specs.Calls.{edge_offset, offset_erased, offsets_erased};
 ghost use Rattle.std.specs.FinMap.{get};
-ghost use Rattle.tabled_grid.specs.declared.site.Site.TheVariants.{Offset as at_offset};
 ghost use Rattle.tabled_grid.specs.State.{state_at, edge_place};
 ghost use Rattle.tabled_grid.specs.declared.place.Place.{Place as Spot};
 ghost use Rattle.tabled_configuration.specs.Configuration.{Changes, by_characters, by_colors};
@@ -13,9 +13,8 @@ use super::SpannedConfig;
 use tabled_grid::{ANSIBuf, Offset, OutOfMemory, Place, Position, Target};
 
 impl SpannedConfig {
-    /// Writes a character at a numbered place of the edge of horizontal line `pos.row` over column `pos.col`,
-    /// counted from its start or back from its end. Only a place that has none needs memory; where that is
-    /// refused nothing changes.
+    /// Writes a character at a numbered place of the edge of horizontal line `pos.row` over column `pos.col`, counted from its
+    /// start or back from its end. Only a place that has none needs memory; where that is refused nothing changes.
     ///
     /// `x` at start 0 and `y` at end 0 of the position (0, 0), in a table of the style `ascii`:
     ///
@@ -40,9 +39,8 @@ impl SpannedConfig {
             .set_offset(horizontal_at(pos), offset, character)
     }
 
-    /// Writes a character at a numbered place of the edge of vertical line `pos.col` beside row `pos.row`,
-    /// counted from its start or back from its end. Only a place that has none needs memory; where that is
-    /// refused nothing changes.
+    /// Writes a character at a numbered place of the edge of vertical line `pos.col` beside row `pos.row`, counted from its start
+    /// or back from its end. Only a place that has none needs memory; where that is refused nothing changes.
     ///
     /// `x` at start 0 of the position (1, 1), in a table of the style `ascii`:
     ///
@@ -67,9 +65,8 @@ impl SpannedConfig {
             .set_offset(vertical_at(pos), offset, character)
     }
 
-    /// Writes a color at a numbered place of the edge of horizontal line `pos.row` over column `pos.col`,
-    /// counted from its start or back from its end. Only a place that has none needs memory; where that is
-    /// refused nothing changes.
+    /// Writes a color at a numbered place of the edge of horizontal line `pos.row` over column `pos.col`, counted from its start or
+    /// back from its end. Only a place that has none needs memory; where that is refused nothing changes.
     ///
     /// A color at start 1 of the position (0, 0), with `r` for the place that has it:
     ///
@@ -90,9 +87,8 @@ impl SpannedConfig {
         self.colors.set_offset(horizontal_at(pos), offset, color)
     }
 
-    /// Writes a color at a numbered place of the edge of vertical line `pos.col` beside row `pos.row`,
-    /// counted from its start or back from its end. Only a place that has none needs memory; where that is
-    /// refused nothing changes.
+    /// Writes a color at a numbered place of the edge of vertical line `pos.col` beside row `pos.row`, counted from its start or
+    /// back from its end. Only a place that has none needs memory; where that is refused nothing changes.
     ///
     /// A color at start 0 of the position (1, 1), with `r` for the place that has it:
     ///

@@ -8,9 +8,8 @@ use super::SpannedConfig;
 use tabled_grid::{Borders, Entity};
 
 impl SpannedConfig {
-    /// Erases the cell characters of the sides and corners of each cell that the entity names in a table of
-    /// `shape.0` rows and `shape.1` columns, also of those that it shares with cells beside it. Cells outside
-    /// are passed over. It takes no memory.
+    /// Erases the cell characters of the sides and corners of each cell that the entity names in a table of `shape.0` rows and
+    /// `shape.1` columns, also of those that it shares with cells beside it. Cells outside are passed over. It takes no memory.
     pub fn remove_entity_border(&mut self, entity: Entity, shape: (usize, usize))
         ensures { Changes (entity_unbordered shape entity) self.old self.new }
     {

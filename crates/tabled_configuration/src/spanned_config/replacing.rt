@@ -10,9 +10,8 @@ use std::alloc::Global;
 use tabled_grid::{Borders, HorizontalLine, Layers, OutOfMemory, VerticalLine};
 
 impl SpannedConfig {
-    /// Erases every border character and color of every level, offsets too; then puts each custom line at
-    /// its index, in the order of the lists, and sets the class record. Where memory is refused nothing
-    /// changes; without custom lines none is asked for.
+    /// Erases every border character and color of every level, offsets too; then puts each custom line at its index, in the order
+    /// of the lists, and sets the class record. Where memory is refused nothing changes; without custom lines none is asked for.
     ///
     /// The class record of the style `psql` and vertical line 1 of `#`, in place of whatever was there. The line draws the top
     /// and the bottom too, as it has characters where it crosses them:

@@ -1,7 +1,6 @@
 //! Cells that span several columns or several rows.
 //!
-//! A span is kept for the position that is named, whether or not that lies inside the table. Tables with spans are not
-//! printed.
+//! A span is kept for the position that is named, whether or not that lies inside the table. Tables with spans are not printed.
 
 ghost use Rattle.std.specs.Prelude.{◌≡◌, ◌<◌, not, IsOk, OnOk, OnErr};
 ghost use Rattle.tabled_grid.specs.Table.{table};

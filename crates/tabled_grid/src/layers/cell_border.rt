@@ -19,10 +19,9 @@ impl<T> Layers<T> {
     ghost use Rattle.tabled_grid.specs.State.{state_at};
     ghost use Rattle.tabled_grid.specs.Calls.{writes_anew, border_erased, places_erased};
 
-    /// Writes what the border gives at the cell level of a cell's sides and corners, whatever the shape of
-    /// the table. What it does not give stays as it is, and past the last number of a line nothing is
-    /// written. Where memory is refused nothing changes; where something stood at each of these places,
-    /// none is asked for.
+    /// Writes what the border gives at the cell level of a cell's sides and corners, whatever the shape of the table. What it does
+    /// not give stays as it is, and past the last number of a line nothing is written. Where memory is refused nothing changes;
+    /// where something stood at each of these places, none is asked for.
     pub fn set_border(&mut self, pos: Position, border: Border<T>) -> Result<(), OutOfMemory>
     where
         T: Drop,
@@ -33,8 +32,7 @@ impl<T> Layers<T> {
         writes_around(pos, border).exchange(self)
     }
 
-    /// Erases the cell level of the sides and the corners of a cell, also of those that it shares with the
-    /// cells beside it.
+    /// Erases the cell level of the sides and the corners of a cell, also of those that it shares with the cells beside it.
     pub fn erase_border(&mut self, pos: Position)
     where
         T: Drop,

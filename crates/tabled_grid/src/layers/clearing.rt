@@ -1,7 +1,5 @@
 //! Erasures of many places of the cell level at once.
 
-ghost use Rattle.std.specs.Prelude.{◌≡◌};
-
 use super::Layers;
 use super::entity_border::is_inside;
 use crate::{Entity, EntityIterator, LineOf};
@@ -11,9 +9,8 @@ impl<T> Layers<T> {
     ghost use Rattle.tabled_grid.specs.State.{state_at};
     ghost use Rattle.tabled_grid.specs.Calls.{borders_erased, entity_border_erased, spots_erased, line_spots, frame_erased};
 
-    /// Erases the cell level of the sides and corners of each cell that the entity names in a table of
-    /// `shape.0` rows and `shape.1` columns, also of those that it shares with cells beside it. Cells outside
-    /// are passed over.
+    /// Erases the cell level of the sides and corners of each cell that the entity names in a table of `shape.0` rows and `shape.1`
+    /// columns, also of those that it shares with cells beside it. Cells outside are passed over.
     pub fn erase_entity_border(&mut self, entity: Entity, shape: (usize, usize))
     where
         T: Drop,

@@ -4,7 +4,7 @@ ghost use Rattle.std.specs.Prelude.{◌≡◌, IfOk};
 
 use super::Layers;
 use crate::keys::EdgePlace;
-use crate::number::Number;
+use crate::line_numbers::LineNumbers;
 use crate::{Borders, HorizontalLine, Keep, LineOf, OutOfMemory, Spot, VerticalLine};
 use std::alloc::Global;
 use tabled_kept::{CountedMap, One};
@@ -32,11 +32,8 @@ impl<T: Keep> Keep for Layers<T> {
             horizontal_offsets,
             vertical_offsets,
             on_lines,
-            tops,
-            bottoms,
-            lefts,
-            rights,
-            betweens,
+            vertical_numbers,
+            horizontal_numbers,
         } = self;
         let lines: (Lines<VerticalLine<T>>, Lines<HorizontalLine<T>>) = keep_two(
             vertical_lines,
@@ -55,11 +52,11 @@ impl<T: Keep> Keep for Layers<T> {
             class_record,
             alloc,
         )?;
-        let tops: Number = tops.copy();
-        let bottoms: Number = bottoms.copy();
-        let lefts: Number = lefts.copy();
-        let rights: Number = rights.copy();
-        let betweens: Number = betweens.copy();
+        let numbers: (One<LineNumbers>, One<LineNumbers>) = keep_two(
+            vertical_numbers,
+            horizontal_numbers,
+            alloc,
+        )?;
         Ok(Layers {
             alloc,
             default_value: below.0,
@@ -70,11 +67,8 @@ impl<T: Keep> Keep for Layers<T> {
             horizontal_offsets: offsets.0,
             vertical_offsets: offsets.1,
             on_lines,
-            tops,
-            bottoms,
-            lefts,
-            rights,
-            betweens,
+            vertical_numbers: numbers.0,
+            horizontal_numbers: numbers.1,
         })
     }
 }

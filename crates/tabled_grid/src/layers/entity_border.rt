@@ -1,7 +1,6 @@
 //! The borders of many cells.
 
-ghost use Rattle.std.specs.Prelude.{◌≡◌, ◌++◌, [], ◌∷◌, OnOk, OnErr, IfOk, IsOk};
-ghost use Rattle.std.specs.List.{filter};
+ghost use Rattle.std.specs.Prelude.{◌≡◌, ◌++◌, [], OnOk, OnErr, IfOk, IsOk, filter};
 ghost use Rattle.tabled_object.specs.Entities.{cells_of, is_inside};
 ghost use Rattle.tabled_grid.specs.Calls.{borders_of, entity_border_set};
 ghost use Rattle.tabled_grid.specs.Writes.{writes_made};
@@ -12,9 +11,8 @@ use super::writes::Group;
 use crate::{Border, Entity, EntityIterator, Keep, OutOfMemory, Position, Probes, Write};
 use std::alloc::Global;
 
-/// The writes of a border around each cell that the entity names in a table of `shape.0` rows and `shape.1` columns,
-/// row by row: of what two cells share the later one counts. Cells outside are passed over; without a cell inside no
-/// memory is asked for.
+/// The writes of a border around each cell that the entity names in a table of `shape.0` rows and `shape.1` columns, row by row: of
+/// what two cells share the later one counts. Cells outside are passed over; without a cell inside no memory is asked for.
 pub fn border_writes<T: Keep>(
     alloc: Global,
     entity: Entity,
@@ -53,10 +51,9 @@ impl<T> Layers<T> {
     ghost use Rattle.tabled_grid.specs.State.{state_at, HasNoCells};
     ghost use Rattle.tabled_grid.specs.Calls.{border_set};
 
-    /// Writes what the border gives at the cell level of the sides and corners of each cell that the entity
-    /// names in a table of `shape.0` rows and `shape.1` columns, row by row: for what two cells share the
-    /// later one counts. Cells outside are passed over. Where memory is refused nothing changes; without a cell inside
-    /// none is asked for.
+    /// Writes what the border gives at the cell level of the sides and corners of each cell that the entity names in a table of
+    /// `shape.0` rows and `shape.1` columns, row by row: for what two cells share the later one counts. Cells outside are passed
+    /// over. Where memory is refused nothing changes; without a cell inside none is asked for.
     pub fn set_entity_border(
         &mut self,
         entity: Entity,

@@ -1,33 +1,31 @@
 //! How a store is read.
 
-ghost use Rattle.std.specs.Prelude.{◌≡◌, ◌↔◌, ◌<◌, IsTrue, IsFalse, ℕ, None, IfOk, IfSome, IsSome, OnSome, is_some, option_copied, option_and_then};
+ghost use Rattle.std.specs.Prelude.{◌≡◌, ◌↔◌, ◌<◌, IsTrue, IsFalse, None, IfOk, IfSome, IsSome, OnSome, option_copied, option_and_then};
 ghost use Rattle.std.specs.Ordering.{nat_cmp};
 ghost use Rattle.std.specs.FinMap as map;
 ghost use Rattle.tabled_grid.specs.Table.{table};
 ghost use Rattle.tabled_grid.specs.Probing.{IsCounted, IsRaised};
-ghost use Rattle.tabled_grid.specs.Reading.{direction_of, row_drawn, col_drawn};
-ghost use Rattle.tabled_grid.specs.Site.{Horizontal as horizontal, Vertical as vertical, rank, horizontal_meeting, vertical_meeting, edges, crossings, class_value};
+ghost use Rattle.tabled_grid.specs.Reading.{direction_of, line_drawn};
+ghost use Rattle.tabled_grid.specs.Site.{Horizontal as horizontal, Vertical as vertical, rank, edges, crossings, class_value};
 ghost use Rattle.tabled_grid.specs.Keys.{line_cmp};
 ghost use Rattle.tabled_grid.specs.Drawn.{number};
 ghost use Rattle.tabled_grid.specs.State.{class_draws as class_drawn};
 
 use super::Layers;
+use crate::custom_lines::CustomLine;
 use crate::keys::EdgePlace;
-use crate::number::Number;
+use crate::line_numbers::LineNumbers;
 use crate::{
     Borders, HorizontalLine, HorizontalLines, Keep, LineOf, Offset, OutOfMemory, Place, Probes,
-    Spot, Target, VerticalLine, VerticalLines,
+    Rank, Spot, Target, VerticalLine, VerticalLines,
 };
 use std::collections::BTreeMap;
 use tabled_kept::{CountedMap, Meter, One};
 
 impl<T> Layers<T> {
-    ghost use Rattle.tabled_grid.specs.Value.{value, plain_value};
-    ghost use Rattle.tabled_grid.specs.Drawn.{Drawn};
-    ghost use Rattle.tabled_grid.specs.State.{state_at, HasNoCells, HasNoLines, HasNoOffsets};
+    ghost use Rattle.tabled_grid.specs.Value.{plain_value};
+    ghost use Rattle.tabled_grid.specs.State.{state_at};
     ghost use Rattle.tabled_grid.specs.Writes.{kept_at};
-    ghost use Rattle.tabled_grid.specs.Reading.{pick, main_of, offset_of, plain_edge, plain_crossing, edge_shown, HasClassAlone};
-    ghost use Rattle.tabled_grid.specs.ClassAlone.{ShowsClasses};
 
     /// The class record.
     pub fn get_class(&self) -> &Borders<T>
@@ -128,14 +126,12 @@ impl<T, M: Meter> Layers<T, M> {
     ghost use Rattle.tabled_grid.specs.Value.{value, plain_value};
     ghost use Rattle.tabled_grid.specs.Drawn.{Drawn};
     ghost use Rattle.tabled_grid.specs.State.{state_at, HasNoCells, HasNoLines, HasNoOffsets};
-    ghost use Rattle.tabled_grid.specs.Writes.{kept_at};
     ghost use Rattle.tabled_grid.specs.Reading.{pick, main_of, offset_of, plain_edge, plain_crossing, edge_shown, HasClassAlone};
     ghost use Rattle.tabled_grid.specs.ClassAlone.{ShowsClasses};
 
-    /// What shows at a place of a table of `shape.0` rows and `shape.1` columns: what is kept at the
-    /// highest level that has something there. `size` is the width of a horizontal edge's column or
-    /// the height of a vertical edge's row; for a crossing it is not read. A place outside the table
-    /// has nothing. At most six readings are made.
+    /// What shows at a place of a table of `shape.0` rows and `shape.1` columns: what is kept at the highest level that has
+    /// something there. `size` is the width of a horizontal edge's column or the height of a vertical edge's row; for a crossing it
+    /// is not read. A place outside the table has nothing. At most six readings are made.
     pub fn at(&self, place: Place, shape: (usize, usize), size: usize, probes: &mut M) -> Option<&T>
         ensures value { option_copied result ≡ value (state_at self.now) shape size place }
         ensures probes { IsRaised 6 (M.made probes.old) (M.made probes.new) }
@@ -350,11 +346,11 @@ impl<T, M: Meter> Layers<T, M> {
             return cell;
         }
         let (rows, cols) = shape;
-        let line = meeting_horizontal(&self.horizontal_lines, row, col, cols, probes);
+        let line = meeting(&self.horizontal_lines, row, Rank::of(col, cols), probes);
         if line.is_some() {
             return line;
         }
-        let line = meeting_vertical(&self.vertical_lines, row, col, rows, probes);
+        let line = meeting(&self.vertical_lines, col, Rank::of(row, rows), probes);
         if line.is_some() {
             return line;
         }
@@ -380,8 +376,7 @@ impl<T, M: Meter> Layers<T, M> {
         self.default_value.read(probes).as_ref()
     }
 
-    /// Whether a line is drawn, of the lines 0 to `count` of its direction. At most six readings are
-    /// made.
+    /// Whether a line is drawn, of the lines 0 to `count` of its direction. At most six readings are made.
     pub fn draws(&self, line: LineOf, count: usize, probes: &mut M) -> bool
         ensures drawn { IsTrue result ↔ Drawn (state_at self.now) count line }
         ensures probes { IsRaised 6 (M.made probes.old) (M.made probes.new) }
@@ -395,59 +390,33 @@ impl<T, M: Meter> Layers<T, M> {
         if class_draws(&self.class_record, line, count, probes) {
             return true;
         }
+        let on_lines = &self.on_lines;
         match line {
-            LineOf::Horizontal(row) => row_is_drawn(
-                &self.horizontal_lines,
-                (&self.tops, &self.bottoms),
-                &self.on_lines,
-                row,
-                count,
-                probes,
-            ),
-            LineOf::Vertical(col) => col_is_drawn(
-                &self.vertical_lines,
-                (&self.lefts, &self.rights, &self.betweens),
-                &self.on_lines,
-                col,
-                count,
-                probes,
-            ),
+            LineOf::Horizontal(_) => {
+                let (own, across) = (&self.horizontal_lines, &self.vertical_numbers);
+                is_drawn(own, across, on_lines, (line, count), probes)
+            }
+            LineOf::Vertical(_) => {
+                let (own, across) = (&self.vertical_lines, &self.horizontal_numbers);
+                is_drawn(own, across, on_lines, (line, count), probes)
+            }
         }
     }
 }
 
-/// What a custom horizontal line has for its crossing with a vertical line: one reading.
-fn meeting_horizontal<'a, T, M: Meter>(
-    lines: &'a CountedMap<usize, HorizontalLine<T>, M>,
-    row: usize,
-    col: usize,
-    cols: usize,
+/// What a custom line has for its crossings with the lines of a rank: one reading.
+fn meeting<'a, L: CustomLine, M: Meter>(
+    lines: &'a CountedMap<usize, L, M>,
+    line: usize,
+    rank: Rank,
     probes: &mut M,
-) -> Option<&'a T>
-    ensures value { option_copied result ≡ option_and_then (horizontal_meeting (rank cols col)) (map.get (table nat_cmp lines.now) row) }
+) -> Option<&'a L::Value>
+    ensures value { option_copied result ≡ option_and_then (L.meeting rank) (map.get (table nat_cmp lines.now) line) }
     ensures counted { IsCounted (M.made probes.old) (M.made probes.new) }
     ensures raised { IsRaised 1 (M.made probes.old) (M.made probes.new) }
 {
-    match lines.read(row, probes) {
-        Some(line) => line.at_crossing(col, cols),
-        None => None,
-    }
-}
-
-/// What a custom vertical line has for its crossing with a horizontal line: one reading.
-fn meeting_vertical<'a, T, M: Meter>(
-    lines: &'a CountedMap<usize, VerticalLine<T>, M>,
-    row: usize,
-    col: usize,
-    rows: usize,
-    probes: &mut M,
-) -> Option<&'a T>
-    ensures value { option_copied result ≡ option_and_then (vertical_meeting (rank rows row)) (map.get (table nat_cmp lines.now) col) }
-    ensures counted { IsCounted (M.made probes.old) (M.made probes.new) }
-    ensures raised { IsRaised 1 (M.made probes.old) (M.made probes.new) }
-{
-    match lines.read(col, probes) {
-        Some(line) => line.at_crossing(row, rows),
+    match lines.read(line, probes) {
+        Some(custom) => custom.meeting(rank),
         None => None,
     }
 }
@@ -511,49 +480,20 @@ fn class_draws<T, M: Meter>(
     }
 }
 
-/// Whether a horizontal line is drawn by a custom line, or by the cells on it: at most four readings.
-fn row_is_drawn<T, M: Meter>(
-    lines: &CountedMap<usize, HorizontalLine<T>, M>,
-    ends: (&Number<M>, &Number<M>),
-    numbers: &CountedMap<LineOf, u128, M>,
-    row: usize,
-    count: usize,
+/// Whether a line, of the lines 0 to `line.1` of its direction, is drawn by the custom line that stands there, by those that cross it,
+/// or by the cells on it: at most three readings.
+fn is_drawn<L, M: Meter>(
+    own: &CountedMap<usize, L, M>,
+    across: &One<LineNumbers, M>,
+    on_lines: &CountedMap<LineOf, u128, M>,
+    line: (LineOf, usize),
     probes: &mut M,
 ) -> bool
-    ensures drawn { result ≡ row_drawn (table nat_cmp lines.now) ends.entry.0.now ends.entry.1.now (table line_cmp numbers.now) count row }
-    ensures probes { IsRaised 4 (M.made probes.old) (M.made probes.new) }
+    ensures drawn { result ≡ line_drawn (table nat_cmp own.now) across.now (table line_cmp on_lines.now) line.1 line.0 }
+    ensures probes { IsRaised 3 (M.made probes.old) (M.made probes.new) }
 {
-    let (tops, bottoms) = ends;
-    lines.read(row, probes).is_some()
-        || (row == 0 && tops.read(probes) > 0)
-        || (row == count && bottoms.read(probes) > 0)
-        || numbers
-            .read(LineOf::Horizontal(row), probes)
-            .copied()
-            .unwrap_or(0)
-            > 0
-}
-
-/// Whether a vertical line is drawn by a custom line, or by the cells on it: at most four readings.
-fn col_is_drawn<T, M: Meter>(
-    lines: &CountedMap<usize, VerticalLine<T>, M>,
-    meetings: (&Number<M>, &Number<M>, &Number<M>),
-    numbers: &CountedMap<LineOf, u128, M>,
-    col: usize,
-    count: usize,
-    probes: &mut M,
-) -> bool
-    ensures drawn { result ≡ col_drawn (table nat_cmp lines.now) meetings.entry.0.now meetings.entry.1.now meetings.entry.2.now (table line_cmp numbers.now) count col }
-    ensures probes { IsRaised 4 (M.made probes.old) (M.made probes.new) }
-{
-    let (lefts, rights, betweens) = meetings;
-    lines.read(col, probes).is_some()
-        || (col == 0 && lefts.read(probes) > 0)
-        || (col == count && rights.read(probes) > 0)
-        || (0 < col && col < count && betweens.read(probes) > 0)
-        || numbers
-            .read(LineOf::Vertical(col), probes)
-            .copied()
-            .unwrap_or(0)
-            > 0
+    let (line, count) = line;
+    own.read(line.number(), probes).is_some()
+        || across.read(probes).draw(line.number(), count)
+        || on_lines.read(line, probes).copied().unwrap_or(0) > 0
 }

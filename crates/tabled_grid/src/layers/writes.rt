@@ -150,7 +150,7 @@ impl<T> Layers<T> {
     ghost use Rattle.tabled_grid.specs.Site.{at_spot};
     ghost use Rattle.tabled_grid.specs.State.{State, state_at};
     ghost use Rattle.tabled_grid.specs.Calls.{writes_anew};
-    ghost use Rattle.tabled_grid.specs.Writes.{site_of, writes_made, PutsBackAt, PutsBack, PutsBackAll, Stays};
+    ghost use Rattle.tabled_grid.specs.Writes.{site_of, writes_made, PutsBackAt};
 
     /// Makes the writes of a list, in its order: of two at one site the later one counts. Where memory is refused
     /// nothing changes; where something stood at each of their sites, none is asked for.

@@ -1,6 +1,5 @@
 //! The cells of one object without those of another.
 
-ghost use Rattle.std.specs.Prelude.{◌≡◌};
 ghost use Rattle.std.specs.Iterator.{YieldsFirst, item_count};
 ghost use Rattle.tabled_object.specs.Listing.{difference};
 

@@ -1,13 +1,65 @@
 //! Lists of events, here and in others: all of them or none.
 
-ghost use Rattle.std.specs.Prelude.{◌≡◌, OnOk, OnErr};
+ghost use Rattle.std.specs.Prelude.{◌≡◌, ◌+◌, ◌≤◌, List, Option, length, vec_len, vec_capacity, IfOk, OnOk, OnErr};
+ghost use Rattle.tabled_object.specs.declared.entity.Entity.{Entity as Which};
 ghost use Rattle.tabled_settings.specs.Live.{put_each};
+ghost use Rattle.tabled_settings.specs.Slots.{standing, IsHeld, IsNoted};
 
 use super::LastEvents;
-use crate::{places, slots};
+use crate::places;
+use crate::slots::{self, Slot};
 use std::alloc::Global;
+use std::collections::BTreeMap;
 use tabled_border::OutOfMemory;
 use tabled_object::Entity;
+
+/// The events of a list, which have room, and where the event of each one's entity stood before. Where they will stand is noted.
+#[derive(Drop)]
+struct Noted<T> {
+    events: Vec<(Entity, Option<T>)>,
+    before: Vec<Option<usize>>,
+    ghost as_many: { vec_len before ≤ vec_len events },
+}
+
+impl<T: Drop> Noted<T> {
+    /// Makes room for the events of a list, and notes where they will stand. Where memory is refused nothing is noted.
+    fn new(
+        alloc: Global,
+        slots: &mut Vec<Slot<T>>,
+        places: &mut BTreeMap<Entity, usize>,
+        events: Vec<(Entity, Option<T>)>,
+    ) -> Result<Self, OutOfMemory>
+        requires { IsHeld places.old slots.old.items }
+        ensures same { slots.new.items ≡ slots.old.items }
+        ensures events { IfOk result (λ noted. noted.events.items ≡ events.items) }
+        ensures room { IfOk result (λ noted. vec_len slots.new + length noted.events.items ≤ vec_capacity slots.new) }
+        ensures noted { IfOk result (λ noted. IsNoted places.new slots.new.items noted.events.items noted.before.items) }
+        ensures err { OnErr result (IsHeld places.new slots.new.items) }
+    {
+        slots.reserve(events.len())?;
+        let before = places::note(alloc, places, slots.len(), &events)?;
+        Ok(Noted { events, before })
+    }
+
+    /// Writes the events, each in place of an earlier one of its entity. It takes no memory.
+    fn write(self, slots: &mut Vec<Slot<T>>, places: &mut BTreeMap<Entity, usize>)
+        requires room { vec_len slots.old + length self.events.items ≤ vec_capacity slots.old }
+        requires noted { IsNoted places.old slots.old.items self.events.items self.before.items }
+        ensures put { standing slots.new.items ≡ put_each (standing slots.old.items) self.events.items }
+        ensures held { IsHeld places.new slots.new.items }
+    {
+        let Noted { events, before } = self;
+        slots::replace_by(slots, events, &before);
+        slots::close_up(slots, places);
+    }
+
+    /// Takes back what was noted.
+    fn take_back(&self, places: &mut BTreeMap<Entity, usize>)
+        ensures { (slots : List (Option (Which × Option T))) → IsNoted places.old slots self.now.events.items self.now.before.items → IsHeld places.new slots }
+    {
+        places::take_back(places, &self.events, &self.before);
+    }
+}
 
 impl<T> LastEvents<T> {
     /// Adds the events of a list in its order, each in place of an earlier one of its entity. Where memory is refused nothing
@@ -22,12 +74,11 @@ impl<T> LastEvents<T> {
         ensures ok { OnOk result (self.new ≡ put_each self.old events.items) }
         ensures err { OnErr result (self.new ≡ self.old) }
     {
-        self.slots.reserve(events.len())?;
-        let before = places::note(alloc, &mut self.places, self.slots.len(), &events)?;
-        slots::replace_by(&mut self.slots, events, &before);
-        slots::close_up(&mut self.slots, &mut self.places);
+        let noted = Noted::new(alloc, &mut self.slots, &mut self.places, events)?;
+        noted.write(&mut self.slots, &mut self.places);
         Ok(())
     }
+
     /// Adds the events of a list here, and those of another list to others. Where memory is refused neither changes: what may be
     /// refused here comes first, and is taken back where the others refuse.
     pub(crate) fn put_two_lists<U>(
@@ -45,14 +96,12 @@ impl<T> LastEvents<T> {
         ensures err { OnErr result (self.new ≡ self.old) }
         ensures others_err { OnErr result (others.new ≡ others.old) }
     {
-        self.slots.reserve(events.len())?;
-        let before = places::note(alloc, &mut self.places, self.slots.len(), &events)?;
+        let noted = Noted::new(alloc, &mut self.slots, &mut self.places, events)?;
         if let Err(refused) = others.put_list(alloc, other_events) {
-            places::take_back(&mut self.places, &events, &before);
+            noted.take_back(&mut self.places);
             return Err(refused);
         }
-        slots::replace_by(&mut self.slots, events, &before);
-        slots::close_up(&mut self.slots, &mut self.places);
+        noted.write(&mut self.slots, &mut self.places);
         Ok(())
     }
 
@@ -77,14 +126,12 @@ impl<T> LastEvents<T> {
         ensures seconds_err { OnErr result (seconds.new ≡ seconds.old) }
         ensures thirds_err { OnErr result (thirds.new ≡ thirds.old) }
     {
-        self.slots.reserve(events.len())?;
-        let before = places::note(alloc, &mut self.places, self.slots.len(), &events)?;
+        let noted = Noted::new(alloc, &mut self.slots, &mut self.places, events)?;
         if let Err(refused) = seconds.put_two_lists(alloc, second_events, thirds, third_events) {
-            places::take_back(&mut self.places, &events, &before);
+            noted.take_back(&mut self.places);
             return Err(refused);
         }
-        slots::replace_by(&mut self.slots, events, &before);
-        slots::close_up(&mut self.slots, &mut self.places);
+        noted.write(&mut self.slots, &mut self.places);
         Ok(())
     }
 }

@@ -1,7 +1,6 @@
 //! The border of a cell as an option: around cells, and around a whole table.
 
-ghost use Rattle.std.specs.Prelude.{◌≡◌, [], Some, IsOk, OnOk, OnErr};
-ghost use Rattle.std.specs.List.{filter};
+ghost use Rattle.std.specs.Prelude.{◌≡◌, [], Some, IsOk, OnOk, OnErr, filter};
 ghost use Rattle.tabled_object.specs.Entities.{cells_of, is_inside};
 ghost use Rattle.tabled_object.specs.declared.entity.Entity.TheVariants as cells;
 ghost use Rattle.tabled_configuration.specs.Colored.{Changes};
@@ -17,9 +16,8 @@ impl<T, B, L, R, Data: Records + ExactRecords> CellOption<Data, ColoredConfig>
 
     ghost hinted = { λ border. Some cells.Global };
 
-    /// Writes the given sides and corners of each cell of the entity that lies in the table, row by row: for what
-    /// two cells share the later one counts. What is not given stays as it is. Without a cell inside it takes no memory
-    /// and returns Ok.
+    /// Writes the given sides and corners of each cell of the entity that lies in the table, row by row: for what two cells share
+    /// the later one counts. What is not given stays as it is. Without a cell inside it takes no memory and returns Ok.
     ///
     /// `Border::filled('#')` on the cell (0, 0), in a table of the style `ascii`:
     ///

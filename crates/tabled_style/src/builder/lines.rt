@@ -115,8 +115,7 @@ impl<T, B, L, R, H, V, const HN: usize, const VN: usize> Style<T, B, L, R, H, V,
 
     /// Replaces the custom vertical lines by these, each with its index. A later one of the same index counts.
     ///
-    /// `Style::modern().remove_horizontal()` with
-    /// `verticals([(1, VerticalLine::new('#').top('*').bottom('*'))])`:
+    /// `Style::modern().remove_horizontal()` with `verticals([(1, VerticalLine::new('#').top('*').bottom('*'))])`:
     ///
     /// ```text
     /// ┌───*───┐
@@ -247,8 +246,7 @@ impl<T, B, L, R, H, V, const HN: usize, const VN: usize> Style<T, B, L, R, H, V,
         self.with_line_horizontal(Rank::First, line.into_inner())
     }
 
-    /// Replaces the bottom by this line. The rest of the style follows as in
-    /// [`line_horizontal`](Style::line_horizontal).
+    /// Replaces the bottom by this line. The rest of the style follows as in [`line_horizontal`](Style::line_horizontal).
     ///
     /// `Style::psql().line_bottom(HorizontalLine::new('=').intersection('*'))`. The custom line takes the crossing:
     ///
@@ -269,11 +267,10 @@ impl<T, B, L, R, H, V, const HN: usize, const VN: usize> Style<T, B, L, R, H, V,
 
     /// Replaces the lines between columns by this one.
     ///
-    /// First its four characters are put there, missing ones too. Then the rest of the style follows. Where the line
-    /// has no crossing, the style loses its lines between rows; else it gets them, with a space where it has no
-    /// character for them, also at their ends at the left and the right side that it has then. Where the line has no
-    /// upper end, the style loses its top, and likewise the bottom. The custom lines take the crossing, the vertical
-    /// ones also the two ends, where they are given.
+    /// First its four characters are put there, missing ones too. Then the rest of the style follows. Where the line has no
+    /// crossing, the style loses its lines between rows; else it gets them, with a space where it has no character for them, also
+    /// at their ends at the left and the right side that it has then. Where the line has no upper end, the style loses its top, and
+    /// likewise the bottom. The custom lines take the crossing, the vertical ones also the two ends, where they are given.
     ///
     /// `Style::psql().line_vertical(VerticalLine::new('#').intersection('*'))`:
     ///
@@ -291,8 +288,7 @@ impl<T, B, L, R, H, V, const HN: usize, const VN: usize> Style<T, B, L, R, H, V,
         self.with_line_vertical(Rank::Inner, line.into_inner())
     }
 
-    /// Replaces the left side by this line. The rest of the style follows as in
-    /// [`line_vertical`](Style::line_vertical).
+    /// Replaces the left side by this line. The rest of the style follows as in [`line_vertical`](Style::line_vertical).
     ///
     /// `Style::psql().line_left(VerticalLine::new('#'))`. The custom line has no end there:
     ///
@@ -310,8 +306,7 @@ impl<T, B, L, R, H, V, const HN: usize, const VN: usize> Style<T, B, L, R, H, V,
         self.with_line_vertical(Rank::First, line.into_inner())
     }
 
-    /// Replaces the right side by this line. The rest of the style follows as in
-    /// [`line_vertical`](Style::line_vertical).
+    /// Replaces the right side by this line. The rest of the style follows as in [`line_vertical`](Style::line_vertical).
     ///
     /// `Style::psql().line_right(VerticalLine::new('#'))`. The custom line has no end there:
     ///

@@ -1,6 +1,6 @@
 //! The ready styles.
 
-ghost use Rattle.std.specs.Prelude.{◌≡◌, Option};
+ghost use Rattle.std.specs.Prelude.{◌≡◌};
 ghost use Rattle.tabled_style.specs.Ready.{open_line, class_record, framed, unframed, plain, ruled};
 ghost use Rattle.tabled_style.specs.Lines.{full_horizontal};
 

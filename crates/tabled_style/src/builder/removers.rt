@@ -65,8 +65,7 @@ impl<B, L, R, H, V, const HN: usize, const VN: usize> Style<On, B, L, R, H, V, H
 }
 
 impl<T, L, R, H, V, const HN: usize, const VN: usize> Style<T, On, L, R, H, V, HN, VN> {
-    /// Drops the bottom: its edges, its crossings and its corners, and the lower ends of the custom vertical
-    /// lines.
+    /// Drops the bottom: its edges, its crossings and its corners, and the lower ends of the custom vertical lines.
     ///
     /// `Style::ascii().remove_bottom()`:
     ///
@@ -84,8 +83,7 @@ impl<T, L, R, H, V, const HN: usize, const VN: usize> Style<T, On, L, R, H, V, H
 }
 
 impl<T, B, R, H, V, const HN: usize, const VN: usize> Style<T, B, On, R, H, V, HN, VN> {
-    /// Drops the left side: its edges, its crossings and its corners, and the left ends of the custom horizontal
-    /// lines.
+    /// Drops the left side: its edges, its crossings and its corners, and the left ends of the custom horizontal lines.
     ///
     /// `Style::ascii().remove_left()`:
     ///
@@ -104,8 +102,7 @@ impl<T, B, R, H, V, const HN: usize, const VN: usize> Style<T, B, On, R, H, V, H
 }
 
 impl<T, B, L, H, V, const HN: usize, const VN: usize> Style<T, B, L, On, H, V, HN, VN> {
-    /// Drops the right side: its edges, its crossings and its corners, and the right ends of the custom
-    /// horizontal lines.
+    /// Drops the right side: its edges, its crossings and its corners, and the right ends of the custom horizontal lines.
     ///
     /// `Style::ascii().remove_right()`:
     ///

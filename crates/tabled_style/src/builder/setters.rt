@@ -109,9 +109,8 @@ impl<T, B, L, R, H, V, const HN: usize, const VN: usize> Style<T, B, L, R, H, V,
         self.with_horizontal(Rank::Last, c)
     }
 
-    /// Sets the left side: the edges before the first column, the corners there where the style has a top or a
-    /// bottom, the crossings there where it has lines between rows, and the left ends of its custom horizontal
-    /// lines.
+    /// Sets the left side: the edges before the first column, the corners there where the style has a top or a bottom, the
+    /// crossings there where it has lines between rows, and the left ends of its custom horizontal lines.
     ///
     /// `Style::ascii().left('#')`:
     ///
@@ -128,9 +127,8 @@ impl<T, B, L, R, H, V, const HN: usize, const VN: usize> Style<T, B, L, R, H, V,
         self.with_vertical(Rank::First, c)
     }
 
-    /// Sets the right side: the edges after the last column, the corners there where the style has a top or a
-    /// bottom, the crossings there where it has lines between rows, and the right ends of its custom horizontal
-    /// lines.
+    /// Sets the right side: the edges after the last column, the corners there where the style has a top or a bottom, the crossings
+    /// there where it has lines between rows, and the right ends of its custom horizontal lines.
     ///
     /// `Style::ascii().right('#')`:
     ///

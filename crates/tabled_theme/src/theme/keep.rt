@@ -1,7 +1,5 @@
 //! A copy of a theme.
 
-ghost use Rattle.std.specs.Prelude.{◌≡◌, IfOk};
-
 use super::Theme;
 use std::alloc::Global;
 use tabled_grid::{Keep, OutOfMemory};

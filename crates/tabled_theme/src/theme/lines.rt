@@ -21,8 +21,7 @@ impl Theme {
         self.set_horizontals = LineMap::of(lines);
     }
 
-    /// Replaces the vertical lines that were set, each under its index. Those of a style stay beneath, and show where
-    /// none is set.
+    /// Replaces the vertical lines that were set, each under its index. Those of a style stay beneath, and show where none is set.
     pub fn set_vertical_lines(&mut self, lines: BTreeMap<usize, VerticalLine<char>>)
         ensures { self.new ≡ with_verticals_set (table nat_cmp lines.entries) self.old }
     {

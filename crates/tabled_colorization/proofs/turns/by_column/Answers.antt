@@ -1,5 +1,4 @@
-use Rattle.std.proofs.Common.{◌≡◌, ◌+◌, ◌*◌, map, ap, ◌∙◌, arith}
-use Rattle.std.specs.List.{flat_map}
+use Rattle.std.proofs.Common.{◌≡◌, ◌+◌, ◌*◌, map, ap, ◌∙◌, arith, flat_map}
 use Rattle.tabled_object.specs.declared.entity.Entity.TheVariants.{Cell}
 use Rattle.tabled_object.specs.Entities.{below}
 use Rattle.tabled_colorization.specs.Turns.{in_turn, numbered}

@@ -1,6 +1,5 @@
 -- Those so far.
-use Rattle.std.proofs.Common.{◌≡◌, ◌+◌, map}
-use Rattle.std.specs.List.{flat_map}
+use Rattle.std.proofs.Common.{◌≡◌, ◌+◌, map, flat_map}
 use Rattle.tabled_object.specs.declared.entity.Entity.TheVariants.{Cell}
 use Rattle.tabled_object.specs.Entities.{below}
 use Rattle.tabled_colorization.specs.Turns.{in_turn}

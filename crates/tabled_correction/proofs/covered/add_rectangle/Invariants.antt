@@ -1,6 +1,5 @@
 -- The rows so far.
-use Rattle.std.proofs.Common.{◌≡◌, ◌≤◌, ◌&&◌, ◌||◌, nat_lt}
-use Rattle.std.specs.Prelude.{nat_le, max}
+use Rattle.std.proofs.Common.{◌≡◌, ◌≤◌, ◌&&◌, ◌||◌, nat_lt, nat_le, max}
 use Rattle.tabled_object.specs.declared.position.Position.{Position}
 use Rattle.tabled_correction.specs.Covered.{has, is_in}
 use Rattle.tabled_correction.proofs.covered.add_rectangle.Given as goal

@@ -1,5 +1,4 @@
-use Rattle.std.proofs.Common.{Bool, List, ◌+◌, ◌&&◌, ◌∙◌, nat_lt, sym, ap}
-use Rattle.std.specs.Prelude.{unwrap_or}
+use Rattle.std.proofs.Common.{Bool, List, ◌+◌, ◌&&◌, ◌∙◌, nat_lt, sym, ap, unwrap_or}
 use Rattle.std.specs.FinMap as map
 use Rattle.tabled_object.specs.declared.position.Position.{Position}
 use Rattle.tabled_object.specs.contracts.position.PositionOrd.TheImpl.Laws.{total-law}

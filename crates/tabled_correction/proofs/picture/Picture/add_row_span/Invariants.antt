@@ -1,6 +1,5 @@
 -- The rows so far.
-use Rattle.std.proofs.Common.{◌≡◌, ◌++◌, ◌+◌}
-use Rattle.std.specs.List.{flat_map}
+use Rattle.std.proofs.Common.{◌≡◌, ◌++◌, ◌+◌, flat_map}
 use Rattle.tabled_object.specs.Entities.{position, below}
 use Rattle.tabled_correction.specs.Correction.{row_step}
 use Rattle.tabled_correction.specs.Picture.{pictured}

@@ -1,5 +1,4 @@
-use Rattle.std.proofs.Common.{◌++◌, ap, ◌∙◌}
-use Rattle.std.specs.List.{flat_map}
+use Rattle.std.proofs.Common.{◌++◌, ap, ◌∙◌, flat_map}
 use Rattle.tabled_layout.proofs.SpanLemmas.{entries_are}
 use Rattle.tabled_correction.specs.Correction.{column_span_step}
 use Rattle.tabled_correction.specs.Picture.{pictured}

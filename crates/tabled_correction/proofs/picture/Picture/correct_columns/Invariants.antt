@@ -1,6 +1,5 @@
 -- The spans so far, and those to come.
-use Rattle.std.proofs.Common.{◌≡◌, ◌++◌}
-use Rattle.std.specs.List.{flat_map}
+use Rattle.std.proofs.Common.{◌≡◌, ◌++◌, flat_map}
 use Rattle.tabled_correction.specs.Correction.{column_span_step}
 use Rattle.tabled_correction.specs.Picture.{pictured}
 use Rattle.tabled_correction.proofs.picture.Picture.correct_columns.Given as goal

@@ -1,5 +1,4 @@
-use Rattle.std.proofs.Common.{◌++◌, refl, ap, ◌∙◌}
-use Rattle.std.specs.List.{flat_map}
+use Rattle.std.proofs.Common.{◌++◌, refl, ap, ◌∙◌, flat_map}
 use Rattle.tabled_object.specs.Entities.{is_inside}
 use Rattle.tabled_layout.specs.Covering.{covered_by_both_spans}
 use Rattle.tabled_correction.specs.Correction.{inner_step}

@@ -1,6 +1,5 @@
 -- The cells so far, and those to come.
-use Rattle.std.proofs.Common.{◌≡◌, true, ◌++◌}
-use Rattle.std.specs.List.{flat_map}
+use Rattle.std.proofs.Common.{◌≡◌, true, ◌++◌, flat_map}
 use Rattle.tabled_object.specs.declared.position.Position.{Position}
 use Rattle.tabled_object.specs.Entities.{is_inside}
 use Rattle.tabled_correction.specs.Correction.{inner_step}

@@ -1,13 +1,14 @@
+use Rattle.std.proofs.Common.{◌∙◌}
 use Rattle.tabled_grid.proofs.Changing.{lines_erased}
-use Rattle.tabled_grid.proofs.CountedLemmas.{no_vertical_counted, no_horizontal_counted}
+use Rattle.tabled_grid.proofs.CountedLemmas.{no_lines_counted}
 use Rattle.tabled_grid.proofs.Seen.{seen, changed, with_lines}
 use Rattle.tabled_grid.proofs.layers.Layers+T.erase_lines.Goals as goal
 
 pub invariant_of-self : goal.invariant_of-self
 invariant_of-self g c = (
   c.self.invariant.0,
-  no_vertical_counted _ _ _ c.new-self-inside.ensures c.new-self-inside-2.ensures c.clear.ensures,
-  no_horizontal_counted _ _ _ _ c.new-self-inside-3.ensures c.new-self-inside-4.ensures c.new-self-inside-5.ensures c.clear-2.ensures,
+  no_lines_counted _ _ _ (c.replace.ensures.kept ∙ c.none.ensures) c.clear.ensures,
+  no_lines_counted _ _ _ (c.replace-2.ensures.kept ∙ c.none-2.ensures) c.clear-2.ensures,
 )
 
 pub returns : goal.returns

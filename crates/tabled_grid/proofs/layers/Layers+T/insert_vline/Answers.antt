@@ -3,4 +3,4 @@ use Rattle.tabled_grid.proofs.Seen.{seen, changed, on_ok, with_vertical}
 use Rattle.tabled_grid.proofs.layers.Layers+T.insert_vline.Goals as goal
 
 pub returns-clause-ok : goal.returns-clause-ok
-returns-clause-ok g c = on_ok c.put_vertical.result (λ e. changed _ (seen c.self.inside) c.args.self.now _ _ c.self.view_is (with_vertical (seen c.self.inside) _ _ e) (vertical_line_put (seen c.self.inside) c.args.line c.args.fields)) c.put_vertical.ensures.ok
+returns-clause-ok g c = on_ok c.put_line.result (λ e. changed _ (seen c.self.inside) c.args.self.now _ _ c.self.view_is (with_vertical (seen c.self.inside) _ _ e) (vertical_line_put (seen c.self.inside) c.args.line c.args.fields)) c.put_line.ensures.ok

@@ -1,11 +1,10 @@
-use Rattle.std.proofs.Common.{◌≡◌, Bool, true, false, Option, Some, None, is_some, not, refl, sym, ap, ◌∙◌}
+use Rattle.std.proofs.Common.{◌≡◌, Bool, true, Option, Some, None, is_some, not, refl, sym, ap, ◌∙◌}
 use Rattle.tabled_grid.proofs.ClassAlone.{shows_classes}
 use Rattle.tabled_grid.proofs.layers.Layers.class_alone.Goals as goal
 
 none_there : {T : Type 0} (kept : Option T) (answer : Bool) → is_some kept ≡ not answer → answer ≡ true → kept ≡ None
 none_there None answer is said = refl
-none_there (Some x) true is said = absurd cc
-none_there (Some x) false is said = absurd cc
+none_there (Some x) answer is said = absurd (cc (ap not said))
 
 pub returns-then-is_none-clause-shown : goal.returns-then-is_none-clause-shown
 returns-then-is_none-clause-shown g c =

@@ -1,4 +1,4 @@
-use Rattle.std.proofs.Common.{◌≡◌, true, false, is_some, sym, ap, subst, ◌∙◌, ◌↔◌, IsTrue, arith}
+use Rattle.std.proofs.Common.{true, is_some, sym, ap, subst, ◌∙◌, ◌↔◌, IsTrue, arith}
 use Rattle.tabled_grid.specs.Drawn.{Drawn}
 use Rattle.tabled_grid.specs.State.{state_at}
 use Rattle.tabled_grid.proofs.DrawnBy.{class_answer, row_left, col_left}
@@ -12,10 +12,10 @@ returns-then-class_draws-clause-drawn g c =
 
 pub returns-in-Horizontal-clause-drawn : goal.returns-in-Horizontal-clause-drawn
 returns-in-Horizontal-clause-drawn g c =
-    subst (λ k. IsTrue c.row_is_drawn.result ↔ Drawn (state_at k) c.args.count c.args.line) c.self.view_is
-    (row_left (seen c.self.inside) _ _ _ _ _ _ c.self.invariant.0 c.self.invariant.1 c.self.invariant.2 c.args.count c.in-Horizontal.row c.args.line c.row_is_drawn.result c.in-Horizontal.is (omega (arith, c.number.ensures, c.if-number-count.false)) (ap is_some (sym c.read.ensures.value) ∙ sym c.is_some.ensures ∙ c.if-is_some.false) (sym c.class_draws.ensures.drawn ∙ c.if-class_draws.false) c.row_is_drawn.ensures.drawn)
+    subst (λ k. IsTrue c.is_drawn.result ↔ Drawn (state_at k) c.args.count c.args.line) c.self.view_is
+    (row_left (seen c.self.inside) _ _ _ c.self.invariant.0 c.self.invariant.1 c.self.invariant.2 c.args.count c.args.line _ c.is_drawn.result c.in-Horizontal.is (omega (arith, c.number.ensures, c.if-number-count.false)) (ap is_some (sym c.read.ensures.value) ∙ sym c.is_some.ensures ∙ c.if-is_some.false) (sym c.class_draws.ensures.drawn ∙ c.if-class_draws.false) c.is_drawn.ensures.drawn)
 
 pub returns-in-Vertical-clause-drawn : goal.returns-in-Vertical-clause-drawn
 returns-in-Vertical-clause-drawn g c =
-    subst (λ k. IsTrue c.col_is_drawn.result ↔ Drawn (state_at k) c.args.count c.args.line) c.self.view_is
-    (col_left (seen c.self.inside) _ _ _ _ _ _ c.self.invariant.0 c.self.invariant.1 c.self.invariant.2 c.args.count c.in-Vertical.col c.args.line c.col_is_drawn.result c.in-Vertical.is (omega (arith, c.number.ensures, c.if-number-count.false)) (ap is_some (sym c.read.ensures.value) ∙ sym c.is_some.ensures ∙ c.if-is_some.false) (sym c.class_draws.ensures.drawn ∙ c.if-class_draws.false) c.col_is_drawn.ensures.drawn)
+    subst (λ k. IsTrue c.is_drawn-in-Vertical.result ↔ Drawn (state_at k) c.args.count c.args.line) c.self.view_is
+    (col_left (seen c.self.inside) _ _ _ c.self.invariant.0 c.self.invariant.1 c.self.invariant.2 c.args.count c.args.line _ c.is_drawn-in-Vertical.result c.in-Vertical.is (omega (arith, c.number.ensures, c.if-number-count.false)) (ap is_some (sym c.read.ensures.value) ∙ sym c.is_some.ensures ∙ c.if-is_some.false) (sym c.class_draws.ensures.drawn ∙ c.if-class_draws.false) c.is_drawn-in-Vertical.ensures.drawn)

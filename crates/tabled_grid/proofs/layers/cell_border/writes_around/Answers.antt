@@ -1,5 +1,4 @@
-use Rattle.std.proofs.Common.{[], ◌∷◌, ap, ◌∙◌}
-use Rattle.std.specs.List.{zip}
+use Rattle.std.proofs.Common.{[], ◌∷◌, ap, ◌∙◌, zip}
 use Rattle.tabled_grid.specs.CellBorder.{border_fields}
 use Rattle.tabled_grid.specs.Calls.{places_set}
 use Rattle.tabled_grid.specs.Writes.{writes_made}

@@ -1,5 +1,4 @@
-use Rattle.std.proofs.Common.{◌++◌, ap, sym, ◌∙◌, append_assoc}
-use Rattle.std.proofs.lemmas.List.{append-nil}
+use Rattle.std.proofs.Common.{◌++◌, ap, sym, ◌∙◌, append_assoc, append-nil}
 use Rattle.tabled_grid.specs.Calls.{border_set, borders_of}
 use Rattle.tabled_grid.specs.Writes.{writes_made}
 use Rattle.tabled_grid.proofs.EntityBorders.{eight_made, borders_inside, borders_outside, no_borders_left, some_inside, none_inside_after}

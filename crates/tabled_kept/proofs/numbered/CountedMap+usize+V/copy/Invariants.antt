@@ -1,5 +1,4 @@
-use Rattle.std.proofs.Common.{◌≡◌, ◌++◌}
-use Rattle.std.specs.Ordering.{nat_cmp}
+use Rattle.std.proofs.Common.{◌≡◌, ◌++◌, nat_cmp}
 use Rattle.std.specs.FinMap as map
 use Rattle.tabled_kept.specs.Table.{table}
 use Rattle.tabled_kept.proofs.numbered.CountedMap+usize+V.copy.Given as goal

@@ -1,7 +1,6 @@
-use Rattle.std.proofs.Common.{sym, ap, subst, ◌∙◌, ◌++◌}
+use Rattle.std.proofs.Common.{sym, ap, subst, ◌∙◌, ◌++◌, nat_cmp}
 use Rattle.std.specs.List.Sorted.{IsStrictlySortedBy}
 use Rattle.std.specs.Map.{keys_of}
-use Rattle.std.specs.Ordering.{nat_cmp}
 use Rattle.std.specs.FinMap as map
 use Rattle.tabled_kept.specs.Slots.{numbered}
 use Rattle.tabled_kept.specs.Table.{table}

@@ -1,5 +1,4 @@
-use Rattle.std.proofs.Common.{sym, ap, ◌∙◌, None, arith}
-use Rattle.std.specs.Prelude.{slice_index_or}
+use Rattle.std.proofs.Common.{sym, ap, ◌∙◌, None, arith, slice_index_or}
 use Rattle.tabled_kept.proofs.SlotLemmas.{in_slot, in_no_slot}
 use Rattle.tabled_kept.proofs.slots.Slots.get.Goals as goal
 

@@ -1,6 +1,5 @@
-use Rattle.std.proofs.Common.{sym, ap, ◌∙◌, arith, None}
+use Rattle.std.proofs.Common.{sym, ap, ◌∙◌, arith, None, slice_set}
 use Rattle.std.specs.FinMap as map
-use Rattle.std.specs.Prelude.{slice_set}
 use Rattle.std.proofs.lemmas.List.{get_or_read}
 use Rattle.tabled_kept.specs.Slots.{filled}
 use Rattle.tabled_kept.proofs.SlotLemmas.{in_slot, in_no_slot, filled-put}

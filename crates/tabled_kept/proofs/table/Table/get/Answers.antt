@@ -1,5 +1,4 @@
-use Rattle.std.proofs.Common.{sym, ap, ◌∙◌, arith}
-use Rattle.std.specs.Prelude.{slice_index_or}
+use Rattle.std.proofs.Common.{sym, ap, ◌∙◌, arith, slice_index_or}
 use Rattle.std.specs.FinMap as map
 use Rattle.tabled_kept.proofs.TableLemmas.{in_slot_of, in_no_row}
 use Rattle.tabled_kept.proofs.table.Table.get.Goals as goal

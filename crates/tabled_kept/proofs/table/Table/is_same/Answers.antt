@@ -1,5 +1,4 @@
-use Rattle.std.proofs.Common.{sym, ap, ◌∙◌, arith, inl, inr, ◌≡◌}
-use Rattle.std.specs.Prelude.{slice_index_or}
+use Rattle.std.proofs.Common.{sym, ap, ◌∙◌, arith, inl, inr, ◌≡◌, slice_index_or}
 use Rattle.std.specs.Option.{option_eq}
 use Rattle.std.specs.FinMap as map
 use Rattle.std.proofs.lemmas.Bool.{cases_lt}

@@ -1,6 +1,5 @@
 -- One more position.
-use Rattle.std.proofs.Common.{ap, sym, ◌++◌, ◌∙◌, map}
-use Rattle.std.specs.List.{filter}
+use Rattle.std.proofs.Common.{ap, sym, ◌++◌, ◌∙◌, map, filter}
 use Rattle.tabled_grid.proofs.EntityBorders.{nothing_written}
 use Rattle.tabled_options.specs.LineChar.{direction_of, has_edge, mark_written}
 use Rattle.tabled_options.proofs.LineCharLemmas.{one_more}

@@ -1,6 +1,5 @@
 -- What is written so far, and what is left to be written.
-use Rattle.std.proofs.Common.{◌≡◌, ◌++◌, map}
-use Rattle.std.specs.List.{filter}
+use Rattle.std.proofs.Common.{◌≡◌, ◌++◌, map, filter}
 use Rattle.tabled_object.specs.Entities.{cells_of}
 use Rattle.tabled_grid.specs.Writes.{writes_made}
 use Rattle.tabled_options.specs.LineChar.{direction_of, has_edge, mark_written}

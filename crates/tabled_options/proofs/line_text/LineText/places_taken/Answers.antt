@@ -1,6 +1,5 @@
 -- What was laid is what the text takes.
-use Rattle.std.proofs.Common.{ap, sym, ◌∙◌, length, drop, Some, None}
-use Rattle.std.specs.List.{zip}
+use Rattle.std.proofs.Common.{ap, sym, ◌∙◌, length, drop, Some, None, zip}
 use Rattle.tabled_options.specs.Laying.{looked}
 use Rattle.tabled_options.specs.TextStart.{width_of}
 use Rattle.tabled_options.specs.LineText.{places_along}

@@ -1,7 +1,5 @@
 -- One more place, and none where there is no color.
-use Rattle.std.proofs.Common.{◌∙◌, ap, sym, Some, option_map}
-use Rattle.std.specs.Option.{option_copied}
-use Rattle.std.proofs.lemmas.List.{take_all}
+use Rattle.std.proofs.Common.{◌∙◌, ap, sym, Some, option_map, option_copied, take_all}
 use Rattle.tabled_color.specs.Shade.{texts_of}
 use Rattle.tabled_options.specs.LineText.{colors_written}
 use Rattle.tabled_options.proofs.WrittenLemmas.{one_written, no_colors, color_more, uncolored}

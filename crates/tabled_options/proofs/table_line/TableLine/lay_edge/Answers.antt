@@ -1,6 +1,5 @@
 -- One more place, and the end, with letters left or without.
-use Rattle.std.proofs.Common.{arith, sym, ◌∙◌, length}
-use Rattle.std.proofs.lemmas.Bool.{eqb-true}
+use Rattle.std.proofs.Common.{arith, sym, ◌∙◌, length, eqb-true}
 use Rattle.tabled_config.specs.LinePieces.{edge_of, size_of}
 use Rattle.tabled_options.proofs.PassingLemmas.{edge_begun, edge_more, edge_done, edge_empty}
 use Rattle.tabled_options.proofs.table_line.TableLine.lay_edge.Goals as goal

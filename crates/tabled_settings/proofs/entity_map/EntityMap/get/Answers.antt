@@ -1,6 +1,5 @@
-use Rattle.std.proofs.Common.{ap, sym, ◌∙◌, Some, None, option_map}
+use Rattle.std.proofs.Common.{ap, sym, ◌∙◌, Some, None, option_map, option_copied}
 use Rattle.std.specs.List.{last_or}
-use Rattle.std.specs.Option.{option_copied}
 use Rattle.tabled_settings.specs.Setting.{covering}
 use Rattle.tabled_settings.proofs.Settling.{value_at-found}
 use Rattle.tabled_settings.proofs.entity_map.EntityMap.get.Goals as goal

@@ -1,5 +1,4 @@
-use Rattle.std.proofs.Common.{◌≡◌, []}
-use Rattle.std.specs.List.{filter}
+use Rattle.std.proofs.Common.{◌≡◌, [], filter}
 use Rattle.tabled_object.specs.Entities.{is_inside}
 use Rattle.tabled_grid.specs.Calls.{borders_of}
 use Rattle.tabled_grid.specs.Event.{Changes}
