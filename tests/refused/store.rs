@@ -100,7 +100,7 @@ impl<T, M: Meter> Layers<T, M> {
     /// Looks at the numbers of custom lines without a reading.
     pub fn numbers_by_a_getter(&self, probes: &mut M) -> bool {
         probes.raise();
-        self.vertical_numbers.get().first > 0 //~ the method `get` takes `self` as `&One<V>` //= self.vertical_numbers.read(probes).first > 0
+        self.vertical_numbers.get().first > 0 //~ the method `get` takes `self` as `&KeptNumbers` //= self.vertical_numbers.read(crate::Rank::First, probes) > 0
     }
 }
 

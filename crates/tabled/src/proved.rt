@@ -6,6 +6,6 @@ pub use tabled_config::{
     line_runs, line_seen,
 };
 pub use tabled_grid::{
-    Event, HorizontalLines, Layers, LineOf, Meter, Place, Probes, Region, Site, Target,
-    VerticalLines, Written,
+    Event, HorizontalLines, Layers, LineOf, Place, Region, Site, Target, VerticalLines, Written,
 };
+pub use tabled_kept::{Meter, Probes};

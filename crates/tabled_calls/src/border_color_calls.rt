@@ -9,8 +9,10 @@ ghost use Rattle.tabled_grid.specs.State.{class_record_set, edge_place, state_at
 ghost use Rattle.tabled_grid.specs.declared.site.Direction.TheVariants.{Horizontal, Vertical};
 ghost use Rattle.tabled_grid.specs.declared.site.Site.TheVariants.{Offset as at_offset};
 
-use tabled_config::SpannedConfig;
-use tabled_grid::{ANSIBuf, Border, Borders, Offset, OutOfMemory, Place, Position};
+use tabled_border::{ANSIBuf, Border, OutOfMemory};
+use tabled_configuration::SpannedConfig;
+use tabled_grid::{Borders, Offset, Place};
+use tabled_object::Position;
 
 /// Sets the record of class colors whole: what it had before is gone, also where the new record has nothing.
 pub fn class_colors_set(cfg: &mut SpannedConfig, colors: Borders<ANSIBuf>)

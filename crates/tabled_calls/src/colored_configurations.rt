@@ -11,8 +11,9 @@ ghost use Rattle.tabled_settings.specs.Live.{Live, value_at};
 ghost use Rattle.tabled_settings.specs.Setting.{is_global, removal_of, write_of};
 
 use std::mem;
-use tabled_config::{ColorMap, ColoredConfig, Colors, SpannedConfig};
-use tabled_grid::{ANSIBuf, Entity, OutOfMemory, Position};
+use tabled_border::{ANSIBuf, OutOfMemory};
+use tabled_configuration::{ColorMap, ColoredConfig, Colors, SpannedConfig};
+use tabled_object::{Entity, Position};
 use tabled_settings::EntityMap;
 
 /// A configuration over the given one, without colors of cells.

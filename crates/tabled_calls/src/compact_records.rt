@@ -8,9 +8,10 @@ ghost use Rattle.tabled_formatting.specs.Compact.{compact_aligned, multiline_ali
 ghost use Rattle.tabled_formatting.specs.Formatting.{each_line};
 
 use tabled_border::{ANSIStr, OutOfMemory};
-use tabled_config::{CompactConfig, CompactMultilineConfig, Formatting, TableOption};
+use tabled_compact::{CompactConfig, CompactMultilineConfig, Formatting};
+use tabled_configuration::TableOption;
+use tabled_formatting::{Alignment, AlignmentStrategy, MarginColor, PaddingColor};
 use tabled_grid::Borders;
-use tabled_options::{Alignment, AlignmentStrategy, MarginColor, PaddingColor};
 use tabled_settings::{AlignmentHorizontal, AlignmentVertical, Sides};
 use tabled_style::Style;
 use tabled_theme::Theme;

@@ -21,11 +21,12 @@ ghost use Rattle.tabled_object.specs.Entities.{cells_of, is_inside};
 
 use std::alloc::Global;
 use std::collections::BTreeMap;
-use tabled_config::SpannedConfig;
+use tabled_border::{ANSIBuf, Border, OutOfMemory};
+use tabled_configuration::SpannedConfig;
 use tabled_grid::{
-    ANSIBuf, Border, Borders, Entity, HorizontalLine, HorizontalLines, Offset, OutOfMemory, Place,
-    Position, VerticalLine, VerticalLines, Write,
+    Borders, HorizontalLine, HorizontalLines, Offset, Place, VerticalLine, VerticalLines, Write,
 };
+use tabled_object::{Entity, Position};
 
 /// A new configuration shows that nothing happened.
 pub fn new_configuration(alloc: Global) -> SpannedConfig

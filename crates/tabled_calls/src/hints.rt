@@ -5,18 +5,20 @@ ghost use Rattle.tabled_object.specs.declared.entity.Entity.TheVariants as cells
 
 use tabled_border::{ANSIStr, AnsiText, Border as GridBorder};
 use tabled_color::{BorderColor, Color};
-use tabled_config::{
-    CellOption, ColoredConfig, CompactConfig, CompactMultilineConfig, Configured, TableOption,
+use tabled_colorization::{Colorization, ExactColorization};
+use tabled_compact::{CompactConfig, CompactMultilineConfig};
+use tabled_configuration::{CellOption, ColoredConfig, Configured, TableOption};
+use tabled_correction::BorderCorrection;
+use tabled_formatting::{
+    Alignment, AlignmentStrategy, Justification, MarginColor, PaddingColor, Shadow, TrimStrategy,
 };
 use tabled_grid::Borders;
+use tabled_highlight::Highlight;
 use tabled_object::{
     Column, Dimension, Entity, ExactRecords, FirstColumn, FirstRow, LastColumn, LastColumnOffset,
     LastRow, LastRowOffset, Object, Records, Row,
 };
-use tabled_options::{
-    Alignment, AlignmentStrategy, BorderCorrection, Colorization, ExactColorization, Highlight,
-    Justification, LineChar, LineText, MarginColor, PaddingColor, Shadow, TrimStrategy,
-};
+use tabled_options::{LineChar, LineText};
 use tabled_style::{Border, EmptyBorder, ReadyStyle, Style};
 use tabled_theme::Theme;
 

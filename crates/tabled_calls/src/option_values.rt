@@ -20,11 +20,11 @@ ghost use Rattle.tabled_settings.specs.declared.sides.Sides.{Sides as Four};
 use std::alloc::Global;
 use tabled_border::{ANSIStr, Keep, OutOfMemory};
 use tabled_color::{BorderColor, Color};
+use tabled_colorization::{Colorization, ExactColorization};
+use tabled_formatting::{Alignment, Justification, MarginColor, PaddingColor, Shadow};
 use tabled_grid::Offset;
-use tabled_options::{
-    Alignment, Colorization, ExactColorization, Highlight, Justification, LineChar, LineText,
-    MarginColor, PaddingColor, Shadow,
-};
+use tabled_highlight::Highlight;
+use tabled_options::{LineChar, LineText};
 use tabled_settings::{AlignmentHorizontal, AlignmentVertical, Sides};
 use tabled_style::Border;
 

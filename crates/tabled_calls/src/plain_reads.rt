@@ -9,8 +9,10 @@ ghost use Rattle.tabled_grid.specs.Reading.{direction_of, HasClassAlone};
 ghost use Rattle.tabled_grid.specs.State.{HasNoCells, HasNoLines, HasNoOffsets, state_at};
 ghost use Rattle.tabled_grid.specs.Value.{plain_value};
 
-use tabled_config::SpannedConfig;
-use tabled_grid::{ANSIBuf, Borders, LineOf, Meter, Place};
+use tabled_border::ANSIBuf;
+use tabled_configuration::SpannedConfig;
+use tabled_grid::{Borders, LineOf, Place};
+use tabled_kept::Meter;
 
 /// The character of an edge or a crossing without its offset characters. `at` of an edge is not read.
 pub fn character_beside_offsets(

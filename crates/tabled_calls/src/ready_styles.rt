@@ -8,8 +8,9 @@ ghost use Rattle.tabled_style.specs.declared.ready_style.ReadyStyle.TheVariants 
 ghost use Rattle.tabled_style.specs.Named.{name_of, ready_applied, shown, style_named};
 ghost use Rattle.tabled_style.specs.Ready as ready;
 
-use tabled_config::SpannedConfig;
-use tabled_grid::{Borders, OutOfMemory};
+use tabled_border::OutOfMemory;
+use tabled_configuration::SpannedConfig;
+use tabled_grid::Borders;
 use tabled_style::{On, ReadyStyle, Style};
 
 /// The ready styles without a frame: without any line, with spaces between columns, with a line below row 0, with lines of `=`.

@@ -6,7 +6,7 @@ ghost use Rattle.tabled_text.specs.Refusal.{of_printer};
 use std::alloc::{AllocError, AllocFailed};
 use std::fmt;
 use tabled_border::OutOfMemory;
-use tabled_config::PrintError;
+use tabled_printing::PrintError;
 use tabled_style::UnknownStyle;
 use tabled_text::TableError;
 

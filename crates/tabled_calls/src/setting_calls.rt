@@ -11,9 +11,11 @@ ghost use Rattle.tabled_settings.specs.Live.{value_at};
 ghost use Rattle.tabled_settings.specs.Setting.{is_global, write_of};
 
 use std::collections::BTreeMap;
-use tabled_config::SpannedConfig;
-use tabled_grid::{ANSIBuf, Entity, Offset, OutOfMemory, Position};
+use tabled_border::{ANSIBuf, OutOfMemory};
+use tabled_configuration::SpannedConfig;
+use tabled_grid::Offset;
 use tabled_layout::Indent;
+use tabled_object::{Entity, Position};
 use tabled_settings::{AlignmentHorizontal, AlignmentVertical, Sides};
 
 /// Sets where the texts of the cells of an entity stand between the left and the right side. Where memory is refused nothing

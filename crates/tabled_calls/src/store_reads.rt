@@ -14,10 +14,12 @@ ghost use Rattle.tabled_grid.specs.Value.{plain_value, value};
 ghost use Rattle.tabled_grid.specs.Writes.{kept_at};
 
 use std::collections::BTreeMap;
+use tabled_border::{Border, Keep, OutOfMemory};
 use tabled_grid::{
-    Border, Borders, HorizontalLine, HorizontalLines, Keep, Layers, Meter, OutOfMemory, Place,
-    Position, Target, VerticalLine, VerticalLines,
+    Borders, HorizontalLine, HorizontalLines, Layers, Place, Target, VerticalLine, VerticalLines,
 };
+use tabled_kept::Meter;
+use tabled_object::Position;
 
 /// The class record, and the default, if one is set.
 pub fn class_record_and_default_kept<T>(store: &Layers<T>) -> (&Borders<T>, Option<&T>)

@@ -8,7 +8,7 @@ ghost use Rattle.tabled_style.specs.LineCalls.{with_line_horizontal, with_line_v
 ghost use Rattle.tabled_style.specs.Lines.{each_line};
 ghost use Rattle.tabled_style.specs.Removing.{horizontal_dropped, vertical_dropped, without_ends_horizontal, without_ends_vertical, without_horizontal, without_vertical};
 ghost use Rattle.tabled_style.specs.Setting.{with_horizontal, with_intersection, with_vertical};
-ghost use Rattle.tabled_style.specs.Shown.{Shown};
+ghost use Rattle.tabled_style.specs.Shown.{StyleShown};
 
 use tabled_grid::{Borders, HorizontalLine as GridHorizontal, Rank, VerticalLine as GridVertical};
 use tabled_style::{Border, HorizontalLine, On, Style, VerticalLine};
@@ -313,5 +313,5 @@ pub fn vertical_lines_of_a_style<T, B, L, R, H, V, const HN: usize, const VN: us
 
 /// A style converted to its class record.
 pub fn style_converted<T, B, L, R, H, V, const HN: usize, const VN: usize>()
-    ensures { (style : Shown) (borders : Fifteen ℕ) → ⟦<Borders<char> as From<Style<T, B, L, R, H, V, HN, VN>>>⟧.from_gives style borders → borders ≡ style.borders }
+    ensures { (style : StyleShown) (borders : Fifteen ℕ) → ⟦<Borders<char> as From<Style<T, B, L, R, H, V, HN, VN>>>⟧.from_gives style borders → borders ≡ style.borders }
 {}

@@ -5,8 +5,9 @@ ghost use Rattle.tabled_grid.specs.CustomLines.{no_borders};
 ghost use Rattle.tabled_theme.specs.Fields.{frame_of, with_frame};
 
 use std::mem;
+use tabled_border::Border;
 use tabled_color::Color;
-use tabled_grid::{Border, Borders};
+use tabled_grid::Borders;
 use tabled_theme::Theme;
 
 /// The fifteen colors of a theme set in a row, from its sides to what lies inside: each stands in its own field, and characters and

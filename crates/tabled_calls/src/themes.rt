@@ -13,8 +13,9 @@ ghost use Rattle.tabled_theme.specs.Shown.{of_borders, of_configuration, of_styl
 
 use std::alloc::Global;
 use std::collections::BTreeMap;
-use tabled_config::ColoredConfig;
-use tabled_grid::{Border, Borders, HorizontalLine, OutOfMemory, Rank, VerticalLine};
+use tabled_border::{Border, OutOfMemory};
+use tabled_configuration::ColoredConfig;
+use tabled_grid::{Borders, HorizontalLine, Rank, VerticalLine};
 use tabled_style::Style;
 use tabled_theme::Theme;
 

@@ -23,9 +23,8 @@ use std::alloc::Global;
 use std::fmt;
 use tabled_border::{ANSIBuf, ANSIFmt, ANSIStr, AnsiText, Border, Keep, OutOfMemory};
 use tabled_color::Color;
-use tabled_grid::{
-    Borders, HorizontalLine, LineOf, Meter, Place, Probes, Rank, Spot, VerticalLine,
-};
+use tabled_grid::{Borders, HorizontalLine, LineOf, Place, Rank, Spot, VerticalLine};
+use tabled_kept::{Meter, Probes};
 use tabled_layout::Indent;
 use tabled_settings::{AlignmentHorizontal, AlignmentVertical, Sides};
 

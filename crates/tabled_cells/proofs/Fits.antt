@@ -16,13 +16,13 @@ use Rattle.unicode_width.proofs.Rules.{str_width-append_simple, str_width-printa
 use Rattle.unicode_width.proofs.Computing.{unicode_width}
 use Rattle.tabled_settings.specs.declared.alignment.AlignmentHorizontal.{AlignmentHorizontal}
 use Rattle.tabled_settings.specs.declared.alignment.AlignmentHorizontal.TheVariants.{Left, Center, Right}
-use Rattle.tabled_config.specs.Texts.{pieces, width_of_text}
-use Rattle.tabled_config.specs.Pieces.{first_piece, after_first_piece}
-use Rattle.tabled_config.proofs.PieceLemmas.{first_of_pieces, rest_of_pieces}
+use Rattle.tabled_printing.specs.Texts.{pieces, width_of_text}
+use Rattle.tabled_printing.specs.Pieces.{first_piece, after_first_piece}
+use Rattle.tabled_printing.proofs.PieceLemmas.{first_of_pieces, rest_of_pieces}
 use Rattle.tabled_cells.specs.declared.placement.Placement.{Placement}
 use Rattle.tabled_cells.specs.Trimmed.{without_first, without_ends, is_space, is_blank, line_shown, lines_shown}
 use Rattle.tabled_cells.specs.Placed.{line_parts, free_before, free_above, times, filled, fill_of, greatest, aligned_width}
-use Rattle.tabled_config.proofs.TimesLemmas.{IsAscii-spaces, times_spaces}
+use Rattle.tabled_printing.proofs.TimesLemmas.{IsAscii-spaces, times_spaces}
 
 -- ---- what stands before and after a line feed is a text too
 

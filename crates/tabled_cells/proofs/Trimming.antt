@@ -6,8 +6,8 @@ use Rattle.std.proofs.lemmas.List.{append-nil, append_assoc, reverse-append, rev
 use Rattle.std.proofs.lemmas.List.Splits.{slice_split_none, slice_split_at}
 use Rattle.std.proofs.lemmas.Str.Pattern.{IsSplitOnceResult, split_parts}
 use denote.Ref.{Bor}
-use Rattle.tabled_config.specs.Texts.{pieces}
-use Rattle.tabled_config.specs.Pieces.{lent}
+use Rattle.tabled_printing.specs.Texts.{pieces}
+use Rattle.tabled_printing.specs.Pieces.{lent}
 use Rattle.tabled_cells.specs.declared.placement.Placement.{Placement}
 use Rattle.tabled_cells.specs.Trimmed.{without_first, without_ends, is_space, is_blank, goes_on, lines_kept}
 

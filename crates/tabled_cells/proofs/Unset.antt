@@ -2,13 +2,13 @@
 use Rattle.std.proofs.Common.{◌≡◌, ℕ, ◌-◌, Bool, true, false, if◌then◌else◌, List, [], ◌∷◌, ◌++◌, map, length, get_or, ltb, nat_lt, replicate, refl, ap, ◌∙◌, arith}
 use Rattle.std.proofs.lemmas.Bool.{le-ltb}
 use Rattle.tabled_settings.specs.CellSettings.{first_settings}
-use Rattle.tabled_config.specs.Texts.{pieces, width_of_text}
+use Rattle.tabled_printing.specs.Texts.{pieces, width_of_text}
 use Rattle.tabled_cells.specs.declared.placement.Placement.{Placement}
 use Rattle.tabled_cells.specs.Placements.{placement_at}
 use Rattle.tabled_cells.specs.Trimmed.{lines_shown}
 use Rattle.tabled_cells.specs.Placed.{filled, line_parts, aligned_width}
 use Rattle.tabled_cells.proofs.Fits.{empty_line, placed_line, placed_at}
-use Rattle.tabled_config.proofs.TimesLemmas.{times_spaces}
+use Rattle.tabled_printing.proofs.TimesLemmas.{times_spaces}
 
 same_each : {A : Type 0} (xs : List A) → map (λ x. x) xs ≡ xs
 same_each [] = refl

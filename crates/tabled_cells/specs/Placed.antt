@@ -1,9 +1,9 @@
 -- A cell as it is printed: where its text stands in it, and what fills the rest.
-pub use Rattle.tabled_config.specs.Texts.{times}
+pub use Rattle.tabled_printing.specs.Texts.{times}
 use Rattle.std.specs.Prelude.{ℕ, ◌-◌, ◌/◌, ◌==◌, ◌&&◌, not, max, fold, if◌then◌else◌, List, [], ◌∷◌, ◌++◌, map}
 use Rattle.tabled_settings.specs.declared.alignment.AlignmentHorizontal.{AlignmentHorizontal}
 use Rattle.tabled_settings.specs.declared.alignment.AlignmentVertical.{AlignmentVertical}
-use Rattle.tabled_config.specs.Texts.{width_of_text}
+use Rattle.tabled_printing.specs.Texts.{width_of_text}
 use Rattle.tabled_cells.specs.declared.filling.LineParts.{LineParts}
 use Rattle.tabled_cells.specs.declared.placement.Placement.{Placement}
 

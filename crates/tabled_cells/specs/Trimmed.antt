@@ -1,7 +1,7 @@
 -- The lines of a text that are shown in its cell: all of it, or less where it is trimmed.
 use Rattle.std.specs.Prelude.{ℕ, Bool, ◌==◌, ◌&&◌, if◌then◌else◌, List, [], ◌∷◌, length, map, reverse}
 use Rattle.std.specs.List.{list_all}
-use Rattle.tabled_config.specs.Texts.{pieces}
+use Rattle.tabled_printing.specs.Texts.{pieces}
 use Rattle.tabled_cells.specs.declared.placement.Placement.{Placement}
 
 -- a list without the elements at its start that pass a test, and without those at both its ends

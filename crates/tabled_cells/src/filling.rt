@@ -2,8 +2,8 @@
 
 ghost use Rattle.std.specs.Prelude.{◌≡◌, ◌≢◌, ◌++◌, false, if◌then◌else◌, map, string_bytes, IfOk, OnOk};
 ghost use Rattle.tabled_settings.specs.declared.alignment.AlignmentHorizontal.{AlignmentHorizontal as Side};
-ghost use Rattle.tabled_config.specs.Pieces.{lent};
-ghost use Rattle.tabled_config.specs.Texts.{width_of_text};
+ghost use Rattle.tabled_printing.specs.Pieces.{lent};
+ghost use Rattle.tabled_printing.specs.Texts.{width_of_text};
 ghost use Rattle.tabled_cells.specs.Placed.{filled, greatest};
 ghost use Rattle.tabled_cells.specs.Placed as parts;
 
@@ -11,7 +11,7 @@ use crate::Placement;
 use crate::placement::free_before;
 use crate::width::width_of;
 use std::alloc::{AllocError, Global};
-use tabled_config::push_times;
+use tabled_printing::push_times;
 use tabled_settings::AlignmentHorizontal;
 
 /// What stands beside the text of a line, between the spaces at its ends.

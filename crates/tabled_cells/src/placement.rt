@@ -3,8 +3,8 @@
 ghost use Rattle.std.specs.Prelude.{◌≡◌};
 ghost use Rattle.tabled_cells.specs.Placed as parts;
 
-use tabled_config::SpannedConfig;
-use tabled_grid::Position;
+use tabled_configuration::SpannedConfig;
+use tabled_object::Position;
 use tabled_settings::{AlignmentHorizontal, AlignmentVertical};
 
 /// How the text of a cell stands in it, and what fills the rest.

@@ -1,8 +1,8 @@
 //! The lines of a text as they are shown.
 
 ghost use Rattle.std.specs.Prelude.{◌≡◌, ◌<◌, ℕ, List, [], ◌∷◌, ◌++◌, map, reverse, length, OnOk, IfSome, MatchOption};
-ghost use Rattle.tabled_config.specs.Pieces.{lent};
-ghost use Rattle.tabled_config.specs.Texts.{pieces};
+ghost use Rattle.tabled_printing.specs.Pieces.{lent};
+ghost use Rattle.tabled_printing.specs.Texts.{pieces};
 ghost use Rattle.tabled_cells.specs.Trimmed.{without_first, is_space, line_shown, goes_on, lines_shown};
 ghost use Rattle.tabled_cells.specs.Trimmed as shown;
 

@@ -2,7 +2,7 @@
 
 ghost use Rattle.std.specs.Prelude.{◌≡◌};
 ghost use Rattle.std.specs.List.{list_all};
-ghost use Rattle.tabled_config.specs.Texts.{width_of_text};
+ghost use Rattle.tabled_printing.specs.Texts.{width_of_text};
 ghost use Rattle.tabled_cells.specs.Printable.{is_printable};
 
 use unicode_width::UnicodeWidthStr;

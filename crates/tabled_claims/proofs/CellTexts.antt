@@ -9,9 +9,9 @@ use Rattle.tabled_object.specs.Entities.{below}
 use Rattle.tabled_grid.specs.declared.place.LineOf.{LineOf}
 use Rattle.tabled_layout.specs.declared.margin.Margin.{Margin}
 use Rattle.tabled_configuration.specs.Configuration.{ConfigEvent}
-use Rattle.tabled_config.specs.Along.{is_empty}
-use Rattle.tabled_config.specs.Picture.{Look, text_lines, marks_along, line_if_drawn, row_lines}
-use Rattle.tabled_config.specs.Texts.{Table, pieces}
+use Rattle.tabled_printing.specs.Along.{is_empty}
+use Rattle.tabled_printing.specs.Picture.{Look, text_lines, marks_along, line_if_drawn, row_lines}
+use Rattle.tabled_printing.specs.Texts.{Table, pieces}
 use Rattle.tabled_cells.specs.Placements.{placement_at}
 use Rattle.tabled_cells.specs.Trimmed.{lines_shown}
 use Rattle.tabled_cells.proofs.Fits.{Lacks, cut_lines, placed_at_lacks}

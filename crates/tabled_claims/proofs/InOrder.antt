@@ -7,10 +7,10 @@ use Rattle.std.proofs.lemmas.Simd.{map-map}
 use Rattle.tabled_grid.specs.declared.place.Place.{Place}
 use Rattle.tabled_grid.specs.declared.place.LineOf.{LineOf}
 use Rattle.tabled_object.specs.Entities.{below}
-use Rattle.tabled_config.specs.Along.{is_empty, crossing_at, along, along_line}
-use Rattle.tabled_config.specs.Picture.{Look, Shown, mark_at, marks_along, line_if_drawn, row_lines, text_lines}
-use Rattle.tabled_config.specs.TextOrder.{TextLine, of_line, of_row, line_there, text_order, line_text, place_in}
-use Rattle.tabled_config.specs.Texts.{Table}
+use Rattle.tabled_printing.specs.Along.{is_empty, crossing_at, along, along_line}
+use Rattle.tabled_printing.specs.Picture.{Look, Shown, mark_at, marks_along, line_if_drawn, row_lines, text_lines}
+use Rattle.tabled_printing.specs.TextOrder.{TextLine, of_line, of_row, line_there, text_order, line_text, place_in}
+use Rattle.tabled_printing.specs.Texts.{Table}
 
 -- a function over steps in a row
 each_step : {A B : Type 0} (f : A → B) (step : ℕ → List A) (other : ℕ → List B) → ((r : ℕ) → map f (step r) ≡ other r) → (rs : List ℕ) → map f (flat_map step rs) ≡ flat_map other rs

@@ -4,19 +4,19 @@ ghost use Rattle.std.specs.Prelude.{◌≡◌, ◌==◌, ◌≤◌, ◌+◌, ◌
 ghost use Rattle.std.specs.List.{All};
 ghost use Rattle.std.specs.Str.{IsUtf8};
 ghost use Rattle.tabled_settings.specs.CellSettings.{first_settings};
-ghost use Rattle.tabled_config.specs.Texts.{pieces, width_of_text};
+ghost use Rattle.tabled_printing.specs.Texts.{pieces, width_of_text};
 ghost use Rattle.tabled_cells.specs.declared.placement.Placement.{Placement as How};
 ghost use Rattle.tabled_cells.specs.Placements.{placement_at};
 ghost use Rattle.tabled_cells.specs.Placed.{greatest};
 ghost use Rattle.tabled_cells.specs.Trimmed.{lines_shown};
-ghost use Rattle.tabled_config.specs.Pieces.{lent};
+ghost use Rattle.tabled_printing.specs.Pieces.{lent};
 ghost use Rattle.tabled_painting.specs.CellLines.{Coloring, cell_line};
 ghost use Rattle.tabled_painting.specs.Painted.{plain};
 
 use std::alloc::AllocError;
 use tabled_cells::{Placement, show_lines};
-use tabled_config::SpannedConfig;
-use tabled_grid::Position;
+use tabled_configuration::SpannedConfig;
+use tabled_object::Position;
 
 /// The lines of a text that are shown are those of it that its placement says, each as it says.
 pub fn lines_of_a_text<'a>(

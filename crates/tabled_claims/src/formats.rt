@@ -4,15 +4,15 @@ ghost use Rattle.std.specs.Prelude.{IsOk, OnOk};
 ghost use Rattle.tabled_object.specs.declared.entity.Entity.TheVariants as cells;
 ghost use Rattle.tabled_configuration.specs.Colored.{Changes};
 ghost use Rattle.tabled_formatting.specs.Formatting.{alignment_set, justification_set, padding_set, strategy_set, trim_set};
-ghost use Rattle.tabled_margin.specs.Margins.{margin_colored, shadow_set};
+ghost use Rattle.tabled_formatting.specs.Margins.{margin_colored, shadow_set};
 
 use std::alloc::Global;
 use tabled_border::{AnsiText, OutOfMemory};
-use tabled_config::{CellOption, ColoredConfig, TableOption};
-use tabled_object::Entity;
-use tabled_options::{
+use tabled_configuration::{CellOption, ColoredConfig, TableOption};
+use tabled_formatting::{
     Alignment, AlignmentStrategy, Justification, MarginColor, PaddingColor, Shadow, TrimStrategy,
 };
+use tabled_object::Entity;
 
 /// The colors of the padding of all cells.
 pub fn padding_colors_on_a_table<C, R, D>(

@@ -7,7 +7,7 @@ ghost use Rattle.tabled_configuration.specs.Colored.{Shows, Changes, by_cell_col
 ghost use Rattle.tabled_configuration.specs.Configuration.{ConfigEvent, all_writes, borders_replaced};
 ghost use Rattle.tabled_configuration.specs.EntitiesColored.{entities_colored};
 ghost use Rattle.tabled_configuration.specs.Options.{MakesInTurn, entity_bordered, entity_unbordered, table_bordered, table_unbordered};
-ghost use Rattle.tabled_config.specs.Picture.{look};
+ghost use Rattle.tabled_printing.specs.Picture.{look};
 ghost use Rattle.tabled_color.specs.BorderColors.{border_texts};
 ghost use Rattle.tabled_color.specs.Coloring.{entity_colored, table_colored};
 ghost use Rattle.tabled_color.specs.Shade.{texts_of};
@@ -25,15 +25,16 @@ ghost use Rattle.tabled_object.specs.Entities.{cells_of, is_inside};
 use std::alloc::Global;
 use tabled_border::{Border as GridBorder, OutOfMemory};
 use tabled_color::{BorderColor, Color};
-use tabled_config::{CellOption, ColoredConfig, TableOption, modify};
+use tabled_colorization::{Colorization, ExactColorization};
+use tabled_configuration::{CellOption, ColoredConfig, TableOption, modify};
+use tabled_correction::BorderCorrection;
 use tabled_grid::Borders;
+use tabled_highlight::Highlight;
 use tabled_object::{
     Column, Dimension, Entity, ExactRecords, FirstColumn, FirstRow, LastColumn, LastColumnOffset,
     LastRow, LastRowOffset, Object, Records, Row,
 };
-use tabled_options::{
-    BorderCorrection, Colorization, ExactColorization, Highlight, LineChar, LineText,
-};
+use tabled_options::{LineChar, LineText};
 use tabled_style::{Border, EmptyBorder, ReadyStyle, Style};
 use tabled_theme::Theme;
 

@@ -20,9 +20,9 @@ ghost use Rattle.tabled_grid.specs.declared.place.LineOf.TheVariants as lines;
 ghost use Rattle.tabled_grid.specs.declared.place.Place.TheVariants as spots;
 ghost use Rattle.tabled_layout.specs.declared.indent.Indent.{Indent as Filled};
 ghost use Rattle.tabled_color.specs.Shade.{Shade};
-ghost use Rattle.tabled_style.specs.Shown.{Shown};
+ghost use Rattle.tabled_style.specs.Shown.{StyleShown};
 ghost use Rattle.tabled_options.specs.LineChar.{EdgeChar};
-ghost use Rattle.tabled_margin.specs.declared.shadow.Shadow.{Shadow as Cast};
+ghost use Rattle.tabled_formatting.specs.declared.shadow.Shadow.{Shadow as Cast};
 ghost use Rattle.tabled_formatting.specs.declared.alignment.Alignment.TheVariants as aligned;
 ghost use Rattle.tabled_formatting.specs.declared.alignment_strategy.AlignmentStrategy.TheVariants as strategy;
 ghost use Rattle.tabled_formatting.specs.declared.trim_strategy.TrimStrategy.TheVariants as trim;
@@ -30,10 +30,9 @@ ghost use Rattle.tabled_formatting.specs.declared.trim_strategy.TrimStrategy.The
 use std::cmp::Ordering;
 use tabled_border::{ANSIBuf, Border};
 use tabled_color::{BorderColor, Color};
-use tabled_formatting::{Alignment, AlignmentStrategy, PaddingColor, TrimStrategy};
+use tabled_formatting::{Alignment, AlignmentStrategy, PaddingColor, Shadow, TrimStrategy};
 use tabled_grid::{Borders, HorizontalLine, LineOf, Offset, Place, VerticalLine};
 use tabled_layout::Indent;
-use tabled_margin::Shadow;
 use tabled_object::{Entity, Position, Shape};
 use tabled_options::LineChar;
 use tabled_settings::{AlignmentHorizontal, AlignmentVertical, Sides};
@@ -162,7 +161,7 @@ pub fn styles_in_order<T, B, L, R, H, V, I, const HN: usize, const VN: usize>()
     ensures horizontal { (a b : Horizontal ℕ) → ⟦<StyleHorizontal<L, R, I> as Ord>⟧.cmp a b ≡ ⟦<HorizontalLine<char> as Ord>⟧.cmp a b }
     ensures vertical { (a b : Vertical ℕ) → ⟦<StyleVertical<T, B, I> as Ord>⟧.cmp a b ≡ ⟦<VerticalLine<char> as Ord>⟧.cmp a b }
     ensures border { (a b : Eight ℕ) → ⟦<StyleBorder<T, B, L, R> as Ord>⟧.cmp a b ≡ ⟦<Border<char> as Ord>⟧.cmp a b }
-    ensures style { (a b : Shown) → ⟦<Style<T, B, L, R, H, V, HN, VN> as Ord>⟧.cmp a b
+    ensures style { (a b : StyleShown) → ⟦<Style<T, B, L, R, H, V, HN, VN> as Ord>⟧.cmp a b
         ≡ ordering_then (⟦<Borders<char> as Ord>⟧.cmp a.borders b.borders)
         (ordering_then (slice_cmp (λ x y. ordering_then (nat_cmp x.0 y.0) (⟦<HorizontalLine<char> as Ord>⟧.cmp x.1 y.1)) a.horizontals b.horizontals)
         (slice_cmp (λ x y. ordering_then (nat_cmp x.0 y.0) (⟦<VerticalLine<char> as Ord>⟧.cmp x.1 y.1)) a.verticals b.verticals)) }

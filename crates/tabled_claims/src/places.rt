@@ -9,8 +9,10 @@ ghost use Rattle.tabled_grid.specs.Site.{level};
 ghost use Rattle.tabled_grid.specs.State.{state_at};
 ghost use Rattle.tabled_grid.specs.Value.{sites, value};
 
-use tabled_config::SpannedConfig;
-use tabled_grid::{ANSIBuf, LineOf, Meter, Place};
+use tabled_border::ANSIBuf;
+use tabled_configuration::SpannedConfig;
+use tabled_grid::{LineOf, Place};
+use tabled_kept::Meter;
 
 /// The character of a place is the one that is kept at the strongest level, found in at most six readings.
 pub fn character_of_a_place<M: Meter>(

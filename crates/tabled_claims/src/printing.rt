@@ -7,22 +7,25 @@ ghost use Rattle.tabled_grid.specs.declared.place.Place.{Place as Spot};
 ghost use Rattle.tabled_grid.specs.declared.site.Direction.TheVariants.{Horizontal, Vertical};
 ghost use Rattle.tabled_grid.specs.Probing.{IsRaised};
 ghost use Rattle.tabled_configuration.specs.Configuration.{ConfigEvent, Shows, all_writes};
-ghost use Rattle.tabled_config.specs.Along.{along, is_empty};
-ghost use Rattle.tabled_config.specs.Alike.{NoneForPlaces, NoneForLines};
-ghost use Rattle.tabled_config.specs.LinePieces.{lines_met};
-ghost use Rattle.tabled_config.specs.Marks.{mark_of, marks_of, run_marks};
-ghost use Rattle.tabled_config.specs.Picture.{Look, look, text_marked, text_shown, mark_at, marks_along, marks, line_if_drawn, text_lines, printed};
-ghost use Rattle.tabled_config.specs.Refusal.{first_refusal};
-ghost use Rattle.tabled_config.specs.Sides.{side_at};
-ghost use Rattle.tabled_config.specs.TextOrder.{text_order, line_text, place_in};
-ghost use Rattle.tabled_config.specs.Texts.{Table, texts};
-ghost use Rattle.tabled_config.specs.Viewed.{frame_look, with_colors_if};
+ghost use Rattle.tabled_printing.specs.Along.{along, is_empty};
+ghost use Rattle.tabled_printing.specs.Alike.{NoneForPlaces, NoneForLines};
+ghost use Rattle.tabled_printing.specs.LinePieces.{lines_met};
+ghost use Rattle.tabled_printing.specs.Marks.{mark_of, marks_of, run_marks};
+ghost use Rattle.tabled_printing.specs.Picture.{Look, look, text_marked, text_shown, mark_at, marks_along, marks, line_if_drawn, text_lines, printed};
+ghost use Rattle.tabled_printing.specs.Refusal.{first_refusal};
+ghost use Rattle.tabled_printing.specs.Sides.{side_at};
+ghost use Rattle.tabled_printing.specs.TextOrder.{text_order, line_text, place_in};
+ghost use Rattle.tabled_printing.specs.Texts.{Table, texts};
+ghost use Rattle.tabled_printing.specs.Viewed.{frame_look, with_colors_if};
 
-use tabled_config::{
-    Frame, Mark, PrintError, Run, Sides, Sink, SpannedConfig, join_lines, line_marks, line_runs,
-    print_plain,
+use tabled_border::OutOfMemory;
+use tabled_configuration::SpannedConfig;
+use tabled_grid::LineOf;
+use tabled_kept::Probes;
+use tabled_object::Dimension;
+use tabled_printing::{
+    Frame, Mark, PrintError, Run, Sides, Sink, join_lines, line_marks, line_runs, print_plain,
 };
-use tabled_grid::{Dimension, LineOf, OutOfMemory, Probes};
 
 /// The printer appends exactly the picture that the events draw around the cells. It returns the first fault there is, and
 /// where there is none it is refused for memory alone; a refusal leaves the text as it was.

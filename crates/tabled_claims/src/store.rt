@@ -25,10 +25,12 @@ ghost use Rattle.tabled_grid.specs.declared.site.Site.TheVariants.{Line as of_li
 ghost use Rattle.tabled_grid.specs.declared.site.Part.TheVariants.{Mark as mark};
 
 use std::alloc::Global;
+use tabled_border::{Border, Keep, OutOfMemory};
 use tabled_grid::{
-    Border, Borders, Entity, HorizontalLine, Keep, Layers, LineOf, Meter, Offset, OutOfMemory,
-    Place, Position, Target, VerticalLine, Write,
+    Borders, HorizontalLine, Layers, LineOf, Offset, Place, Target, VerticalLine, Write,
 };
+use tabled_kept::Meter;
+use tabled_object::{Entity, Position};
 
 /// A new store shows that nothing happened.
 pub fn new_store<T>(alloc: Global) -> Layers<T>

@@ -6,7 +6,7 @@ ghost use Rattle.tabled_grid.specs.declared.lines.HorizontalLine.{HorizontalLine
 ghost use Rattle.tabled_grid.specs.declared.lines.VerticalLine.{VerticalLine as Vertical};
 ghost use Rattle.tabled_grid.specs.declared.place.Rank.{Rank};
 ghost use Rattle.tabled_grid.specs.Borders.{horizontal_of, vertical_of};
-ghost use Rattle.tabled_style.specs.Shown.{Shown, frame_of};
+ghost use Rattle.tabled_style.specs.Shown.{StyleShown, frame_of};
 ghost use Rattle.tabled_style.specs.Lines.{turned_horizontal};
 ghost use Rattle.tabled_style.specs.Setting.{with_horizontal};
 ghost use Rattle.tabled_style.specs.LineCalls.{with_line_horizontal, with_line_vertical};
@@ -19,7 +19,7 @@ ghost use Rattle.tabled_grid.specs.Drawn.{Drawn, drawn};
 ghost use Rattle.tabled_grid.specs.State.{state_at, class_record_set};
 ghost use Rattle.tabled_configuration.specs.Colored.{Colored, Shows, Changes};
 ghost use Rattle.tabled_configuration.specs.Configuration.{ConfigEvent, borders_replaced, characters_of, colors_of};
-ghost use Rattle.tabled_config.specs.Picture.{marks};
+ghost use Rattle.tabled_printing.specs.Picture.{marks};
 ghost use Rattle.tabled_style.specs.Deciding.{written_by};
 ghost use Rattle.tabled_grid.specs.declared.site.Site.{Site};
 ghost use Rattle.tabled_theme.specs.Shown.{ThemeShown, of_style, of_configuration};
@@ -39,9 +39,9 @@ pub fn turned_and_back<L, R, I>()
 /// followed it; and so is a frame, as it was corrected.
 #[tactic(auto, using(tabled_style::proofs::Inherited::horizontal_again, tabled_style::proofs::Inherited::vertical_again), unfolding(tabled_style::specs::Frame::with_frame))]
 pub fn inherited_again()
-    ensures horizontal { (rank : Rank) (line : Horizontal ℕ) (style : Shown) → horizontal_of rank (with_line_horizontal rank line style).borders ≡ line }
-    ensures vertical { (rank : Rank) (line : Vertical ℕ) (style : Shown) → vertical_of rank (with_line_vertical rank line style).borders ≡ line }
-    ensures frame { (border : Frame ℕ) (style : Shown) → frame_of (with_frame border style).borders ≡ border }
+    ensures horizontal { (rank : Rank) (line : Horizontal ℕ) (style : StyleShown) → horizontal_of rank (with_line_horizontal rank line style).borders ≡ line }
+    ensures vertical { (rank : Rank) (line : Vertical ℕ) (style : StyleShown) → vertical_of rank (with_line_vertical rank line style).borders ≡ line }
+    ensures frame { (border : Frame ℕ) (style : StyleShown) → frame_of (with_frame border style).borders ≡ border }
 {}
 
 /// A style whose top is set: the character stands along the edges above the first row, at the corners there of the sides that
@@ -70,13 +70,13 @@ pub fn line_of_a_style<T, B, L, R, H, V, Left, Right, I, const HN: usize, const 
 /// by the shape of the table and the length of the edge, and no place has a color, whatever was there before. A class
 /// record that is applied as an option makes the same events as a style without custom lines, so it holds there too.
 pub fn style_alone_decides()
-    ensures characters { (style : Shown) (old new : Colored) (shape : ℕ × ℕ) (size : ℕ) (place : At)
+    ensures characters { (style : StyleShown) (old new : Colored) (shape : ℕ × ℕ) (size : ℕ) (place : At)
         → Changes (borders_replaced style.borders style.horizontals style.verticals) old new
         → value (state_at new.spanned.characters) shape size place ≡ value (replay (written_by style)) shape size place }
-    ensures colors { (style : Shown) (old new : Colored) (shape : ℕ × ℕ) (size : ℕ) (place : At)
+    ensures colors { (style : StyleShown) (old new : Colored) (shape : ℕ × ℕ) (size : ℕ) (place : At)
         → Changes (borders_replaced style.borders style.horizontals style.verticals) old new
         → value (state_at new.spanned.colors) shape size place ≡ None }
-    ensures lines { (style : Shown) (old new : Colored) (count : ℕ) (line : Line)
+    ensures lines { (style : StyleShown) (old new : Colored) (count : ℕ) (line : Line)
         → Changes (borders_replaced style.borders style.horizontals style.verticals) old new
         → Drawn (state_at new.spanned.characters) count line ↔ IsTrue (drawn (written_by style) count line) }
 {}
@@ -103,13 +103,13 @@ pub fn theme_decides_marks()
 /// A theme that is made of a style leaves at every site what the style leaves, for every list of custom lines: so every
 /// place has the same character and the same color, and the same lines are drawn.
 pub fn from_style_draws_the_style()
-    ensures characters { (style : Shown) (site : Site)
+    ensures characters { (style : StyleShown) (site : Site)
         → replay (characters_of (theme_applied (of_style style))) site ≡ replay (characters_of (style_applied style)) site }
-    ensures colors { (style : Shown) (site : Site)
+    ensures colors { (style : StyleShown) (site : Site)
         → replay (colors_of (theme_applied (of_style style))) site ≡ replay (colors_of (style_applied style)) site }
-    ensures places { (style : Shown) (shape : ℕ × ℕ) (size : ℕ) (place : At)
+    ensures places { (style : StyleShown) (shape : ℕ × ℕ) (size : ℕ) (place : At)
         → value (replay (characters_of (theme_applied (of_style style)))) shape size place ≡ value (replay (characters_of (style_applied style))) shape size place }
-    ensures lines { (style : Shown) (count : ℕ) (line : Line)
+    ensures lines { (style : StyleShown) (count : ℕ) (line : Line)
         → Drawn (replay (characters_of (theme_applied (of_style style)))) count line ↔ Drawn (replay (characters_of (style_applied style))) count line }
 {}
 

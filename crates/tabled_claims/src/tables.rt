@@ -6,13 +6,13 @@ ghost use Rattle.tabled_configuration.specs.Colored.{Shows, Changes};
 ghost use Rattle.tabled_configuration.specs.Configuration.{ConfigEvent};
 ghost use Rattle.tabled_configuration.specs.Configuration as borders;
 ghost use Rattle.tabled_configuration.specs.Options.{MakesInTurn};
-ghost use Rattle.tabled_config.specs.Refusal.{span_faults};
-ghost use Rattle.tabled_config.specs.Picture.{printed};
-ghost use Rattle.tabled_config.specs.Texts.{Table, texts};
+ghost use Rattle.tabled_printing.specs.Refusal.{span_faults};
+ghost use Rattle.tabled_printing.specs.Picture.{printed};
+ghost use Rattle.tabled_printing.specs.Texts.{Table, texts};
 ghost use Rattle.tabled_painting.specs.Margin.{is_without_room};
 ghost use Rattle.tabled_painting.specs.PaintedTable.{plain_text, colored_text};
 ghost use Rattle.tabled_text.specs.Cells.{cell_texts, margin_set};
-ghost use Rattle.tabled_config.specs.declared.print_error.PrintError.{PrintError as Fault};
+ghost use Rattle.tabled_printing.specs.declared.print_error.PrintError.{PrintError as Fault};
 ghost use Rattle.tabled_text.specs.Refusal.{of_printer, unequal};
 ghost use Rattle.tabled_text.specs.Sizes.{column_count, column_widths, row_heights, unequal_row};
 ghost use Rattle.tabled_text.specs.TextTable.{lent_rows, shape_of, text_of, painted};
@@ -21,8 +21,10 @@ ghost use Rattle.std.specs.Fmt.{WritesOnOk};
 
 use std::alloc::Global;
 use std::{fmt, io, mem};
-use tabled_config::{CellOption, ColoredConfig, PrintError, TableOption};
-use tabled_grid::{FixedDimension, Object, OutOfMemory, Shape};
+use tabled_border::OutOfMemory;
+use tabled_configuration::{CellOption, ColoredConfig, TableOption};
+use tabled_object::{FixedDimension, Object, Shape};
+use tabled_printing::PrintError;
 use tabled_text::{TableError, TextTable};
 
 /// A table has the texts that it is given and nothing else yet; rows of unequal counts are refused with the number of the first

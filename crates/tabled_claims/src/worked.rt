@@ -8,14 +8,14 @@ ghost use Rattle.tabled_grid.specs.Event.{replay};
 ghost use Rattle.tabled_grid.specs.Value.{value};
 ghost use Rattle.tabled_configuration.specs.Colored.{Colored, Changes};
 ghost use Rattle.tabled_configuration.specs.Configuration.{ConfigEvent, borders_replaced, characters_of};
-ghost use Rattle.tabled_config.specs.Headline.{HaveMade};
+ghost use Rattle.tabled_printing.specs.Headline.{HaveMade};
 ghost use Rattle.tabled_configuration.specs.Options.{MakesInTurn, entity_bordered};
 ghost use Rattle.tabled_style.specs.Ready.{ascii};
 
 use crate::lists::headline;
 use std::alloc::Global;
 use tabled_border::{Border, OutOfMemory};
-use tabled_config::{CellOption, ColoredConfig, SpannedConfig, TableOption};
+use tabled_configuration::{CellOption, ColoredConfig, SpannedConfig, TableOption};
 use tabled_grid::{LineOf, Place};
 use tabled_object::{Entity, FixedDimension, Shape};
 use tabled_style::Style;

@@ -1,7 +1,8 @@
 //! The configuration of a table whose cells have one line.
 
 use std::alloc::AllocError;
-use tabled_grid::{ANSIStr, Borders};
+use tabled_border::ANSIStr;
+use tabled_grid::Borders;
 use tabled_settings::{AlignmentHorizontal, Sides};
 
 /// What a table of cells of one line is drawn by: a class record, an alignment, and the colors of its margin and of the

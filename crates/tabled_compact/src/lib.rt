@@ -1,7 +1,7 @@
 //! Compact configurations: plain records of the class borders, of an alignment and of the colors around a table, which take
 //! no memory.
 //!
-//! `docs/DEFINITIONS.md` explains the words of the contracts. Users name these items by `tabled_config`.
+//! `docs/DEFINITIONS.md` explains the words of the contracts. Users name these items by `tabled_printing`.
 #![tactic(auto)]
 
 mod compact_config;

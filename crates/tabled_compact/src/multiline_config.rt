@@ -2,7 +2,8 @@
 
 use crate::Formatting;
 use std::alloc::AllocError;
-use tabled_grid::{ANSIStr, Borders};
+use tabled_border::ANSIStr;
+use tabled_grid::Borders;
 use tabled_settings::{AlignmentHorizontal, AlignmentVertical, Sides};
 
 /// What a table of cells of many lines is drawn by: as a [`CompactConfig`](crate::CompactConfig), with an alignment from top to

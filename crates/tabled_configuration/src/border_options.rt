@@ -7,7 +7,9 @@ ghost use Rattle.tabled_configuration.specs.Colored.{Changes};
 ghost use Rattle.tabled_configuration.specs.Options.{entity_bordered, framed, table_bordered};
 
 use crate::{CellOption, ColoredConfig, TableOption};
-use tabled_grid::{Border, Borders, Entity, ExactRecords, OutOfMemory, Records};
+use tabled_border::{Border, OutOfMemory};
+use tabled_grid::Borders;
+use tabled_object::{Entity, ExactRecords, Records};
 
 impl<R: Records + ExactRecords> CellOption<R, ColoredConfig> for Border<char> {
     ghost makes = { λ border records entity old. entity_bordered border (R.row_count records, R.column_count records) entity };

@@ -6,7 +6,8 @@ ghost use Rattle.tabled_configuration.specs.Options.{MakesInTurn};
 
 use crate::Configured;
 use std::alloc::Global;
-use tabled_grid::{Entity as Cells, ExactRecords, Object, OutOfMemory, Records};
+use tabled_border::OutOfMemory;
+use tabled_object::{Entity as Cells, ExactRecords, Object, Records};
 
 /// A change of some cells in a configuration `C`, which may read the records `R` of the table.
 pub trait CellOption<R, C: Configured> {

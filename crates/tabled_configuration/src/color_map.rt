@@ -10,7 +10,8 @@ pub(crate) mod coloring;
 
 use std::alloc::Global;
 use std::marker::Model;
-use tabled_grid::{ANSIBuf, Entity, Keep, OutOfMemory, Position};
+use tabled_border::{ANSIBuf, Keep, OutOfMemory};
+use tabled_object::{Entity, Position};
 use tabled_settings::EntityMap;
 
 /// Colors of cells, as what draws a table asks for them.

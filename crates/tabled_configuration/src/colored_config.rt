@@ -7,7 +7,9 @@ mod coloring;
 use crate::{BorderEvent, ColorMap, Colors, Configured, SpannedConfig, TableOption};
 use std::alloc::Global;
 use std::marker::Model;
-use tabled_grid::{ANSIBuf, Borders, Entity, Keep, OutOfMemory, Position};
+use tabled_border::{ANSIBuf, Keep, OutOfMemory};
+use tabled_grid::Borders;
+use tabled_object::{Entity, Position};
 use tabled_settings::EntityMap;
 
 /// The configuration that table options change: that of the borders and of what is set for cells, and the colors of cells.

@@ -4,8 +4,10 @@ ghost use Rattle.std.specs.Prelude.{◌≡◌, [], ◌∷◌, Some, IsOk};
 ghost use Rattle.tabled_object.specs.declared.entity.Entity.TheVariants as cells;
 
 use crate::{Configured, TableOption};
+use tabled_border::OutOfMemory;
 use tabled_compact::{CompactConfig, CompactMultilineConfig};
-use tabled_grid::{Borders, Entity, OutOfMemory};
+use tabled_grid::Borders;
+use tabled_object::Entity;
 
 /// What can happen to it: it becomes another record.
 impl Configured for CompactConfig {

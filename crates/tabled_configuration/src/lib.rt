@@ -1,5 +1,4 @@
-//! Configurations, and the options that change them. What prints a table of a configuration stands in `tabled_config`, which passes
-//! these items on.
+//! Configurations, and the options that change them. What prints a table of a configuration stands in `tabled_printing`.
 //!
 //! `docs/DEFINITIONS.md` explains the words of the contracts. Users name these items by `tabled_config`.
 #![tactic(auto)]
@@ -19,4 +18,3 @@ pub use colored_config::ColoredConfig;
 pub use configured::{BorderEvent, Configured};
 pub use spanned_config::SpannedConfig;
 pub use table_option::TableOption;
-pub use tabled_compact::{CompactConfig, CompactMultilineConfig, Formatting};

@@ -26,7 +26,9 @@ mod spans;
 
 use std::alloc::Global;
 use std::marker::Model;
-use tabled_grid::{ANSIBuf, Borders, Layers, LineOf, Place, Probes, Target};
+use tabled_border::ANSIBuf;
+use tabled_grid::{Borders, Layers, LineOf, Place, Target};
+use tabled_kept::Probes;
 use tabled_layout::TableSettings;
 
 /// What a table keeps for its borders, and what is set for its cells, its margin and its spans. `M` is the type of the meters

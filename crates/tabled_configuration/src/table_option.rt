@@ -4,7 +4,8 @@ ghost use Rattle.std.specs.Prelude.{◌≡◌, OnOk, OnErr, List, Option};
 ghost use Rattle.tabled_object.specs.declared.entity.Entity.{Entity};
 
 use crate::Configured;
-use tabled_grid::{Entity as Cells, OutOfMemory};
+use tabled_border::OutOfMemory;
+use tabled_object::Entity as Cells;
 
 /// A change of a whole table's configuration `C`, which may read its records `R` and its sizes `D`.
 pub trait TableOption<R, C: Configured, D> {

@@ -72,7 +72,7 @@ one_row_more start row r old cols h = by (r == row) old cols (nat_le start r && 
         none false false true = refl
         none false false false = refl
 
--- all numbers of a stretch
+-- all numbers of an interval
 pub all_of : (start end at n : ℕ) → at ≤ max start end → end ≤ at → (nat_le start n && nat_lt n at) ≡ (nat_le start n && nat_lt n end)
 all_of start end at n most past = grind (arith, nat_tests)
 

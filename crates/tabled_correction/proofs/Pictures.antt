@@ -11,7 +11,7 @@ use Rattle.tabled_object.specs.Entities.{position}
 use Rattle.tabled_grid.specs.declared.place.Place.{Place}
 use Rattle.tabled_layout.specs.Spans.{position_cmp, same_position}
 use Rattle.tabled_layout.proofs.SpanLemmas.{is_same_position}
-use Rattle.tabled_correction.specs.Correction.{Write, Shown, last_at, written_over}
+use Rattle.tabled_correction.specs.Correction.{Write, PlaceCharacters, last_at, written_over}
 use Rattle.tabled_correction.specs.Picture.{shown_through}
 
 last_more : {A : Type 0} (test : A → Bool) (before : Option A) (xs : List A) (x : A) → last_or before (filter test (xs ++ x ∷ [])) ≡ cond (test x) (Some x) (last_or before (filter test xs))
@@ -55,7 +55,7 @@ one_more_crossing writes further old before after entry more so_far updated cros
     by false last = refl
 
 -- a map in which the crossings of a list stand shows what the list writes over the picture of the old map
-pub shown_after : (writes : List Write) (old new : BTreeMap Position ℕ) (shown : Shown)
+pub shown_after : (writes : List Write) (old new : BTreeMap Position ℕ) (shown : PlaceCharacters)
     → ((crossing : Position) → get position_cmp new crossing ≡ option_or (last_at writes crossing) (get position_cmp old crossing))
     → (place : Place) → shown_through new shown place ≡ written_over writes (shown_through old shown) place
 shown_after writes old new shown stands (Place.Cross r c) = ap (λ o. option_or o (shown (Place.Cross r c))) (stands (position r c)) ∙ by (last_at writes (position r c)) (get position_cmp old (position r c))
@@ -66,6 +66,6 @@ shown_after writes old new shown stands (Place.Cross r c) = ap (λ o. option_or 
 shown_after writes old new shown stands place = refl
 
 -- a map in which nothing stands shows the picture as it is
-pub nothing_written_over : (written : BTreeMap Position ℕ) (shown : Shown) → written.entries ≡ [] → (place : Place) → shown_through written shown place ≡ shown place
+pub nothing_written_over : (written : BTreeMap Position ℕ) (shown : PlaceCharacters) → written.entries ≡ [] → (place : Place) → shown_through written shown place ≡ shown place
 nothing_written_over written shown none (Place.Cross r c) = ap (λ es. option_or (lookup (is_at (position_cmp (position r c))) es) (shown (Place.Cross r c))) none
 nothing_written_over written shown none place = refl

@@ -29,7 +29,7 @@ use Rattle.tabled_layout.specs.Spans.{SpanEvent, same_position}
 use Rattle.tabled_layout.specs.TableSettings.{settings_after}
 use Rattle.tabled_configuration.specs.Configuration.{Configuration, Changes, of_characters, setting_event, by_characters}
 use Rattle.tabled_configuration.proofs.ConfigurationLemmas.{passed_over, characters_of-by_characters}
-use Rattle.tabled_correction.specs.Correction.{Write, last_at, written_over, Spanned, written_at, where_so, column_step, column_span_step, at_edge, joined, left_above, left_below, top_at_left, top_at_right, row_step, row_span_step, columns_corrected, rows_corrected, inner_corrected, after_writes, spanned, crossing_written, crossings_written, correction_events}
+use Rattle.tabled_correction.specs.Correction.{Write, last_at, written_over, Spanned, written_at, where_so, column_step, column_span_step, at_edge, border_crossing, left_above, left_below, top_at_left, top_at_right, row_step, row_span_step, columns_corrected, rows_corrected, inner_corrected, after_writes, spanned, crossing_written, crossings_written, correction_events}
 
 -- ---- the sites of written crossings
 
@@ -176,10 +176,10 @@ module _ (table : Spanned) (r c : ℕ) (nothing : table.shown (Place.Cross r c) 
       edge row col = is_some (table.shown (Place.Horizontal row col 0))
 
   above : Bool → Position → Option ℕ
-  above is_first cell = joined (left_above table cell) is_first table.class.intersection table.class.bottom_intersection table.class.top_intersection (table.shown (Place.Horizontal cell.row cell.col 0))
+  above is_first cell = border_crossing (left_above table cell) is_first table.class.intersection table.class.bottom_intersection table.class.top_intersection (table.shown (Place.Horizontal cell.row cell.col 0))
 
   beneath : Bool → Position → Option ℕ
-  beneath is_first cell = joined (left_below table cell) is_first table.class.intersection table.class.top_intersection table.class.bottom_intersection (table.shown (Place.Horizontal (cell.row + 1) cell.col 0))
+  beneath is_first cell = border_crossing (left_below table cell) is_first table.class.intersection table.class.top_intersection table.class.bottom_intersection (table.shown (Place.Horizontal (cell.row + 1) cell.col 0))
 
   none_by_column : (is_first : Bool) (cell : Position) → IsMissing r c (column_step table is_first cell)
   unfolding column_step above beneath

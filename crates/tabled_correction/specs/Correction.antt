@@ -24,15 +24,15 @@ abbrev pub Write : Type 0
 Write = Position × ℕ
 
 -- what a table shows at its edges and crossings, the offset characters left aside; for an edge `at` is 0
-abbrev pub Shown : Type 0
-Shown = Place → Option ℕ
+abbrev pub PlaceCharacters : Type 0
+PlaceCharacters = Place → Option ℕ
 
 -- the last character that is written at a crossing
 abbrev pub last_at : List Write → Position → Option ℕ
 last_at writes crossing = option_map (λ entry. entry.1) (last_or None (filter (λ entry. same_position crossing entry.0) writes))
 
 -- the picture after crossings were written
-abbrev pub written_over : List Write → Shown → Shown
+abbrev pub written_over : List Write → PlaceCharacters → PlaceCharacters
 written_over writes shown (Place.Cross r c) = option_or (last_at writes (position r c)) (shown (Place.Cross r c))
 written_over writes shown place = shown place
 
@@ -43,7 +43,7 @@ pub record Spanned : Type 0 where
   pub columns : SpanMap
   pub rows : SpanMap
   pub class : Borders ℕ
-  pub shown : Shown
+  pub shown : PlaceCharacters
 
 -- a crossing written, where there is a character for it
 abbrev pub written_at : ℕ → ℕ → Option ℕ → List Write
@@ -56,8 +56,8 @@ where_so holds writes = if holds then writes else []
 
 -- what becomes of a crossing on a horizontal border of a column span: it joins what stands beyond the span, and what stands
 -- at the left of its first column; with neither it is as the edge beside it
-unfoldable pub joined : Bool → Bool → (both beyond first edge : Option ℕ) → Option ℕ
-joined is_beyond is_first both beyond first edge = if is_beyond then (if is_first then both else beyond) else (if is_first then first else edge)
+unfoldable pub border_crossing : Bool → Bool → (both beyond first edge : Option ℕ) → Option ℕ
+border_crossing is_beyond is_first both beyond first edge = if is_beyond then (if is_first then both else beyond) else (if is_first then first else edge)
 
 module _ (table : Spanned) where
   -- whether a cell of the table that no span of its row covers has something at its left: its edge or one of its crossings there
@@ -98,8 +98,8 @@ module _ (table : Spanned) where
   unfoldable pub column_step : Bool → Position → List Write
   column_step is_first cell =
       where_so (nat_lt 0 cell.col) (
-      at_edge cell.row cell.col (joined (left_above cell) is_first table.class.intersection table.class.bottom_intersection table.class.top_intersection (table.shown (Place.Horizontal cell.row cell.col 0)))
-      ++ at_edge (cell.row + 1) cell.col (joined (left_below cell) is_first table.class.intersection table.class.top_intersection table.class.bottom_intersection (table.shown (Place.Horizontal (cell.row + 1) cell.col 0)))
+      at_edge cell.row cell.col (border_crossing (left_above cell) is_first table.class.intersection table.class.bottom_intersection table.class.top_intersection (table.shown (Place.Horizontal cell.row cell.col 0)))
+      ++ at_edge (cell.row + 1) cell.col (border_crossing (left_below cell) is_first table.class.intersection table.class.top_intersection table.class.bottom_intersection (table.shown (Place.Horizontal (cell.row + 1) cell.col 0)))
       )
 
   -- column by column, as far as the table goes

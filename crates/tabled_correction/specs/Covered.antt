@@ -4,15 +4,15 @@ use Rattle.std.specs.List.{list_any}
 use Rattle.tabled_object.specs.declared.position.Position.{Position}
 use Rattle.tabled_object.specs.Entities.{is_inside}
 use Rattle.tabled_layout.specs.Spans.{SpanEvent, same_position}
-use Rattle.tabled_correction.specs.declared.stretch.Stretch.{Stretch}
+use Rattle.tabled_correction.specs.declared.interval.Interval.{Interval}
 
 -- whether a list has a cell
 abbrev pub has : List Position → Position → Bool
 has cells cell = list_any (same_position cell) cells
 
--- whether a number is one of a stretch
-abbrev pub is_in : Stretch → ℕ → Bool
-is_in stretch n = nat_le stretch.start n && nat_lt n stretch.end
+-- whether a number is one of an interval
+abbrev pub is_in : Interval → ℕ → Bool
+is_in interval n = nat_le interval.start n && nat_lt n interval.end
 
 -- the cells of the list are those inside the table that pass
 abbrev pub AreThose : List Position → ℕ × ℕ → (Position → Bool) → Type 0

@@ -7,11 +7,11 @@ use Rattle.tabled_object.specs.declared.position.Position.{Position}
 use Rattle.tabled_object.specs.Entities.{position}
 use Rattle.tabled_grid.specs.declared.place.Place.{Place}
 use Rattle.tabled_layout.specs.Spans.{position_cmp}
-use Rattle.tabled_correction.specs.Correction.{Shown, Spanned, spanned}
+use Rattle.tabled_correction.specs.Correction.{PlaceCharacters, Spanned, spanned}
 use Rattle.tabled_correction.specs.declared.picture.Picture.{Picture}
 
 -- crossings of a map in place of what was shown
-abbrev pub shown_through : BTreeMap Position ℕ → Shown → Shown
+abbrev pub shown_through : BTreeMap Position ℕ → PlaceCharacters → PlaceCharacters
 shown_through written shown (Place.Cross r c) = option_or (get position_cmp written (position r c)) (shown (Place.Cross r c))
 shown_through written shown place = shown place
 

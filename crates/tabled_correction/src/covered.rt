@@ -7,7 +7,7 @@ ghost use Rattle.tabled_layout.specs.Spans.{position_cmp};
 ghost use Rattle.tabled_layout.specs.Covering.{covered_by_column_span, covered_by_row_span, covered_by_both_spans};
 ghost use Rattle.tabled_correction.specs.Covered.{has, is_in, AreThose};
 
-use crate::stretch::Stretch;
+use crate::interval::Interval;
 use std::alloc::Global;
 use std::collections::{BTreeMap, BTreeSet};
 use tabled_border::OutOfMemory;
@@ -53,8 +53,8 @@ fn covered_in_rows(
     let (rows, cols) = shape;
     let mut cells = BTreeSet::new(alloc);
     for (position, count) in columns {
-        let across = Stretch::after(position.col, *count, cols);
-        add_rectangle(&mut cells, Stretch::only(position.row, rows), across)?;
+        let across = Interval::after(position.col, *count, cols);
+        add_rectangle(&mut cells, Interval::only(position.row, rows), across)?;
     }
     Ok(cells)
 }
@@ -69,8 +69,8 @@ fn covered_in_columns(
 {
     let mut cells = BTreeSet::new(alloc);
     for (position, count) in rows {
-        let down = Stretch::after(position.row, *count, shape.0);
-        add_rectangle(&mut cells, down, Stretch::only(position.col, shape.1))?;
+        let down = Interval::after(position.row, *count, shape.0);
+        add_rectangle(&mut cells, down, Interval::only(position.col, shape.1))?;
     }
     Ok(cells)
 }
@@ -87,8 +87,8 @@ fn covered_by_both(
     let mut cells = BTreeSet::new(alloc);
     for (position, count) in columns {
         let height = rows.get(position).copied().unwrap_or(0);
-        let down = Stretch::after(position.row, height, shape.0);
-        let across = Stretch::after(position.col, *count, shape.1);
+        let down = Interval::after(position.row, height, shape.0);
+        let across = Interval::after(position.col, *count, shape.1);
         add_rectangle(&mut cells, down, across)?;
     }
     Ok(cells)
@@ -97,8 +97,8 @@ fn covered_by_both(
 /// Adds the cells of some rows and some columns.
 fn add_rectangle(
     cells: &mut BTreeSet<Position>,
-    rows: Stretch,
-    cols: Stretch,
+    rows: Interval,
+    cols: Interval,
 ) -> Result<(), OutOfMemory>
     ensures { OnOk result ((cell : At) → has cells.new.keys cell ≡ (has cells.old.keys cell || (is_in rows cell.row && is_in cols cell.col))) }
 {
@@ -109,7 +109,7 @@ fn add_rectangle(
 }
 
 /// Adds the cells of one row and some columns.
-fn add_row(cells: &mut BTreeSet<Position>, row: usize, cols: Stretch) -> Result<(), OutOfMemory>
+fn add_row(cells: &mut BTreeSet<Position>, row: usize, cols: Interval) -> Result<(), OutOfMemory>
     ensures { OnOk result ((cell : At) → has cells.new.keys cell ≡ (has cells.old.keys cell || ((cell.row == row) && is_in cols cell.col))) }
 {
     for col in cols.start..cols.end {

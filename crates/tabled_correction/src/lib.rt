@@ -5,8 +5,8 @@
 
 mod border_correction;
 mod covered;
+mod interval;
 mod picture;
 mod steps;
-mod stretch;
 
 pub use border_correction::BorderCorrection;

@@ -29,8 +29,8 @@ fn add(
 }
 
 /// What becomes of a crossing on a border of a column span.
-#[tactic(auto, unfolding(crate::specs::Correction::joined))]
-fn joined(
+#[tactic(auto, unfolding(crate::specs::Correction::border_crossing))]
+fn border_crossing(
     is_beyond: bool,
     is_first: bool,
     both: Option<char>,
@@ -38,7 +38,7 @@ fn joined(
     first: Option<char>,
     edge: Option<char>,
 ) -> Option<char>
-    ensures { result ≡ correction.joined is_beyond is_first both beyond first edge }
+    ensures { result ≡ correction.border_crossing is_beyond is_first both beyond first edge }
 {
     match (is_beyond, is_first) {
         (true, true) => both,
@@ -108,7 +108,7 @@ impl Picture<'_> {
         is_first: bool,
     ) -> Result<(), OutOfMemory>
         ensures { OnOk result (writes.new.items ≡ writes.old.items ++ correction.at_edge (pictured self.now) cell.row cell.col
-            (correction.joined (correction.left_above (pictured self.now) cell) is_first (pictured self.now).class.intersection (pictured self.now).class.bottom_intersection (pictured self.now).class.top_intersection ((pictured self.now).shown (Spot.Horizontal cell.row cell.col 0)))) }
+            (correction.border_crossing (correction.left_above (pictured self.now) cell) is_first (pictured self.now).class.intersection (pictured self.now).class.bottom_intersection (pictured self.now).class.top_intersection ((pictured self.now).shown (Spot.Horizontal cell.row cell.col 0)))) }
     {
         let (row, col) = (cell.row, cell.col);
         let edge = self.shown(Place::Horizontal { row, col, at: 0 });
@@ -116,7 +116,7 @@ impl Picture<'_> {
             return Ok(());
         }
         let class = self.class();
-        let becomes = joined(
+        let becomes = border_crossing(
             self.has_left_above(cell),
             is_first,
             class.intersection,
@@ -138,7 +138,7 @@ impl Picture<'_> {
         requires row { cell.row < (pictured self.now).shape.0 }
         requires col { cell.col < (pictured self.now).shape.1 }
         ensures { OnOk result (writes.new.items ≡ writes.old.items ++ correction.at_edge (pictured self.now) (cell.row + 1) cell.col
-            (correction.joined (correction.left_below (pictured self.now) cell) is_first (pictured self.now).class.intersection (pictured self.now).class.top_intersection (pictured self.now).class.bottom_intersection ((pictured self.now).shown (Spot.Horizontal (cell.row + 1) cell.col 0)))) }
+            (correction.border_crossing (correction.left_below (pictured self.now) cell) is_first (pictured self.now).class.intersection (pictured self.now).class.top_intersection (pictured self.now).class.bottom_intersection ((pictured self.now).shown (Spot.Horizontal (cell.row + 1) cell.col 0)))) }
     {
         let (row, col) = (cell.row + 1, cell.col);
         let edge = self.shown(Place::Horizontal { row, col, at: 0 });
@@ -146,7 +146,7 @@ impl Picture<'_> {
             return Ok(());
         }
         let class = self.class();
-        let becomes = joined(
+        let becomes = border_crossing(
             self.has_left_below(cell),
             is_first,
             class.intersection,

@@ -1,1 +1,2 @@
 pub mod FormattingLemmas
+pub mod MarginLemmas

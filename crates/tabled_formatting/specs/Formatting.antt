@@ -1,12 +1,12 @@
 -- What options set for the cells of an entity.
-use Rattle.std.specs.Prelude.{ℕ, Bool, true, false, Option, Some, option_map, unwrap_or, List, ◌++◌}
-use Rattle.tabled_border.specs.Texts.{Texts}
+use Rattle.std.specs.Prelude.{ℕ, Bool, true, false, Option, option_map, unwrap_or, List, ◌++◌}
 use Rattle.tabled_object.specs.declared.entity.Entity.{Entity}
 use Rattle.tabled_settings.specs.declared.sides.Sides.{Sides}
 use Rattle.tabled_settings.specs.Setting.{write_of}
 use Rattle.tabled_settings.specs.CellSettings.{of_alignment_horizontal, of_alignment_vertical, of_trim_horizontal, of_trim_vertical, of_line_alignment, of_justification, of_justification_color, of_padding_color}
 use Rattle.tabled_configuration.specs.Configuration.{ConfigEvent, by_setting}
 use Rattle.tabled_color.specs.Shade.{Shade, texts_of}
+use Rattle.tabled_formatting.specs.SideTexts.{side_texts}
 use Rattle.tabled_formatting.specs.declared.alignment.Alignment.{Alignment}
 use Rattle.tabled_formatting.specs.declared.alignment_strategy.AlignmentStrategy.{AlignmentStrategy}
 use Rattle.tabled_formatting.specs.declared.trim_strategy.TrimStrategy.{TrimStrategy}
@@ -42,16 +42,6 @@ justification_set given entity =
     by_setting (of_justification (write_of entity (unwrap_or given.character 32)))
     ++ by_setting (of_justification_color (write_of entity (option_map texts_of given.color)))
 
--- the texts of a color, by what says them
-abbrev pub given_texts : {C : Type 0} → (C → List ℕ) → (C → List ℕ) → C → Option Texts
-given_texts prefix suffix color = Some (record { prefix = prefix color; suffix = suffix color })
-
 -- a color for each side of the padding
 abbrev pub padding_set : {C : Type 0} → (C → List ℕ) → (C → List ℕ) → Sides C → Entity → List ConfigEvent
-padding_set prefix suffix colors entity =
-    by_setting (of_padding_color (write_of entity (record {
-      left = given_texts prefix suffix colors.left;
-      right = given_texts prefix suffix colors.right;
-      top = given_texts prefix suffix colors.top;
-      bottom = given_texts prefix suffix colors.bottom;
-    })))
+padding_set prefix suffix colors entity = by_setting (of_padding_color (write_of entity (side_texts prefix suffix colors)))

@@ -1,3 +1,5 @@
 pub mod Alignment
 pub mod Compact
+pub mod SideTexts
 pub mod Formatting
+pub mod Margins

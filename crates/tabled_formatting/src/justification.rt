@@ -70,13 +70,13 @@ impl Justification {
         ensures ok { OnOk result (borders.Changes (justification_set self.now entity) config.old config.new) }
         ensures err { OnErr result (config.new ≡ config.old) }
     {
-        let color = texts_of(config.allocator(), self.color.as_ref())?;
+        let color = optional_texts(config.allocator(), self.color.as_ref())?;
         config.set_colored_justification(entity, self.c.unwrap_or(' '), color)
     }
 }
 
 /// The texts of a color, copied, if there is one.
-fn texts_of(alloc: Global, color: Option<&Color>) -> Result<Option<ANSIBuf>, OutOfMemory>
+fn optional_texts(alloc: Global, color: Option<&Color>) -> Result<Option<ANSIBuf>, OutOfMemory>
     ensures { IfOk result (λ texts. texts ≡ option_map texts_of (option_copied color.entry)) }
 {
     match color {

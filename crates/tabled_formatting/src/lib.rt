@@ -1,4 +1,5 @@
-//! Options that set how the texts of cells stand in them, and what fills the cells beside these.
+//! Options that set how the texts of cells stand in them, what fills the cells beside these, and the margin around a table: its
+//! color, and a shadow that falls there.
 //!
 //! `docs/DEFINITIONS.md` explains the words of the contracts.
 #![tactic(auto)]
@@ -7,11 +8,16 @@ mod alignment;
 mod alignment_strategy;
 mod compact_options;
 mod justification;
+mod margin_color;
 mod padding_color;
+mod shadow;
+mod texts;
 mod trim_strategy;
 
 pub use alignment::Alignment;
 pub use alignment_strategy::AlignmentStrategy;
 pub use justification::Justification;
+pub use margin_color::MarginColor;
 pub use padding_color::PaddingColor;
+pub use shadow::Shadow;
 pub use trim_strategy::TrimStrategy;

@@ -6,9 +6,10 @@ ghost use Rattle.tabled_configuration.specs.Configuration as borders;
 ghost use Rattle.tabled_configuration.specs.Colored.{Changes};
 ghost use Rattle.tabled_formatting.specs.Formatting.{padding_set};
 
+use crate::texts::side_texts;
 use std::alloc::{AllocError, Global};
 use std::marker::Model;
-use tabled_border::{ANSIBuf, ANSIStr, AnsiText, Keep, OutOfMemory};
+use tabled_border::{ANSIStr, AnsiText, Keep, OutOfMemory};
 use tabled_configuration::{CellOption, ColoredConfig, SpannedConfig, TableOption};
 use tabled_object::Entity;
 use tabled_settings::Sides;
@@ -72,23 +73,9 @@ impl<C> PaddingColor<C> {
         ensures ok { OnOk result (borders.Changes (padding_set C.prefix_text C.suffix_text self.now entity) config.old config.new) }
         ensures err { OnErr result (config.new ≡ config.old) }
     {
-        let alloc = config.allocator();
-        let left = texts_of(alloc, &self.colors.left)?;
-        let right = texts_of(alloc, &self.colors.right)?;
-        let top = texts_of(alloc, &self.colors.top)?;
-        let bottom = texts_of(alloc, &self.colors.bottom)?;
-        config.set_padding_color(
-            entity,
-            Sides::new(Some(left), Some(right), Some(top), Some(bottom)),
-        )
+        let texts = side_texts(config.allocator(), &self.colors)?;
+        config.set_padding_color(entity, texts)
     }
-}
-
-/// The texts of a color, copied.
-fn texts_of<C: AnsiText>(alloc: Global, color: &C) -> Result<ANSIBuf, OutOfMemory>
-    ensures { IfOk result (λ texts. texts ≡ record { prefix = C.prefix_text color.now; suffix = C.suffix_text color.now }) }
-{
-    Ok(ANSIBuf::new(alloc, color.prefix(), color.suffix())?)
 }
 
 impl PaddingColor<ANSIStr<'static>> {

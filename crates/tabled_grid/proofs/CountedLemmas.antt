@@ -98,7 +98,7 @@ module _ {L : Type 0} (draws : Rank → L → Bool) (numbers : LineNumbers) (lin
     few = few;
   }
     where
-      right : (rank : Rank) → min (number_of rank numbers - one_if (passes (draws rank) (map.get lines n)) + one_if (passes (draws rank) put)) (2 ^ 64 - 1) ≡ drawing rank lines'
+      right : (rank : Rank) → min (number_of rank numbers - one_if (passes (draws rank) (map.get lines n)) + one_if (passes (draws rank) put)) (2 ^ 128 - 1) ≡ drawing rank lines'
       right rank =
           let there = count-remove nat_cmp_total map.nat_cmp-IsAntisymmetric (λ _ line. draws rank line) lines n in
           omega (arith, few, h.numbers_are rank, balance rank, there, count-le nat_cmp_total map.nat_cmp-IsAntisymmetric (λ _ line. draws rank line) lines')

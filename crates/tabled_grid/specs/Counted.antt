@@ -52,9 +52,9 @@ numbers_of draws line = record { first = one_if (passes (draws first) line); inn
 -- the numbers without those of what was taken, and with those of what was put
 abbrev pub exchanged : LineNumbers → LineNumbers → LineNumbers → LineNumbers
 exchanged numbers taken put = record {
-  first = min (numbers.first - taken.first + put.first) (2 ^ 64 - 1);
-  inner = min (numbers.inner - taken.inner + put.inner) (2 ^ 64 - 1);
-  last = min (numbers.last - taken.last + put.last) (2 ^ 64 - 1);
+  first = min (numbers.first - taken.first + put.first) (2 ^ 128 - 1);
+  inner = min (numbers.inner - taken.inner + put.inner) (2 ^ 128 - 1);
+  last = min (numbers.last - taken.last + put.last) (2 ^ 128 - 1);
 }
 
 -- the numbers are those of the custom lines of one direction

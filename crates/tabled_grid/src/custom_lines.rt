@@ -6,9 +6,9 @@ ghost use Rattle.std.specs.FinMap as map;
 ghost use Rattle.tabled_grid.specs.Table.{table};
 ghost use Rattle.tabled_grid.specs.Counted.{LinesCounted};
 
-use crate::line_numbers::LineNumbers;
+use crate::line_numbers::{KeptNumbers, LineNumbers};
 use crate::{OutOfMemory, Rank};
-use tabled_kept::{CountedMap, One};
+use tabled_kept::CountedMap;
 
 /// A custom line of one direction.
 pub(crate) trait CustomLine {
@@ -34,7 +34,7 @@ pub(crate) trait CustomLine {
 /// Puts a line at an index. Where memory is refused nothing changes, and none stood there.
 pub(crate) fn put_line<L: CustomLine + Drop>(
     lines: &mut CountedMap<usize, L>,
-    numbers: &mut One<LineNumbers>,
+    numbers: &mut KeptNumbers,
     index: usize,
     line: L,
 ) -> Result<(), OutOfMemory>
@@ -47,14 +47,14 @@ pub(crate) fn put_line<L: CustomLine + Drop>(
     let put = LineNumbers::of(Some(&line));
     let before = lines.insert(index, line)?;
     let taken = LineNumbers::of(before.as_ref());
-    numbers.replace(numbers.get().exchange(taken, put));
+    numbers.set(numbers.get().exchange(taken, put));
     Ok(())
 }
 
 /// Takes the line at an index, if one stands there.
 pub(crate) fn take_line<L: CustomLine + Drop>(
     lines: &mut CountedMap<usize, L>,
-    numbers: &mut One<LineNumbers>,
+    numbers: &mut KeptNumbers,
     index: usize,
 )
     requires { LinesCounted L.draws numbers.old (table nat_cmp lines.old) }
@@ -63,5 +63,5 @@ pub(crate) fn take_line<L: CustomLine + Drop>(
 {
     let before = lines.remove(index);
     let taken = LineNumbers::of(before.as_ref());
-    numbers.replace(numbers.get().exchange(taken, LineNumbers::none()));
+    numbers.set(numbers.get().exchange(taken, LineNumbers::none()));
 }

@@ -12,7 +12,7 @@ mod writes;
 
 use crate::custom_lines::{put_line, take_line};
 use crate::keys::EdgePlace;
-use crate::line_numbers::LineNumbers;
+use crate::line_numbers::{KeptNumbers, LineNumbers};
 use crate::{
     Borders, HorizontalLine, LineOf, Offset, OutOfMemory, Place, Position, Probes, Spot, Target,
     VerticalLine,
@@ -48,8 +48,8 @@ pub struct Layers<T, M = Probes> {
     horizontal_offsets: CountedMap<EdgePlace, T, M>,
     vertical_offsets: CountedMap<EdgePlace, T, M>,
     on_lines: CountedMap<LineOf, u128, M>,
-    vertical_numbers: One<LineNumbers, M>,
-    horizontal_numbers: One<LineNumbers, M>,
+    vertical_numbers: KeptNumbers<M>,
+    horizontal_numbers: KeptNumbers<M>,
 }
 
 /// Written out, so that dropping a store is one call wherever its life ends, and not one for each field.
@@ -121,8 +121,8 @@ impl<T> Layers<T> {
             horizontal_offsets: CountedMap::new(alloc),
             vertical_offsets: CountedMap::new(alloc),
             on_lines: CountedMap::new(alloc),
-            vertical_numbers: One::new(LineNumbers::none()),
-            horizontal_numbers: One::new(LineNumbers::none()),
+            vertical_numbers: KeptNumbers::new(),
+            horizontal_numbers: KeptNumbers::new(),
         }
     }
 
@@ -225,8 +225,8 @@ impl<T> Layers<T> {
     {
         self.vertical_lines.clear();
         self.horizontal_lines.clear();
-        self.vertical_numbers.replace(LineNumbers::none());
-        self.horizontal_numbers.replace(LineNumbers::none());
+        self.vertical_numbers.set(LineNumbers::none());
+        self.horizontal_numbers.set(LineNumbers::none());
     }
 
     /// Writes at the cell level of a place. An edge has one site there, for all its places: `at` is not

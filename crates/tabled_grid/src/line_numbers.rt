@@ -1,22 +1,26 @@
 //! The numbers of the custom lines that draw what they cross.
 
 ghost use Rattle.std.specs.Prelude.{◌≡◌, option_copied};
+ghost use Rattle.tabled_grid.specs.Counted.{number_of};
+ghost use Rattle.tabled_grid.specs.Probing.{IsCounted, IsRaised};
+ghost use Rattle.tabled_grid.specs.Reading.{across_drawn};
 
 use crate::custom_lines::CustomLine;
-use crate::{Keep, OutOfMemory, Rank};
+use crate::{Keep, OutOfMemory, Probes, Rank};
 use std::alloc::Global;
+use std::marker::{Model, PhantomData};
+use tabled_kept::Meter;
 
 /// How many custom lines of one direction draw the first, the inner and the last of the lines that they cross.
 #[derive(Clone, Copy, Debug)]
 pub(crate) struct LineNumbers {
-    pub(crate) first: usize,
-    pub(crate) inner: usize,
-    pub(crate) last: usize,
+    first: u128,
+    inner: u128,
+    last: u128,
 }
 
 impl LineNumbers {
     ghost use Rattle.tabled_grid.specs.Counted.{numbers_of, exchanged};
-    ghost use Rattle.tabled_grid.specs.Reading.{across_drawn};
 
     /// Those of no line.
     pub(crate) fn none() -> Self
@@ -35,9 +39,9 @@ impl LineNumbers {
     {
         match line {
             Some(line) => LineNumbers {
-                first: usize::from(line.draws(Rank::First)),
-                inner: usize::from(line.draws(Rank::Inner)),
-                last: usize::from(line.draws(Rank::Last)),
+                first: u128::from(line.draws(Rank::First)),
+                inner: u128::from(line.draws(Rank::Inner)),
+                last: u128::from(line.draws(Rank::Last)),
             },
             None => LineNumbers::none(),
         }
@@ -62,19 +66,88 @@ impl LineNumbers {
                 .saturating_add(put.last),
         }
     }
+}
 
-    /// Whether they draw a line that is crossed, of the lines 0 to `count`.
-    pub(crate) fn draw(self, line: usize, count: usize) -> bool
-        ensures { result ≡ across_drawn self count line }
+/// These numbers as a store keeps them: each of the three is read by itself.
+#[derive(Debug, Drop)]
+pub(crate) struct KeptNumbers<M = Probes> {
+    kept: LineNumbers,
+    /// The type of the meters with which they are read.
+    by: PhantomData<M>,
+}
+
+impl<M> Model for KeptNumbers<M> {
+    ghost use Rattle.tabled_grid.specs.declared.line_numbers.LineNumbers.{LineNumbers as Numbers};
+
+    ghost Value = { Numbers };
+
+    ghost view = { λ numbers. numbers.kept };
+}
+
+/// The reading, for every type of meters.
+impl<M: Meter> KeptNumbers<M> {
+    /// How many draw the lines of a rank: one reading.
+    pub(crate) fn read(&self, rank: Rank, probes: &mut M) -> u128
+        ensures value { result ≡ number_of rank self.now }
+        ensures counted { IsCounted (M.made probes.old) (M.made probes.new) }
+        ensures raised { IsRaised 1 (M.made probes.old) (M.made probes.new) }
     {
-        (line == 0 && self.first > 0)
-            || (line == count && self.last > 0)
-            || (0 < line && line < count && self.inner > 0)
+        probes.raise();
+        match rank {
+            Rank::First => self.kept.first,
+            Rank::Inner => self.kept.inner,
+            Rank::Last => self.kept.last,
+        }
+    }
+
+    /// Whether they draw a line that is crossed, of the lines 0 to `count`: at most two readings.
+    pub(crate) fn draw(&self, line: usize, count: usize, probes: &mut M) -> bool
+        ensures drawn { result ≡ across_drawn self.now count line }
+        ensures probes { IsRaised 2 (M.made probes.old) (M.made probes.new) }
+    {
+        (line == 0 && self.read(Rank::First, probes) > 0)
+            || (line == count && self.read(Rank::Last, probes) > 0)
+            || (0 < line && line < count && self.read(Rank::Inner, probes) > 0)
     }
 }
 
-impl Keep for LineNumbers {
+/// What is not counted, which stands where no look-up that is written for every type of meters can call it.
+impl KeptNumbers {
+    /// Those of no line.
+    pub(crate) fn new() -> Self
+        ensures { result ≡ record { first = 0; inner = 0; last = 0 } }
+    {
+        KeptNumbers {
+            kept: LineNumbers::none(),
+            by: PhantomData,
+        }
+    }
+
+    /// The numbers, for who changes them.
+    pub(crate) fn get(&self) -> LineNumbers
+        ensures { result ≡ self.now }
+    {
+        self.kept
+    }
+
+    /// Keeps other numbers.
+    pub(crate) fn set(&mut self, numbers: LineNumbers)
+        ensures { self.new ≡ numbers }
+    {
+        self.kept = numbers;
+    }
+}
+
+impl Keep for KeptNumbers {
     fn keep(&self, _alloc: Global) -> Result<Self, OutOfMemory> {
-        Ok(*self)
+        // one field more, or other numbers, and this does not compile
+        let KeptNumbers { kept, by } = self;
+        let _: &PhantomData<Probes> = by;
+        let LineNumbers { first, inner, last } = *kept;
+        let (first, inner, last): (u128, u128, u128) = (first, inner, last);
+        Ok(KeptNumbers {
+            kept: LineNumbers { first, inner, last },
+            by: PhantomData,
+        })
     }
 }

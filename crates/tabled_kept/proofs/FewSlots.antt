@@ -9,7 +9,7 @@ use Rattle.std.specs.FinMap.Entries.{below_all, is_sorted}
 use Rattle.tabled_kept.specs.declared.table.Slot.{Slot}
 use Rattle.tabled_kept.specs.Slots.{slot_cmp, slots_total}
 use Rattle.tabled_kept.specs.Table.{table}
-use Rattle.tabled_kept.specs.Kept.{keyed, joined, Parted}
+use Rattle.tabled_kept.specs.Kept.{keyed, all_entries, Parted}
 use Rattle.tabled_kept.proofs.Tables.{len-table}
 
 -- the place of a slot among all that are so small
@@ -77,10 +77,10 @@ abbrev under : {K V : Type 0} → (Slot → K) → Slot × V → K × V
 under key_at value = (key_at value.0, value.1)
 
 -- so a kept map is no larger than what fits beside one
-pub few_kept : {K V : Type 0} {R : K → K → Ordering} {slot_of : K → Option Slot} {key_at : Slot → K} → IsTotalOrder R → map.IsAntisymmetric R → ((key : K) (s : Slot) → slot_of key ≡ Some s → (s.row < 256) × (s.col < 1024)) → (dense : map.FinMap slot_cmp V) (others : List (K × V)) → Parted R slot_of key_at dense others → length others < 2 ^ 63 → map.len (table R (joined key_at dense others)) < 2 ^ 64
+pub few_kept : {K V : Type 0} {R : K → K → Ordering} {slot_of : K → Option Slot} {key_at : Slot → K} → IsTotalOrder R → map.IsAntisymmetric R → ((key : K) (s : Slot) → slot_of key ≡ Some s → (s.row < 256) × (s.col < 1024)) → (dense : map.FinMap slot_cmp V) (others : List (K × V)) → Parted R slot_of key_at dense others → length others < 2 ^ 63 → map.len (table R (all_entries key_at dense others)) < 2 ^ 64
 few_kept {R = R} {key_at = key_at} o exact narrow dense others parted few =
     let slots = few_slots dense (λ s some. narrow (key_at s) s (parted.in_place s some)) in
-    let all = len-table o exact (joined key_at dense others) in
+    let all = len-table o exact (all_entries key_at dense others) in
     let parts = length-append (keyed key_at (map.entries dense)) others in
     let keys : length (keyed key_at (map.entries dense)) ≡ length (map.entries dense) = length-map (map.entries dense) (under key_at) in
     omega (arith, slots, all, parts, keys, few)

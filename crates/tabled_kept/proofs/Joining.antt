@@ -6,7 +6,7 @@ use Rattle.std.specs.FinMap as map
 use Rattle.tabled_kept.specs.declared.table.Slot.{Slot}
 use Rattle.tabled_kept.specs.Slots.{slot_cmp, slots_total}
 use Rattle.tabled_kept.specs.Table.{table}
-use Rattle.tabled_kept.specs.Kept.{keyed, joined, Parted}
+use Rattle.tabled_kept.specs.Kept.{keyed, all_entries, Parted}
 use Rattle.tabled_kept.proofs.SlotLemmas.{or_else, find-append}
 use Rattle.tabled_kept.proofs.TableLemmas.{exact_slots}
 
@@ -67,9 +67,9 @@ module _ {K : Type 0} {R : K → K → Ordering} (o : IsTotalOrder R) (exact : m
 
   module _ {V : Type 0} (dense : map.FinMap slot_cmp V) (others : List (K × V)) (parted : Parted R slot_of key_at dense others) where
     -- the key alone says where its value is
-    pub get-joined : (q : K) → map.get (table R (joined key_at dense others)) q ≡ at_slot (slot_of q) (map.get dense) (map.get (table R others) q)
-    get-joined q =
-        map.get-from_entries o (joined key_at dense others) q ∙ find-append R q (keyed key_at (map.entries dense)) others
+    pub get-all_entries : (q : K) → map.get (table R (all_entries key_at dense others)) q ≡ at_slot (slot_of q) (map.get dense) (map.get (table R others) q)
+    get-all_entries q =
+        map.get-from_entries o (all_entries key_at dense others) q ∙ find-append R q (keyed key_at (map.entries dense)) others
         ∙ ap (or_else (map.find R q (keyed key_at (map.entries dense)))) (sym (map.get-from_entries o others q)) ∙ by_slot (slot_of q) refl
       where
         placed : (s : Slot) → is_some (map.find slot_cmp s (map.entries dense)) ≡ true → slot_of (key_at s) ≡ Some s

@@ -9,11 +9,11 @@ use Rattle.tabled_kept.specs.declared.table.Slot.{Slot}
 use Rattle.tabled_kept.specs.Slots.{slot_cmp, slots_total}
 use Rattle.tabled_kept.specs.Table.{table}
 use Rattle.tabled_kept.specs.Same.{same_map}
-use Rattle.tabled_kept.specs.Kept.{joined, Parted}
+use Rattle.tabled_kept.specs.Kept.{all_entries, Parted}
 use Rattle.tabled_kept.proofs.SameGets.{all_of, get_alike, alike_get, both_none}
 use Rattle.tabled_kept.proofs.TableLemmas.{exact_slots}
 use Rattle.tabled_kept.proofs.Tables.{no-entries}
-use Rattle.tabled_kept.proofs.Joining.{at_slot, ties_by_slot, never_ties, get-joined}
+use Rattle.tabled_kept.proofs.Joining.{at_slot, ties_by_slot, never_ties, get-all_entries}
 
 pub none_or : {X : Type 0} (x : Option X) → (IsSome x → x ≡ None) → x ≡ None
 none_or None h = refl
@@ -21,7 +21,7 @@ none_or (Some x) h = h refl
 
 module _ {K : Type 0} {R : K → K → Ordering} (o : IsTotalOrder R) (exact : map.IsAntisymmetric R) {slot_of : K → Option Slot} {key_at : Slot → K} (back : (key : K) (s : Slot) → slot_of key ≡ Some s → key_at s ≡ key) {V : Type 0} where
   abbrev whole : map.FinMap slot_cmp V → List (K × V) → map.FinMap R V
-  whole dense others = table R (joined key_at dense others)
+  whole dense others = table R (all_entries key_at dense others)
 
   abbrev PartedHere : map.FinMap slot_cmp V → List (K × V) → Type 0
   PartedHere dense others = Parted R slot_of key_at dense others
@@ -34,10 +34,10 @@ module _ {K : Type 0} {R : K → K → Ordering} (o : IsTotalOrder R) (exact : m
   ChangedKey k now old new = (q : K) → map.get new q ≡ cond (eq_by_cmp R q k) now (map.get old q)
 
   pub read_dense : (dense : map.FinMap slot_cmp V) (others : List (K × V)) → PartedHere dense others → (k : K) (s : Slot) → slot_of k ≡ Some s → map.get (whole dense others) k ≡ map.get dense s
-  read_dense dense others parted k s of_k = get-joined o exact back dense others parted k ∙ ap (λ at. at_slot at (map.get dense) (map.get (table R others) k)) of_k
+  read_dense dense others parted k s of_k = get-all_entries o exact back dense others parted k ∙ ap (λ at. at_slot at (map.get dense) (map.get (table R others) k)) of_k
 
   pub read_others : (dense : map.FinMap slot_cmp V) (others : List (K × V)) → PartedHere dense others → (k : K) → slot_of k ≡ None → map.get (whole dense others) k ≡ map.get (table R others) k
-  read_others dense others parted k of_k = get-joined o exact back dense others parted k ∙ ap (λ at. at_slot at (map.get dense) (map.get (table R others) k)) of_k
+  read_others dense others parted k of_k = get-all_entries o exact back dense others parted k ∙ ap (λ at. at_slot at (map.get dense) (map.get (table R others) k)) of_k
 
   pub parted_none : (dense : map.FinMap slot_cmp V) (others : List (K × V)) → dense ≡ map.empty → length others ≡ 0 → PartedHere dense others
   parted_none dense others none few = record {
@@ -57,7 +57,7 @@ module _ {K : Type 0} {R : K → K → Ordering} (o : IsTotalOrder R) (exact : m
             parted.in_place t (sym (ap is_some (changed t ∙ ap (λ b. cond b now (map.get dense t)) apart)) ∙ some)
 
     whole_slot : ChangedKey k now (whole dense others) (whole dense' others)
-    whole_slot q = get-joined o exact back dense' others parted_slot q ∙ by_slot (slot_of q) refl ∙ ap (cond (eq_by_cmp R q k) now) (sym (get-joined o exact back dense others parted q))
+    whole_slot q = get-all_entries o exact back dense' others parted_slot q ∙ by_slot (slot_of q) refl ∙ ap (cond (eq_by_cmp R q k) now) (sym (get-all_entries o exact back dense others parted q))
       where
         other : map.FinMap slot_cmp V → Option Slot → Option V
         other m at = at_slot at (map.get m) (map.get (table R others) q)
@@ -82,7 +82,7 @@ module _ {K : Type 0} {R : K → K → Ordering} (o : IsTotalOrder R) (exact : m
         by_slot q has (Some s) of_q = changed q ∙ ap (λ b. cond b now (map.get (table R others) q)) (not_tied q s of_q) ∙ parted.apart q has
 
     whole_key : ChangedKey k now (whole dense others) (whole dense others')
-    whole_key q = get-joined o exact back dense others' parted_key q ∙ by_slot (slot_of q) refl ∙ ap (cond (eq_by_cmp R q k) now) (sym (get-joined o exact back dense others parted q))
+    whole_key q = get-all_entries o exact back dense others' parted_key q ∙ by_slot (slot_of q) refl ∙ ap (cond (eq_by_cmp R q k) now) (sym (get-all_entries o exact back dense others parted q))
       where
         at : List (K × V) → Option Slot → Option V
         at es slot = at_slot slot (map.get dense) (map.get (table R es) q)
@@ -122,7 +122,7 @@ module _ {K : Type 0} {R : K → K → Ordering} (o : IsTotalOrder R) (exact : m
 
   -- the whole is empty where both parts are
   pub empty_whole : (dense : map.FinMap slot_cmp V) (others : List (K × V)) → PartedHere dense others → dense ≡ map.empty → length others ≡ 0 → whole dense others ≡ map.empty
-  empty_whole dense others parted none few = map.same_map o exact _ _ (λ q. get-joined o exact back dense others parted q ∙ by_slot q (slot_of q) ∙ sym (map.get-empty R q))
+  empty_whole dense others parted none few = map.same_map o exact _ _ (λ q. get-all_entries o exact back dense others parted q ∙ by_slot q (slot_of q) ∙ sym (map.get-empty R q))
     where
       by_slot : (q : K) (at : Option Slot) → at_slot at (map.get dense) (map.get (table R others) q) ≡ None
       by_slot q None = ap (λ m. map.get m q) (no-entries o exact others few) ∙ map.get-empty R q
@@ -136,7 +136,7 @@ module _ {K : Type 0} {R : K → K → Ordering} (o : IsTotalOrder R) (exact : m
       forth h =
           let parts = and_parts _ _ h in
           alike_get o E _ _ (λ q.
-          (λ i. option_eq E (get-joined o exact back dense others parted q i) (get-joined o exact back dense' others' parted' q i)) ∙ by_slot parts.0 parts.1 q (slot_of q))
+          (λ i. option_eq E (get-all_entries o exact back dense others parted q i) (get-all_entries o exact back dense' others' parted' q i)) ∙ by_slot parts.0 parts.1 q (slot_of q))
         where
           by_slot : same_map E dense dense' ≡ true → same_map E (table R others) (table R others') ≡ true → (q : K) (at : Option Slot) → option_eq E (at_slot at (map.get dense) (map.get (table R others) q)) (at_slot at (map.get dense') (map.get (table R others') q)) ≡ true
           by_slot h k q None = get_alike o E _ _ k q

@@ -10,11 +10,11 @@ use Rattle.std.proofs.lemmas.Bool.{cases_lt}
 use Rattle.std.proofs.lemmas.Bool.Decides.{nat_tests}
 use Rattle.tabled_kept.specs.Slots.{slot_cmp, slot, numbered}
 use Rattle.tabled_kept.specs.Table.{table}
-use Rattle.tabled_kept.specs.Kept.{joined, Parted, slot_of_number, number_at_slot}
+use Rattle.tabled_kept.specs.Kept.{all_entries, Parted, slot_of_number, number_at_slot}
 use Rattle.tabled_kept.specs.KeyLaws.{numbers_back}
 use Rattle.tabled_kept.proofs.SlotLemmas.{or_else, find-append, find-slots}
 use Rattle.tabled_kept.proofs.Ascending.{entries-table}
-use Rattle.tabled_kept.proofs.Joining.{at_slot, get-joined}
+use Rattle.tabled_kept.proofs.Joining.{at_slot, get-all_entries}
 use Rattle.tabled_kept.proofs.KeptLemmas.{none_or}
 
 module _ {V : Type 0} where
@@ -76,11 +76,11 @@ module _ {V : Type 0} where
         has_slot : (k : ℕ) → nat_lt k 256 ≡ true → IsSome (slot_of_number k)
         has_slot k e = ap (λ b. is_some (if b then Some (slot 0 k) else None)) e
 
-    same_map_in_order : table nat_cmp (numbered 0 slots ++ others) ≡ table nat_cmp (joined number_at_slot dense others)
+    same_map_in_order : table nat_cmp (numbered 0 slots ++ others) ≡ table nat_cmp (all_entries number_at_slot dense others)
     same_map_in_order = map.same_map nat_cmp_total map.nat_cmp-IsAntisymmetric _ _ (λ q.
         map.get-from_entries nat_cmp_total (numbered 0 slots ++ others) q ∙ find-append nat_cmp q (numbered 0 slots) others
         ∙ (λ i. or_else ((find-slots slots q ∙ first_row q) i) (sym (map.get-from_entries nat_cmp_total others q) i))
-        ∙ by_test q (nat_lt q 256) refl ∙ sym (get-joined nat_cmp_total map.nat_cmp-IsAntisymmetric numbers_back dense others parted q))
+        ∙ by_test q (nat_lt q 256) refl ∙ sym (get-all_entries nat_cmp_total map.nat_cmp-IsAntisymmetric numbers_back dense others parted q))
       where
         nothing_else : (x : Option V) → or_else x None ≡ x
         nothing_else None = refl
@@ -97,5 +97,5 @@ module _ {V : Type 0} where
             ap (λ x. or_else x (map.get (table nat_cmp others) q)) none ∙ ap (λ at. at_slot at (map.get dense) (map.get (table nat_cmp others) q)) (sym of_q)
 
     -- so they are the entries of the whole map
-    pub entries_in_order : numbered 0 slots ++ others ≡ map.entries (table nat_cmp (joined number_at_slot dense others))
+    pub entries_in_order : numbered 0 slots ++ others ≡ map.entries (table nat_cmp (all_entries number_at_slot dense others))
     entries_in_order = sym (entries-table nat_cmp_total (numbered 0 slots ++ others) in_order) ∙ ap map.entries same_map_in_order

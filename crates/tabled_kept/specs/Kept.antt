@@ -11,8 +11,8 @@ abbrev pub keyed : {K V : Type 0} → (Slot → K) → List (Slot × V) → List
 keyed key_at values = map (λ value. (key_at value.0, value.1)) values
 
 -- all entries: those of the table, and then the others
-abbrev pub joined : {K V : Type 0} → (Slot → K) → FinMap slot_cmp V → List (K × V) → List (K × V)
-joined key_at dense others = keyed key_at (entries dense) ++ others
+abbrev pub all_entries : {K V : Type 0} → (Slot → K) → FinMap slot_cmp V → List (K × V) → List (K × V)
+all_entries key_at dense others = keyed key_at (entries dense) ++ others
 
 -- the key alone says where its value is: in its slot, if it has one, and else among the others
 pub record Parted {K V : Type 0} (R : K → K → Ordering) (slot_of : K → Option Slot) (key_at : Slot → K) (dense : FinMap slot_cmp V) (others : List (K × V)) : Type 0 where

@@ -25,11 +25,11 @@ pub(crate) struct Entries<K: Key, V> {
 
 impl<K: Key, V> Model for Entries<K, V> {
     ghost use Rattle.std.specs.Prelude.{List, length, ◌<◌, ◌^◌};
-    ghost use Rattle.tabled_kept.specs.Kept.{joined, Parted};
+    ghost use Rattle.tabled_kept.specs.Kept.{all_entries, Parted};
 
     ghost Value = { List (K × V) };
 
-    ghost view = { λ kept. joined K.key_at kept.dense kept.others.entries };
+    ghost view = { λ kept. all_entries K.key_at kept.dense kept.others.entries };
 
     ghost invariant = { λ kept. Parted K.cmp K.slot_of K.key_at kept.dense kept.others.entries × (length kept.others.entries < 2 ^ 63) };
 }

@@ -2,10 +2,10 @@
 use Rattle.std.proofs.Common.{◌≡◌, List, [], ◌∷◌, ◌++◌, sym, subst, append_assoc}
 use Rattle.std.proofs.lemmas.List.{append-nil}
 use Rattle.tabled_object.specs.declared.dimension.FixedDimension.{FixedDimension}
-use Rattle.tabled_config.specs.Configuration.{ConfigEvent}
-use Rattle.tabled_config.specs.Colored.{Colored, Changes}
-use Rattle.tabled_config.specs.Options.{MakesInTurn}
-use Rattle.tabled_config.specs.Texts.{Table}
+use Rattle.tabled_configuration.specs.Configuration.{ConfigEvent}
+use Rattle.tabled_configuration.specs.Colored.{Colored, Changes}
+use Rattle.tabled_configuration.specs.Options.{MakesInTurn}
+use Rattle.tabled_printing.specs.Texts.{Table}
 use Rattle.tabled_configuration.proofs.InTurn.{one_more, none_made}
 use Rattle.tabled_kinds.specs.EveryKind.{Step, InTurn}
 

@@ -4,17 +4,17 @@ use Rattle.tabled_border.specs.declared.border.Border.{Border}
 use Rattle.tabled_object.specs.declared.dimension.FixedDimension.{FixedDimension}
 use Rattle.tabled_object.specs.declared.entity.Entity.TheVariants.{Global, Row, Column, Cell}
 use Rattle.tabled_settings.specs.Setting.{write_of}
-use Rattle.tabled_config.specs.Configuration.{ConfigEvent, borders_replaced, all_writes}
-use Rattle.tabled_config.specs.Colored.{Colored, Changes, by_cell_color}
-use Rattle.tabled_config.specs.EntitiesColored.{entities_colored}
-use Rattle.tabled_config.specs.Options.{MakesInTurn, table_bordered, entity_bordered, entity_unbordered, table_unbordered}
-use Rattle.tabled_config.specs.Picture.{look}
-use Rattle.tabled_config.specs.Texts.{Table}
+use Rattle.tabled_configuration.specs.Configuration.{ConfigEvent, borders_replaced, all_writes}
+use Rattle.tabled_configuration.specs.Colored.{Colored, Changes, by_cell_color}
+use Rattle.tabled_configuration.specs.EntitiesColored.{entities_colored}
+use Rattle.tabled_configuration.specs.Options.{MakesInTurn, table_bordered, entity_bordered, entity_unbordered, table_unbordered}
+use Rattle.tabled_printing.specs.Picture.{look}
+use Rattle.tabled_printing.specs.Texts.{Table}
 use Rattle.tabled_color.specs.Shade.{Shade, texts_of}
 use Rattle.tabled_color.specs.BorderColors.{border_texts}
 use Rattle.tabled_color.specs.Coloring.{entity_colored, table_colored}
 use Rattle.tabled_grid.specs.declared.borders.Borders.{Borders}
-use Rattle.tabled_style.specs.Shown.{Shown}
+use Rattle.tabled_style.specs.Shown.{StyleShown}
 use Rattle.tabled_style.specs.declared.ready_style.ReadyStyle.{ReadyStyle}
 use Rattle.tabled_style.specs.Named.{ready_applied}
 use Rattle.tabled_theme.specs.Shown.{ThemeShown}
@@ -23,7 +23,7 @@ use Rattle.tabled_highlight.specs.Highlighting.{highlight_events}
 use Rattle.tabled_colorization.specs.Turns.{colorization, exact_colorization}
 use Rattle.tabled_settings.specs.declared.sides.Sides.{Sides as Four}
 use Rattle.tabled_formatting.specs.Formatting.{Justifying, alignment_set, strategy_set, trim_set, justification_set, padding_set}
-use Rattle.tabled_margin.specs.Margins.{margin_colored, shadow_set}
+use Rattle.tabled_formatting.specs.Margins.{margin_colored, shadow_set}
 use Rattle.tabled_correction.specs.Correction.{correction_events}
 use Rattle.tabled_options.specs.LineChar.{line_char_events}
 use Rattle.tabled_options.specs.LineText.{text_events}
@@ -43,7 +43,7 @@ abbrev pub Step : Type 0
 Step = Colored → List ConfigEvent
 
 -- options that replace all borders
-abbrev pub style_options : ThemeShown → Shown → ReadyStyle → Borders ℕ → List Step
+abbrev pub style_options : ThemeShown → StyleShown → ReadyStyle → Borders ℕ → List Step
 style_options theme style ready characters =
     (λ before. theme_applied theme)
     ∷ (λ before. borders_replaced style.borders style.horizontals style.verticals)

@@ -1,7 +1,7 @@
 -- Lists of writes that an option hands to a configuration.
 use Rattle.std.proofs.Common.{◌≡◌, ℕ, Option, option_map, List, [], map, filter, ap, ◌∙◌}
-use Rattle.tabled_config.specs.Configuration.{Configuration, ConfigEvent, all_writes, cell_colors_of}
-use Rattle.tabled_config.specs.Picture.{Look, look}
+use Rattle.tabled_configuration.specs.Configuration.{Configuration, ConfigEvent, all_writes, cell_colors_of}
+use Rattle.tabled_printing.specs.Picture.{Look, look}
 use Rattle.tabled_configuration.proofs.ColoredLemmas.{none_by_characters, none_by_both}
 use Rattle.tabled_object.specs.declared.entity.Entity.{Entity}
 use Rattle.tabled_object.specs.Entities.{cells_of}

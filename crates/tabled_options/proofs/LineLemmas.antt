@@ -5,11 +5,11 @@ use Rattle.std.proofs.lemmas.List.FromFn.{length-map-range_with_len}
 use Rattle.tabled_grid.specs.declared.place.Place.{Place}
 use Rattle.tabled_grid.specs.declared.place.LineOf.{LineOf}
 use Rattle.tabled_grid.proofs.Seen.{on_ok}
-use Rattle.tabled_config.specs.Picture.{Look}
+use Rattle.tabled_printing.specs.Picture.{Look}
 use Rattle.tabled_options.specs.declared.pen.Pen.{Pen}
 use Rattle.tabled_options.specs.LineText.{takes_character, countable, places_along}
-use Rattle.tabled_config.specs.LinePieces.{has_line, pieces_of, size_of, crossing_places, edge_of, edge_places, places_before, all_places}
-use Rattle.tabled_config.proofs.LineLemmas.{along_pieces, before_more}
+use Rattle.tabled_printing.specs.LinePieces.{has_line, pieces_of, piece_size, crossing_places, edge_of, edge_places, places_before, all_places}
+use Rattle.tabled_printing.proofs.LineLemmas.{along_pieces, before_more}
 use Rattle.tabled_options.specs.Passing.{Passed}
 use Rattle.tabled_options.proofs.PassingLemmas.{Passed-none, Passed-append}
 use Rattle.tabled_options.proofs.Zipping.{laid_on_first}
@@ -42,10 +42,10 @@ module _ (view : Look) (line : LineOf) where
   unfolding places_before
   none_counted = omega arith
 
-  pub piece_counted : (n total crossing size places new : ℕ) → total ≡ min (2 ^ 64 - 1) (length (places_before view line n)) → crossing ≡ length (crossing_places view line n) → size ≡ size_of view.widths view.heights line n
+  pub piece_counted : (n total crossing size places new : ℕ) → total ≡ min (2 ^ 64 - 1) (length (places_before view line n)) → crossing ≡ length (crossing_places view line n) → size ≡ piece_size view.widths view.heights line n
       → places ≡ min (crossing + size) (2 ^ 64 - 1) → new ≡ min (total + places) (2 ^ 64 - 1) → new ≡ min (2 ^ 64 - 1) (length (places_before view line (n + 1)))
   piece_counted n total crossing size places new so_far crosses sized both added =
-      let edge : length (edge_places view line n) ≡ size_of view.widths view.heights line n = length-map-range_with_len (edge_of line n) 0 (size_of view.widths view.heights line n) in
+      let edge : length (edge_places view line n) ≡ piece_size view.widths view.heights line n = length-map-range_with_len (edge_of line n) 0 (piece_size view.widths view.heights line n) in
       let more : length (places_before view line (n + 1)) ≡ length (places_before view line n) + length (crossing_places view line n ++ edge_places view line n) =
       ap length (before_more view line n) ∙ length-append (places_before view line n) (crossing_places view line n ++ edge_places view line n) in
       let piece : length (crossing_places view line n ++ edge_places view line n) ≡ length (crossing_places view line n) + length (edge_places view line n) = length-append (crossing_places view line n) (edge_places view line n) in

@@ -10,14 +10,14 @@ use Rattle.tabled_grid.specs.declared.offset.Offset.{Offset}
 use Rattle.tabled_grid.specs.declared.writes.Write.{Write}
 use Rattle.tabled_grid.specs.Writes.{writes_made}
 use Rattle.tabled_grid.proofs.EntityBorders.{writes_made-append, nothing_written}
-use Rattle.tabled_config.specs.Picture.{Look}
-use Rattle.tabled_config.specs.Configuration.{writes_applied, by_characters, by_colors}
+use Rattle.tabled_printing.specs.Picture.{Look}
+use Rattle.tabled_configuration.specs.Configuration.{writes_applied, by_characters, by_colors}
 use Rattle.tabled_color.specs.Shade.{texts_of}
 use Rattle.tabled_formatting.specs.declared.alignment.Alignment.{Alignment}
 use Rattle.tabled_options.specs.TextStart.{limited, width_of, aligned_offset, moved_if_aligned, place_number, text_start}
 use Rattle.tabled_options.specs.LineText.{Lettering, countable, places_along, laid, takes_character, character_written, color_written, characters_written, colors_written, places_taken, text_events}
-use Rattle.tabled_config.specs.LinePieces.{has_line}
-use Rattle.tabled_config.proofs.LineLemmas.{no_places}
+use Rattle.tabled_printing.specs.LinePieces.{has_line}
+use Rattle.tabled_printing.proofs.LineLemmas.{no_places}
 
 -- what follows from what is returned
 pub if_ok : {A E : Type 0} (P Q : A → Type 0) (r : Result A E) → ((x : A) → P x → Q x) → IfOk r P → IfOk r Q

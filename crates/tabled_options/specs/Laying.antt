@@ -1,7 +1,7 @@
 -- How the table of a line looks along which a text is laid. Only private calls cite this.
 use Rattle.std.specs.Prelude.{ℕ}
-use Rattle.tabled_config.specs.Configuration.{all_writes}
-use Rattle.tabled_config.specs.Picture.{Look, look}
+use Rattle.tabled_configuration.specs.Configuration.{all_writes}
+use Rattle.tabled_printing.specs.Picture.{Look, look}
 use Rattle.tabled_options.specs.declared.table_line.TableLine.{TableLine}
 
 -- how the table of a line looks, where two functions give the widths of columns and the heights of rows

@@ -12,7 +12,7 @@ use Rattle.tabled_grid.specs.declared.event.Event.{Event}
 use Rattle.tabled_grid.specs.declared.event.Event.TheVariants.{Write as write}
 use Rattle.tabled_grid.specs.declared.event.Written.TheVariants.{Sign as sign}
 use Rattle.tabled_grid.specs.Value.{has_spot}
-use Rattle.tabled_config.specs.Configuration.{ConfigEvent, by_characters}
+use Rattle.tabled_configuration.specs.Configuration.{ConfigEvent, by_characters}
 
 -- a character, the numbered place of an edge at which it stands, and whether edges of horizontal or of vertical lines are meant
 pub record EdgeChar : Type 0 where

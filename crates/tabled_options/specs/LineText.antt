@@ -11,9 +11,9 @@ use Rattle.tabled_grid.specs.declared.site.Site.TheVariants.{Cell as at_spot, Of
 use Rattle.tabled_grid.specs.declared.event.Event.{Event}
 use Rattle.tabled_grid.specs.declared.event.Event.TheVariants.{Write as write}
 use Rattle.tabled_grid.specs.declared.event.Written.TheVariants.{Sign as sign}
-use Rattle.tabled_config.specs.Configuration.{ConfigEvent, by_characters, by_colors}
-use Rattle.tabled_config.specs.Along.{along}
-use Rattle.tabled_config.specs.Picture.{Look}
+use Rattle.tabled_configuration.specs.Configuration.{ConfigEvent, by_characters, by_colors}
+use Rattle.tabled_printing.specs.Along.{along}
+use Rattle.tabled_printing.specs.Picture.{Look}
 use Rattle.tabled_color.specs.Shade.{Shade, texts_of}
 use Rattle.tabled_formatting.specs.declared.alignment.Alignment.{Alignment}
 use Rattle.tabled_options.specs.TextStart.{limited, text_start}

@@ -4,7 +4,7 @@ use Rattle.tabled_settings.specs.declared.alignment.AlignmentHorizontal.{Alignme
 use Rattle.tabled_settings.specs.declared.alignment.AlignmentVertical.{AlignmentVertical}
 use Rattle.tabled_grid.specs.declared.offset.Offset.{Offset}
 use Rattle.tabled_grid.specs.declared.place.LineOf.{LineOf}
-use Rattle.tabled_config.specs.Texts.{pieces, width_of_text}
+use Rattle.tabled_printing.specs.Texts.{pieces, width_of_text}
 use Rattle.tabled_formatting.specs.declared.alignment.Alignment.{Alignment}
 use Rattle.tabled_formatting.specs.Alignment.{horizontal_of, vertical_of}
 

@@ -1,8 +1,8 @@
 //! Options that write on the lines of a table: single characters, and texts.
 //!
 //! The outline around cells is written in `tabled_highlight`, the correction of borders of cells that span in
-//! `tabled_correction`, colors in turn in `tabled_colorization`, what is set for texts in `tabled_formatting`, and what is set of
-//! the margin in `tabled_margin`; all are passed on here.
+//! `tabled_correction`, colors in turn in `tabled_colorization`, what is set for texts and of the margin in `tabled_formatting`;
+//! all are passed on here.
 //!
 //! `docs/DEFINITIONS.md` explains the words of the contracts.
 #![tactic(auto)]
@@ -20,7 +20,6 @@ pub use line_text::LineText;
 pub use tabled_colorization::{Colorization, ExactColorization};
 pub use tabled_correction::BorderCorrection;
 pub use tabled_formatting::{
-    Alignment, AlignmentStrategy, Justification, PaddingColor, TrimStrategy,
+    Alignment, AlignmentStrategy, Justification, MarginColor, PaddingColor, Shadow, TrimStrategy,
 };
 pub use tabled_highlight::Highlight;
-pub use tabled_margin::{MarginColor, Shadow};

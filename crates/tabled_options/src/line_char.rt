@@ -4,16 +4,16 @@ ghost use Rattle.std.specs.Prelude.{◌≡◌, Some, IfOk, OnOk, OnErr, map, tru
 ghost use Rattle.tabled_object.specs.Entities.{cells_of};
 ghost use Rattle.tabled_object.specs.declared.entity.Entity.TheVariants as cells;
 ghost use Rattle.tabled_grid.specs.Writes.{writes_made};
-ghost use Rattle.tabled_config.specs.Colored.{Changes};
+ghost use Rattle.tabled_configuration.specs.Colored.{Changes};
 ghost use Rattle.tabled_options.specs.LineChar.{direction_of, has_edge, mark_written, line_char_events};
 
 use crate::written::write_of;
 use std::alloc::Global;
 use std::marker::Model;
-use tabled_config::{CellOption, ColoredConfig};
-use tabled_grid::{
-    Entity, ExactRecords, Offset, OutOfMemory, Place, Position, Records, Target, Write,
-};
+use tabled_border::OutOfMemory;
+use tabled_configuration::{CellOption, ColoredConfig};
+use tabled_grid::{Offset, Place, Target, Write};
+use tabled_object::{Entity, ExactRecords, Position, Records};
 
 /// A character at one numbered place of edges: of the horizontal edges above the cells of an entity, or of the
 /// vertical edges left of them.

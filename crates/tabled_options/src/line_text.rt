@@ -2,9 +2,9 @@
 
 ghost use Rattle.std.specs.Prelude.{◌≡◌, None, Some, IfOk, OnOk, OnErr, chars, length};
 ghost use Rattle.tabled_object.specs.declared.entity.Entity.TheVariants as cells;
-ghost use Rattle.tabled_config.specs.Colored.{Changes};
-ghost use Rattle.tabled_config.specs.Configuration.{all_writes, writes_applied};
-ghost use Rattle.tabled_config.specs.Picture.{look};
+ghost use Rattle.tabled_configuration.specs.Colored.{Changes};
+ghost use Rattle.tabled_configuration.specs.Configuration.{all_writes, writes_applied};
+ghost use Rattle.tabled_printing.specs.Picture.{look};
 ghost use Rattle.tabled_options.specs.TextStart.{limited, width_of};
 ghost use Rattle.tabled_options.specs.LineText.{places_taken, text_events};
 
@@ -16,11 +16,11 @@ use crate::table_line::TableLine;
 use crate::text_start::{TextSize, text_start, widest};
 use std::alloc::Global;
 use std::marker::Model;
+use tabled_border::{ANSIBuf, OutOfMemory};
 use tabled_color::Color;
-use tabled_config::{ColoredConfig, SpannedConfig, TableOption};
-use tabled_grid::{
-    ANSIBuf, Dimension, Entity, ExactRecords, LineOf, Offset, OutOfMemory, Place, Records, Write,
-};
+use tabled_configuration::{ColoredConfig, SpannedConfig, TableOption};
+use tabled_grid::{LineOf, Offset, Place, Write};
+use tabled_object::{Dimension, Entity, ExactRecords, Records};
 use writes::{character_writes, color_writes};
 
 /// A text that is written on a line of a table, over its edges and crossings.
@@ -178,7 +178,7 @@ impl<Line> LineText<Line> {
             return Ok(Vec::new(alloc));
         }
         let letters = self.letters(alloc)?;
-        let size = size_of(alloc, &letters)?;
+        let size = text_size(alloc, &letters)?;
         let total = line.total();
         match text_start(line.line, total, size, self.alignment, self.offset) {
             Some(start) => line.lay_from(alloc, start, total, &letters),
@@ -215,7 +215,7 @@ impl<Line> LineText<Line> {
 }
 
 /// How large a text of these characters is.
-fn size_of(alloc: Global, letters: &[char]) -> Result<TextSize, OutOfMemory>
+fn text_size(alloc: Global, letters: &[char]) -> Result<TextSize, OutOfMemory>
     ensures width { IfOk result (λ size. size.width ≡ width_of letters.now) }
     ensures count { IfOk result (λ size. size.count ≡ length letters.now) }
 {

@@ -4,9 +4,9 @@ ghost use Rattle.std.specs.Prelude.{◌≡◌, ℕ, Option};
 ghost use Rattle.tabled_grid.specs.declared.place.LineOf.{LineOf};
 ghost use Rattle.tabled_options.specs.NamedLine.{row_line, column_line, last_row_line, last_column_line, before_last};
 
-use tabled_grid::{
-    Column, FirstColumn, FirstRow, LastColumn, LastColumnOffset, LastRow, LastRowOffset,
-    LineOf as Line, Row,
+use tabled_grid::LineOf as Line;
+use tabled_object::{
+    Column, FirstColumn, FirstRow, LastColumn, LastColumnOffset, LastRow, LastRowOffset, Row,
 };
 
 /// An object that names one line of a table: the horizontal line above one row, or the vertical line left of one column.

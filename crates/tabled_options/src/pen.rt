@@ -3,7 +3,8 @@
 ghost use Rattle.std.specs.Prelude.{◌≡◌, [], ◌∷◌, OnOk, List, length, min};
 ghost use Rattle.tabled_grid.specs.declared.place.Place.{Place as Spot};
 
-use tabled_grid::{OutOfMemory, Place};
+use tabled_border::OutOfMemory;
+use tabled_grid::Place;
 
 /// What is still to be laid, and where it was laid so far.
 #[derive(Drop)]

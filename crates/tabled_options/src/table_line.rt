@@ -4,10 +4,12 @@ ghost use Rattle.std.specs.Prelude.{◌≡◌, ◌-◌, ◌^◌, true, OnOk, IfO
 
 use crate::pen::Pen;
 use std::alloc::Global;
-use tabled_config::{
-    SpannedConfig, crossing_line, crossing_of, edge_of, has_line, pieces_of, size_of,
-};
-use tabled_grid::{Dimension, LineOf, OutOfMemory, Place, Probes};
+use tabled_border::OutOfMemory;
+use tabled_configuration::SpannedConfig;
+use tabled_grid::{LineOf, Place};
+use tabled_kept::Probes;
+use tabled_object::Dimension;
+use tabled_printing::{crossing_line, crossing_of, edge_of, has_line, piece_size, pieces_of};
 
 /// A line of a table, with what decides how it looks.
 #[derive(Drop)]
@@ -20,7 +22,7 @@ pub(crate) struct TableLine<'a, D> {
 
 impl<D: Dimension> TableLine<'_, D> {
     ghost use Rattle.tabled_options.specs.LineText.{takes_character, places_along};
-    ghost use Rattle.tabled_config.specs.LinePieces.{has_line, pieces_of, size_of, crossed, crossing_places, edge_places, all_places};
+    ghost use Rattle.tabled_printing.specs.LinePieces.{has_line, pieces_of, piece_size, crossed, crossing_places, edge_places, all_places};
     ghost use Rattle.tabled_options.specs.Laying.{looked};
     ghost use Rattle.tabled_options.specs.Passing.{Passed};
 
@@ -40,9 +42,9 @@ impl<D: Dimension> TableLine<'_, D> {
 
     /// How many places its edge has at one of them.
     fn size(&self, n: usize) -> usize
-        ensures { let view = looked D.width_of D.height_of self.now in result ≡ size_of view.widths view.heights self.now.line n }
+        ensures { let view = looked D.width_of D.height_of self.now in result ≡ piece_size view.widths view.heights self.now.line n }
     {
-        size_of(self.dims, self.line, n)
+        piece_size(self.dims, self.line, n)
     }
 
     /// Whether a line of the other direction is drawn, so that it crosses this one.

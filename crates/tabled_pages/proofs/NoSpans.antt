@@ -7,8 +7,8 @@ use Rattle.tabled_grid.specs.declared.event.Event.TheVariants.{Erase as erase}
 use Rattle.tabled_grid.specs.declared.event.Region.TheVariants.{All as every_site}
 use Rattle.tabled_grid.specs.State.{class_record_set}
 use Rattle.tabled_layout.specs.TableSettings.{settings_after, first_settings}
-use Rattle.tabled_config.specs.Configuration.{Configuration, Shows, settings_of, by_characters, by_colors, borders_replaced, horizontal_lines_put, vertical_lines_put}
-use Rattle.tabled_config.specs.Refusal.{has_no_spans}
+use Rattle.tabled_configuration.specs.Configuration.{Configuration, Shows, settings_of, by_characters, by_colors, borders_replaced, horizontal_lines_put, vertical_lines_put}
+use Rattle.tabled_printing.specs.Refusal.{has_no_spans}
 use Rattle.tabled_style.specs.declared.ready_style.ReadyStyle.{ReadyStyle}
 use Rattle.tabled_style.specs.Named.{shown}
 use Rattle.tabled_pages.specs.Style.{styled}

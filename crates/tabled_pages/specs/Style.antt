@@ -1,6 +1,6 @@
 -- The style that the words after the program's name ask for.
 use Rattle.std.specs.Prelude.{ℕ, List, [], ◌∷◌, Option, None}
-use Rattle.tabled_config.specs.Configuration.{ConfigEvent}
+use Rattle.tabled_configuration.specs.Configuration.{ConfigEvent}
 use Rattle.tabled_style.specs.declared.ready_style.ReadyStyle.{ReadyStyle}
 use Rattle.tabled_style.specs.Named.{style_named, ready_applied}
 

@@ -1,9 +1,9 @@
 //! The text of an input's table.
 
 ghost use Rattle.std.specs.Prelude.{◌≡◌, ◌≤◌, ◌⊎◌, List, ◌++◌, ◌∷◌, [], Some, None, true, false, length, string_bytes, IfOk, IfErr, OnOk};
-ghost use Rattle.tabled_config.specs.Configuration.{ConfigEvent, Shows};
-ghost use Rattle.tabled_config.specs.Refusal.{has_no_spans};
-ghost use Rattle.tabled_config.specs.Texts.{texts};
+ghost use Rattle.tabled_configuration.specs.Configuration.{ConfigEvent, Shows};
+ghost use Rattle.tabled_printing.specs.Refusal.{has_no_spans};
+ghost use Rattle.tabled_printing.specs.Texts.{texts};
 ghost use Rattle.tabled_text.specs.TextTable.{text_of};
 ghost use Rattle.tabled_pages.specs.Input.{fault_of, have_equal_counts, rows_of};
 ghost use Rattle.tabled_pages.specs.Page.{page};
@@ -15,7 +15,7 @@ use crate::error::ShowError;
 use crate::read::INPUT_LIMIT;
 use crate::rows::rows_of;
 use std::alloc::Global;
-use tabled_config::PrintError;
+use tabled_printing::PrintError;
 use tabled_style::ReadyStyle;
 use tabled_text::{TableError, TextTable};
 
@@ -68,7 +68,7 @@ fn text_of(table: &TextTable) -> Result<String, ShowError>
 }
 
 /// The text of the table of an input in a style, with a line feed after it.
-fn framed(alloc: Global, style: ReadyStyle, input: &str) -> Result<String, ShowError>
+fn styled_text(alloc: Global, style: ReadyStyle, input: &str) -> Result<String, ShowError>
     ensures text { IfOk result (λ text. string_bytes text ≡ text_of (styled style) (rows_of input.now) ++ LINE_FEED ∷ []) }
     ensures equal { OnOk result (have_equal_counts (rows_of input.now) ≡ true) }
     ensures refused { IfErr result (λ e. (e ≡ ShowError.OutOfMemory) ⊎ ((e ≡ ShowError.UnequalRows) × (have_equal_counts (rows_of input.now) ≡ false))) }
@@ -91,6 +91,6 @@ pub fn page(alloc: Global, style: ReadyStyle, input: &[u8]) -> Result<String, Sh
     if input.is_empty() {
         return Ok(String::new(alloc));
     }
-    let text = framed(alloc, style, input)?;
+    let text = styled_text(alloc, style, input)?;
     Ok(text)
 }

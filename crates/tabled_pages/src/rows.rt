@@ -2,7 +2,7 @@
 
 ghost use Rattle.std.specs.Prelude.{◌≡◌, ◌<◌, [], ◌∷◌, length, map, string_bytes, IfNone, IfOk, IfSome};
 ghost use Rattle.std.specs.List.{before_first, after_first};
-ghost use Rattle.tabled_config.specs.Texts.{texts};
+ghost use Rattle.tabled_printing.specs.Texts.{texts};
 ghost use Rattle.tabled_pages.specs.Input.{cells_of, is_byte, lines_of, rows_of};
 ghost use Rattle.tabled_pages.specs.declared.bytes.TheConstants.{LINE_FEED};
 

@@ -22,16 +22,16 @@ use Rattle.tabled_grid.specs.Keys.{spot_cmp, edge_place_cmp}
 use Rattle.tabled_object.specs.declared.dimension.FixedDimension.{FixedDimension}
 use Rattle.tabled_object.specs.Entities.{below}
 use Rattle.tabled_configuration.specs.Configuration.{Configuration, all_writes}
-use Rattle.tabled_config.specs.declared.frame.Frame.{Frame}
-use Rattle.tabled_config.specs.Along.{is_empty}
-use Rattle.tabled_config.specs.Alike.{NoneForPlaces}
-use Rattle.tabled_config.specs.LinePieces.{edge_of, crossing_places, edge_places, piece_places, places_before, all_places}
-use Rattle.tabled_config.specs.Picture.{Look, look, edge_size, mark_at, marks_along}
-use Rattle.tabled_config.specs.Viewed.{with_colors_if}
-use Rattle.tabled_config.proofs.AlikeLemmas.{absent, between, if_same}
-use Rattle.tabled_config.proofs.LookLemmas.{own_shown, own_color}
-use Rattle.tabled_config.proofs.LineLemmas.{along_pieces, horizontal_there}
-use Rattle.tabled_config.proofs.MarkLemmas.{mark_by}
+use Rattle.tabled_printing.specs.declared.frame.Frame.{Frame}
+use Rattle.tabled_printing.specs.Along.{is_empty}
+use Rattle.tabled_printing.specs.Alike.{NoneForPlaces}
+use Rattle.tabled_printing.specs.LinePieces.{edge_of, crossing_places, edge_places, piece_places, places_before, all_places}
+use Rattle.tabled_printing.specs.Picture.{Look, look, edge_size, mark_at, marks_along}
+use Rattle.tabled_printing.specs.Viewed.{with_colors_if}
+use Rattle.tabled_printing.proofs.AlikeLemmas.{absent, between, if_same}
+use Rattle.tabled_printing.proofs.LookLemmas.{own_shown, own_color}
+use Rattle.tabled_printing.proofs.LineLemmas.{along_pieces, horizontal_there}
+use Rattle.tabled_printing.proofs.MarkLemmas.{mark_by}
 use Rattle.tabled_painting.specs.Between.{IsPlainLine, IsBetweenRows}
 use Rattle.tabled_painting.specs.Pages.{written}
 use Rattle.tabled_painting.specs.PaintedTable.{painted_marks}

@@ -12,8 +12,8 @@ use Rattle.tabled_settings.specs.Live.{Live, value_at}
 use Rattle.tabled_settings.specs.declared.alignment.AlignmentHorizontal.{AlignmentHorizontal}
 use Rattle.tabled_settings.specs.declared.cell_settings.CellSettings.{CellSettings}
 use Rattle.tabled_configuration.specs.AlikeCells.{AreAlike}
-use Rattle.tabled_config.specs.Texts.{pieces, width_of_text}
-use Rattle.tabled_config.proofs.TimesLemmas.{times_both}
+use Rattle.tabled_printing.specs.Texts.{pieces, width_of_text}
+use Rattle.tabled_printing.proofs.TimesLemmas.{times_both}
 use Rattle.tabled_cells.specs.declared.filling.LineParts.{LineParts}
 use Rattle.tabled_cells.specs.declared.placement.Placement.{Placement}
 use Rattle.tabled_cells.specs.Placed.{times, free_before, free_above, fill_of, line_parts, aligned_width}

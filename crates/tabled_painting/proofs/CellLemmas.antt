@@ -4,8 +4,8 @@ use Rattle.std.proofs.lemmas.Bool.{lt-ltb, le-ltb}
 use Rattle.std.proofs.lemmas.List.{length-map, get_or-map}
 use denote.Ref.{Bor}
 use Rattle.tabled_border.specs.Texts.{Texts}
-use Rattle.tabled_config.specs.Pieces.{lent}
-use Rattle.tabled_config.specs.Texts.{width_of_text}
+use Rattle.tabled_printing.specs.Pieces.{lent}
+use Rattle.tabled_printing.specs.Texts.{width_of_text}
 use Rattle.tabled_settings.specs.declared.alignment.AlignmentHorizontal.TheVariants.{Left}
 use Rattle.tabled_cells.specs.declared.filling.LineParts.{LineParts}
 use Rattle.tabled_cells.specs.declared.placement.Placement.{Placement}

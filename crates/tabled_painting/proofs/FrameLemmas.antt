@@ -6,12 +6,12 @@ use Rattle.std.proofs.lemmas.List.{append-nil, append_assoc, map-append, length-
 use Rattle.std.proofs.lemmas.List.FromFn.{map-range_with_len_more, length-map-range_with_len, get_or-map-range_with_len}
 use Rattle.tabled_object.specs.Entities.{below}
 use Rattle.tabled_configuration.proofs.Below.{flat_map_below}
-use Rattle.tabled_config.specs.Along.{is_empty}
-use Rattle.tabled_config.specs.Texts.{texts}
-use Rattle.tabled_config.specs.declared.mark.Run.{Run}
-use Rattle.tabled_config.specs.Marks.{mark_of, run_marks}
-use Rattle.tabled_config.specs.Picture.{Look, Shown, character, mark_at}
-use Rattle.tabled_config.specs.Beside.{mark_beside}
+use Rattle.tabled_printing.specs.Along.{is_empty}
+use Rattle.tabled_printing.specs.Texts.{texts}
+use Rattle.tabled_printing.specs.declared.mark.Run.{Run}
+use Rattle.tabled_printing.specs.Marks.{mark_of, run_marks}
+use Rattle.tabled_printing.specs.Picture.{Look, Shown, character, mark_at}
+use Rattle.tabled_printing.specs.Beside.{mark_beside}
 use Rattle.tabled_grid.specs.declared.place.Place.{Place}
 use Rattle.tabled_cells.specs.Placed.{times}
 use Rattle.tabled_painting.specs.declared.painter.Painter.{Painter}

@@ -6,11 +6,11 @@ use Rattle.std.proofs.lemmas.List.{append-nil, length-append}
 use Rattle.std.proofs.lemmas.List.FromFn.{length-map-range_with_len}
 use Rattle.tabled_object.specs.Entities.{below}
 use Rattle.tabled_grid.specs.declared.place.LineOf.{LineOf}
-use Rattle.tabled_config.specs.Along.{is_empty}
-use Rattle.tabled_config.specs.LinePieces.{crossing_of, edge_of, crossing_places, edge_places, piece_places, places_before, all_places}
-use Rattle.tabled_config.specs.Picture.{Look, marks_along}
-use Rattle.tabled_config.proofs.LineLemmas.{marks_count, vertical_there}
-use Rattle.tabled_config.proofs.TextLemmas.{ended}
+use Rattle.tabled_printing.specs.Along.{is_empty}
+use Rattle.tabled_printing.specs.LinePieces.{crossing_of, edge_of, crossing_places, edge_places, piece_places, places_before, all_places}
+use Rattle.tabled_printing.specs.Picture.{Look, marks_along}
+use Rattle.tabled_printing.proofs.LineLemmas.{marks_count, vertical_there}
+use Rattle.tabled_printing.proofs.TextLemmas.{ended}
 use Rattle.tabled_layout.specs.declared.margin.Margin.{Margin}
 use Rattle.tabled_painting.specs.declared.painter.Painter.{Painter}
 use Rattle.tabled_painting.specs.declared.page.Page.{Page}

@@ -4,9 +4,9 @@ use Rattle.std.specs.Cmp.Lexicographic.{pointwise}
 use Rattle.std.proofs.lemmas.List.{append-nil, append_assoc, map-append, length-replicate}
 use Rattle.std.proofs.lemmas.Str.{encode_ascii, length-le-encodes}
 use Rattle.tabled_cells.specs.Placed.{times}
-use Rattle.tabled_config.specs.Picture.{character}
-use Rattle.tabled_config.specs.Marks.{mark_of}
-use Rattle.tabled_config.specs.declared.mark.Mark.{Mark}
+use Rattle.tabled_printing.specs.Picture.{character}
+use Rattle.tabled_printing.specs.Marks.{mark_of}
+use Rattle.tabled_printing.specs.declared.mark.Mark.{Mark}
 use Rattle.tabled_painting.specs.PaintedTable.{side_painted}
 use Rattle.tabled_border.specs.Texts.{Texts}
 use Rattle.std.specs.List.{flat_map}

@@ -7,13 +7,13 @@ use Rattle.tabled_object.specs.Entities.{below}
 use Rattle.tabled_grid.specs.declared.place.Place.{Place}
 use Rattle.tabled_grid.specs.declared.place.LineOf.{LineOf}
 use Rattle.tabled_layout.specs.declared.margin.Margin.{Margin}
-use Rattle.tabled_config.specs.Along.{is_empty}
-use Rattle.tabled_config.specs.Texts.{Table, pieces}
-use Rattle.tabled_config.specs.Picture.{Look, Shown, character, text_shown, text_marked, mark_at, marks_along, side_shown, line_of_pieces, row_line, line_if_drawn, row_lines, text_lines}
+use Rattle.tabled_printing.specs.Along.{is_empty}
+use Rattle.tabled_printing.specs.Texts.{Table, pieces}
+use Rattle.tabled_printing.specs.Picture.{Look, Shown, character, text_shown, text_marked, mark_at, marks_along, side_shown, line_of_pieces, row_line, line_if_drawn, row_lines, text_lines}
 use Rattle.tabled_cells.specs.declared.placement.Placement.{Placement}
 use Rattle.tabled_cells.specs.Placed.{times, free_above, line_parts, aligned_width}
 use Rattle.tabled_cells.proofs.Fits.{empty_line, placed_line, placed_at}
-use Rattle.tabled_config.proofs.TimesLemmas.{times_spaces}
+use Rattle.tabled_printing.proofs.TimesLemmas.{times_spaces}
 use Rattle.tabled_painting.specs.Painted.{Painted, paint, plain, colored_if}
 use Rattle.tabled_painting.specs.InColor.{in_color, suffix_of}
 use Rattle.tabled_painting.specs.Margin.{Side, side_at, between_sides, strip, in_margin, left_side, right_side, top_side, bottom_side}
@@ -22,10 +22,10 @@ use Rattle.tabled_painting.specs.PaintedTable.{Cells, painted_mark, painted_mark
 use Rattle.tabled_painting.proofs.PainterLemmas.{plain_paint, goes_on, stays}
 use Rattle.tabled_painting.proofs.MarginLemmas.{between_none}
 use Rattle.tabled_painting.proofs.FrameLemmas.{flat_map_same}
-use Rattle.tabled_config.proofs.ViewedLemmas.{kept_text, kept_count}
+use Rattle.tabled_printing.proofs.ViewedLemmas.{kept_text, kept_count}
 use Rattle.tabled_painting.specs.Pages.{text_of_lines}
 use Rattle.tabled_painting.specs.PaintedTable.{painted_table}
-use Rattle.tabled_config.specs.Viewed as looks
+use Rattle.tabled_printing.specs.Viewed as looks
 use Rattle.std.specs.List.{join_with_byte}
 
 plain_both : (xs ys : Painted) → plain (xs ++ ys) ≡ plain xs ++ plain ys

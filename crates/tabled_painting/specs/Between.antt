@@ -4,8 +4,8 @@ use Rattle.std.specs.FinMap.{get}
 use Rattle.tabled_grid.specs.declared.place.LineOf.{LineOf}
 use Rattle.tabled_object.specs.declared.dimension.FixedDimension.{FixedDimension}
 use Rattle.tabled_configuration.specs.Configuration.{Configuration}
-use Rattle.tabled_config.specs.Picture.{marks_along}
-use Rattle.tabled_config.specs.declared.frame.Frame.{Frame}
+use Rattle.tabled_printing.specs.Picture.{marks_along}
+use Rattle.tabled_printing.specs.declared.frame.Frame.{Frame}
 use Rattle.tabled_painting.specs.Pages.{written}
 use Rattle.tabled_painting.specs.PaintedTable.{painted_marks}
 use Rattle.tabled_painting.specs.Viewed.{viewed}

@@ -2,7 +2,7 @@
 use Rattle.std.specs.Prelude.{◌≡◌, ℕ, Bool, ◌+◌, None, List, [], ◌∷◌, ◌++◌, length, map, replicate, option_copied, string_bytes}
 use Rattle.std.specs.List.{flat_map, join_with_byte}
 use Rattle.tabled_grid.specs.declared.place.LineOf.{LineOf}
-use Rattle.tabled_config.specs.Picture.{Look, marks_along}
+use Rattle.tabled_printing.specs.Picture.{Look, marks_along}
 use Rattle.tabled_painting.specs.declared.margin_sides.MarginSides.{MarginSides}
 use Rattle.tabled_painting.specs.Painted.{Painted, colored_if}
 use Rattle.tabled_painting.specs.InColor.{in_color}

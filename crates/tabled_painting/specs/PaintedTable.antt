@@ -8,11 +8,11 @@ use Rattle.tabled_grid.specs.declared.place.LineOf.{LineOf}
 use Rattle.tabled_settings.specs.declared.cell_settings.CellSettings.{CellSettings}
 use Rattle.tabled_settings.specs.Live.{Live}
 use Rattle.tabled_layout.specs.declared.margin.Margin.{Margin}
-use Rattle.tabled_config.specs.Along.{is_empty}
-use Rattle.tabled_config.specs.Texts.{Table}
+use Rattle.tabled_printing.specs.Along.{is_empty}
+use Rattle.tabled_printing.specs.Texts.{Table}
 use Rattle.tabled_configuration.specs.Colored.{Colored}
 use Rattle.tabled_configuration.specs.Configuration.{all_writes}
-use Rattle.tabled_config.specs.Picture.{Look, Shown, look, text_shown, mark_at, marks_along}
+use Rattle.tabled_printing.specs.Picture.{Look, Shown, look, text_shown, mark_at, marks_along}
 use Rattle.tabled_cells.specs.Placements.{placement_at}
 use Rattle.tabled_cells.specs.Trimmed.{lines_shown}
 use Rattle.tabled_painting.specs.Painted.{Painted, paint, plain}

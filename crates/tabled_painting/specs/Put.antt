@@ -4,7 +4,7 @@ use Rattle.std.proofs.Common.{refl, ap, sym, subst, ◌∙◌}
 use Rattle.std.proofs.lemmas.List.{append-nil, append_assoc, map-append}
 use Rattle.std.proofs.lemmas.List.Concat.{flat_map-append}
 use Rattle.tabled_border.specs.Texts.{Texts}
-use Rattle.tabled_config.specs.Picture.{Shown}
+use Rattle.tabled_printing.specs.Picture.{Shown}
 use Rattle.tabled_painting.specs.declared.painter.Painter.{Painter}
 use Rattle.tabled_painting.specs.Painted.{Painted, paint, plain, colored_if}
 use Rattle.tabled_painting.specs.InColor.{between, colored, last_color, Paints}

@@ -1,7 +1,7 @@
 -- The cells and rows of a table as its lines are painted.
 use Rattle.std.specs.Prelude.{ℕ, List, [], slice_index, slice_index_or}
-use Rattle.tabled_config.specs.Pieces.{lent}
-use Rattle.tabled_config.specs.Texts.{Table}
+use Rattle.tabled_printing.specs.Pieces.{lent}
+use Rattle.tabled_printing.specs.Texts.{Table}
 use Rattle.tabled_painting.specs.declared.cell_lines.CellLines.{CellLines}
 use Rattle.tabled_painting.specs.declared.table_lines.TableLines.{TableLines}
 use Rattle.tabled_painting.specs.CellLines.{coloring_of, cell_line}

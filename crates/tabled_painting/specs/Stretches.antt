@@ -9,14 +9,14 @@ abbrev pub Stretch : Type 0
 Stretch = Option Texts × List ℕ
 
 -- a byte before stretches: it belongs to the first one where that has its color, and else it is one by itself
-abbrev pub joined : ℕ × Option Texts → List Stretch → List Stretch
-joined byte [] = (byte.1, byte.0 ∷ []) ∷ []
-joined byte (first ∷ more) = if same_color byte.1 first.0 then (byte.1, byte.0 ∷ first.1) ∷ more else (byte.1, byte.0 ∷ []) ∷ first ∷ more
+abbrev pub after_byte : ℕ × Option Texts → List Stretch → List Stretch
+after_byte byte [] = (byte.1, byte.0 ∷ []) ∷ []
+after_byte byte (first ∷ more) = if same_color byte.1 first.0 then (byte.1, byte.0 ∷ first.1) ∷ more else (byte.1, byte.0 ∷ []) ∷ first ∷ more
 
 -- the stretches of a line
 abbrev pub stretches : Painted → List Stretch
 stretches [] = []
-stretches (byte ∷ line) = joined byte (stretches line)
+stretches (byte ∷ line) = after_byte byte (stretches line)
 
 -- a stretch between the two texts of its color
 abbrev pub between_its_texts : Stretch → List ℕ

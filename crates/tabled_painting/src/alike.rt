@@ -3,7 +3,7 @@
 ghost use Rattle.std.specs.Prelude.{◌<◌, IfSome};
 ghost use Rattle.tabled_painting.specs.Between.{IsPlainLine};
 
-use tabled_config::SpannedConfig;
+use tabled_configuration::SpannedConfig;
 
 /// The first horizontal line between two of the given number of rows that is no custom one.
 #[tactic(auto, using(crate::proofs::AlikeLemmas::plain_line))]

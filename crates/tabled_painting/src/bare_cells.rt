@@ -6,8 +6,8 @@ ghost use Rattle.tabled_painting.specs.CellLines.{coloring_of};
 
 use crate::CellColors;
 use tabled_cells::Placement;
-use tabled_config::{ColorMap, SpannedConfig};
-use tabled_grid::Position;
+use tabled_configuration::{ColorMap, SpannedConfig};
+use tabled_object::Position;
 use tabled_settings::{AlignmentHorizontal, AlignmentVertical};
 
 /// Whether a cell shows its text whole, at the left and at the top, between spaces, and without colors.

@@ -3,8 +3,8 @@
 ghost use Rattle.std.specs.Prelude.{◌≡◌};
 
 use tabled_border::ANSIBuf;
-use tabled_config::{ColorMap, Colors, SpannedConfig};
-use tabled_grid::Position;
+use tabled_configuration::{ColorMap, Colors, SpannedConfig};
+use tabled_object::Position;
 use tabled_settings::Sides;
 
 /// The colors of a cell, as far as it has them.

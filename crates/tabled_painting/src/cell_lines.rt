@@ -2,8 +2,8 @@
 
 ghost use Rattle.std.specs.Prelude.{◌≡◌, ◌≢◌, ℕ, false, map, OnOk, IfOk};
 ghost use Rattle.tabled_settings.specs.declared.alignment.AlignmentHorizontal.{AlignmentHorizontal as Side};
-ghost use Rattle.tabled_config.specs.Texts.{width_of_text};
-ghost use Rattle.tabled_config.specs.Pieces.{lent};
+ghost use Rattle.tabled_printing.specs.Texts.{width_of_text};
+ghost use Rattle.tabled_printing.specs.Pieces.{lent};
 ghost use Rattle.tabled_cells.specs.Placed.{aligned_width, greatest};
 ghost use Rattle.tabled_cells.specs.Trimmed.{lines_shown};
 ghost use Rattle.tabled_painting.specs.InColor.{Paints};

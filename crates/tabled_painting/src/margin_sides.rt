@@ -4,7 +4,7 @@ ghost use Rattle.std.specs.Prelude.{◌≡◌};
 ghost use Rattle.tabled_painting.specs.Margin.{side_of, left_side, right_side, top_side, bottom_side};
 
 use crate::MarginSide;
-use tabled_config::SpannedConfig;
+use tabled_configuration::SpannedConfig;
 
 /// The four sides of a margin.
 #[derive(Clone, Copy, Debug)]

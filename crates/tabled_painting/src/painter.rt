@@ -1,8 +1,8 @@
 //! Writes painted lines.
 
 ghost use Rattle.std.specs.Prelude.{◌≡◌, ◌++◌, ◌∷◌, [], None, OnOk, option_copied, option_map, string_bytes};
-ghost use Rattle.tabled_config.specs.Marks.{mark_of};
-ghost use Rattle.tabled_config.specs.Sinks.{anything};
+ghost use Rattle.tabled_printing.specs.Marks.{mark_of};
+ghost use Rattle.tabled_printing.specs.Sinks.{anything};
 ghost use Rattle.tabled_cells.specs.Placed.{times};
 ghost use Rattle.tabled_painting.specs.BareCells.{at_left};
 ghost use Rattle.tabled_painting.specs.Painted.{paint};
@@ -11,9 +11,8 @@ ghost use Rattle.tabled_painting.specs.InColor.{Paints, between, prefix_of, suff
 ghost use Rattle.tabled_painting.specs.Put as put;
 
 use std::alloc::{AllocError, Global};
-use tabled_border::ANSIBuf;
-use tabled_config::{Mark, Run, Sink, push_spaces_before, push_times};
-use tabled_grid::OutOfMemory;
+use tabled_border::{ANSIBuf, OutOfMemory};
+use tabled_printing::{Mark, Run, Sink, push_spaces_before, push_times};
 
 /// A text that painted lines are written into, one after another, and the color of what was written last.
 #[derive(Drop)]

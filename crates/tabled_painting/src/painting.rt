@@ -3,7 +3,7 @@
 ghost use Rattle.std.specs.Prelude.{◌≡◌, ◌+◌, true, None, length, IfOk, string_bytes, slice_index, option_copied};
 ghost use Rattle.std.specs.List.{All};
 ghost use Rattle.tabled_configuration.specs.Configuration.{all_writes};
-ghost use Rattle.tabled_config.specs.Texts.{texts};
+ghost use Rattle.tabled_printing.specs.Texts.{texts};
 ghost use Rattle.tabled_painting.specs.Margin.{side_of, between_sides};
 ghost use Rattle.tabled_painting.specs.Pages.{PaintsWhole, Strips, text_of_lines};
 ghost use Rattle.tabled_painting.specs.PaintedTable.{Cells, painted_by, painted_lines, painted_table, plain_text, colored_text};
@@ -13,8 +13,10 @@ ghost use Rattle.tabled_painting.specs.Viewed.{viewed};
 use crate::page::Page;
 use crate::table_lines::TableLines;
 use crate::{MarginSides, Painter};
-use tabled_config::{ColoredConfig, Frame, join_lines};
-use tabled_grid::{FixedDimension, OutOfMemory};
+use tabled_border::OutOfMemory;
+use tabled_configuration::ColoredConfig;
+use tabled_object::FixedDimension;
+use tabled_printing::{Frame, join_lines};
 
 /// The sum of two numbers. Refused where no number says it: no memory holds that many characters.
 fn sum_of(first: usize, second: usize) -> Result<usize, OutOfMemory>

@@ -4,10 +4,10 @@ ghost use Rattle.std.specs.Prelude.{◌≡◌, ◌≢◌, ◌++◌, ◌<◌, ◌
 ghost use Rattle.std.specs.Option.{ForSome};
 ghost use Rattle.std.specs.List.{All};
 ghost use Rattle.tabled_object.specs.Entities.{below};
-ghost use Rattle.tabled_config.specs.Along.{is_empty};
-ghost use Rattle.tabled_config.specs.Marks.{mark_of};
-ghost use Rattle.tabled_config.specs.Picture.{marks_along};
-ghost use Rattle.tabled_config.specs.Texts.{texts};
+ghost use Rattle.tabled_printing.specs.Along.{is_empty};
+ghost use Rattle.tabled_printing.specs.Marks.{mark_of};
+ghost use Rattle.tabled_printing.specs.Picture.{marks_along};
+ghost use Rattle.tabled_printing.specs.Texts.{texts};
 ghost use Rattle.tabled_grid.specs.declared.place.LineOf.{LineOf as Line};
 ghost use Rattle.tabled_painting.specs.InColor.{Paints};
 ghost use Rattle.tabled_painting.specs.Pages.{PaintsLines, written};
@@ -22,9 +22,12 @@ use crate::cell_lines::CellLines;
 use crate::page::Page;
 use crate::{CellColors, Painter};
 use std::alloc::Global;
+use tabled_border::OutOfMemory;
 use tabled_cells::{Placement, is_printable};
-use tabled_config::{ColorMap, ColoredConfig, Frame, Mark};
-use tabled_grid::{Dimension, FixedDimension, OutOfMemory, Position, Probes};
+use tabled_configuration::{ColorMap, ColoredConfig};
+use tabled_kept::Probes;
+use tabled_object::{Dimension, FixedDimension, Position};
+use tabled_printing::{Frame, Mark};
 
 /// From how many rows on it pays to keep what stands between them.
 const MANY_ROWS: usize = 3;

@@ -12,10 +12,10 @@ use Rattle.tabled_grid.proofs.Replay.{replay-nil, replay_cleared}
 use Rattle.tabled_grid.proofs.DrawnLemmas.{value-shown}
 use Rattle.tabled_configuration.specs.Configuration.{Configuration, Changes, borders_replaced, horizontal_lines_put, vertical_lines_put}
 use Rattle.tabled_configuration.proofs.ConfigurationLemmas.{characters_of-both, colors_of-both}
-use Rattle.tabled_style.specs.Shown.{Shown}
+use Rattle.tabled_style.specs.Shown.{StyleShown}
 use Rattle.tabled_style.specs.Deciding.{written_by}
 
-pub characters_shown : (style : Shown) (old new : Configuration) → Changes (borders_replaced style.borders style.horizontals style.verticals) old new → grid.Shows (written_by style) (state_at new.characters)
+pub characters_shown : (style : StyleShown) (old new : Configuration) → Changes (borders_replaced style.borders style.horizontals style.verticals) old new → grid.Shows (written_by style) (state_at new.characters)
 unfolding borders_replaced written_by grid.Shows grid.Changes
 characters_shown style old new changes q =
     let es : List (Event ℕ) = horizontal_lines_put style.horizontals ++ vertical_lines_put style.verticals ++ class_record_set style.borders in
@@ -23,7 +23,7 @@ characters_shown style old new changes q =
     subst (λ all. grid.Changes all (state_at old.characters) (state_at new.characters)) (characters_of-both (erase every_site ∷ es) (erase every_site ∷ [])) changes.characters_changed in
     changed q ∙ replay_cleared every_site es q
 
-colors_shown : (style : Shown) (old new : Configuration) → Changes (borders_replaced style.borders style.horizontals style.verticals) old new → grid.Shows [] (state_at new.colors)
+colors_shown : (style : StyleShown) (old new : Configuration) → Changes (borders_replaced style.borders style.horizontals style.verticals) old new → grid.Shows [] (state_at new.colors)
 unfolding borders_replaced grid.Shows grid.Changes
 colors_shown style old new changes q =
     let es : List (Event ℕ) = horizontal_lines_put style.horizontals ++ vertical_lines_put style.verticals ++ class_record_set style.borders in
@@ -40,7 +40,7 @@ none_either : {A : Type 0} (b : Bool) (x : Option A) → x ≡ None → cond b x
 none_either true x is = is
 none_either false x is = refl
 
-pub colorless : (style : Shown) (old new : Configuration) (shape : ℕ × ℕ) (size : ℕ) (place : Place) → Changes (borders_replaced style.borders style.horizontals style.verticals) old new → value (state_at new.colors) shape size place ≡ None
+pub colorless : (style : StyleShown) (old new : Configuration) (shape : ℕ × ℕ) (size : ℕ) (place : Place) → Changes (borders_replaced style.borders style.horizontals style.verticals) old new → value (state_at new.colors) shape size place ≡ None
 unfolding value
 colorless style old new shape size place changes =
     value-shown [] (state_at new.colors) shape size place (colors_shown style old new changes)

@@ -9,7 +9,7 @@ use Rattle.tabled_grid.specs.Site.{horizontal_meeting, vertical_meeting}
 use Rattle.tabled_grid.specs.Borders.{horizontal_of, vertical_of, put_horizontal, put_vertical}
 use Rattle.tabled_grid.specs.CustomLines.{no_horizontal, no_vertical, put_horizontal_meeting, put_vertical_meeting}
 use Rattle.tabled_grid.proofs.SixLines.{horizontal_of-put, vertical_of-put, horizontal_of-put_vertical, vertical_of-put_horizontal, put_horizontal_meeting-same, put_vertical_meeting-same}
-use Rattle.tabled_style.specs.Shown.{Shown}
+use Rattle.tabled_style.specs.Shown.{StyleShown}
 use Rattle.tabled_style.specs.LineCalls.{space_where, spaced_vertical, spaced_horizontal, followed_vertical, followed_horizontal, settled_horizontal, settled_vertical, with_line_horizontal, with_line_vertical}
 
 -- a line stays as it is where one is put across it that has the same at their crossing
@@ -54,7 +54,7 @@ still_followed inner inner (Some c) borders has = alike_vertical inner inner (So
 still_followed last inner (Some c) borders has = alike_vertical last inner (Some c) (spaced_horizontal borders) borders has (ap (space_where _) has)
 still_followed rank row crossing borders has = refl
 
-pub horizontal_again : (rank : Rank) (line : HorizontalLine ℕ) (style : Shown) → horizontal_of rank (with_line_horizontal rank line style).borders ≡ line
+pub horizontal_again : (rank : Rank) (line : HorizontalLine ℕ) (style : StyleShown) → horizontal_of rank (with_line_horizontal rank line style).borders ≡ line
 unfolding with_line_horizontal settled_horizontal
 horizontal_again rank line style =
     let put : Borders ℕ = put_horizontal rank line style.borders in
@@ -65,7 +65,7 @@ horizontal_again rank line style =
     let again : horizontal_of rank ended ≡ line = followed_still rank first line.left crossed (ap (λ (l : HorizontalLine ℕ). l.left) still) ∙ still in
     followed_still rank last line.right ended (ap (λ (l : HorizontalLine ℕ). l.right) again) ∙ again
 
-pub vertical_again : (rank : Rank) (line : VerticalLine ℕ) (style : Shown) → vertical_of rank (with_line_vertical rank line style).borders ≡ line
+pub vertical_again : (rank : Rank) (line : VerticalLine ℕ) (style : StyleShown) → vertical_of rank (with_line_vertical rank line style).borders ≡ line
 unfolding with_line_vertical settled_vertical
 vertical_again rank line style =
     let put : Borders ℕ = put_vertical rank line style.borders in

@@ -3,7 +3,7 @@ use Rattle.std.specs.Prelude.{ℕ, Bool, ◌&&◌, [], ◌∷◌, is_some}
 use Rattle.std.specs.List.{list_any}
 use Rattle.tabled_border.specs.declared.border.Border.{Border}
 use Rattle.tabled_grid.specs.CustomLines.{no_horizontal, no_vertical}
-use Rattle.tabled_style.specs.Shown.{Shown}
+use Rattle.tabled_style.specs.Shown.{StyleShown}
 use Rattle.tabled_style.specs.Lines.{each_line, over_horizontal, over_vertical}
 use Rattle.tabled_style.specs.LineCalls.{space_where}
 
@@ -43,7 +43,7 @@ unfoldable pub corrected : Border ℕ → Border ℕ
 corrected border = corners_given (sides_given border)
 
 -- the style with these sides and corners
-unfoldable pub with_frame : Border ℕ → Shown → Shown
+unfoldable pub with_frame : Border ℕ → StyleShown → StyleShown
 with_frame border style = record {
   borders = record style.borders {
     top = border.top;

@@ -9,7 +9,7 @@ use Rattle.tabled_grid.specs.declared.place.Rank.{Rank}
 use Rattle.tabled_grid.specs.declared.place.Rank.TheVariants.{First as first, Inner as inner, Last as last}
 use Rattle.tabled_grid.specs.Borders.{has_horizontal, has_vertical, horizontal_of, vertical_of, put_horizontal, put_vertical}
 use Rattle.tabled_grid.specs.CustomLines.{no_horizontal, no_vertical}
-use Rattle.tabled_style.specs.Shown.{Shown}
+use Rattle.tabled_style.specs.Shown.{StyleShown}
 use Rattle.tabled_style.specs.Lines.{each_line, over_horizontal, over_vertical}
 use Rattle.tabled_style.specs.Removing.{horizontal_dropped, vertical_dropped}
 
@@ -62,14 +62,14 @@ settled_vertical line between =
 
 -- a style after a call with a line for a rank: custom lines of its direction take its crossing and its ends, those of the
 -- other one its crossing, where they are given
-unfoldable pub with_line_horizontal : Rank → HorizontalLine ℕ → Shown → Shown
+unfoldable pub with_line_horizontal : Rank → HorizontalLine ℕ → StyleShown → StyleShown
 with_line_horizontal rank line style = record {
   borders = settled_horizontal line (put_horizontal rank line style.borders);
   horizontals = each_line (over_horizontal line) style.horizontals;
   verticals = each_line (over_vertical (record no_vertical { intersection = line.intersection })) style.verticals;
 }
 
-unfoldable pub with_line_vertical : Rank → VerticalLine ℕ → Shown → Shown
+unfoldable pub with_line_vertical : Rank → VerticalLine ℕ → StyleShown → StyleShown
 with_line_vertical rank line style = record {
   borders = settled_vertical line (put_vertical rank line style.borders);
   horizontals = each_line (over_horizontal (record no_horizontal { intersection = line.intersection })) style.horizontals;

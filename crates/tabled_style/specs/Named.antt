@@ -2,13 +2,13 @@
 use Rattle.std.specs.Prelude.{ℕ, List, [], ◌∷◌, codes, Option, find}
 use Rattle.std.specs.Str.{bytes_eq}
 use Rattle.tabled_configuration.specs.Configuration.{ConfigEvent, borders_replaced}
-use Rattle.tabled_style.specs.Shown.{Shown}
+use Rattle.tabled_style.specs.Shown.{StyleShown}
 use Rattle.tabled_style.specs.Ready.{empty, blank, ascii, psql, markdown, modern, sharp, rounded, modern_rounded, extended, dots, re_structured_text, ascii_rounded}
 use Rattle.tabled_style.specs.declared.ready_style.ReadyStyle.TheVariants as ready
 use Rattle.tabled_style.specs.declared.ready_style.ReadyStyle.{ReadyStyle}
 
 -- what a ready style shows
-unfoldable pub shown : ReadyStyle → Shown
+unfoldable pub shown : ReadyStyle → StyleShown
 shown ready.Empty = empty
 shown ready.Blank = blank
 shown ready.Ascii = ascii

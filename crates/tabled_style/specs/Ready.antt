@@ -6,7 +6,7 @@ use Rattle.tabled_grid.specs.declared.lines.HorizontalLine.{HorizontalLine}
 use Rattle.tabled_grid.specs.declared.place.Rank.TheVariants.{First as first, Inner as inner, Last as last}
 use Rattle.tabled_grid.specs.Borders.{put_horizontal}
 use Rattle.tabled_grid.specs.CustomLines.{no_horizontal, no_borders}
-use Rattle.tabled_style.specs.Shown.{Shown}
+use Rattle.tabled_style.specs.Shown.{StyleShown}
 use Rattle.tabled_style.specs.Lines.{full_horizontal}
 
 -- the one character of a text
@@ -31,55 +31,55 @@ class_record top bottom between left right vertical =
     })))
 
 -- the record with one character for the edges of all vertical lines
-abbrev pub framed : HorizontalLine ℕ → HorizontalLine ℕ → HorizontalLine ℕ → ℕ → Borders ℕ
-framed top bottom between side = class_record top bottom between (Some side) (Some side) (Some side)
+abbrev pub boxed : HorizontalLine ℕ → HorizontalLine ℕ → HorizontalLine ℕ → ℕ → Borders ℕ
+boxed top bottom between side = class_record top bottom between (Some side) (Some side) (Some side)
 
 -- the record with one line for the top and the bottom, with lines between columns and without sides
 abbrev pub unframed : HorizontalLine ℕ → ℕ → Borders ℕ
 unframed ends vertical = class_record ends ends no_horizontal None None (Some vertical)
 
 -- a style without custom vertical lines, and with at most one custom horizontal line, which is number 1
-abbrev pub plain : Borders ℕ → Shown
+abbrev pub plain : Borders ℕ → StyleShown
 plain borders = record { borders = borders; horizontals = []; verticals = [] }
 
-abbrev pub ruled : Borders ℕ → HorizontalLine ℕ → Shown
+abbrev pub ruled : Borders ℕ → HorizontalLine ℕ → StyleShown
 ruled borders under = record { borders = borders; horizontals = (1, under) ∷ []; verticals = [] }
 
-unfoldable pub empty : Shown
+unfoldable pub empty : StyleShown
 empty = plain no_borders
 
-unfoldable pub blank : Shown
+unfoldable pub blank : StyleShown
 blank = plain (unframed no_horizontal (char " "))
 
-unfoldable pub ascii : Shown
-ascii = plain (framed (line "-+++") (line "-+++") (line "-+++") (char "|"))
+unfoldable pub ascii : StyleShown
+ascii = plain (boxed (line "-+++") (line "-+++") (line "-+++") (char "|"))
 
-unfoldable pub psql : Shown
+unfoldable pub psql : StyleShown
 psql = ruled (unframed no_horizontal (char "|")) (open_line (char "-") (char "+"))
 
-unfoldable pub markdown : Shown
-markdown = ruled (framed no_horizontal no_horizontal no_horizontal (char "|")) (line "-|||")
+unfoldable pub markdown : StyleShown
+markdown = ruled (boxed no_horizontal no_horizontal no_horizontal (char "|")) (line "-|||")
 
-unfoldable pub modern : Shown
-modern = plain (framed (line "─┬┌┐") (line "─┴└┘") (line "─┼├┤") (char "│"))
+unfoldable pub modern : StyleShown
+modern = plain (boxed (line "─┬┌┐") (line "─┴└┘") (line "─┼├┤") (char "│"))
 
-unfoldable pub sharp : Shown
-sharp = ruled (framed (line "─┬┌┐") (line "─┴└┘") no_horizontal (char "│")) (line "─┼├┤")
+unfoldable pub sharp : StyleShown
+sharp = ruled (boxed (line "─┬┌┐") (line "─┴└┘") no_horizontal (char "│")) (line "─┼├┤")
 
-unfoldable pub rounded : Shown
-rounded = ruled (framed (line "─┬╭╮") (line "─┴╰╯") no_horizontal (char "│")) (line "─┼├┤")
+unfoldable pub rounded : StyleShown
+rounded = ruled (boxed (line "─┬╭╮") (line "─┴╰╯") no_horizontal (char "│")) (line "─┼├┤")
 
-unfoldable pub modern_rounded : Shown
-modern_rounded = plain (framed (line "─┬╭╮") (line "─┴╰╯") (line "─┼├┤") (char "│"))
+unfoldable pub modern_rounded : StyleShown
+modern_rounded = plain (boxed (line "─┬╭╮") (line "─┴╰╯") (line "─┼├┤") (char "│"))
 
-unfoldable pub extended : Shown
-extended = plain (framed (line "═╦╔╗") (line "═╩╚╝") (line "═╬╠╣") (char "║"))
+unfoldable pub extended : StyleShown
+extended = plain (boxed (line "═╦╔╗") (line "═╩╚╝") (line "═╬╠╣") (char "║"))
 
-unfoldable pub dots : Shown
-dots = plain (framed (line "....") (line ".:::") (line ".:::") (char ":"))
+unfoldable pub dots : StyleShown
+dots = plain (boxed (line "....") (line ".:::") (line ".:::") (char ":"))
 
-unfoldable pub re_structured_text : Shown
+unfoldable pub re_structured_text : StyleShown
 re_structured_text = ruled (unframed (open_line (char "=") (char " ")) (char " ")) (open_line (char "=") (char " "))
 
-unfoldable pub ascii_rounded : Shown
-ascii_rounded = plain (framed (line "--..") (line "--''") no_horizontal (char "|"))
+unfoldable pub ascii_rounded : StyleShown
+ascii_rounded = plain (boxed (line "--..") (line "--''") no_horizontal (char "|"))

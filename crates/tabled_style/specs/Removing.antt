@@ -6,7 +6,7 @@ use Rattle.tabled_grid.specs.declared.lines.VerticalLine.{VerticalLine}
 use Rattle.tabled_grid.specs.declared.place.Rank.{Rank}
 use Rattle.tabled_grid.specs.Borders.{put_horizontal, put_vertical}
 use Rattle.tabled_grid.specs.CustomLines.{no_horizontal, no_vertical, put_horizontal_meeting, put_vertical_meeting}
-use Rattle.tabled_style.specs.Shown.{Shown}
+use Rattle.tabled_style.specs.Shown.{StyleShown}
 use Rattle.tabled_style.specs.Lines.{each_line}
 
 -- a record without its lines of a rank
@@ -17,13 +17,13 @@ abbrev pub vertical_dropped : Rank → Borders ℕ → Borders ℕ
 vertical_dropped rank borders = put_vertical rank no_vertical borders
 
 -- a style without its lines of a rank; its custom lines of the other direction have nothing where they meet them
-unfoldable pub without_horizontal : Rank → Shown → Shown
+unfoldable pub without_horizontal : Rank → StyleShown → StyleShown
 without_horizontal rank style = record style {
   borders = horizontal_dropped rank style.borders;
   verticals = each_line (put_vertical_meeting rank None) style.verticals;
 }
 
-unfoldable pub without_vertical : Rank → Shown → Shown
+unfoldable pub without_vertical : Rank → StyleShown → StyleShown
 without_vertical rank style = record style {
   borders = vertical_dropped rank style.borders;
   horizontals = each_line (put_horizontal_meeting rank None) style.horizontals;

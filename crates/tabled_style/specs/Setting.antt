@@ -5,7 +5,7 @@ use Rattle.tabled_grid.specs.declared.place.Rank.{Rank}
 use Rattle.tabled_grid.specs.declared.place.Rank.TheVariants.{First as first, Inner as inner, Last as last}
 use Rattle.tabled_grid.specs.Borders.{has_horizontal, has_vertical, horizontal_of, vertical_of, put_horizontal, put_vertical}
 use Rattle.tabled_grid.specs.CustomLines.{put_horizontal_meeting, put_vertical_meeting}
-use Rattle.tabled_style.specs.Shown.{Shown}
+use Rattle.tabled_style.specs.Shown.{StyleShown}
 use Rattle.tabled_style.specs.Lines.{each_line}
 
 -- the character where it is asked for, else what was there
@@ -34,20 +34,20 @@ vertical_drawn rank c borders =
     }) borders
 
 -- a style with a character on the lines of a rank; its custom lines of the other direction have it where they meet them
-unfoldable pub with_horizontal : Rank → ℕ → Shown → Shown
+unfoldable pub with_horizontal : Rank → ℕ → StyleShown → StyleShown
 with_horizontal rank c style = record style {
   borders = horizontal_drawn rank c style.borders;
   verticals = each_line (put_vertical_meeting rank (Some c)) style.verticals;
 }
 
-unfoldable pub with_vertical : Rank → ℕ → Shown → Shown
+unfoldable pub with_vertical : Rank → ℕ → StyleShown → StyleShown
 with_vertical rank c style = record style {
   borders = vertical_drawn rank c style.borders;
   horizontals = each_line (put_horizontal_meeting rank (Some c)) style.horizontals;
 }
 
 -- a style with a character where the inner lines cross, and at the crossings between of all custom lines
-unfoldable pub with_intersection : ℕ → Shown → Shown
+unfoldable pub with_intersection : ℕ → StyleShown → StyleShown
 with_intersection c style = record {
   borders = record style.borders { intersection = Some c };
   horizontals = each_line (put_horizontal_meeting inner (Some c)) style.horizontals;

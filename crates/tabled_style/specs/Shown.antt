@@ -6,7 +6,7 @@ use Rattle.tabled_grid.specs.declared.lines.HorizontalLine.{HorizontalLine}
 use Rattle.tabled_grid.specs.declared.lines.VerticalLine.{VerticalLine}
 
 -- the class record, and the custom lines in their order, each with the index of the line that it stands for
-pub record Shown : Type 0 where
+pub record StyleShown : Type 0 where
   pub borders : Borders ℕ
   pub horizontals : List (ℕ × HorizontalLine ℕ)
   pub verticals : List (ℕ × VerticalLine ℕ)

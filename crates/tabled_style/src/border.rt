@@ -7,7 +7,7 @@ mod option;
 
 use crate::{On, Style};
 use std::marker::{Model, PhantomData};
-use tabled_grid::Border as GridBorder;
+use tabled_border::Border as GridBorder;
 
 /// The border of one cell, or the frame of a table: a character for each side and each corner. What is missing is not given.
 ///

@@ -46,9 +46,9 @@ pub struct Style<T, B, L, R, H, V, const HN: usize, const VN: usize> {
 }
 
 impl<T, B, L, R, H, V, const HN: usize, const VN: usize> Model for Style<T, B, L, R, H, V, HN, VN> {
-    ghost use Rattle.tabled_style.specs.Shown.{Shown};
+    ghost use Rattle.tabled_style.specs.Shown.{StyleShown};
 
-    ghost Value = { Shown };
+    ghost Value = { StyleShown };
 
     ghost view = { λ fields. record {
       borders = fields.borders;

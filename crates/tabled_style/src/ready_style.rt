@@ -13,8 +13,10 @@ use std::error::Error;
 use std::io::ErrorKind;
 use std::str::FromStr;
 use std::{fmt, io};
+use tabled_border::OutOfMemory;
 use tabled_configuration::{ColoredConfig, SpannedConfig, TableOption};
-use tabled_grid::{Borders, Entity, OutOfMemory};
+use tabled_grid::Borders;
+use tabled_object::Entity;
 
 /// One of the thirteen ready styles, chosen while the program runs. As an option of a table it does what the
 /// [`Style`] of its name does, and its pictures are those of the calls named here.

@@ -1,7 +1,7 @@
 -- Rows that have as many cells as the first one.
 use Rattle.std.proofs.Common.{◌≡◌, ◌==◌, ℕ, ◌+◌, ◌<◌, zero, suc, Bool, true, false, if◌then◌else◌, List, [], ◌∷◌, length, get_or, refl, sym, ap, ◌∙◌, arith, Some, None}
 use Rattle.std.proofs.lemmas.Bool.Decides.{nat_tests}
-use Rattle.tabled_config.specs.Texts.{Table}
+use Rattle.tabled_printing.specs.Texts.{Table}
 use Rattle.tabled_text.specs.Sizes.{first_unequal}
 
 same_count : (n m : ℕ) → (n == m) ≡ true → n ≡ m

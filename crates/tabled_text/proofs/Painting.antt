@@ -10,9 +10,9 @@ use Rattle.tabled_settings.specs.Live.{Live}
 use Rattle.tabled_configuration.specs.Configuration as borders
 use Rattle.tabled_configuration.specs.Configuration.{Configuration, ConfigEvent}
 use Rattle.tabled_configuration.specs.Colored.{Colored, Shows}
-use Rattle.tabled_config.specs.Texts.{Table}
-use Rattle.tabled_config.specs.Picture.{look}
-use Rattle.tabled_config.proofs.LookLemmas.{own_look}
+use Rattle.tabled_printing.specs.Texts.{Table}
+use Rattle.tabled_printing.specs.Picture.{look}
+use Rattle.tabled_printing.proofs.LookLemmas.{own_look}
 use Rattle.tabled_cells.specs.Placements.{placement_at}
 use Rattle.tabled_cells.specs.Trimmed.{lines_shown}
 use Rattle.tabled_painting.specs.Painted.{plain}

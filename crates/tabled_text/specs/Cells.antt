@@ -9,7 +9,7 @@ use Rattle.tabled_configuration.specs.CellColors.{colors_after}
 use Rattle.tabled_border.specs.Texts.{Texts}
 use Rattle.tabled_settings.specs.Live.{Live}
 use Rattle.tabled_layout.specs.declared.margin.Margin.{Margin}
-use Rattle.tabled_config.specs.Texts.{Table}
+use Rattle.tabled_printing.specs.Texts.{Table}
 use Rattle.tabled_painting.specs.Painted.{plain}
 use Rattle.tabled_painting.specs.PaintedTable.{painted_cells}
 use Rattle.tabled_text.specs.Sizes.{column_count, column_widths, row_heights}

@@ -1,9 +1,9 @@
 -- The refusals of a table of texts.
 use Rattle.std.specs.Prelude.{ℕ, [], length, slice_index_or}
-use Rattle.tabled_config.specs.Texts.{Table}
+use Rattle.tabled_printing.specs.Texts.{Table}
 use Rattle.tabled_text.specs.Sizes.{column_count}
-use Rattle.tabled_config.specs.declared.print_error.PrintError.{PrintError}
-use Rattle.tabled_config.specs.declared.print_error.PrintError.TheVariants as print
+use Rattle.tabled_printing.specs.declared.print_error.PrintError.{PrintError}
+use Rattle.tabled_printing.specs.declared.print_error.PrintError.TheVariants as print
 use Rattle.std.specs.declared.io.ErrorKind.{ErrorKind}
 use Rattle.std.specs.declared.io.ErrorKind.TheVariants as io
 use Rattle.tabled_text.specs.declared.table_error.TableError.{TableError}

@@ -1,7 +1,7 @@
 -- How large a table of texts is: its rows and columns, and the width and the height that its cells ask for.
 use Rattle.std.specs.Prelude.{ℕ, ◌+◌, ◌==◌, if◌then◌else◌, Option, Some, None, List, [], ◌∷◌, map, length, slice_index_or}
 use Rattle.tabled_object.specs.Entities.{below}
-use Rattle.tabled_config.specs.Texts.{Table, pieces, width_of_text}
+use Rattle.tabled_printing.specs.Texts.{Table, pieces, width_of_text}
 pub use Rattle.tabled_cells.specs.Placed.{greatest}
 
 -- how many columns a table has: as many as its first row has cells

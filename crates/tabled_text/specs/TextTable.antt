@@ -4,13 +4,13 @@ use Rattle.std.specs.Coded.{Coded, codes}
 use Rattle.std.specs.FinMap as finmap
 use Rattle.tabled_object.specs.declared.dimension.FixedDimension.{FixedDimension}
 use Rattle.tabled_object.specs.declared.records.Shape.{Shape}
-use Rattle.tabled_config.specs.Colored.{Colored}
-use Rattle.tabled_config.specs.Configuration.{ConfigEvent}
-use Rattle.tabled_config.specs.Picture.{Look, look}
+use Rattle.tabled_configuration.specs.Colored.{Colored}
+use Rattle.tabled_configuration.specs.Configuration.{ConfigEvent}
+use Rattle.tabled_printing.specs.Picture.{Look, look}
 use Rattle.tabled_painting.specs.Painted.{Painted}
 use Rattle.tabled_painting.specs.PaintedTable.{painted_table, painted_cells, plain_text}
-use Rattle.tabled_config.specs.Texts.{Table}
-use Rattle.tabled_config.specs.Pieces.{lent}
+use Rattle.tabled_printing.specs.Texts.{Table}
+use Rattle.tabled_printing.specs.Pieces.{lent}
 use denote.Ref.{Bor}
 use Rattle.tabled_text.specs.Sizes.{column_count, column_widths, row_heights}
 use Rattle.tabled_text.specs.Cells.{cells_set, margin_set, cell_colors}

@@ -1,12 +1,13 @@
 //! How large the cells of a table are.
 
 ghost use Rattle.std.specs.Prelude.{◌≡◌, ◌+◌, ◌<◌, ℕ, true, max, map, slice_index, EachIndex, IfOk, OnOk, replicate, string_bytes};
-ghost use Rattle.tabled_config.specs.Texts.{texts, pieces, width_of_text};
+ghost use Rattle.tabled_printing.specs.Texts.{texts, pieces, width_of_text};
 ghost use Rattle.tabled_text.specs.Sizes.{cell, greatest, column_count, unequal_row, width_asked, height_asked, column_widths, row_height, row_heights};
 
 use std::alloc::{AllocError, Global};
+use tabled_border::OutOfMemory;
 use tabled_cells::{is_printable, width_of};
-use tabled_grid::{FixedDimension, OutOfMemory};
+use tabled_object::FixedDimension;
 
 /// How many cells the first row has.
 pub(crate) fn column_count(rows: &[Vec<String>]) -> usize

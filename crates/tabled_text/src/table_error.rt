@@ -9,8 +9,8 @@ use std::alloc::{AllocError, AllocFailed};
 use std::error::Error;
 use std::io::ErrorKind;
 use std::{fmt, io};
-use tabled_config::PrintError;
-use tabled_grid::OutOfMemory;
+use tabled_border::OutOfMemory;
+use tabled_printing::PrintError;
 use tabled_style::UnknownStyle;
 
 /// A refusal of a call of a `TextTable`. The refusals of memory, of the printer and of a style's name become one of these by `?`, and one of these

@@ -3,9 +3,9 @@
 ghost use Rattle.std.specs.Prelude.{◌≡◌, [], length, map, string_bytes, slice_index_or, IfOk, IfErr, OnOk};
 ghost use Rattle.std.specs.Io.KnownBytes.{Appends};
 ghost use Rattle.tabled_text.specs.declared.table_error.TableError.{TableError as Refusal};
-ghost use Rattle.tabled_config.specs.Colored.{Shows};
-ghost use Rattle.tabled_config.specs.Pieces.{lent};
-ghost use Rattle.tabled_config.specs.Texts.{texts};
+ghost use Rattle.tabled_configuration.specs.Colored.{Shows};
+ghost use Rattle.tabled_printing.specs.Pieces.{lent};
+ghost use Rattle.tabled_printing.specs.Texts.{texts};
 ghost use Rattle.tabled_text.specs.Refusal.{unequal as refusal_of};
 ghost use Rattle.tabled_text.specs.Sizes.{column_widths, row_heights};
 ghost use Rattle.tabled_text.specs.TextTable.{lent_rows};
@@ -15,9 +15,11 @@ use crate::measure::{column_count, sizes_of, unequal_row};
 use std::alloc::{AllocError, Global};
 use std::marker::Model;
 use std::{fmt, io};
-use tabled_config::{CellOption, ColoredConfig, PrintError, SpannedConfig, TableOption, modify};
-use tabled_grid::{FixedDimension, Object, OutOfMemory, Shape};
+use tabled_border::OutOfMemory;
+use tabled_configuration::{CellOption, ColoredConfig, SpannedConfig, TableOption, modify};
+use tabled_object::{FixedDimension, Object, Shape};
 use tabled_painting::{colored_text, plain_text};
+use tabled_printing::PrintError;
 
 /// A table of texts with its sizes and its configuration: options draw its borders, and it prints itself.
 ///
@@ -58,7 +60,7 @@ impl Drop for TextTable {
 
 impl Model for TextTable {
     ghost use Rattle.std.specs.Prelude.{◌≡◌, None};
-    ghost use Rattle.tabled_config.specs.Texts.{texts};
+    ghost use Rattle.tabled_printing.specs.Texts.{texts};
     ghost use Rattle.tabled_text.specs.Sizes.{column_widths, row_heights, unequal_row};
     ghost use Rattle.tabled_text.specs.TextTable.{Drawing, drawing_code, shape_of};
 
@@ -78,14 +80,14 @@ impl Model for TextTable {
 impl TextTable {
     ghost use Rattle.std.specs.Prelude.{◌≡◌, ℕ, List, [], ◌++◌, ◌⊎◌, true, None, Err, map, length, take, string_bytes, slice_get, IfOk, IfErr, OnOk, OnErr, MatchOption, IsOkUnless};
     ghost use Rattle.std.specs.Borrow.{Lends, sem};
-    ghost use Rattle.tabled_config.specs.Colored.{Shows, Changes};
-    ghost use Rattle.tabled_config.specs.Configuration.{ConfigEvent};
-    ghost use Rattle.tabled_config.specs.Configuration as borders;
-    ghost use Rattle.tabled_config.specs.Options.{MakesInTurn};
-    ghost use Rattle.tabled_config.specs.Pieces.{lent};
-    ghost use Rattle.tabled_config.specs.Refusal.{span_faults};
-    ghost use Rattle.tabled_config.specs.Texts.{texts};
-    ghost use Rattle.tabled_config.specs.declared.print_error.PrintError.{PrintError as Fault};
+    ghost use Rattle.tabled_configuration.specs.Colored.{Shows, Changes};
+    ghost use Rattle.tabled_configuration.specs.Configuration.{ConfigEvent};
+    ghost use Rattle.tabled_configuration.specs.Configuration as borders;
+    ghost use Rattle.tabled_configuration.specs.Options.{MakesInTurn};
+    ghost use Rattle.tabled_printing.specs.Pieces.{lent};
+    ghost use Rattle.tabled_printing.specs.Refusal.{span_faults};
+    ghost use Rattle.tabled_printing.specs.Texts.{texts};
+    ghost use Rattle.tabled_printing.specs.declared.print_error.PrintError.{PrintError as Fault};
     ghost use Rattle.tabled_text.specs.Refusal.{of_printer, unequal};
     ghost use Rattle.tabled_text.specs.Sizes.{column_count, column_widths, row_heights, unequal_row};
     ghost use Rattle.tabled_painting.specs.PaintedTable.{plain_text, colored_text};

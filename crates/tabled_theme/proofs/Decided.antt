@@ -27,7 +27,7 @@ use Rattle.tabled_grid.proofs.PuttingBack.{of_signs, same_classes, same_horizont
 use Rattle.tabled_grid.proofs.Replay.{replay_cleared}
 use Rattle.tabled_configuration.specs.Configuration.{Configuration, Changes, character_event, color_event, characters_of, colors_of, by_colors, borders_replaced, horizontal_lines_put, vertical_lines_put}
 use Rattle.tabled_configuration.proofs.ConfigurationLemmas.{characters_of-both, colors_of-both}
-use Rattle.tabled_style.specs.Shown.{Shown}
+use Rattle.tabled_style.specs.Shown.{StyleShown}
 use Rattle.tabled_style.specs.Deciding.{written_by}
 use Rattle.tabled_theme.specs.Shown.{ThemeShown, of_style, of_configuration, owned_colors}
 use Rattle.tabled_theme.specs.Lines.{last_under, shown_line}
@@ -37,12 +37,12 @@ use Rattle.tabled_theme.proofs.Left.{left, style_leaves, at_class}
 use Rattle.tabled_theme.proofs.LineMaps.{last_put, last_beneath}
 
 -- a theme's events of each kind
-style_characters : (style : Shown) → characters_of (style_applied style) ≡ erase every_site ∷ written_by style
+style_characters : (style : StyleShown) → characters_of (style_applied style) ≡ erase every_site ∷ written_by style
 unfolding borders_replaced written_by
 style_characters style =
     characters_of-both (erase every_site ∷ horizontal_lines_put style.horizontals ++ vertical_lines_put style.verticals ++ class_record_set style.borders) (erase every_site ∷ [])
 
-style_colors : (style : Shown) → colors_of (style_applied style) ≡ erase every_site ∷ []
+style_colors : (style : StyleShown) → colors_of (style_applied style) ≡ erase every_site ∷ []
 unfolding borders_replaced
 style_colors style =
     colors_of-both (erase every_site ∷ horizontal_lines_put style.horizontals ++ vertical_lines_put style.verticals ++ class_record_set style.borders) (erase every_site ∷ [])
@@ -88,23 +88,23 @@ own_colors_shown theme old new changes q =
     colors_shown theme old new changes q ∙ sym (replay_cleared every_site (class_record_set (color_texts theme)) q) ∙ sym (ap (λ es. grid.replay es q) (theme_colors theme))
 
 -- of a theme that is made of a style
-same_written : (style : Shown) (q : Site) → grid.replay (written_by (as_style (of_style style))) q ≡ grid.replay (written_by style) q
+same_written : (style : StyleShown) (q : Site) → grid.replay (written_by (as_style (of_style style))) q ≡ grid.replay (written_by style) q
 unfolding grid.Shows
 same_written style q =
     sym (style_leaves (as_style (of_style style)) q)
     ∙ (λ i. state_at (left style.borders (last_beneath (last_under style.horizontals) i) (last_beneath (last_under style.verticals) i)) q)
     ∙ style_leaves style q
 
-pub same_characters_left : (style : Shown) (q : Site) → grid.replay (characters_of (theme_applied (of_style style))) q ≡ grid.replay (characters_of (style_applied style)) q
+pub same_characters_left : (style : StyleShown) (q : Site) → grid.replay (characters_of (theme_applied (of_style style))) q ≡ grid.replay (characters_of (style_applied style)) q
 same_characters_left style q =
     ap (λ es. grid.replay es q) (theme_characters (of_style style))
     ∙ replay_cleared every_site (written_by (as_style (of_style style))) q ∙ same_written style q
     ∙ sym (replay_cleared every_site (written_by style) q) ∙ ap (λ es. grid.replay es q) (sym (style_characters style))
 
-pub same_places : (style : Shown) (shape : ℕ × ℕ) (size : ℕ) (place : Place) → value (grid.replay (characters_of (theme_applied (of_style style)))) shape size place ≡ value (grid.replay (characters_of (style_applied style))) shape size place
+pub same_places : (style : StyleShown) (shape : ℕ × ℕ) (size : ℕ) (place : Place) → value (grid.replay (characters_of (theme_applied (of_style style)))) shape size place ≡ value (grid.replay (characters_of (style_applied style))) shape size place
 same_places style shape size place = λ i. value (λ q. same_characters_left style q i) shape size place
 
-pub same_drawn : (style : Shown) (count : ℕ) (line : LineOf) → Drawn (grid.replay (characters_of (theme_applied (of_style style)))) count line ↔ Drawn (grid.replay (characters_of (style_applied style))) count line
+pub same_drawn : (style : StyleShown) (count : ℕ) (line : LineOf) → Drawn (grid.replay (characters_of (theme_applied (of_style style)))) count line ↔ Drawn (grid.replay (characters_of (style_applied style))) count line
 unfolding grid.Shows
 same_drawn style count line =
     Drawn-shown (characters_of (style_applied style)) (grid.replay (characters_of (theme_applied (of_style style)))) count line (same_characters_left style)
@@ -113,7 +113,7 @@ no_colors_left : (q : Site) → grid.replay {T = Texts} (class_record_set no_bor
 unfolding class_record_set class_writes classes
 no_colors_left q = replay_cleared (level_sites 1) [] q
 
-pub same_colors_left : (style : Shown) (q : Site) → grid.replay (colors_of (theme_applied (of_style style))) q ≡ grid.replay (colors_of (style_applied style)) q
+pub same_colors_left : (style : StyleShown) (q : Site) → grid.replay (colors_of (theme_applied (of_style style))) q ≡ grid.replay (colors_of (style_applied style)) q
 same_colors_left style q =
     ap (λ es. grid.replay es q) (theme_colors (of_style style))
     ∙ replay_cleared every_site (class_record_set no_borders) q ∙ no_colors_left q

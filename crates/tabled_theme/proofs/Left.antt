@@ -26,7 +26,7 @@ use Rattle.tabled_grid.proofs.Blocks.{replay_skip, replay_rest, uncovered_both, 
 use Rattle.tabled_grid.proofs.ClassWrites.{replay_classes, uncovered_other}
 use Rattle.tabled_grid.proofs.LineWrites.{replay-horizontal_line_set, replay-vertical_line_set, covered-horizontal_line_set, covered-vertical_line_set, number_sym}
 use Rattle.tabled_configuration.specs.Configuration.{horizontal_lines_put, vertical_lines_put}
-use Rattle.tabled_style.specs.Shown.{Shown}
+use Rattle.tabled_style.specs.Shown.{StyleShown}
 use Rattle.tabled_style.specs.Deciding.{written_by}
 use Rattle.tabled_theme.specs.Lines.{last_under}
 
@@ -94,7 +94,7 @@ pub at_class : {T : Type 0} (borders : Borders T) (c : Class) → replay (class_
 unfolding class_record_set
 at_class borders c = replay_cleared (level_sites 1) (class_writes borders classes) (of_class c) ∙ replay_classes borders c
 
-nowhere : (style : Shown) (q : Site) → ((m : ℕ) → within (line_sites (LineOf.Horizontal m)) q ≡ false) → ((m : ℕ) → within (line_sites (LineOf.Vertical m)) q ≡ false) → (level q == 1) ≡ false → ((d : Class) → same_site q (of_class d) ≡ false) → replay (written_by style) q ≡ None
+nowhere : (style : StyleShown) (q : Site) → ((m : ℕ) → within (line_sites (LineOf.Horizontal m)) q ≡ false) → ((m : ℕ) → within (line_sites (LineOf.Vertical m)) q ≡ false) → (level q == 1) ≡ false → ((d : Class) → same_site q (of_class d) ≡ false) → replay (written_by style) q ≡ None
 unfolding written_by
 nowhere style q horizontal vertical apart other =
     replay_uncovered q (written_by style)
@@ -103,7 +103,7 @@ nowhere style q horizontal vertical apart other =
     (not_class q style.borders apart other))
 
 -- its class record, and under each index the last line of its list
-pub style_leaves : (style : Shown) → Shows (written_by style) (state_at (left style.borders (last_under style.horizontals) (last_under style.verticals)))
+pub style_leaves : (style : StyleShown) → Shows (written_by style) (state_at (left style.borders (last_under style.horizontals) (last_under style.verticals)))
 unfolding Shows written_by
 style_leaves style the_default = sym (nowhere style the_default (λ m. refl) (λ m. refl) refl (λ d. refl))
 style_leaves style (of_class c) =

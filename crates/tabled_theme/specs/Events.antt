@@ -5,13 +5,13 @@ use Rattle.tabled_grid.specs.State.{class_record_set}
 use Rattle.tabled_border.specs.Texts.{Texts}
 use Rattle.tabled_color.specs.Shade.{texts_of}
 use Rattle.tabled_configuration.specs.Configuration.{ConfigEvent, by_colors, borders_replaced}
-use Rattle.tabled_style.specs.Shown.{Shown}
+use Rattle.tabled_style.specs.Shown.{StyleShown}
 use Rattle.tabled_theme.specs.Shown.{ThemeShown}
 use Rattle.tabled_theme.specs.Lines.{lines_put, shown_line}
 use Rattle.tabled_theme.specs.Fields.{each_field}
 
 -- a theme as a style: its class record, and its lines as they are put
-abbrev pub as_style : ThemeShown → Shown
+abbrev pub as_style : ThemeShown → StyleShown
 as_style theme = record {
   borders = theme.characters;
   horizontals = lines_put theme.set.horizontals theme.beneath.horizontals;
@@ -23,7 +23,7 @@ abbrev pub color_texts : ThemeShown → Borders Texts
 color_texts theme = each_field texts_of theme.colors
 
 -- the events of a style
-abbrev pub style_applied : Shown → List ConfigEvent
+abbrev pub style_applied : StyleShown → List ConfigEvent
 style_applied style = borders_replaced style.borders style.horizontals style.verticals
 
 -- the events of a theme: those of that style, and then its class colors set

@@ -12,7 +12,7 @@ use Rattle.tabled_grid.specs.CustomLines.{no_borders}
 use Rattle.tabled_border.specs.Texts.{Texts}
 use Rattle.tabled_color.specs.Shade.{Shade, owned_shade}
 use Rattle.tabled_configuration.specs.Configuration.{Configuration}
-use Rattle.tabled_style.specs.Shown.{Shown}
+use Rattle.tabled_style.specs.Shown.{StyleShown}
 use Rattle.tabled_theme.specs.Lines.{last_under}
 use Rattle.tabled_theme.specs.Fields.{each_field}
 
@@ -39,7 +39,7 @@ abbrev pub of_borders : Borders ℕ → ThemeShown
 of_borders borders = record { characters = borders; colors = no_borders; set = no_lines; beneath = no_lines }
 
 -- a style: its record, and its lines beneath, under each index the last one of its list
-abbrev pub of_style : Shown → ThemeShown
+abbrev pub of_style : StyleShown → ThemeShown
 of_style style = record (of_borders style.borders) {
   beneath = record { horizontals = last_under style.horizontals; verticals = last_under style.verticals };
 }

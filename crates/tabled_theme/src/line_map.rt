@@ -9,7 +9,7 @@ ghost use Rattle.tabled_theme.specs.Lines.{last_under};
 use std::alloc::Global;
 use std::collections::BTreeMap;
 use std::marker::Model;
-use tabled_grid::{Keep, OutOfMemory};
+use tabled_border::{Keep, OutOfMemory};
 
 /// Custom lines of one direction, each under its index.
 #[derive(Debug)]

@@ -17,9 +17,10 @@ use crate::line_map::LineMap;
 use fields::copied;
 use std::alloc::Global;
 use std::marker::Model;
+use tabled_border::OutOfMemory;
 use tabled_color::Color;
 use tabled_configuration::ColoredConfig;
-use tabled_grid::{Borders, HorizontalLine, OutOfMemory, VerticalLine};
+use tabled_grid::{Borders, HorizontalLine, VerticalLine};
 use tabled_style::Style;
 
 /// Border characters and border colors of a whole table, and custom lines: those that were set, and beneath them

@@ -15,10 +15,10 @@ use Rattle.tabled_grid.specs.declared.event.Written.TheVariants.{Sign as sign}
 use Rattle.tabled_grid.specs.declared.event.Event.TheVariants.{Write as write, Erase as erase}
 use Rattle.tabled_grid.specs.declared.event.Region.TheVariants.{One as one_site}
 use Rattle.tabled_grid.specs.Lines as lines
-use Rattle.tabled_config.specs.Configuration.{ConfigEvent, of_characters, borders_set, borders_replaced}
-use Rattle.tabled_config.specs.Texts.{Table}
-use Rattle.tabled_config.specs.Along.{along}
-use Rattle.tabled_config.specs.Picture.{look, printed}
+use Rattle.tabled_configuration.specs.Configuration.{ConfigEvent, of_characters, borders_set, borders_replaced}
+use Rattle.tabled_printing.specs.Texts.{Table}
+use Rattle.tabled_printing.specs.Along.{along}
+use Rattle.tabled_printing.specs.Picture.{look, printed}
 
 -- a table drawn by hand: the events, how many rows and columns, their sizes and the cells
 pub record Drawing : Type 0 where
@@ -103,8 +103,8 @@ abbrev pub bar_and_cross : VerticalLine ℕ
 bar_and_cross = record { main = Some 124; intersection = Some 43; top = None; bottom = None }
 
 -- a frame around two rows and two columns
-unfoldable pub framed : Drawing
-framed = record {
+unfoldable pub whole_frame : Drawing
+whole_frame = record {
   events = borders_set ascii;
   shape = (2, 2);
   widths = 3 ∷ 4 ∷ [];

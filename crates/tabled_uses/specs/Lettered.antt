@@ -7,8 +7,8 @@ use Rattle.tabled_settings.specs.declared.alignment.AlignmentVertical.{Alignment
 use Rattle.tabled_grid.specs.declared.offset.Offset.{Offset}
 use Rattle.tabled_grid.specs.declared.place.LineOf.{LineOf}
 use Rattle.tabled_grid.specs.declared.event.Event.{Event}
-use Rattle.tabled_config.specs.Configuration.{borders_set, colors_of}
-use Rattle.tabled_config.specs.Picture.{Look, look}
+use Rattle.tabled_configuration.specs.Configuration.{borders_set, colors_of}
+use Rattle.tabled_printing.specs.Picture.{Look, look}
 use Rattle.tabled_color.specs.Shade.{static_shade}
 use Rattle.tabled_formatting.specs.declared.alignment.Alignment.{Alignment}
 use Rattle.tabled_options.specs.LineChar.{EdgeChar, line_char_events}

@@ -10,7 +10,7 @@ ghost use Rattle.tabled_grid.specs.declared.place.Place.{Place};
 
 /// A place has the character of the highest level that has one there; a drawn line shows a space where none is.
 pub fn places_and_levels()
-    ensures framed { text_of table.framed ≡ as_lines (
+    ensures whole_frame { text_of table.whole_frame ≡ as_lines (
         codes "+---+----+" ∷
         codes "| a | b  |" ∷
         codes "+---+----+" ∷

@@ -2,7 +2,7 @@
 
 ghost use Rattle.std.specs.Prelude.{None};
 ghost use Rattle.tabled_grid.specs.Calls.{default_set};
-ghost use Rattle.tabled_config.specs.Configuration.{by_characters};
+ghost use Rattle.tabled_configuration.specs.Configuration.{by_characters};
 
 use crate::recipes::people;
 use std::alloc::Global;

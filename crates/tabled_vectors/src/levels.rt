@@ -1,6 +1,6 @@
 //! What shows at each level: the default, custom lines, cells and offsets.
 
-use crate::tables::{FOUR, ONE, TWO_ROWS, Table, config, framed, let_go, makes};
+use crate::tables::{FOUR, ONE, TWO_ROWS, Table, config, in_ascii, let_go, makes};
 use std::alloc::Global;
 use tabled_config::ColoredConfig;
 use tabled_grid::{Border, HorizontalLine, LineOf, Offset, Place, Position, Probes, VerticalLine};
@@ -29,7 +29,7 @@ fn offsets_are_removed(alloc: Global, cfg: &mut ColoredConfig) -> bool {
 /// Whether one cell in a full frame is printed so with these offset characters, and as before once they are removed.
 fn offsets_show(alloc: Global, offsets: &[(Offset, char)], text: &str) -> bool {
     let table = ONE;
-    let mut cfg = framed(alloc, table);
+    let mut cfg = in_ascii(alloc, table);
     let is_shown = set_offsets(&mut cfg, offsets)
         && makes(alloc, &cfg, table, "", Ok(()), text)
         && offsets_are_removed(alloc, &mut cfg);
@@ -121,7 +121,7 @@ fn put_two_lines(cfg: &mut ColoredConfig) -> bool {
 
 /// Whether a line that is put over another keeps nothing of it.
 fn later_line_shows(alloc: Global, table: Table) -> bool {
-    let mut cfg = framed(alloc, table);
+    let mut cfg = in_ascii(alloc, table);
     let is_shown = put_two_lines(&mut cfg)
         && makes(
             alloc,

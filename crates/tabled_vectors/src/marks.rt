@@ -1,6 +1,8 @@
 //! What the places along a line show.
 
-use crate::tables::{ONE, TWO_COLUMNS, Table, apply, config, counts, framed, let_go, sizes, write};
+use crate::tables::{
+    ONE, TWO_COLUMNS, Table, apply, config, counts, in_ascii, let_go, sizes, write,
+};
 use std::alloc::Global;
 use tabled_color::{BorderColor, Color};
 use tabled_config::{ColoredConfig, Mark, Run, line_marks, line_runs};
@@ -59,7 +61,7 @@ fn marks_are(
 /// Whether the edge of the top line of a frame is red, its corners are not, and the left line is not.
 fn top_is_red(alloc: Global) -> bool {
     let table = ONE;
-    let mut cfg = framed(alloc, table);
+    let mut cfg = in_ascii(alloc, table);
     let is_red = apply(&mut cfg, table, BorderColor::new().top(Color::FG_RED));
     let is_drawn = is_red
         && marks_are(
@@ -149,7 +151,7 @@ fn text_stands_in_its_line(alloc: Global) -> bool {
 /// Whether no line of a table without cells has a mark.
 fn no_line_has_marks(alloc: Global) -> bool {
     let table = NO_CELLS;
-    let cfg = framed(alloc, table);
+    let cfg = in_ascii(alloc, table);
     let has_none = marks_are(alloc, &cfg, table, LineOf::Horizontal(0), ("", ""))
         && marks_are(alloc, &cfg, table, LineOf::Horizontal(1), ("", ""))
         && marks_are(alloc, &cfg, table, LineOf::Vertical(0), ("", ""))

@@ -1,7 +1,7 @@
 //! Outlines around some cells.
 
 use crate::tables::{
-    FOUR, TWO_COLUMNS, Table, apply, apply_made, char_at, config, crossing, framed, has_color,
+    FOUR, TWO_COLUMNS, Table, apply, apply_made, char_at, config, crossing, has_color, in_ascii,
     is_plain, let_go, makes, prints_with, prints_with_both, top,
 };
 use std::alloc::Global;
@@ -224,7 +224,7 @@ const RED: &str = "\u{1b}[31m";
 /// Whether an outline in red is red, and nothing else, and leaves the text.
 fn is_red(alloc: Global) -> bool {
     let table = FOUR;
-    let mut cfg = framed(alloc, table);
+    let mut cfg = in_ascii(alloc, table);
     let text = "+---+---+\n| a | b |\n+---+---+\n| c | d |\n+---+---+";
     let outline = Highlight::colored(alloc, (0, 0), Color::FG_RED);
     let is_outlined = apply_made(&mut cfg, table, outline);

@@ -1,12 +1,12 @@
 //! Printed tables, and what is refused where cells do not fit.
 
-use crate::tables::{ONE, Table, framed, let_go, makes};
+use crate::tables::{ONE, Table, in_ascii, let_go, makes};
 use std::alloc::Global;
 use tabled_config::PrintError;
 
 /// Whether printing with a full frame returns this and makes this text of `before:`.
 fn gives(alloc: Global, table: Table, outcome: Result<(), PrintError>, text: &str) -> bool {
-    let cfg = framed(alloc, ONE);
+    let cfg = in_ascii(alloc, ONE);
     let is_given = makes(alloc, &cfg, table, "before:", outcome, text);
     let_go(cfg);
     is_given

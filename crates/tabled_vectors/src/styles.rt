@@ -1,7 +1,7 @@
 //! Styles and borders as options.
 
 use crate::tables::{
-    ONE, TWO_ROWS, Table, apply, apply_to, config, framed, let_go, makes, prints_with,
+    ONE, TWO_ROWS, Table, apply, apply_to, config, in_ascii, let_go, makes, prints_with,
     prints_with_both,
 };
 use std::alloc::Global;
@@ -24,7 +24,7 @@ fn style_erases(alloc: Global, cfg: &mut ColoredConfig) -> bool {
 
 /// Whether a frame leaves what was written for a cell, and a style does not.
 fn frame_leaves_a_cell(alloc: Global) -> bool {
-    let mut cfg = framed(alloc, ONE);
+    let mut cfg = in_ascii(alloc, ONE);
     let is_left = frame_leaves(alloc, &mut cfg) && style_erases(alloc, &mut cfg);
     let_go(cfg);
     is_left
@@ -80,10 +80,10 @@ static FRAMED_NUMBERS: &str = "┌──────────+─────
 fn a_cell_and_a_table_have_the_frame_of_another_style(rt: HostRuntime) {
     assert!(rt; cell_is_framed(rt.alloc()));
     let framed = Style::ascii().frame(Border::inherit(Style::modern()));
-    assert!(rt; prints_with(rt.alloc(), framed, NUMBERS, FRAMED_NUMBERS));
+    assert!(rt; prints_with(rt.alloc(), in_ascii, NUMBERS, FRAMED_NUMBERS));
     let corner = Border::new().bottom('b').left('l').corner_bottom_left('c');
     let framed = Style::empty().frame(corner);
-    assert!(rt; prints_with(rt.alloc(), framed, ONE, "l a \ncbbb"));
+    assert!(rt; prints_with(rt.alloc(), in_ascii, ONE, "l a \ncbbb"));
 }
 
 #[test]

@@ -44,7 +44,7 @@ pub(crate) fn config(alloc: Global) -> ColoredConfig {
 }
 
 /// A configuration with a full frame around a table and between its cells.
-pub(crate) fn framed(alloc: Global, table: Table) -> ColoredConfig {
+pub(crate) fn in_ascii(alloc: Global, table: Table) -> ColoredConfig {
     let mut cfg = config(alloc);
     let _ = apply(&mut cfg, table, Style::ascii());
     cfg

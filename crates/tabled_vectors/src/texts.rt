@@ -1,8 +1,8 @@
 //! Texts and characters on lines.
 
 use crate::tables::{
-    FOUR, GREETING, ONE, TWO_COLUMNS, Table, apply, apply_to, char_at, config, crossing, framed,
-    has_color, is_plain, let_go, makes, top, write,
+    FOUR, GREETING, ONE, TWO_COLUMNS, Table, apply, apply_to, char_at, config, crossing, has_color,
+    in_ascii, is_plain, let_go, makes, top, write,
 };
 use std::alloc::Global;
 use tabled_color::Color;
@@ -120,7 +120,7 @@ where
 /// Whether a title makes its top line, and nothing else.
 fn makes_its_top_line(alloc: Global, title: Title) -> bool {
     let option = title_of(alloc, title);
-    prints_on(alloc, framed(alloc, GREETING), option, GREETING, title.4)
+    prints_on(alloc, in_ascii(alloc, GREETING), option, GREETING, title.4)
 }
 
 #[test]
@@ -133,7 +133,7 @@ fn titles_make_their_top_lines(rt: HostRuntime) {
 /// Whether a table in the full frame is printed so with a text above a row.
 fn prints_above(alloc: Global, text: &str, row: Row, expected: &str) -> bool {
     let option = LineText::new(alloc, text, row);
-    prints_on(alloc, framed(alloc, GREETING), option, GREETING, expected)
+    prints_on(alloc, in_ascii(alloc, GREETING), option, GREETING, expected)
 }
 
 /// The table in the full frame with a text in its closing line.
@@ -158,12 +158,12 @@ fn a_text_stands_above_the_row_that_is_named(rt: HostRuntime) {
     assert!(rt; prints_above(alloc, "TABLE", Rows::one(3), UNTOUCHED));
     assert!(rt; prints_above(alloc, "TABLE", Rows::one(usize::MAX), UNTOUCHED));
     let above_the_last = LineText::new(alloc, "TABLE", Rows::last());
-    assert!(rt; prints_on(alloc, framed(alloc, table), above_the_last, table, INNER));
+    assert!(rt; prints_on(alloc, in_ascii(alloc, table), above_the_last, table, INNER));
     let before_the_first = LineText::new(alloc, "TABLE", Rows::last().offset(usize::MAX));
     assert!(rt;
         prints_on(
             alloc,
-            framed(alloc, table),
+            in_ascii(alloc, table),
             before_the_first,
             table,
             UNTOUCHED
@@ -206,14 +206,14 @@ fn at_the_bottom(alloc: Global) -> Result<LineText<FirstColumn>, OutOfMemory> {
 #[test]
 fn texts_run_down_the_sides(rt: HostRuntime) {
     let alloc = rt.alloc();
-    let mut cfg = framed(alloc, GREETING);
+    let mut cfg = in_ascii(alloc, GREETING);
     let has_both = has_both_sides(alloc, &mut cfg);
     let_go(cfg);
     assert!(rt; has_both);
     assert!(rt;
         prints_on(
             alloc,
-            framed(alloc, GREETING),
+            in_ascii(alloc, GREETING),
             at_the_bottom(alloc),
             GREETING,
             AT_THE_BOTTOM
@@ -312,7 +312,7 @@ fn texts_are_blue(alloc: Global, cfg: &mut ColoredConfig) -> bool {
 
 #[test]
 fn a_color_stands_at_each_place_of_a_text(rt: HostRuntime) {
-    let mut cfg = framed(rt.alloc(), GREETING);
+    let mut cfg = in_ascii(rt.alloc(), GREETING);
     let are_blue = texts_are_blue(rt.alloc(), &mut cfg);
     let_go(cfg);
     assert!(rt; are_blue);
@@ -333,14 +333,14 @@ static NARROW: Table = (&[0], &[1], &[&[""]]);
 fn each_character_takes_a_place(rt: HostRuntime) {
     let table = GREETING;
     let alloc = rt.alloc();
-    let mut cfg = framed(alloc, table);
+    let mut cfg = in_ascii(alloc, table);
     let title = title_of(alloc, ("AB\nCDE", RIGHT, HERE, None, ""));
     let is_written = write(alloc, &mut cfg, table, title);
     let has_text = is_written && has_a_line_feed(&cfg);
     let_go(cfg);
     assert!(rt; has_text);
     let text = LineText::new(alloc, "AB", Rows::first());
-    assert!(rt; prints_on(alloc, framed(alloc, NARROW), text, NARROW, "AB\n||\n++"));
+    assert!(rt; prints_on(alloc, in_ascii(alloc, NARROW), text, NARROW, "AB\n||\n++"));
 }
 
 /// Whether marks stand on a row and beside cells.
@@ -365,7 +365,7 @@ fn has_marks(alloc: Global) -> bool {
 /// Whether two marks above a cell, in this order, make this text.
 fn has_two_marks(alloc: Global, first: LineChar, second: LineChar, text: &str) -> bool {
     let table = ONE;
-    let mut cfg = framed(alloc, table);
+    let mut cfg = in_ascii(alloc, table);
     let are_drawn = apply_to(alloc, &mut cfg, table, &(0, 0), &first)
         && apply_to(alloc, &mut cfg, table, &(0, 0), &second)
         && makes(alloc, &cfg, table, "", Ok(()), text);

@@ -1,3 +1,3 @@
 //! The texts of colors.
 
-pub use tabled_grid::{ANSIBuf, ANSIFmt, ANSIStr, AnsiText};
+pub use tabled_border::{ANSIBuf, ANSIFmt, ANSIStr, AnsiText};

@@ -1,3 +1,3 @@
 //! How wide the columns of a table are, and how high its rows.
 
-pub use tabled_grid::{Dimension, FixedDimension};
+pub use tabled_object::{Dimension, FixedDimension};

@@ -1,3 +1,3 @@
 //! How many rows and columns a table has.
 
-pub use tabled_grid::{ExactRecords, Records, Shape};
+pub use tabled_object::{ExactRecords, Records, Shape};

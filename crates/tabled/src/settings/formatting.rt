@@ -1,3 +1,3 @@
 //! How the texts of cells stand in them.
 
-pub use tabled_options::{AlignmentStrategy, Justification, TrimStrategy};
+pub use tabled_formatting::{AlignmentStrategy, Justification, TrimStrategy};

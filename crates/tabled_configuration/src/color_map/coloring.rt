@@ -7,7 +7,8 @@ ghost use Rattle.tabled_configuration.specs.EntitiesColored.{text_writes};
 
 use super::ColorMap;
 use std::alloc::Global;
-use tabled_grid::{ANSIBuf, Entity, Keep, OutOfMemory};
+use tabled_border::{ANSIBuf, Keep, OutOfMemory};
+use tabled_object::Entity;
 use tabled_settings::{EntityMap, Sides};
 
 impl ColorMap {

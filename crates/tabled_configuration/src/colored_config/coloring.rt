@@ -7,7 +7,8 @@ ghost use Rattle.tabled_configuration.specs.EntitiesColored.{entities_colored};
 use super::ColoredConfig;
 use crate::color_map::coloring::written_texts;
 use crate::spanned_config::coloring::{written_fills, written_paddings};
-use tabled_grid::{ANSIBuf, Entity, OutOfMemory};
+use tabled_border::{ANSIBuf, OutOfMemory};
+use tabled_object::Entity;
 
 impl ColoredConfig {
     /// Sets a color for each entity of a list, in its order: the color of the texts of its cells, that of the characters

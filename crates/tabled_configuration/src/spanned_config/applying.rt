@@ -7,7 +7,8 @@ ghost use Rattle.tabled_grid.specs.Writes.{writes_made};
 ghost use Rattle.tabled_configuration.specs.Configuration.{Changes, writes_applied};
 
 use super::SpannedConfig;
-use tabled_grid::{ANSIBuf, OutOfMemory, Write};
+use tabled_border::{ANSIBuf, OutOfMemory};
+use tabled_grid::Write;
 
 impl SpannedConfig {
     /// Makes the writes of two lists, of characters and of colors, each in its order: of two at one place the later one

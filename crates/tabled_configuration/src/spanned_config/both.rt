@@ -6,7 +6,8 @@ ghost use Rattle.tabled_settings.specs.CellSettings.{of_trim_horizontal, of_trim
 ghost use Rattle.tabled_configuration.specs.Configuration.{Changes, by_setting};
 
 use super::SpannedConfig;
-use tabled_grid::{ANSIBuf, Entity, OutOfMemory};
+use tabled_border::{ANSIBuf, OutOfMemory};
+use tabled_object::Entity;
 
 impl SpannedConfig {
     /// Sets both trims of the cells of an entity: whether spaces at the left and the right of their texts, and whether empty

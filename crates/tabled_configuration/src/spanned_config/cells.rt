@@ -9,7 +9,8 @@ ghost use Rattle.tabled_configuration.specs.Configuration.{Changes, by_character
 ghost use Rattle.tabled_configuration.specs.Options.{entity_bordered};
 
 use super::SpannedConfig;
-use tabled_grid::{ANSIBuf, Border, Entity, OutOfMemory, Position};
+use tabled_border::{ANSIBuf, Border, OutOfMemory};
+use tabled_object::{Entity, Position};
 
 impl SpannedConfig {
     /// Writes the given sides and corners of a cell, whatever the shape of the table; what is not given stays as it is. Where

@@ -8,7 +8,8 @@ ghost use Rattle.tabled_configuration.specs.EntitiesColored.{all_around, fill_wr
 use super::SpannedConfig;
 use crate::ColorMap;
 use std::alloc::Global;
-use tabled_grid::{ANSIBuf, Entity, Keep, OutOfMemory};
+use tabled_border::{ANSIBuf, Keep, OutOfMemory};
+use tabled_object::Entity;
 use tabled_settings::Sides;
 
 impl SpannedConfig {

@@ -7,7 +7,8 @@ ghost use Rattle.tabled_grid.specs.State.{class_record_set};
 ghost use Rattle.tabled_configuration.specs.Configuration.{Changes, by_colors, all_but_offsets, default_color_set};
 
 use super::{SpannedConfig, erase_below_offsets};
-use tabled_grid::{ANSIBuf, Borders, Place, Target};
+use tabled_border::ANSIBuf;
+use tabled_grid::{Borders, Place, Target};
 
 impl SpannedConfig {
     /// Sets the record of class colors whole: what it had before is gone, also where the new record has nothing.

@@ -2,7 +2,7 @@
 
 use super::SpannedConfig;
 use std::alloc::Global;
-use tabled_grid::{Keep, OutOfMemory};
+use tabled_border::{Keep, OutOfMemory};
 
 /// The copy keeps `alloc` for the calls that need memory.
 impl Keep for SpannedConfig {

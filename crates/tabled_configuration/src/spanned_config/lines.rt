@@ -13,7 +13,8 @@ ghost use Rattle.tabled_configuration.specs.Configuration.{Changes, by_character
 
 use super::SpannedConfig;
 use std::collections::BTreeMap;
-use tabled_grid::{HorizontalLine, HorizontalLines, OutOfMemory, VerticalLine, VerticalLines};
+use tabled_border::OutOfMemory;
+use tabled_grid::{HorizontalLine, HorizontalLines, VerticalLine, VerticalLines};
 
 impl SpannedConfig {
     /// Puts a custom horizontal line at index `line`, in place of the one that stood there. Only a line at

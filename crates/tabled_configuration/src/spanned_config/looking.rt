@@ -10,7 +10,9 @@ ghost use Rattle.tabled_grid.specs.State.{state_at, HasNoCells, HasNoLines, HasN
 ghost use Rattle.tabled_grid.specs.Value.{plain_value, value};
 
 use super::SpannedConfig;
-use tabled_grid::{ANSIBuf, Borders, LineOf, Meter, Place};
+use tabled_border::ANSIBuf;
+use tabled_grid::{Borders, LineOf, Place};
+use tabled_kept::Meter;
 
 impl<M: Meter> SpannedConfig<M> {
     /// Whether a line is drawn, of the lines 0 to `count` of its direction. At most six readings are made.

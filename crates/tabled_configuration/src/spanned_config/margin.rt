@@ -6,7 +6,8 @@ ghost use Rattle.tabled_configuration.specs.Configuration.{Changes, by_margin};
 
 use super::SpannedConfig;
 use std::mem;
-use tabled_grid::{ANSIBuf, Offset};
+use tabled_border::ANSIBuf;
+use tabled_grid::Offset;
 use tabled_layout::Indent;
 use tabled_settings::Sides;
 

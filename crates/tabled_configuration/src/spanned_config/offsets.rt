@@ -10,7 +10,9 @@ ghost use Rattle.tabled_grid.specs.declared.place.Place.{Place as Spot};
 ghost use Rattle.tabled_configuration.specs.Configuration.{Changes, by_characters, by_colors};
 
 use super::SpannedConfig;
-use tabled_grid::{ANSIBuf, Offset, OutOfMemory, Place, Position, Target};
+use tabled_border::{ANSIBuf, OutOfMemory};
+use tabled_grid::{Offset, Place, Target};
+use tabled_object::Position;
 
 impl SpannedConfig {
     /// Writes a character at a numbered place of the edge of horizontal line `pos.row` over column `pos.col`, counted from its

@@ -5,7 +5,8 @@ ghost use Rattle.tabled_configuration.specs.Configuration.{Changes};
 ghost use Rattle.tabled_configuration.specs.Options.{entity_unbordered, inner_of, table_unbordered};
 
 use super::SpannedConfig;
-use tabled_grid::{Borders, Entity};
+use tabled_grid::Borders;
+use tabled_object::Entity;
 
 impl SpannedConfig {
     /// Erases the cell characters of the sides and corners of each cell that the entity names in a table of `shape.0` rows and

@@ -7,7 +7,8 @@ ghost use Rattle.tabled_configuration.specs.Configuration.{Changes, borders_repl
 
 use super::{SpannedConfig, erase_all};
 use std::alloc::Global;
-use tabled_grid::{Borders, HorizontalLine, Layers, OutOfMemory, VerticalLine};
+use tabled_border::OutOfMemory;
+use tabled_grid::{Borders, HorizontalLine, Layers, VerticalLine};
 
 impl SpannedConfig {
     /// Erases every border character and color of every level, offsets too; then puts each custom line at its index, in the order

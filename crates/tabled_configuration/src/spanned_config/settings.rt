@@ -9,7 +9,8 @@ ghost use Rattle.tabled_settings.specs.CellSettings.{of_alignment_horizontal, of
 ghost use Rattle.tabled_configuration.specs.Configuration.{Changes, by_setting};
 
 use super::SpannedConfig;
-use tabled_grid::{ANSIBuf, Entity, OutOfMemory, Position};
+use tabled_border::{ANSIBuf, OutOfMemory};
+use tabled_object::{Entity, Position};
 use tabled_settings::{AlignmentHorizontal, AlignmentVertical, Sides};
 
 impl SpannedConfig {

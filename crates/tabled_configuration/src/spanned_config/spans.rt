@@ -10,7 +10,8 @@ ghost use Rattle.tabled_configuration.specs.Configuration.{Changes, by_column_sp
 
 use super::SpannedConfig;
 use std::collections::BTreeMap;
-use tabled_grid::{OutOfMemory, Position};
+use tabled_border::OutOfMemory;
+use tabled_object::Position;
 
 impl SpannedConfig {
     /// Sets over how many columns the cell at a position spans; fewer than two remove its span, which takes no memory.

@@ -4,7 +4,7 @@ ghost use Rattle.std.specs.Prelude.{◌≡◌, IfOk};
 
 use super::Layers;
 use crate::keys::EdgePlace;
-use crate::line_numbers::LineNumbers;
+use crate::line_numbers::KeptNumbers;
 use crate::{Borders, HorizontalLine, Keep, LineOf, OutOfMemory, Spot, VerticalLine};
 use std::alloc::Global;
 use tabled_kept::{CountedMap, One};
@@ -52,7 +52,7 @@ impl<T: Keep> Keep for Layers<T> {
             class_record,
             alloc,
         )?;
-        let numbers: (One<LineNumbers>, One<LineNumbers>) = keep_two(
+        let numbers: (KeptNumbers, KeptNumbers) = keep_two(
             vertical_numbers,
             horizontal_numbers,
             alloc,

@@ -14,7 +14,7 @@ ghost use Rattle.tabled_grid.specs.State.{class_draws as class_drawn};
 use super::Layers;
 use crate::custom_lines::CustomLine;
 use crate::keys::EdgePlace;
-use crate::line_numbers::LineNumbers;
+use crate::line_numbers::KeptNumbers;
 use crate::{
     Borders, HorizontalLine, HorizontalLines, Keep, LineOf, Offset, OutOfMemory, Place, Probes,
     Rank, Spot, Target, VerticalLine, VerticalLines,
@@ -481,19 +481,19 @@ fn class_draws<T, M: Meter>(
 }
 
 /// Whether a line, of the lines 0 to `line.1` of its direction, is drawn by the custom line that stands there, by those that cross it,
-/// or by the cells on it: at most three readings.
+/// or by the cells on it: at most four readings.
 fn is_drawn<L, M: Meter>(
     own: &CountedMap<usize, L, M>,
-    across: &One<LineNumbers, M>,
+    across: &KeptNumbers<M>,
     on_lines: &CountedMap<LineOf, u128, M>,
     line: (LineOf, usize),
     probes: &mut M,
 ) -> bool
     ensures drawn { result ≡ line_drawn (table nat_cmp own.now) across.now (table line_cmp on_lines.now) line.1 line.0 }
-    ensures probes { IsRaised 3 (M.made probes.old) (M.made probes.new) }
+    ensures probes { IsRaised 4 (M.made probes.old) (M.made probes.new) }
 {
     let (line, count) = line;
     own.read(line.number(), probes).is_some()
-        || across.read(probes).draw(line.number(), count)
+        || across.draw(line.number(), count, probes)
         || on_lines.read(line, probes).copied().unwrap_or(0) > 0
 }

@@ -11,8 +11,10 @@ ghost use Rattle.tabled_options.specs.Laying.{looked};
 use crate::table_line::TableLine;
 use crate::written::write_of;
 use std::alloc::Global;
+use tabled_border::{ANSIBuf, OutOfMemory};
 use tabled_color::Color;
-use tabled_grid::{ANSIBuf, Dimension, Offset, OutOfMemory, Place, Position, Target, Write};
+use tabled_grid::{Offset, Place, Target, Write};
+use tabled_object::{Dimension, Position};
 
 /// Where a place takes what is written there: an edge at the place's number from the start, a crossing as a cell's.
 fn target(place: Place) -> Target

@@ -7,8 +7,9 @@ ghost use Rattle.tabled_configuration.specs.Colored.{Changes};
 ghost use Rattle.tabled_configuration.specs.Options.{entity_bordered, table_bordered, entity_unbordered, table_unbordered};
 
 use super::{Border, EmptyBorder};
+use tabled_border::OutOfMemory;
 use tabled_configuration::{CellOption, ColoredConfig, TableOption};
-use tabled_grid::{Entity, ExactRecords, OutOfMemory, Records};
+use tabled_object::{Entity, ExactRecords, Records};
 
 impl<T, B, L, R, Data: Records + ExactRecords> CellOption<Data, ColoredConfig>
     for Border<T, B, L, R> {

@@ -3,8 +3,10 @@
 ghost use Rattle.std.specs.Prelude.{◌≡◌, [], ◌∷◌, None, IsOk, OnOk, OnErr};
 
 use super::Style;
-use tabled_configuration::{CompactConfig, CompactMultilineConfig, TableOption};
-use tabled_grid::{Entity, OutOfMemory};
+use tabled_border::OutOfMemory;
+use tabled_compact::{CompactConfig, CompactMultilineConfig};
+use tabled_configuration::TableOption;
+use tabled_object::Entity;
 
 impl<T, B, L, R, H, V, const HN: usize, const VN: usize, Data, Dims> TableOption<
     Data,

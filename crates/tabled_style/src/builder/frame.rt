@@ -6,7 +6,8 @@ ghost use Rattle.tabled_style.specs.Frame.{sides_given, corners_given, corrected
 use super::Style;
 use super::lines::space_where;
 use crate::Border;
-use tabled_grid::{Border as GridBorder, Borders, HorizontalLine as HLine, VerticalLine as VLine};
+use tabled_border::Border as GridBorder;
+use tabled_grid::{Borders, HorizontalLine as HLine, VerticalLine as VLine};
 
 /// The border with a space at each side that it has only by a corner.
 fn sides_given(border: GridBorder<char>) -> GridBorder<char>

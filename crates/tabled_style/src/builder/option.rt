@@ -5,8 +5,9 @@ ghost use Rattle.tabled_configuration.specs.Colored.{Changes};
 ghost use Rattle.tabled_configuration.specs.Configuration.{borders_replaced};
 
 use super::Style;
+use tabled_border::OutOfMemory;
 use tabled_configuration::{ColoredConfig, TableOption};
-use tabled_grid::{Entity, OutOfMemory};
+use tabled_object::Entity;
 
 impl<T, B, L, R, H, V, const HN: usize, const VN: usize, Data, Dims> TableOption<
     Data,

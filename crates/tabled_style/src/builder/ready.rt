@@ -1,7 +1,7 @@
 //! The ready styles.
 
 ghost use Rattle.std.specs.Prelude.{◌≡◌};
-ghost use Rattle.tabled_style.specs.Ready.{open_line, class_record, framed, unframed, plain, ruled};
+ghost use Rattle.tabled_style.specs.Ready.{open_line, class_record, boxed, unframed, plain, ruled};
 ghost use Rattle.tabled_style.specs.Lines.{full_horizontal};
 
 use super::Style;
@@ -47,8 +47,8 @@ fn class_record(
 }
 
 /// The record with one character for the edges of all vertical lines.
-fn framed(top: HLine<char>, bottom: HLine<char>, between: HLine<char>, side: char) -> Borders<char>
-    ensures { result ≡ framed top bottom between side }
+fn boxed(top: HLine<char>, bottom: HLine<char>, between: HLine<char>, side: char) -> Borders<char>
+    ensures { result ≡ boxed top bottom between side }
 {
     class_record(top, bottom, between, Some(side), Some(side), Some(side))
 }
@@ -122,7 +122,7 @@ impl Style<(), (), (), (), (), (), 0, 0> {
     pub fn ascii() -> Style<On, On, On, On, On, On, 0, 0>
         ensures { result ≡ ascii }
     {
-        plain(framed(
+        plain(boxed(
             full_line('-', '+', '+', '+'),
             full_line('-', '+', '+', '+'),
             full_line('-', '+', '+', '+'),
@@ -156,7 +156,7 @@ impl Style<(), (), (), (), (), (), 0, 0> {
     pub fn markdown() -> Style<(), (), On, On, (), On, 1, 0>
         ensures { result ≡ markdown }
     {
-        let borders = framed(HLine::empty(), HLine::empty(), HLine::empty(), '|');
+        let borders = boxed(HLine::empty(), HLine::empty(), HLine::empty(), '|');
         ruled(borders, full_line('-', '|', '|', '|'))
     }
 
@@ -174,7 +174,7 @@ impl Style<(), (), (), (), (), (), 0, 0> {
     pub fn modern() -> Style<On, On, On, On, On, On, 0, 0>
         ensures { result ≡ modern }
     {
-        plain(framed(
+        plain(boxed(
             full_line('─', '┬', '┌', '┐'),
             full_line('─', '┴', '└', '┘'),
             full_line('─', '┼', '├', '┤'),
@@ -195,7 +195,7 @@ impl Style<(), (), (), (), (), (), 0, 0> {
     pub fn sharp() -> Style<On, On, On, On, (), On, 1, 0>
         ensures { result ≡ sharp }
     {
-        let borders = framed(
+        let borders = boxed(
             full_line('─', '┬', '┌', '┐'),
             full_line('─', '┴', '└', '┘'),
             HLine::empty(),
@@ -217,7 +217,7 @@ impl Style<(), (), (), (), (), (), 0, 0> {
     pub fn rounded() -> Style<On, On, On, On, (), On, 1, 0>
         ensures { result ≡ rounded }
     {
-        let borders = framed(
+        let borders = boxed(
             full_line('─', '┬', '╭', '╮'),
             full_line('─', '┴', '╰', '╯'),
             HLine::empty(),
@@ -240,7 +240,7 @@ impl Style<(), (), (), (), (), (), 0, 0> {
     pub fn modern_rounded() -> Style<On, On, On, On, On, On, 0, 0>
         ensures { result ≡ modern_rounded }
     {
-        plain(framed(
+        plain(boxed(
             full_line('─', '┬', '╭', '╮'),
             full_line('─', '┴', '╰', '╯'),
             full_line('─', '┼', '├', '┤'),
@@ -262,7 +262,7 @@ impl Style<(), (), (), (), (), (), 0, 0> {
     pub fn extended() -> Style<On, On, On, On, On, On, 0, 0>
         ensures { result ≡ extended }
     {
-        plain(framed(
+        plain(boxed(
             full_line('═', '╦', '╔', '╗'),
             full_line('═', '╩', '╚', '╝'),
             full_line('═', '╬', '╠', '╣'),
@@ -284,7 +284,7 @@ impl Style<(), (), (), (), (), (), 0, 0> {
     pub fn dots() -> Style<On, On, On, On, On, On, 0, 0>
         ensures { result ≡ dots }
     {
-        plain(framed(
+        plain(boxed(
             full_line('.', '.', '.', '.'),
             full_line('.', ':', ':', ':'),
             full_line('.', ':', ':', ':'),
@@ -321,7 +321,7 @@ impl Style<(), (), (), (), (), (), 0, 0> {
     pub fn ascii_rounded() -> Style<On, On, On, On, (), On, 0, 0>
         ensures { result ≡ ascii_rounded }
     {
-        plain(framed(
+        plain(boxed(
             full_line('-', '-', '.', '.'),
             full_line('-', '-', '\'', '\''),
             HLine::empty(),

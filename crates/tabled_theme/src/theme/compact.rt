@@ -4,8 +4,10 @@ ghost use Rattle.std.specs.Prelude.{◌≡◌, [], ◌∷◌, Some, IsOk, OnOk, 
 ghost use Rattle.tabled_object.specs.declared.entity.Entity.TheVariants as cells;
 
 use super::Theme;
-use tabled_configuration::{CompactConfig, CompactMultilineConfig, TableOption};
-use tabled_grid::{Entity, OutOfMemory};
+use tabled_border::OutOfMemory;
+use tabled_compact::{CompactConfig, CompactMultilineConfig};
+use tabled_configuration::TableOption;
+use tabled_object::Entity;
 
 impl<Data, Dims> TableOption<Data, CompactConfig, Dims> for Theme {
     ghost makes = { λ theme records dims old. record old { borders = theme.characters } ∷ [] };

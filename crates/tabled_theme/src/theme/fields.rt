@@ -8,8 +8,9 @@ ghost use Rattle.tabled_theme.specs.Shown.{owned_colors};
 
 use std::alloc::Global;
 use std::mem;
+use tabled_border::{ANSIBuf, Border, Keep, OutOfMemory};
 use tabled_color::Color;
-use tabled_grid::{ANSIBuf, Border, Borders, Keep, OutOfMemory};
+use tabled_grid::Borders;
 
 /// Puts a value in place of what stood there, which is let go in one call.
 pub(super) fn put<T: Drop>(slot: &mut Option<T>, value: Option<T>)

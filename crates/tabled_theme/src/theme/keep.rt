@@ -2,7 +2,7 @@
 
 use super::Theme;
 use std::alloc::Global;
-use tabled_grid::{Keep, OutOfMemory};
+use tabled_border::{Keep, OutOfMemory};
 
 /// The copy keeps `alloc` for the lines that are put later.
 impl Keep for Theme {

@@ -10,7 +10,8 @@ ghost use Rattle.tabled_theme.specs.Changing.{with_horizontals_set, with_vertica
 use super::Theme;
 use crate::line_map::LineMap;
 use std::collections::BTreeMap;
-use tabled_grid::{HorizontalLine, OutOfMemory, Rank, VerticalLine};
+use tabled_border::OutOfMemory;
+use tabled_grid::{HorizontalLine, Rank, VerticalLine};
 
 impl Theme {
     /// Replaces the horizontal lines that were set, each under its index. Those of a style stay beneath, and show where

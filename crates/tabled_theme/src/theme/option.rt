@@ -11,8 +11,9 @@ use super::Theme;
 use super::fields::texts;
 use crate::line_map::LineMap;
 use std::alloc::Global;
+use tabled_border::OutOfMemory;
 use tabled_configuration::{ColoredConfig, SpannedConfig, TableOption};
-use tabled_grid::{Entity, OutOfMemory};
+use tabled_object::Entity;
 
 impl<Data, Dims> TableOption<Data, ColoredConfig, Dims> for Theme {
     ghost makes = { λ theme records dims old. theme_applied theme };

@@ -13,8 +13,9 @@ ghost use Rattle.tabled_theme.specs.Fields.{frame_of, with_frame};
 use super::Theme;
 use super::fields::put_frame;
 use std::mem;
+use tabled_border::Border;
 use tabled_color::Color;
-use tabled_grid::{Border, Borders, Rank};
+use tabled_grid::{Borders, Rank};
 
 impl Theme {
     /// Sets the class record whole.

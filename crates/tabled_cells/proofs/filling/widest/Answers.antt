@@ -3,7 +3,7 @@ use Rattle.std.proofs.Common.{rules, tests, map, unwrap_or, ap, sym, ◌∙◌}
 use Rattle.std.proofs.lemmas.Iterator.{YieldsList-from_map, YieldsList-from_slice}
 use Rattle.std.proofs.lemmas.Iterator.Adapters.{option_map_id}
 use Rattle.std.proofs.lemmas.Iterator.Consumers.{max_from_yields_List}
-use Rattle.tabled_config.specs.Texts.{width_of_text}
+use Rattle.tabled_printing.specs.Texts.{width_of_text}
 use Rattle.tabled_cells.specs.Placed.{greatest}
 use Rattle.tabled_cells.proofs.Measuring.{greatest_found, mapped_twice}
 use Rattle.tabled_cells.proofs.filling.widest.Goals as goal

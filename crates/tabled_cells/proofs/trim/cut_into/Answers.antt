@@ -1,6 +1,6 @@
 -- The last line is put, and nothing goes on.
 use Rattle.std.proofs.Common.{[], ◌++◌, ap, sym, ◌∙◌, map}
-use Rattle.tabled_config.specs.Pieces.{lent}
+use Rattle.tabled_printing.specs.Pieces.{lent}
 use Rattle.tabled_cells.specs.Trimmed.{line_shown, goes_on}
 use Rattle.tabled_cells.proofs.Trimming.{last_put}
 use Rattle.tabled_cells.proofs.trim.cut_into.Goals as goal

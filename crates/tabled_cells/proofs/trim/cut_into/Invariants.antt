@@ -2,8 +2,8 @@
 use Rattle.std.proofs.Common.{◌≡◌, ◌++◌, [], map, length}
 use denote.Text.{Utf8}
 use denote.Shadow.{shadow}
-use Rattle.tabled_config.specs.Pieces.{lent}
-use Rattle.tabled_config.specs.Texts.{pieces}
+use Rattle.tabled_printing.specs.Pieces.{lent}
+use Rattle.tabled_printing.specs.Texts.{pieces}
 use Rattle.tabled_cells.specs.Trimmed.{line_shown, goes_on}
 use Rattle.tabled_cells.proofs.trim.cut_into.Given as goal
 

@@ -1,6 +1,6 @@
 -- The lines so far are kept as all lines are.
 use Rattle.std.proofs.Common.{◌≡◌, length, reverse}
-use Rattle.tabled_config.specs.Pieces.{lent}
+use Rattle.tabled_printing.specs.Pieces.{lent}
 use Rattle.tabled_cells.specs.Trimmed.{without_first, is_blank}
 use Rattle.tabled_cells.proofs.trim.drop_blank_end.Given as goal
 

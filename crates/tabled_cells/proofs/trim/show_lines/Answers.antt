@@ -1,6 +1,6 @@
 -- The lines that are kept.
 use Rattle.std.proofs.Common.{map}
-use Rattle.tabled_config.specs.Texts.{pieces}
+use Rattle.tabled_printing.specs.Texts.{pieces}
 use Rattle.tabled_cells.specs.Trimmed.{line_shown, lines_shown}
 use Rattle.tabled_cells.proofs.Trimming.{shown_trimmed, shown_whole}
 use Rattle.tabled_cells.proofs.trim.show_lines.Goals as goal

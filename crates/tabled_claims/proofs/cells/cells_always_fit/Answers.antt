@@ -1,7 +1,7 @@
 -- The characters of a line are its text as it is placed.
 use Rattle.std.proofs.Common.{ap, sym, subst, ◌∙◌}
 use Rattle.tabled_cells.specs.Trimmed.{lines_shown}
-use Rattle.tabled_config.specs.Texts.{width_of_text}
+use Rattle.tabled_printing.specs.Texts.{width_of_text}
 use Rattle.tabled_cells.proofs.Fits.{Lacks, placed_at_lacks, placed_at_wide}
 use Rattle.tabled_painting.proofs.Plain.{plain_cell}
 use Rattle.tabled_claims.proofs.cells.cells_always_fit.Goals as goal

@@ -3,11 +3,11 @@ use Rattle.std.specs.List.{join_with_byte}
 use Rattle.tabled_grid.specs.State.{state_at}
 use Rattle.tabled_grid.proofs.DrawnLemmas.{value-shown, Drawn-drawn}
 use Rattle.tabled_configuration.specs.Configuration.{characters_of, colors_of}
-use Rattle.tabled_config.specs.Picture.{text_lines}
+use Rattle.tabled_printing.specs.Picture.{text_lines}
 use Rattle.tabled_configuration.specs.Colored.{Changes}
 use Rattle.tabled_configuration.specs.ChangeLaws.{none_change, both_change}
 use Rattle.tabled_configuration.proofs.ColoredLemmas.{Shows_after_change_colored}
-use Rattle.tabled_config.proofs.LookLemmas.{same_look}
+use Rattle.tabled_printing.proofs.LookLemmas.{same_look}
 use Rattle.tabled_configuration.proofs.InTurn.{by_all_events, all_unread}
 use Rattle.tabled_claims.proofs.lists.any_list.Goals as goal
 

@@ -1,4 +1,4 @@
-use Rattle.tabled_config.proofs.LookLemmas.{own_look}
+use Rattle.tabled_printing.proofs.LookLemmas.{own_look}
 use Rattle.tabled_claims.proofs.lists.look_of_what_is_shown.Goals as goal
 
 pub returns : goal.returns

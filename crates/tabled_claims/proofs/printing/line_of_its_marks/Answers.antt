@@ -1,7 +1,7 @@
 use Rattle.std.proofs.Common.{if◌then◌else◌, [], ◌∷◌, ap}
 use Rattle.tabled_grid.specs.declared.place.LineOf.{LineOf}
-use Rattle.tabled_config.specs.Along.{along}
-use Rattle.tabled_config.proofs.MarkLemmas.{characters_of_marks}
+use Rattle.tabled_printing.specs.Along.{along}
+use Rattle.tabled_printing.proofs.MarkLemmas.{characters_of_marks}
 use Rattle.tabled_claims.proofs.printing.line_of_its_marks.Goals as goal
 
 pub returns : goal.returns

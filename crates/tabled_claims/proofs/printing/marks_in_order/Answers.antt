@@ -1,6 +1,6 @@
 use Rattle.std.proofs.lemmas.Option.{slice_get-map}
-use Rattle.tabled_config.specs.Along.{along}
-use Rattle.tabled_config.specs.Picture.{mark_at}
+use Rattle.tabled_printing.specs.Along.{along}
+use Rattle.tabled_printing.specs.Picture.{mark_at}
 use Rattle.tabled_claims.proofs.InOrder.{texts_in_order, marks_in_order}
 use Rattle.tabled_claims.proofs.printing.marks_in_order.Goals as goal
 

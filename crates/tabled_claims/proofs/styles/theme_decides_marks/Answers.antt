@@ -1,6 +1,6 @@
 use Rattle.std.proofs.Common.{ap}
-use Rattle.tabled_config.specs.Picture.{marks_along}
-use Rattle.tabled_config.proofs.LookLemmas.{kept_look}
+use Rattle.tabled_printing.specs.Picture.{marks_along}
+use Rattle.tabled_printing.proofs.LookLemmas.{kept_look}
 use Rattle.tabled_theme.specs.Events.{theme_applied}
 use Rattle.tabled_theme.proofs.Decided.{own_characters_shown, own_colors_shown}
 use Rattle.tabled_claims.proofs.styles.theme_decides_marks.Goals as goal

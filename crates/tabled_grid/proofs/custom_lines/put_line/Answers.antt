@@ -7,4 +7,4 @@ pub returns-clause-counted : goal.returns-clause-counted
 returns-clause-counted g c =
     let taken = c.of-taken.ensures ∙ ap (numbers_of g.L.CustomLine.draws) (c.as_ref.ensures.value ∙ c.in_ok-before.ensures.before) in
     line_put _ _ _ c.requires c.args.index c.args.line _ _ c.in_ok-before.ensures.ok c.in_ok-before.ensures.few
-    (c.replace.ensures.kept ∙ c.exchange.ensures ∙ (λ i. exchanged (c.get.ensures i) (taken i) (c.of-put.ensures i)))
+    (c.set.ensures ∙ c.exchange.ensures ∙ (λ i. exchanged (c.get.ensures i) (taken i) (c.of-put.ensures i)))

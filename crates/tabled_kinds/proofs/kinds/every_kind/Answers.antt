@@ -2,7 +2,7 @@
 use Rattle.std.proofs.Common.{length, refl, ◌∙◌}
 use Rattle.tabled_object.specs.declared.dimension.FixedDimension.{FixedDimension}
 use Rattle.tabled_grid.proofs.Seen.{on_ok}
-use Rattle.tabled_config.specs.Texts.{Table}
+use Rattle.tabled_printing.specs.Texts.{Table}
 use Rattle.tabled_text.specs.Sizes.{column_count}
 use Rattle.tabled_correction.specs.Correction.{correction_events}
 use Rattle.tabled_kinds.specs.EveryKind.{first_targets, other_targets}

@@ -4,9 +4,9 @@ use Rattle.tabled_object.specs.declared.dimension.FixedDimension.{FixedDimension
 use Rattle.std.specs.Prelude.{slice_index}
 use Rattle.tabled_object.specs.declared.entity.Entity.TheVariants.{Row, Cell}
 use Rattle.tabled_grid.proofs.Seen.{on_ok}
-use Rattle.tabled_config.specs.Configuration.{all_writes}
-use Rattle.tabled_config.specs.Picture.{look}
-use Rattle.tabled_config.specs.Texts.{Table}
+use Rattle.tabled_configuration.specs.Configuration.{all_writes}
+use Rattle.tabled_printing.specs.Picture.{look}
+use Rattle.tabled_printing.specs.Texts.{Table}
 use Rattle.tabled_highlight.specs.Highlighting.{highlight_events}
 use Rattle.tabled_options.specs.LineChar.{line_char_events}
 use Rattle.tabled_options.specs.LineText.{text_events}

@@ -3,8 +3,8 @@ use Rattle.std.proofs.Common.{[], ◌∷◌, length, refl, ◌∙◌}
 use Rattle.tabled_object.specs.declared.dimension.FixedDimension.{FixedDimension}
 use Rattle.tabled_object.specs.declared.entity.Entity.TheVariants.{Row}
 use Rattle.tabled_grid.proofs.Seen.{on_ok}
-use Rattle.tabled_config.specs.Options.{table_bordered, entity_bordered, table_unbordered}
-use Rattle.tabled_config.specs.Texts.{Table}
+use Rattle.tabled_configuration.specs.Options.{table_bordered, entity_bordered, table_unbordered}
+use Rattle.tabled_printing.specs.Texts.{Table}
 use Rattle.tabled_color.specs.BorderColors.{border_texts}
 use Rattle.tabled_color.specs.Coloring.{table_colored}
 use Rattle.tabled_text.specs.Sizes.{column_count}

@@ -1,6 +1,6 @@
 -- Rows are refused where their counts differ.
 use Rattle.std.proofs.Common.{refl, ap, ◌∙◌, inr, Err}
-use Rattle.tabled_config.specs.Texts.{texts}
+use Rattle.tabled_printing.specs.Texts.{texts}
 use Rattle.tabled_pages.proofs.Counts.{taken_equal, refused_unequal}
 use Rattle.tabled_pages.proofs.page.plain_table.Goals as goal
 

@@ -1,6 +1,6 @@
 -- The lines above, the table between its sides, and the lines below.
 use Rattle.std.proofs.Common.{[]}
-use Rattle.tabled_config.specs.Texts.{texts}
+use Rattle.tabled_printing.specs.Texts.{texts}
 use Rattle.tabled_painting.specs.Rows.{cells_of}
 use Rattle.tabled_painting.specs.Viewed.{viewed}
 use Rattle.tabled_painting.proofs.PageLemmas.{none_whole, whole_both}

@@ -1,7 +1,7 @@
 -- Without colors a line is its characters.
 use Rattle.std.proofs.Common.{ap, ◌∙◌}
 use Rattle.std.specs.List.{join_with_byte}
-use Rattle.tabled_config.specs.Texts.{texts}
+use Rattle.tabled_printing.specs.Texts.{texts}
 use Rattle.tabled_painting.specs.Pages.{text_of_lines}
 use Rattle.tabled_painting.specs.PaintedTable.{painted_by, plain_text}
 use Rattle.tabled_painting.proofs.MarginLemmas.{on_value}

@@ -1,10 +1,10 @@
 -- The lines, joined; a table without places has none.
 use Rattle.std.proofs.Common.{[], ap, refl, sym, ◌∙◌, slice_index, string_bytes}
-use Rattle.tabled_config.specs.Texts.{texts}
+use Rattle.tabled_printing.specs.Texts.{texts}
 use Rattle.tabled_painting.specs.Pages.{text_of_lines}
 use Rattle.tabled_configuration.specs.Configuration.{all_writes}
-use Rattle.tabled_config.specs.Picture.{look}
-use Rattle.tabled_config.specs.Viewed.{with_colors_if}
+use Rattle.tabled_printing.specs.Picture.{look}
+use Rattle.tabled_printing.specs.Viewed.{with_colors_if}
 use Rattle.tabled_object.specs.declared.dimension.FixedDimension.{FixedDimension}
 use Rattle.tabled_configuration.specs.Colored.{Colored}
 use Rattle.tabled_painting.specs.PaintedTable.{Cells, painted_table, painted_cells}

@@ -1,6 +1,6 @@
 -- A text of printable characters is one line, which is as wide as it is long.
 use Rattle.std.proofs.Common.{◌≡◌, ◌+◌, length, map, ap, sym, ◌∙◌, arith}
-use Rattle.tabled_config.specs.Texts.{pieces, width_of_text}
+use Rattle.tabled_printing.specs.Texts.{pieces, width_of_text}
 use Rattle.tabled_cells.proofs.Printing.{one_piece, printable_width}
 use Rattle.tabled_text.specs.Sizes.{greatest, width_asked}
 use Rattle.tabled_text.proofs.measure.measure.Goals as goal

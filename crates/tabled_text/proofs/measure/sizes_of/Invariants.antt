@@ -1,6 +1,6 @@
 -- The widths that the rows so far ask for, and their heights.
 use Rattle.std.proofs.Common.{◌≡◌, ℕ, ◌<◌, length, get_or, map, take}
-use Rattle.tabled_config.specs.Texts.{texts}
+use Rattle.tabled_printing.specs.Texts.{texts}
 use Rattle.tabled_text.specs.Sizes.{column_count, row_height}
 use Rattle.tabled_text.proofs.Measuring.{widened}
 use Rattle.tabled_text.proofs.measure.sizes_of.Given as goal

@@ -3,7 +3,7 @@ use Rattle.std.proofs.Common.{rules, tests, ap, ◌∙◌, arith, ltb, length, S
 use Rattle.std.specs.List.{position_or_len}
 use Rattle.std.proofs.lemmas.Iterator.{YieldsList-from_slice}
 use Rattle.std.proofs.lemmas.Iterator.Search.{position_from_yields_List}
-use Rattle.tabled_config.specs.Texts.{texts}
+use Rattle.tabled_printing.specs.Texts.{texts}
 use Rattle.tabled_text.specs.Sizes.{first_unequal}
 use Rattle.tabled_text.proofs.Measuring.{differs, first_found}
 use Rattle.tabled_text.proofs.measure.unequal_row.Goals as goal

@@ -1,7 +1,7 @@
 -- One text more.
 use Rattle.std.proofs.Common.{[], string_bytes, sym, ◌∙◌}
 use Rattle.std.proofs.lemmas.List.{length-map, get_or-map}
-use Rattle.tabled_config.specs.Pieces.{lent}
+use Rattle.tabled_printing.specs.Pieces.{lent}
 use Rattle.tabled_text.proofs.CellLemmas.{copied_more}
 use Rattle.tabled_text.proofs.text_table.copied_row.Goals as goal
 

@@ -1,6 +1,6 @@
 -- A new configuration shows no event.
 use Rattle.std.proofs.Common.{[], subst, sym, refl, ◌∙◌}
-use Rattle.tabled_config.specs.Colored as colored
+use Rattle.tabled_configuration.specs.Colored as colored
 use Rattle.tabled_text.proofs.text_table.unset_config.Goals as goal
 
 pub returns-in-Ok : goal.returns-in-Ok

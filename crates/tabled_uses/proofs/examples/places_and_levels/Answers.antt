@@ -5,13 +5,13 @@ use Rattle.tabled_grid.specs.Value.{value}
 use Rattle.tabled_grid.specs.Drawn.{drawn}
 use Rattle.tabled_grid.specs.State.{class_record_set, class_writes, classes}
 use Rattle.tabled_grid.specs.Lines.{horizontal_line_set, vertical_line_set}
-use Rattle.tabled_config.specs.Configuration.{borders_set}
-use Rattle.tabled_uses.specs.Examples.{text_of, framed, no_rows, one_empty_cell, cells_of_three, offsets_from_start, whole_line, empty_crossing, start_before_end, end_then_start, cell_over_class}
+use Rattle.tabled_configuration.specs.Configuration.{borders_set}
+use Rattle.tabled_uses.specs.Examples.{text_of, whole_frame, no_rows, one_empty_cell, cells_of_three, offsets_from_start, whole_line, empty_crossing, start_before_end, end_then_start, cell_over_class}
 use Rattle.tabled_uses.proofs.examples.places_and_levels.Goals as goal
 
-pub returns-clause-framed : goal.returns-clause-framed
-unfolding framed text_of drawn value replay borders_set class_record_set class_writes classes horizontal_line_set vertical_line_set encode
-returns-clause-framed c = refl
+pub returns-clause-whole_frame : goal.returns-clause-whole_frame
+unfolding whole_frame text_of drawn value replay borders_set class_record_set class_writes classes horizontal_line_set vertical_line_set encode
+returns-clause-whole_frame c = refl
 
 pub returns-clause-no_rows : goal.returns-clause-no_rows
 unfolding no_rows text_of drawn value replay borders_set class_record_set class_writes classes horizontal_line_set vertical_line_set encode

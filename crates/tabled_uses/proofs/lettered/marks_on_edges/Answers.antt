@@ -7,7 +7,7 @@ use Rattle.tabled_grid.specs.Value.{value}
 use Rattle.tabled_grid.specs.Drawn.{drawn}
 use Rattle.tabled_grid.specs.State.{class_record_set, class_writes, classes}
 use Rattle.tabled_grid.specs.Lines.{horizontal_line_set, vertical_line_set}
-use Rattle.tabled_config.specs.Configuration.{borders_set}
+use Rattle.tabled_configuration.specs.Configuration.{borders_set}
 use Rattle.tabled_options.specs.LineChar.{line_char_events}
 use Rattle.tabled_uses.specs.Examples.{text_of}
 use Rattle.tabled_uses.specs.Lettered.{marks, marks_on_closing_lines}

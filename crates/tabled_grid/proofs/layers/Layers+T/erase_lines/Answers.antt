@@ -7,8 +7,8 @@ use Rattle.tabled_grid.proofs.layers.Layers+T.erase_lines.Goals as goal
 pub invariant_of-self : goal.invariant_of-self
 invariant_of-self g c = (
   c.self.invariant.0,
-  no_lines_counted _ _ _ (c.replace.ensures.kept ∙ c.none.ensures) c.clear.ensures,
-  no_lines_counted _ _ _ (c.replace-2.ensures.kept ∙ c.none-2.ensures) c.clear-2.ensures,
+  no_lines_counted _ _ _ (c.set.ensures ∙ c.none.ensures) c.clear.ensures,
+  no_lines_counted _ _ _ (c.set-2.ensures ∙ c.none-2.ensures) c.clear-2.ensures,
 )
 
 pub returns : goal.returns

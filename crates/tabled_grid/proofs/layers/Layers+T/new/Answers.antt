@@ -7,8 +7,8 @@ use Rattle.tabled_grid.proofs.layers.Layers+T.new.Goals as goal
 pub invariant_of-result : goal.invariant_of-result
 invariant_of-result g c = (
   no_cells_counted _ _ c.new-8.ensures c.new-5.ensures,
-  no_lines_counted _ _ _ (c.new-9.ensures ∙ c.none.ensures) c.new-3.ensures,
-  no_lines_counted _ _ _ (c.new-10.ensures ∙ c.none-2.ensures) c.new-4.ensures,
+  no_lines_counted _ _ _ c.new-9.ensures c.new-3.ensures,
+  no_lines_counted _ _ _ c.new-10.ensures c.new-4.ensures,
 )
 
 pub returns : goal.returns

@@ -1,8 +1,8 @@
 -- The lists are those of the text.
 use Rattle.std.proofs.Common.{◌∙◌, ap, sym, option_map}
 use Rattle.tabled_color.specs.Shade.{texts_of}
-use Rattle.tabled_config.specs.Configuration.{all_writes}
-use Rattle.tabled_config.specs.Picture.{look}
+use Rattle.tabled_configuration.specs.Configuration.{all_writes}
+use Rattle.tabled_printing.specs.Picture.{look}
 use Rattle.tabled_options.specs.LineText.{text_events, places_taken, characters_written, colors_written}
 use Rattle.tabled_options.proofs.WrittenLemmas.{writes_are_events, no_line}
 use Rattle.tabled_options.proofs.line_text.LineText.writes.Goals as goal

@@ -1,9 +1,9 @@
 -- What the configuration returns is how the table looks.
 use Rattle.std.proofs.Common.{◌∙◌}
 use Rattle.tabled_grid.specs.Drawn.{drawn}
-use Rattle.tabled_config.specs.Configuration.{all_writes, characters_of}
-use Rattle.tabled_config.proofs.LineLemmas.{crossed_is}
-use Rattle.tabled_config.proofs.LookLemmas.{own_drawn}
+use Rattle.tabled_configuration.specs.Configuration.{all_writes, characters_of}
+use Rattle.tabled_printing.proofs.LineLemmas.{crossed_is}
+use Rattle.tabled_printing.proofs.LookLemmas.{own_drawn}
 use Rattle.tabled_options.proofs.table_line.TableLine.is_crossed.Goals as goal
 
 pub returns : goal.returns

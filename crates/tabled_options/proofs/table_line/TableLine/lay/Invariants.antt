@@ -1,5 +1,5 @@
 -- The places passed so far.
-use Rattle.tabled_config.specs.LinePieces.{places_before}
+use Rattle.tabled_printing.specs.LinePieces.{places_before}
 use Rattle.tabled_options.specs.Laying.{looked}
 use Rattle.tabled_options.specs.Passing.{Passed}
 use Rattle.tabled_options.proofs.table_line.TableLine.lay.Given as goal

@@ -1,7 +1,7 @@
 -- The places passed so far.
 use Rattle.std.proofs.Common.{map}
 use Rattle.tabled_object.specs.Entities.{below}
-use Rattle.tabled_config.specs.LinePieces.{edge_of}
+use Rattle.tabled_printing.specs.LinePieces.{edge_of}
 use Rattle.tabled_options.specs.Passing.{Passed}
 use Rattle.tabled_options.proofs.table_line.TableLine.lay_edge.Given as goal
 

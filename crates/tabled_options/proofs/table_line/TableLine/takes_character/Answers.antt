@@ -1,7 +1,7 @@
 -- What the configuration returns is how the table looks.
 use Rattle.std.proofs.Common.{ap, sym, ◌∙◌, is_some}
-use Rattle.tabled_config.specs.Picture.{edge_size}
-use Rattle.tabled_config.proofs.LookLemmas.{own_shown}
+use Rattle.tabled_printing.specs.Picture.{edge_size}
+use Rattle.tabled_printing.proofs.LookLemmas.{own_shown}
 use Rattle.tabled_options.specs.Laying.{looked}
 use Rattle.tabled_options.proofs.LineLemmas.{crossing_takes}
 use Rattle.tabled_options.proofs.table_line.TableLine.takes_character.Goals as goal

@@ -1,6 +1,6 @@
 -- How many places there are so far.
 use Rattle.std.proofs.Common.{◌≡◌, ◌^◌, ◌-◌, min, length}
-use Rattle.tabled_config.specs.LinePieces.{places_before}
+use Rattle.tabled_printing.specs.LinePieces.{places_before}
 use Rattle.tabled_options.specs.Laying.{looked}
 use Rattle.tabled_options.proofs.table_line.TableLine.total.Given as goal
 

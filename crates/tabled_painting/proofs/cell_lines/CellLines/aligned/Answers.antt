@@ -1,5 +1,5 @@
 -- What is aligned decides where the line begins.
-use Rattle.tabled_config.specs.Pieces.{lent}
+use Rattle.tabled_printing.specs.Pieces.{lent}
 use Rattle.tabled_painting.specs.CellLines.{coloring_of}
 use Rattle.tabled_painting.proofs.CellLemmas.{aligned_line}
 use Rattle.tabled_painting.proofs.cell_lines.CellLines.aligned.Goals as goal

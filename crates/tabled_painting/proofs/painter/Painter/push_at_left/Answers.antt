@@ -3,7 +3,7 @@ use Rattle.std.proofs.Common.{◌≡◌, ◌+◌, ◌-◌, [], ◌∷◌, ◌++�
 use Rattle.std.proofs.lemmas.List.{append_assoc, map-append}
 use Rattle.std.proofs.lemmas.Str.{encode_ascii}
 use Rattle.tabled_cells.specs.Placed.{times}
-use Rattle.tabled_config.specs.Marks.{mark_of}
+use Rattle.tabled_printing.specs.Marks.{mark_of}
 use Rattle.tabled_painting.specs.InColor.{Paints}
 use Rattle.tabled_painting.specs.Painted.{Painted, paint}
 use Rattle.tabled_painting.specs.PaintedTable.{side_painted}

@@ -2,7 +2,7 @@
 use Rattle.std.proofs.Common.{◌≡◌, rules, None, refl, subst, ◌∙◌, option_copied, string_bytes, encode_utf8}
 use Rattle.std.proofs.lemmas.List.{append_assoc}
 use Rattle.tabled_cells.specs.Placed.{times}
-use Rattle.tabled_config.specs.Picture.{character}
+use Rattle.tabled_printing.specs.Picture.{character}
 use Rattle.tabled_painting.specs.InColor.{Paints}
 use Rattle.tabled_painting.specs.declared.painter.Painter.{Painter}
 use Rattle.tabled_painting.proofs.PainterLemmas.{paints_uncolored, paints_both, spaces_and_side, on_done}

@@ -3,7 +3,7 @@ use Rattle.std.proofs.Common.{◌≡◌, ◌++◌, [], length, ap, sym, subst, �
 use Rattle.std.specs.List.{flat_map}
 use Rattle.std.proofs.lemmas.List.{length-map}
 use Rattle.tabled_object.specs.Entities.{below}
-use Rattle.tabled_config.specs.Texts.{texts}
+use Rattle.tabled_printing.specs.Texts.{texts}
 use Rattle.tabled_painting.specs.Pages.{PaintsLines}
 use Rattle.tabled_painting.specs.PaintedTable.{painted_if_drawn, painted_row, painted_lines}
 use Rattle.tabled_painting.specs.Rows.{cells_of, row_painted}

@@ -1,7 +1,7 @@
 -- A cell for which nothing is set, and any other; and what stands after it.
 use Rattle.std.proofs.Common.{◌++◌, None, slice_index, ap, sym, subst, ◌∙◌, option_map}
 use Rattle.tabled_cells.specs.Placements.{placement_at}
-use Rattle.tabled_config.specs.Marks.{mark_of}
+use Rattle.tabled_printing.specs.Marks.{mark_of}
 use Rattle.tabled_painting.specs.InColor.{Paints}
 use Rattle.tabled_painting.specs.Painted.{Painted, paint}
 use Rattle.tabled_painting.specs.CellLines.{coloring_at}

@@ -1,9 +1,9 @@
 -- The counts of the shape are those of the texts.
 use Rattle.std.proofs.Common.{ℕ, List, map, take, length, subst, OnOk}
 use Rattle.std.specs.Prelude.{OnErr}
-use Rattle.tabled_config.specs.Colored.{Changes}
-use Rattle.tabled_config.specs.Configuration.{ConfigEvent}
-use Rattle.tabled_config.specs.Options.{MakesInTurn}
+use Rattle.tabled_configuration.specs.Colored.{Changes}
+use Rattle.tabled_configuration.specs.Configuration.{ConfigEvent}
+use Rattle.tabled_configuration.specs.Options.{MakesInTurn}
 use Rattle.tabled_text.specs.Sizes.{column_count}
 use Rattle.tabled_text.specs.TextTable.{shape_of}
 use Rattle.tabled_text.proofs.text_table.TextTable.apply_to.Goals as goal

@@ -1,6 +1,6 @@
 -- The painted table, in color.
 use Rattle.std.proofs.Common.{refl, ap, sym, subst, ◌∙◌}
-use Rattle.tabled_config.specs.Texts.{texts}
+use Rattle.tabled_printing.specs.Texts.{texts}
 use Rattle.tabled_configuration.specs.Colored.{Shows}
 use Rattle.tabled_painting.specs.PaintedTable.{painted_by, colored_text}
 use Rattle.tabled_text.specs.Sizes.{column_count}

@@ -1,6 +1,6 @@
 -- The characters of the painted table.
 use Rattle.std.proofs.Common.{ap, sym, subst, ◌∙◌}
-use Rattle.tabled_config.specs.Texts.{texts}
+use Rattle.tabled_printing.specs.Texts.{texts}
 use Rattle.tabled_configuration.specs.Configuration as borders
 use Rattle.tabled_painting.specs.PaintedTable.{painted_by, plain_text}
 use Rattle.tabled_text.specs.Sizes.{column_count}

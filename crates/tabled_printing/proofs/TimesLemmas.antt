@@ -1,0 +1,164 @@
+-- A character many times: written one by one, as pieces of spaces, and as copies of what was written.
+use Rattle.std.proofs.Common.{rules, Result, Ok, Err, OnErr, min, String, string_bytes, string_len, ◌≡◌, ℕ, zero, suc, ◌+◌, ◌-◌, ◌*◌, ◌≤◌, true, List, ◌++◌, length, take, drop, replicate, refl, sym, ap, subst, ◌∙◌, arith, lit<, encode_utf8, encode_utf8_all, length-append}
+use Rattle.std.specs.Str.{IsAscii, IsUtf8, IsCharBoundary, all_scalars}
+use Rattle.std.specs.Char.{IsScalar}
+use Rattle.std.specs.List.{slice_range}
+use Rattle.std.specs.String.Boundary.{IsSplitPoint}
+use Rattle.std.proofs.lemmas.List.{append-nil, append_assoc, length-replicate, replicate-append-replicate, take_all, drop_at, take_at}
+use Rattle.std.proofs.lemmas.Str.{encodes-append, encodes-IsAscii, IsCharBoundary-at_seam, IsUtf8-append, IsUtf8-encode}
+use Rattle.std.proofs.lemmas.Str.Ascii.{IsAscii-nil, IsAscii-cons}
+use Rattle.std.proofs.Math.Nat.{zero-mul, suc-mul}
+use Rattle.tabled_printing.specs.Texts.{times}
+
+-- one number of times, and another one more
+pub times_both : (n m character : ℕ) → times (n + m) character ≡ times n character ++ times m character
+times_both n m character = ap encode_utf8_all (sym (replicate-append-replicate n m character)) ∙ encodes-append (replicate n character) (replicate m character)
+
+pub both_written : (start old new : List ℕ) (n m character : ℕ) → old ≡ start ++ times n character → new ≡ old ++ times m character → new ≡ start ++ times (n + m) character
+both_written start old new n m character so_far wrote =
+    wrote ∙ ap (λ bs. bs ++ times m character) so_far ∙ append_assoc start (times n character) (times m character)
+    ∙ ap (λ bs. start ++ bs) (sym (times_both n m character))
+
+-- once more
+pub one_more : (start old new : List ℕ) (count character : ℕ) → old ≡ start ++ times count character → new ≡ old ++ encode_utf8 character → new ≡ start ++ times (count + 1) character
+one_more start old new count character so_far pushed =
+    both_written start old new count 1 character so_far (pushed ∙ ap (λ bs. old ++ bs) (sym (append-nil (encode_utf8 character))))
+
+-- none more, and those that were written since
+pub none_more : (bs : List ℕ) (n character : ℕ) → bs ≡ bs ++ times (n - n) character
+none_more bs n character = let none : n - n ≡ 0 = omega arith in sym (append-nil bs) ∙ ap (λ k. bs ++ times k character) (sym none)
+
+pub written_since : (start middle now : List ℕ) (few written character : ℕ) → middle ≡ start ++ times few character → now ≡ middle ++ times (written - few) character → few ≤ written
+    → now ≡ start ++ times written character
+written_since start middle now few written character first since within =
+    let all : few + (written - few) ≡ written = omega (arith, within) in
+    both_written start middle now few (written - few) character first since ∙ ap (λ n. start ++ times n character) all
+
+-- and those that are written next
+pub written_next : (middle old new : List ℕ) (few written more character : ℕ) → old ≡ middle ++ times (written - few) character → few ≤ written → new ≡ old ++ times more character
+    → new ≡ middle ++ times (written + more - few) character
+written_next middle old new few written more character since within wrote =
+    let all : (written - few) + more ≡ written + more - few = omega (arith, within) in
+    both_written middle old new (written - few) more character since wrote ∙ ap (λ n. middle ++ times n character) all
+
+pub string_len-is : {Z : Type 0} (text : String Z) → string_len text ≡ length (string_bytes text)
+string_len-is text = search rules
+
+-- ---- spaces
+
+pub IsAscii-spaces : (n : ℕ) → IsAscii (replicate n 32)
+IsAscii-spaces zero = IsAscii-nil
+IsAscii-spaces (suc n) = IsAscii-cons 32 (replicate n 32) (lit< tt) (IsAscii-spaces n)
+
+pub times_spaces : (n : ℕ) → times n 32 ≡ replicate n 32
+times_spaces n = encodes-IsAscii (replicate n 32) (IsAscii-spaces n)
+
+-- ---- copies
+
+length-times : (n character : ℕ) → length (times n character) ≡ n * length (encode_utf8 character)
+length-times zero character = sym (zero-mul (length (encode_utf8 character)))
+length-times (suc n) character =
+    length-append (encode_utf8 character) (times n character) ∙ ap (λ k. length (encode_utf8 character) + k) (length-times n character)
+    ∙ omega (arith, suc-mul n (length (encode_utf8 character)))
+
+scalars-replicate : (n character : ℕ) → IsScalar character → all_scalars (replicate n character) ≡ true
+scalars-replicate zero character is = refl
+scalars-replicate (suc n) character is = rw is (scalars-replicate n character is)
+
+pub IsUtf8-times : (n character : ℕ) → IsScalar character → IsUtf8 (times n character)
+IsUtf8-times n character is = (replicate n character, (scalars-replicate n character is, refl))
+
+-- after the first ones some were written, and more of them are copied, which begin at a place
+module _ (start middle old : List ℕ) (few written count more character : ℕ) (first : middle ≡ start ++ times few character)
+    (since : old ≡ middle ++ times (written - few) character) (grown : few ≤ written) (taken : more ≡ min written (count - written)) where
+  pub so_far : old ≡ start ++ times written character
+  so_far = written_since start middle old few written character first since grown
+
+  within : more ≤ written
+  within = omega (arith, taken)
+
+  abbrev front : List ℕ
+  front = start ++ times (written - more) character
+
+  in_two : old ≡ front ++ times more character
+  in_two =
+      let all : written ≡ (written - more) + more = omega (arith, within) in
+      so_far ∙ ap (λ n. start ++ times n character) all
+      ∙ ap (λ bs. start ++ bs) (times_both (written - more) more character)
+      ∙ sym (append_assoc start (times (written - more) character) (times more character))
+
+  long : length old ≡ length front + more * length (encode_utf8 character)
+  long = ap length in_two ∙ length-append front (times more character) ∙ ap (λ n. length front + n) (length-times more character)
+
+  pub copied_fit : (size : ℕ) → size ≡ length (encode_utf8 character) → more * size ≤ length old
+  copied_fit size is = subst (λ n. more * n ≤ length old) (sym is) (omega (arith, long))
+
+  module _ (len size : ℕ) (whole : len ≡ length old) (sized : size ≡ length (encode_utf8 character)) where
+    there : length front ≡ len - more * size
+    there =
+        let from : length front ≡ length old - more * length (encode_utf8 character) = omega (arith, long) in
+        from ∙ sym (ap (λ n. len - more * n) sized ∙ ap (λ n. n - more * length (encode_utf8 character)) whole)
+
+    pub copied_split : IsScalar character → IsSplitPoint old (len - more * size)
+    copied_split scalar =
+        let found = subst (IsCharBoundary old) there (IsCharBoundary-at_seam old front (times more character) in_two (IsUtf8-times more character scalar)) in
+        (found.0, λ positive. found.1)
+
+    last_ones : slice_range old (len - more * size) (length old) ≡ times more character
+    last_ones =
+        ap (take (length old - (len - more * size))) (ap (drop (len - more * size)) in_two ∙ drop_at front (times more character) (len - more * size) there)
+        ∙ take_all _ (times more character) (omega (arith, ap length in_two, length-append front (times more character), there))
+
+    pub copied : (new : List ℕ) (end : ℕ) → end ≡ length old → new ≡ old ++ slice_range old (len - more * size) end → new ≡ middle ++ times (written + more - few) character
+    copied new end ends wrote =
+        written_next middle old new few written more character since grown
+        (wrote ∙ ap (λ n. old ++ slice_range old (len - more * size) n) ends ∙ ap (λ bs. old ++ bs) last_ones)
+
+-- a part of a text of one character
+module _ (piece : List ℕ) (count character size : ℕ) (is : piece ≡ times 64 character) (within : count ≤ 64) (sized : size ≡ length (encode_utf8 character)) where
+  in_parts : piece ≡ times count character ++ times (64 - count) character
+  in_parts =
+      let all : 64 ≡ count + (64 - count) = omega (arith, within) in
+      is ∙ ap (λ n. times n character) all ∙ times_both count (64 - count) character
+
+  at_seam : length (times count character) ≡ count * size
+  at_seam = length-times count character ∙ ap (λ n. count * n) (sym sized)
+
+  pub part_fits : count * size ≤ length piece
+  part_fits = omega (arith, at_seam, ap length in_parts, length-append (times count character) (times (64 - count) character))
+
+  pub part_split : IsScalar character → IsCharBoundary piece (count * size)
+  part_split scalar = subst (IsCharBoundary piece) at_seam (IsCharBoundary-at_seam piece (times count character) (times (64 - count) character) in_parts (IsUtf8-times (64 - count) character scalar))
+
+  pub part_of : slice_range piece 0 (count * size) ≡ times count character
+  part_of =
+      let whole : count * size - 0 ≡ length (times count character) = omega (arith, at_seam) in
+      ap (λ k. take k piece) whole ∙ ap (take (length (times count character))) in_parts ∙ take_at (times count character) (times (64 - count) character) (length (times count character)) refl
+
+-- the last spaces of a text of spaces and of what it ends with
+module _ (piece : List ℕ) (count character : ℕ) (is : piece ≡ times 64 32 ++ encode_utf8 character) (within : count ≤ 64) where
+  abbrev end : List ℕ
+  end = times count 32 ++ encode_utf8 character
+
+  before_end : piece ≡ times (64 - count) 32 ++ end
+  before_end =
+      let all : 64 ≡ (64 - count) + count = omega (arith, within) in
+      is ∙ ap (λ n. times n 32 ++ encode_utf8 character) all ∙ ap (λ bs. bs ++ encode_utf8 character) (times_both (64 - count) count 32)
+      ∙ append_assoc (times (64 - count) 32) (times count 32) (encode_utf8 character)
+
+  before_long : length (times (64 - count) 32) ≡ 64 - count
+  before_long = ap length (times_spaces (64 - count)) ∙ length-replicate (64 - count) 32
+
+  pub end_split : IsScalar character → IsCharBoundary piece (64 - count)
+  end_split scalar =
+      let space : IsScalar 32 = search rules in
+      subst (IsCharBoundary piece) before_long
+      (IsCharBoundary-at_seam piece (times (64 - count) 32) end before_end (IsUtf8-append (times count 32) (encode_utf8 character) (IsUtf8-times count 32 space) (IsUtf8-encode character scalar)))
+
+  pub end_of : drop (64 - count) piece ≡ end
+  end_of = ap (drop (64 - count)) before_end ∙ drop_at (times (64 - count) 32) end (64 - count) before_long
+
+-- of a call that was refused: some were written
+pub written_some : {T E : Type 0} (r : Result T E) (P : ℕ → Type 0) (n : ℕ) → P n → OnErr r ((some : ℕ) × P some)
+written_some (Ok x) P n h = tt
+written_some (Err e) P n h = (n, h)

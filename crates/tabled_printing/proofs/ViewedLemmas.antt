@@ -1,0 +1,54 @@
+-- How a table looks with its colors, or without them: the same characters.
+use Rattle.std.proofs.Common.{◌≡◌, ℕ, Bool, true, false, if◌then◌else◌, Option, Some, None, List, [], ◌∷◌, ◌++◌, map, length, get_or, refl, sym, ap, ◌∙◌}
+use Rattle.std.specs.List.{flat_map}
+use Rattle.std.proofs.lemmas.List.{length-map}
+use Rattle.tabled_grid.specs.declared.place.Place.{Place}
+use Rattle.tabled_grid.specs.declared.place.LineOf.{LineOf}
+use Rattle.tabled_object.specs.Entities.{below}
+use Rattle.tabled_printing.specs.Along.{is_empty, along}
+use Rattle.tabled_printing.specs.Picture.{Look, Shown, mark_at, marks_along, text_marked, text_shown, side_shown, row_lines, text_lines}
+use Rattle.tabled_printing.specs.Beside.{mark_beside}
+use Rattle.tabled_printing.specs.Texts.{Table}
+use Rattle.tabled_printing.specs.Viewed.{with_colors_if}
+
+-- a mark with its color, or without it
+abbrev pub kept_if : Bool → Shown → Shown
+kept_if wanted mark = (mark.0, if wanted then mark.1 else None)
+
+module _ (wanted : Bool) (view : Look) where
+  pub kept_marks : (line : LineOf) → marks_along (with_colors_if wanted view) line ≡ map (kept_if wanted) (marks_along view line)
+  kept_marks line = kept (along view.horizontal view.vertical view.shape view.widths view.heights line)
+    where
+      kept : (places : List Place) → map (mark_at (with_colors_if wanted view)) places ≡ map (kept_if wanted) (map (mark_at view) places)
+      kept [] = refl
+      kept (place ∷ places) = ap (λ rest. mark_at (with_colors_if wanted view) place ∷ rest) (kept places)
+
+  -- as many, and the same characters
+  pub kept_count : (line : LineOf) → length (marks_along (with_colors_if wanted view) line) ≡ length (marks_along view line)
+  kept_count line = ap length (kept_marks line) ∙ length-map (marks_along view line) (kept_if wanted)
+
+  pub kept_text : (line : LineOf) → text_marked (marks_along (with_colors_if wanted view) line) ≡ text_marked (marks_along view line)
+  kept_text line = ap text_marked (kept_marks line) ∙ ap text_shown (dropped (marks_along view line))
+    where
+      dropped : (marks : List Shown) → map (λ mark. mark.0) (map (kept_if wanted) marks) ≡ map (λ mark. mark.0) marks
+      dropped [] = refl
+      dropped (mark ∷ marks) = ap (λ rest. mark.0 ∷ rest) (dropped marks)
+
+  -- so the same lines of text
+  pub kept_lines : (cells : Table) → text_lines (with_colors_if wanted view) cells ≡ text_lines view cells
+  kept_lines cells = λ i.
+      if is_empty view.shape then [] else
+      flat_map (λ r. (if view.horizontal r then kept_text (LineOf.Horizontal r) i ∷ [] else []) ++ row_lines view r (get_or cells r [])) (below view.shape.0)
+      ++ (if view.horizontal view.shape.0 then kept_text (LineOf.Horizontal view.shape.0) i ∷ [] else [])
+
+-- the text of what stands beside a line of text
+abbrev pub text_beside : Option Shown → List ℕ
+text_beside None = []
+text_beside (Some mark) = text_shown (mark.0 ∷ [])
+
+pub side_text : (view : Look) (r k c : ℕ) → text_beside (mark_beside view r k c) ≡ text_shown (side_shown view r k c)
+side_text view r k c = by_case (view.vertical c)
+  where
+    by_case : (b : Bool) → text_beside (if b then Some (mark_at view (Place.Vertical r c k)) else None) ≡ text_shown (if b then view.shown (Place.Vertical r c k) ∷ [] else [])
+    by_case true = refl
+    by_case false = refl

@@ -1,0 +1,26 @@
+-- The marks of a line that is there are those of all its places.
+use Rattle.std.proofs.Common.{◌≡◌, ◌+◌, ◌*◌, true, length, map, sym, ◌∙◌, arith}
+use Rattle.tabled_grid.specs.declared.place.LineOf.{LineOf}
+use Rattle.tabled_printing.specs.Picture.{Look, mark_at, marks_along}
+use Rattle.tabled_printing.specs.LinePieces.{has_line, all_places}
+use Rattle.tabled_printing.specs.Viewed.{frame_look}
+use Rattle.tabled_printing.proofs.AlikeLemmas.{side_drawn}
+use Rattle.tabled_printing.proofs.LineLemmas.{marks_are, marks_count, horizontal_there}
+use Rattle.tabled_printing.proofs.MarkLemmas.{put_same, raised_least}
+use Rattle.tabled_printing.proofs.frame.Frame.put_line.Goals as goal
+
+pub returns-clause-put : goal.returns-clause-put
+returns-clause-put g c =
+    let frame = c.args.self.now in
+    let view : Look = frame_look g.D.Dimension.width_of g.D.Dimension.height_of frame in
+    let line = LineOf.Horizontal c.args.row in
+    put_same g.S.Sink.puts g.S.Sink.leaves c.put_all.result (map (mark_at view) (all_places view line)) (marks_along view line) c.args.sink.now c.put_all.new.sink
+    (sym (marks_are view line (horizontal_there frame.shape c.args.row frame.has_places c.requires))) c.put_all.ensures.put
+
+pub returns-clause-probes : goal.returns-clause-probes
+returns-clause-probes g c =
+    let frame = c.args.self.now in
+    let view : Look = frame_look g.D.Dimension.width_of g.D.Dimension.height_of frame in
+    let line = LineOf.Horizontal c.args.row in
+    let counted = marks_count view line (horizontal_there frame.shape c.args.row frame.has_places c.requires) in
+    raised_least (12 * length (all_places view line) + 6 * (frame.shape.1 + 1) + 2) (12 * length (marks_along view line) + 6 * (frame.shape.1 + 1) + 45) c.args.probes.now c.put_all.new.probes c.put_all.ensures.probes (omega (arith, counted))

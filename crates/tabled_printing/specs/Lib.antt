@@ -1,0 +1,14 @@
+pub mod Texts
+pub mod Pieces
+pub mod Along
+pub mod Picture
+pub mod LinePieces
+pub mod Marks
+pub mod Alike
+pub mod Sinks
+pub mod Beside
+pub mod Sides
+pub mod Viewed
+pub mod TextOrder
+pub mod Refusal
+pub mod Headline

@@ -1,0 +1,325 @@
+//! What stands around the cells of a table: its lines, and what its vertical lines show beside rows.
+
+ghost use Rattle.std.specs.Prelude.{◌≡◌, ◌↔◌, ◌+◌, ◌*◌, ◌≤◌, ◌<◌, ◌++◌, true, false, None, IfOk, length, map, option_map};
+ghost use Rattle.std.specs.Coded.{codes};
+ghost use Rattle.std.specs.FinMap as finmap;
+ghost use Rattle.tabled_grid.specs.declared.place.LineOf.{LineOf as Line};
+ghost use Rattle.tabled_grid.specs.declared.place.Place.{Place as Spot};
+ghost use Rattle.tabled_grid.specs.declared.site.Direction.TheVariants.{Horizontal, Vertical};
+ghost use Rattle.tabled_grid.specs.Probing.{IsRaised};
+ghost use Rattle.tabled_object.specs.Entities.{below};
+ghost use Rattle.tabled_printing.specs.Along.{is_empty};
+ghost use Rattle.tabled_printing.specs.Alike.{NoneForPlaces, NoneForLines};
+ghost use Rattle.tabled_printing.specs.Marks.{mark_of};
+ghost use Rattle.tabled_printing.specs.Picture.{mark_at, marks_along};
+ghost use Rattle.tabled_printing.specs.Beside.{mark_beside, mark_if_drawn, plain_mark};
+ghost use Rattle.tabled_printing.specs.Sides.{AreSides};
+ghost use Rattle.tabled_printing.specs.Sinks.{Put};
+
+use crate::alike::{has_none_for_lines, has_none_for_places};
+use crate::mark::{mark_seen, plain_mark};
+use crate::print::printed_as;
+use crate::sink::Sink;
+use crate::walk::Walk;
+use crate::{Mark, Run, Sides, SpannedConfig};
+use tabled_border::OutOfMemory;
+use tabled_grid::{HorizontalLine, LineOf, Place, Rank};
+use tabled_kept::Probes;
+use tabled_object::Dimension;
+
+/// What a line shows whose edges look alike, and whose crossings do between the first one and the last one.
+#[derive(Clone, Copy, Debug)]
+struct Looks<'a> {
+    edge: Mark<'a>,
+    first: Mark<'a>,
+    inner: Mark<'a>,
+    last: Mark<'a>,
+}
+
+/// A table that has places, as its configuration and its sizes frame it. What repeats is looked up when it is made.
+#[derive(Drop)]
+pub struct Frame<'a, 'b, D> {
+    /// The configuration.
+    pub cfg: &'a SpannedConfig,
+    /// How wide the columns are and how high the rows.
+    pub dims: &'b D,
+    /// The number of rows and of columns.
+    pub shape: (usize, usize),
+    /// Whether colors are wanted.
+    pub with_colors: bool,
+    /// What vertical lines show beside the first row.
+    pub sides: Sides<'a>,
+    /// Whether they show that beside each row, as nothing is kept for single places of theirs.
+    pub has_alike_sides: bool,
+    /// Whether nothing is kept for single places of horizontal lines, so that those between rows look alike, but custom ones.
+    pub has_alike_lines: bool,
+    /// Whether no vertical line is a custom one.
+    pub has_plain_columns: bool,
+    ghost has_places: { is_empty shape ≡ false },
+    ghost are_sides: { AreSides cfg.now with_colors shape sides },
+    ghost sides_end: { sides.last ≡ shape.1 },
+    ghost alike_sides: { has_alike_sides ≡ true → NoneForPlaces cfg.now with_colors Vertical } by { Prim.hlevel (codes, finmap.code) },
+    ghost alike_lines: { has_alike_lines ≡ true ↔ NoneForPlaces cfg.now with_colors Horizontal } by { Prim.hlevel (codes, finmap.code) },
+    ghost plain_columns: { has_plain_columns ≡ true ↔ NoneForLines cfg.now with_colors Vertical } by { Prim.hlevel (codes, finmap.code) },
+}
+
+impl<'a, 'b, D: Dimension> Frame<'a, 'b, D> {
+    ghost use Rattle.tabled_printing.specs.Viewed.{frame_look};
+
+    /// The frame of a table that has rows and columns.
+    pub fn new(
+        cfg: &'a SpannedConfig,
+        dims: &'b D,
+        shape: (usize, usize),
+        with_colors: bool,
+    ) -> Result<Self, OutOfMemory>
+        requires { is_empty shape ≡ false }
+        ensures cfg { IfOk result (λ frame. frame.cfg ≡ cfg.entry) }
+        ensures dims { IfOk result (λ frame. frame.dims ≡ dims.entry) }
+        ensures shape { IfOk result (λ frame. frame.shape ≡ shape) }
+        ensures with_colors { IfOk result (λ frame. frame.with_colors ≡ with_colors) }
+    {
+        let (level, upright) = (LineOf::Horizontal(0), LineOf::Vertical(0));
+        let has_alike_sides = has_none_for_places(cfg, upright, with_colors);
+        let has_plain_columns = has_none_for_lines(cfg, upright, with_colors);
+        let by_rank = has_alike_sides && has_plain_columns;
+        let sides = Sides::of(cfg, shape, with_colors, by_rank)?;
+        Ok(Frame {
+            cfg,
+            dims,
+            shape,
+            with_colors,
+            sides,
+            has_alike_sides,
+            has_alike_lines: has_none_for_places(cfg, level, with_colors),
+            has_plain_columns,
+        })
+    }
+
+    /// Whether a horizontal line is drawn.
+    pub fn draws(&self, row: usize) -> bool
+        ensures { result ≡ (frame_look D.width_of D.height_of self.now).horizontal row }
+    {
+        let (rows, _) = self.shape;
+        self.cfg.has_horizontal(row, rows)
+    }
+
+    /// What a vertical line shows at one line of text of a row, looked up there.
+    fn side_seen(&self, row: usize, col: usize, at: usize) -> Mark<'a>
+        ensures { mark_of result ≡ mark_at (frame_look D.width_of D.height_of self.now) (Spot.Vertical row col at) }
+    {
+        let place = Place::Vertical { row, col, at };
+        let size = self.dims.get_height(row);
+        let probes = &mut Probes::new();
+        mark_seen(self.cfg, self.shape, place, size, self.with_colors, probes)
+    }
+
+    /// What a vertical line shows at line `at` of the text of a row, if the line is drawn.
+    #[inline(always)]
+    pub fn side(&self, row: usize, col: usize, at: usize) -> Option<Mark<'a>>
+        requires row { row < self.now.shape.0 }
+        requires col { col ≤ self.now.shape.1 }
+        requires at { at < D.height_of self.now.dims.now row }
+        ensures { option_map mark_of result ≡ mark_beside (frame_look D.width_of D.height_of self.now) row at col }
+    {
+        let mark = self.sides.at(col)?;
+        if self.has_alike_sides {
+            return Some(mark);
+        }
+        Some(self.side_seen(row, col, at))
+    }
+
+    /// What a horizontal line shows whose edges look alike, and whose crossings do between the first one and the last one. Where
+    /// the class record alone decides that, it is read off there.
+    #[inline(always)]
+    fn looks(&self, row: usize, probes: &mut Probes) -> Looks<'a>
+        requires { row ≤ self.now.shape.0 }
+        ensures edge { mark_of result.edge ≡ plain_mark self.now.cfg.now self.now.with_colors self.now.shape (Spot.Horizontal row 0 0) }
+        ensures first { mark_of result.first ≡ plain_mark self.now.cfg.now self.now.with_colors self.now.shape (Spot.Cross row 0) }
+        ensures inner { 1 < self.now.shape.1 → mark_of result.inner ≡ plain_mark self.now.cfg.now self.now.with_colors self.now.shape (Spot.Cross row 1) }
+        ensures last { mark_of result.last ≡ plain_mark self.now.cfg.now self.now.with_colors self.now.shape (Spot.Cross row self.now.shape.1) }
+        ensures probes { IsRaised 45 probes.old probes.new }
+    {
+        if !self.with_colors
+            && let Some(class) = self.cfg.class_alone(probes)
+        {
+            return Looks::of(class.horizontal_line(Rank::of(row, self.shape.0)));
+        }
+        self.looked_up(row, probes)
+    }
+
+    /// The same, each mark looked up by itself.
+    fn looked_up(&self, row: usize, probes: &mut Probes) -> Looks<'a>
+        ensures edge { mark_of result.edge ≡ plain_mark self.now.cfg.now self.now.with_colors self.now.shape (Spot.Horizontal row 0 0) }
+        ensures first { mark_of result.first ≡ plain_mark self.now.cfg.now self.now.with_colors self.now.shape (Spot.Cross row 0) }
+        ensures inner { mark_of result.inner ≡ plain_mark self.now.cfg.now self.now.with_colors self.now.shape (Spot.Cross row 1) }
+        ensures last { mark_of result.last ≡ plain_mark self.now.cfg.now self.now.with_colors self.now.shape (Spot.Cross row self.now.shape.1) }
+        ensures probes { IsRaised 40 probes.old probes.new }
+    {
+        let (_, last) = self.shape;
+        Looks {
+            edge: self.plain(Place::Horizontal { row, col: 0, at: 0 }, probes),
+            first: self.plain(Place::Cross { row, col: 0 }, probes),
+            inner: self.plain(Place::Cross { row, col: 1 }, probes),
+            last: self.plain(Place::Cross { row, col: last }, probes),
+        }
+    }
+
+    /// What is kept for a place without its offsets.
+    fn plain(&self, place: Place, probes: &mut Probes) -> Mark<'a>
+        ensures mark { mark_of result ≡ plain_mark self.now.cfg.now self.now.with_colors self.now.shape place }
+        ensures probes { IsRaised 10 probes.old probes.new }
+    {
+        plain_mark(self.cfg, self.shape, place, self.with_colors, probes)
+    }
+
+    /// Puts a mark for the crossing with a vertical line, if that line is drawn.
+    #[inline(always)]
+    fn put_crossing<S: Sink<'a>>(
+        &self,
+        sink: &mut S,
+        col: usize,
+        mark: Mark<'a>,
+    ) -> Result<(), OutOfMemory>
+        requires { col ≤ self.now.shape.1 }
+        ensures { Put S.puts S.leaves result (mark_if_drawn (frame_look D.width_of D.height_of self.now) col (mark_of mark.entry)) sink.old sink.new }
+    {
+        if self.sides.at(col).is_none() {
+            return Ok(());
+        }
+        sink.put(Run { mark, count: 1 })
+    }
+
+    /// Puts a mark for a crossing, if it is there, and another for each place of the edge after it.
+    #[inline(always)]
+    fn put_piece<S: Sink<'a>>(
+        &self,
+        sink: &mut S,
+        col: usize,
+        crossing: Mark<'a>,
+        edge: Mark<'a>,
+    ) -> Result<(), OutOfMemory>
+        requires { col ≤ self.now.shape.1 }
+        ensures { let view = frame_look D.width_of D.height_of self.now in
+            Put S.puts S.leaves result (mark_if_drawn view col (mark_of crossing.entry) ++ map (λ _. mark_of edge.entry) (below (view.widths col))) sink.old sink.new }
+    {
+        self.put_crossing(sink, col, crossing)?;
+        let count = self.dims.get_width(col);
+        sink.put(Run { mark: edge, count })
+    }
+
+    /// Puts the marks of a horizontal line of which four are looked up.
+    fn put_alike<S: Sink<'a>>(
+        &self,
+        row: usize,
+        sink: &mut S,
+        probes: &mut Probes,
+    ) -> Result<(), OutOfMemory>
+        requires row { row ≤ self.now.shape.0 }
+        requires alike { self.now.has_alike_lines ≡ true }
+        requires plain { self.now.has_plain_columns ≡ true }
+        ensures put { Put S.puts S.leaves result (marks_along (frame_look D.width_of D.height_of self.now) (Line.Horizontal row)) sink.old sink.new }
+        ensures probes { IsRaised 45 probes.old probes.new }
+    {
+        let (_, cols) = self.shape;
+        let looks = self.looks(row, probes);
+        let mut crossing = looks.first;
+        for col in 0..cols {
+            self.put_piece(sink, col, crossing, looks.edge)?;
+            crossing = looks.inner;
+        }
+        self.put_crossing(sink, cols, looks.last)
+    }
+
+    /// Puts the marks of a horizontal line, drawn or not. At most twelve readings are made for each place, six for each
+    /// vertical line and 45 for the line; where nothing is kept for single places and no vertical line is a custom one, 45 in
+    /// all. Only memory can be refused.
+    pub fn put_line<S: Sink<'a>>(
+        &self,
+        row: usize,
+        sink: &mut S,
+        probes: &mut Probes,
+    ) -> Result<(), OutOfMemory>
+        requires { row ≤ self.now.shape.0 }
+        ensures put { Put S.puts S.leaves result (marks_along (frame_look D.width_of D.height_of self.now) (Line.Horizontal row)) sink.old sink.new }
+        ensures probes { IsRaised (12 * length (marks_along (frame_look D.width_of D.height_of self.now) (Line.Horizontal row)) + 6 * (self.now.shape.1 + 1) + 45) probes.old probes.new }
+        ensures looked_up_once { NoneForPlaces self.now.cfg.now self.now.with_colors Horizontal → NoneForLines self.now.cfg.now self.now.with_colors Vertical → IsRaised 45 probes.old probes.new }
+    {
+        if self.has_alike_lines && self.has_plain_columns {
+            return self.put_alike(row, sink, probes);
+        }
+        let walk = Walk {
+            cfg: self.cfg,
+            dims: self.dims,
+            shape: self.shape,
+            line: LineOf::Horizontal(row),
+            sides: Some(&self.sides),
+            with_colors: self.with_colors,
+        };
+        walk.put_all(sink, probes)
+    }
+
+    /// How many bytes the characters of the vertical lines take beside one line of text, at least or nearly so. It saturates.
+    pub fn side_bytes(&self) -> usize {
+        let (_, cols) = self.shape;
+        let mut bytes = self.bytes_at(cols);
+        for col in 0..cols {
+            bytes = bytes.saturating_add(self.bytes_at(col));
+        }
+        bytes
+    }
+
+    /// How many bytes the character of one of them takes.
+    fn bytes_at(&self, col: usize) -> usize
+        requires { col ≤ self.now.shape.1 }
+    {
+        match self.sides.at(col) {
+            Some(mark) if self.has_alike_sides => printed_as(mark.shown).len_utf8(),
+            Some(_) => 1,
+            None => 0,
+        }
+    }
+
+    /// How many columns the table is long with its lines. Refused where no number says it.
+    pub fn count_columns(&self) -> Result<usize, OutOfMemory>
+        ensures { IfOk result (λ count. count ≡ length (marks_along (frame_look D.width_of D.height_of self.now) (Line.Horizontal 0))) }
+    {
+        let mut count = 0usize;
+        self.put_line(0, &mut count, &mut Probes::new())?;
+        Ok(count)
+    }
+
+    /// How many lines of text the table is high. Refused where no number says it.
+    pub fn count_lines(&self) -> Result<usize, OutOfMemory>
+        ensures { IfOk result (λ count. count ≡ length (marks_along (frame_look D.width_of D.height_of self.now) (Line.Vertical 0))) }
+    {
+        let walk = Walk {
+            cfg: self.cfg,
+            dims: self.dims,
+            shape: self.shape,
+            line: LineOf::Vertical(0),
+            sides: None,
+            with_colors: self.with_colors,
+        };
+        let mut count = 0usize;
+        walk.put_all(&mut count, &mut Probes::new())?;
+        Ok(count)
+    }
+}
+
+impl Looks<'_> {
+    /// What a line of a class record shows, which has no colors.
+    fn of(line: HorizontalLine<char>) -> Self
+        ensures edge { mark_of result.edge ≡ (line.main, None) }
+        ensures first { mark_of result.first ≡ (line.left, None) }
+        ensures inner { mark_of result.inner ≡ (line.intersection, None) }
+        ensures last { mark_of result.last ≡ (line.right, None) }
+    {
+        Looks {
+            edge: Mark::uncolored(line.main),
+            first: Mark::uncolored(line.left),
+            inner: Mark::uncolored(line.intersection),
+            last: Mark::uncolored(line.right),
+        }
+    }
+}

@@ -1,0 +1,113 @@
+//! What the marks of a line are put into: a text, a list of marks, a list of runs, or a number that counts them.
+
+ghost use Rattle.std.specs.Prelude.{◌≡◌, List, [], ◌++◌};
+ghost use Rattle.tabled_printing.specs.Marks.{run_marks};
+ghost use Rattle.tabled_printing.specs.Picture.{Shown};
+ghost use Rattle.tabled_printing.specs.Sinks.{Put};
+ghost use Rattle.tabled_printing.specs.Sinks as gains;
+
+use crate::print::printed_as;
+use crate::{Mark, Run, push_times};
+use tabled_border::OutOfMemory;
+
+/// What marks are put into, run by run.
+pub trait Sink<'a> {
+    /// Whether these marks, put in their order, make the one the other.
+    ghost puts: { List Shown → Self → Self → Type 0 };
+
+    /// Whether a refusal may leave the other of the one.
+    ghost leaves: { Self → Self → Type 0 };
+
+    /// Puts the marks of a run. Where memory is refused some of them may have been put.
+    fn put(&mut self, run: Run<'a>) -> Result<(), OutOfMemory>
+        ensures { Put puts leaves result (run_marks run.entry) self.old self.new };
+
+    /// No marks leave it as it is.
+    ghost puts_none: { (sink : Self) → puts [] sink sink };
+
+    /// Marks that are put in turn are put.
+    ghost puts_both: { (ms ns : List Shown) (old between new : Self)
+        → puts ms old between → puts ns between new → puts (ms ++ ns) old new };
+
+    /// What a refusal leaves after some marks, it leaves of what was there before them.
+    ghost leaves_after: { (ms : List Shown) (old between new : Self)
+        → puts ms old between → leaves between new → leaves old new };
+}
+
+/// A text takes the characters, a space for none.
+impl<'a> Sink<'a> for String {
+    ghost puts = { gains.text_gains };
+
+    ghost leaves = { gains.text_kept };
+
+    #[inline(always)]
+    fn put(&mut self, run: Run<'a>) -> Result<(), OutOfMemory> {
+        push_times(self, run.count, printed_as(run.mark.shown))?;
+        Ok(())
+    }
+
+    ghost puts_none = { gains.text_none };
+
+    ghost puts_both = { gains.text_both };
+
+    ghost leaves_after = { gains.text_kept_after };
+}
+
+/// A list of marks takes each of them.
+impl<'a> Sink<'a> for Vec<Mark<'a>> {
+    ghost puts = { gains.marks_gained };
+
+    ghost leaves = { gains.anything };
+
+    fn put(&mut self, run: Run<'a>) -> Result<(), OutOfMemory> {
+        for _ in 0..run.count {
+            self.push(run.mark)?;
+        }
+        Ok(())
+    }
+
+    ghost puts_none = { gains.marks_none };
+
+    ghost puts_both = { gains.marks_both };
+
+    ghost leaves_after = { λ ms old between new put left. left };
+}
+
+/// A list of runs takes the run.
+impl<'a> Sink<'a> for Vec<Run<'a>> {
+    ghost puts = { gains.runs_gained };
+
+    ghost leaves = { gains.anything };
+
+    fn put(&mut self, run: Run<'a>) -> Result<(), OutOfMemory> {
+        self.push(run)?;
+        Ok(())
+    }
+
+    ghost puts_none = { gains.runs_none };
+
+    ghost puts_both = { gains.runs_both };
+
+    ghost leaves_after = { λ ms old between new put left. left };
+}
+
+/// A number counts them. Refused where no number says how many they are, which no memory holds.
+impl<'a> Sink<'a> for usize {
+    ghost puts = { gains.number_gains };
+
+    ghost leaves = { gains.anything };
+
+    fn put(&mut self, run: Run<'a>) -> Result<(), OutOfMemory> {
+        let Some(sum) = self.checked_add(run.count) else {
+            return Err(OutOfMemory);
+        };
+        *self = sum;
+        Ok(())
+    }
+
+    ghost puts_none = { gains.number_none };
+
+    ghost puts_both = { gains.number_both };
+
+    ghost leaves_after = { λ ms old between new put left. left };
+}

@@ -1,0 +1,191 @@
+//! A walk along a line that looks up what it passes: each crossing and each edge once, and an edge that may have offsets place by
+//! place.
+
+ghost use Rattle.std.specs.Prelude.{◌≡◌, ℕ, ◌+◌, ◌*◌, ◌≤◌, ◌<◌, true, false, IsFalse, is_some, length, map};
+ghost use Rattle.std.specs.Option.{ForSome};
+ghost use Rattle.tabled_grid.specs.Probing.{IsRaised};
+ghost use Rattle.tabled_grid.specs.Reading.{direction_of};
+ghost use Rattle.tabled_grid.specs.State.{HasNoOffsets};
+ghost use Rattle.tabled_configuration.specs.Configuration.{all_writes};
+ghost use Rattle.tabled_printing.specs.LinePieces.{has_line, pieces_of, piece_size, crossed_after, edge_of, crossing_places, edge_places, piece_places, all_places};
+ghost use Rattle.tabled_printing.specs.Picture.{mark_at};
+ghost use Rattle.tabled_printing.specs.Sides.{side_at};
+ghost use Rattle.tabled_printing.specs.Sinks.{Put};
+
+use crate::line_pieces::{crossing_line, crossing_of, edge_of, piece_size, pieces_of};
+use crate::mark::{mark_seen, plain_mark};
+use crate::sink::Sink;
+use crate::{Run, Sides, SpannedConfig};
+use tabled_border::OutOfMemory;
+use tabled_grid::LineOf;
+use tabled_kept::Probes;
+use tabled_object::Dimension;
+
+/// A line of a table that is there, with what decides how it looks, and whether its colors are wanted.
+#[derive(Drop)]
+pub(crate) struct Walk<'a, 'b, 'c, D> {
+    pub(crate) cfg: &'a SpannedConfig,
+    pub(crate) dims: &'b D,
+    pub(crate) shape: (usize, usize),
+    pub(crate) line: LineOf,
+    /// Which of the lines that it meets are drawn, where that was looked up.
+    pub(crate) sides: Option<&'c Sides<'a>>,
+    pub(crate) with_colors: bool,
+    ghost is_there: { has_line shape line ≡ true },
+    ghost sides_end: { ForSome sides (λ kept. kept.now.last ≡ pieces_of shape line) },
+    ghost sides_drawn: { ForSome sides (λ kept. (n : ℕ) → n ≤ pieces_of shape line → is_some (side_at kept.now n) ≡ crossed_after (all_writes cfg.now) shape line n) },
+}
+
+impl<'a, D: Dimension> Walk<'a, '_, '_, D> {
+    ghost use Rattle.tabled_printing.specs.Viewed.{walk_look};
+
+    /// Whether line `n` of the other direction is drawn, so that it crosses this one.
+    #[inline(always)]
+    fn is_crossed(&self, n: usize, probes: &mut Probes) -> bool
+        requires { n ≤ pieces_of self.now.shape self.now.line }
+        ensures value { result ≡ crossed_after (all_writes self.now.cfg.now) self.now.shape self.now.line n }
+        ensures probes { IsRaised 6 probes.old probes.new }
+    {
+        if let Some(sides) = self.sides {
+            return sides.at(n).is_some();
+        }
+        let count = pieces_of(self.shape, self.line);
+        self.cfg.draws(crossing_line(self.line, n), count, probes)
+    }
+
+    /// Whether a place of an edge may show something else than its edge: at most two readings.
+    fn has_offsets(&self, probes: &mut Probes) -> bool
+        ensures characters { IsFalse result → HasNoOffsets (direction_of self.now.line) self.now.cfg.now.characters }
+        ensures colors { IsFalse result → self.now.with_colors ≡ true → HasNoOffsets (direction_of self.now.line) self.now.cfg.now.colors }
+        ensures probes { IsRaised 2 probes.old probes.new }
+    {
+        self.cfg.has_char_offsets(self.line, probes)
+            || (self.with_colors && self.cfg.has_color_offsets(self.line, probes))
+    }
+
+    /// Puts the mark of a crossing, if the other line is drawn.
+    fn put_crossing<S: Sink<'a>>(
+        &self,
+        sink: &mut S,
+        n: usize,
+        probes: &mut Probes,
+    ) -> Result<(), OutOfMemory>
+        requires within { n ≤ pieces_of self.now.shape self.now.line }
+        ensures put { let view = walk_look D.width_of D.height_of self.now in
+            Put S.puts S.leaves result (map (mark_at view) (crossing_places view self.now.line n)) sink.old sink.new }
+        ensures probes { let view = walk_look D.width_of D.height_of self.now in
+            IsRaised (12 * length (crossing_places view self.now.line n) + 6) probes.old probes.new }
+    {
+        if !self.is_crossed(n, probes) {
+            return Ok(());
+        }
+        let place = crossing_of(self.line, n);
+        let mark = plain_mark(self.cfg, self.shape, place, self.with_colors, probes);
+        sink.put(Run { mark, count: 1 })
+    }
+
+    /// Puts the marks of the `size` places of an edge, each by itself.
+    fn put_each_place<S: Sink<'a>>(
+        &self,
+        sink: &mut S,
+        n: usize,
+        size: usize,
+        probes: &mut Probes,
+    ) -> Result<(), OutOfMemory>
+        requires { size ≡ piece_size (D.width_of self.now.dims.now) (D.height_of self.now.dims.now) self.now.line n }
+        ensures put { let view = walk_look D.width_of D.height_of self.now in
+            Put S.puts S.leaves result (map (mark_at view) (edge_places view self.now.line n)) sink.old sink.new }
+        ensures probes { IsRaised (12 * size) probes.old probes.new }
+    {
+        for at in 0..size {
+            let place = edge_of(self.line, n, at);
+            let mark = mark_seen(self.cfg, self.shape, place, size, self.with_colors, probes);
+            sink.put(Run { mark, count: 1 })?;
+        }
+        Ok(())
+    }
+
+    /// Puts the marks of an edge all of whose places show the same, as no offset is kept.
+    fn put_run<S: Sink<'a>>(
+        &self,
+        sink: &mut S,
+        n: usize,
+        size: usize,
+        probes: &mut Probes,
+    ) -> Result<(), OutOfMemory>
+        requires size { size ≡ piece_size (D.width_of self.now.dims.now) (D.height_of self.now.dims.now) self.now.line n }
+        requires characters { HasNoOffsets (direction_of self.now.line) self.now.cfg.now.characters }
+        requires colors { self.now.with_colors ≡ true → HasNoOffsets (direction_of self.now.line) self.now.cfg.now.colors }
+        ensures put { let view = walk_look D.width_of D.height_of self.now in
+            Put S.puts S.leaves result (map (mark_at view) (edge_places view self.now.line n)) sink.old sink.new }
+        ensures probes { IsRaised 10 probes.old probes.new }
+    {
+        let place = edge_of(self.line, n, 0);
+        let mark = plain_mark(self.cfg, self.shape, place, self.with_colors, probes);
+        sink.put(Run { mark, count: size })
+    }
+
+    /// Puts the marks of an edge, which is looked up if it has places.
+    fn put_edge<S: Sink<'a>>(
+        &self,
+        sink: &mut S,
+        n: usize,
+        has_offsets: bool,
+        probes: &mut Probes,
+    ) -> Result<(), OutOfMemory>
+        requires characters { has_offsets ≡ false → HasNoOffsets (direction_of self.now.line) self.now.cfg.now.characters }
+        requires colors { has_offsets ≡ false → self.now.with_colors ≡ true → HasNoOffsets (direction_of self.now.line) self.now.cfg.now.colors }
+        ensures put { let view = walk_look D.width_of D.height_of self.now in
+            Put S.puts S.leaves result (map (mark_at view) (edge_places view self.now.line n)) sink.old sink.new }
+        ensures probes { let view = walk_look D.width_of D.height_of self.now in
+            IsRaised (12 * length (edge_places view self.now.line n)) probes.old probes.new }
+    {
+        let size = piece_size(self.dims, self.line, n);
+        if size == 0 {
+            return Ok(());
+        }
+        if has_offsets {
+            return self.put_each_place(sink, n, size, probes);
+        }
+        self.put_run(sink, n, size, probes)
+    }
+
+    /// Puts the marks of a crossing and of the edge after it.
+    fn put_piece<S: Sink<'a>>(
+        &self,
+        sink: &mut S,
+        n: usize,
+        has_offsets: bool,
+        probes: &mut Probes,
+    ) -> Result<(), OutOfMemory>
+        requires within { n < pieces_of self.now.shape self.now.line }
+        requires characters { has_offsets ≡ false → HasNoOffsets (direction_of self.now.line) self.now.cfg.now.characters }
+        requires colors { has_offsets ≡ false → self.now.with_colors ≡ true → HasNoOffsets (direction_of self.now.line) self.now.cfg.now.colors }
+        ensures put { let view = walk_look D.width_of D.height_of self.now in
+            Put S.puts S.leaves result (map (mark_at view) (piece_places view self.now.line n)) sink.old sink.new }
+        ensures probes { let view = walk_look D.width_of D.height_of self.now in
+            IsRaised (12 * length (piece_places view self.now.line n) + 6) probes.old probes.new }
+    {
+        self.put_crossing(sink, n, probes)?;
+        self.put_edge(sink, n, has_offsets, probes)
+    }
+
+    /// Puts the marks of the line, run by run.
+    pub(crate) fn put_all<S: Sink<'a>>(
+        &self,
+        sink: &mut S,
+        probes: &mut Probes,
+    ) -> Result<(), OutOfMemory>
+        ensures put { let view = walk_look D.width_of D.height_of self.now in
+            Put S.puts S.leaves result (map (mark_at view) (all_places view self.now.line)) sink.old sink.new }
+        ensures probes { let view = walk_look D.width_of D.height_of self.now in
+            IsRaised (12 * length (all_places view self.now.line) + 6 * (pieces_of self.now.shape self.now.line + 1) + 2) probes.old probes.new }
+    {
+        let count = pieces_of(self.shape, self.line);
+        let has_offsets = self.has_offsets(probes);
+        for n in 0..count {
+            self.put_piece(sink, n, has_offsets, probes)?;
+        }
+        self.put_crossing(sink, count, probes)
+    }
+}
