@@ -6,7 +6,7 @@ ghost use Rattle.tabled_configuration.specs.Configuration as borders;
 ghost use Rattle.tabled_configuration.specs.Colored.{Changes};
 ghost use Rattle.tabled_formatting.specs.Margins.{indent_of, shadow_sizes, offset_of, shadow_offsets, color_of, shadow_colors, shadow_set};
 
-use crate::texts::texts_of;
+use crate::texts::copied_texts;
 use std::alloc::Global;
 use tabled_border::{ANSIBuf, Keep, OutOfMemory};
 use tabled_color::Color;
@@ -228,7 +228,7 @@ fn color_of(alloc: Global, color: &Color, falls: bool) -> Result<Option<ANSIBuf>
     ensures { IfOk result (λ texts. texts ≡ color_of color.now falls) }
 {
     if falls {
-        Ok(Some(texts_of(alloc, color)?))
+        Ok(Some(copied_texts(alloc, color)?))
     } else {
         Ok(None)
     }

@@ -8,7 +8,7 @@ use tabled_border::{ANSIBuf, AnsiText, OutOfMemory};
 use tabled_settings::Sides;
 
 /// The texts of a color, copied.
-fn copied_texts<C: AnsiText>(alloc: Global, color: &C) -> Result<ANSIBuf, OutOfMemory>
+pub(crate) fn copied_texts<C: AnsiText>(alloc: Global, color: &C) -> Result<ANSIBuf, OutOfMemory>
     ensures { IfOk result (λ texts. texts ≡ texts_by C.prefix_text C.suffix_text color.now) }
 {
     Ok(ANSIBuf::new(alloc, color.prefix(), color.suffix())?)

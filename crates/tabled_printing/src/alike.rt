@@ -4,7 +4,7 @@ ghost use Rattle.std.specs.Prelude.{◌↔◌, IsTrue};
 ghost use Rattle.tabled_grid.specs.Reading.{direction_of};
 ghost use Rattle.tabled_printing.specs.Alike.{HasNoSingles, NoneForPlaces, NoneForLines};
 
-use crate::SpannedConfig;
+use tabled_configuration::SpannedConfig;
 use tabled_grid::LineOf;
 use tabled_kept::Probes;
 

@@ -8,8 +8,8 @@ ghost use Rattle.tabled_printing.specs.Picture.{edge_size, look, mark_at};
 ghost use Rattle.tabled_printing.specs.Beside as kept;
 ghost use Rattle.tabled_printing.specs.Viewed.{with_colors_if};
 
-use crate::SpannedConfig;
 use tabled_border::ANSIBuf;
+use tabled_configuration::SpannedConfig;
 use tabled_grid::Place;
 use tabled_kept::Probes;
 

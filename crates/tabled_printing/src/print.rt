@@ -9,11 +9,12 @@ ghost use Rattle.tabled_printing.specs.Picture.{character, look, text_shown, sid
 ghost use Rattle.tabled_printing.specs.Refusal as refusal;
 ghost use Rattle.tabled_printing.specs.Viewed.{frame_look};
 
+use crate::PrintError;
 use crate::frame::Frame;
 use crate::refusals::first_refusal;
-use crate::{PrintError, SpannedConfig};
 use std::alloc::{AllocError, Global};
 use tabled_border::OutOfMemory;
+use tabled_configuration::SpannedConfig;
 use tabled_kept::Probes;
 use tabled_object::Dimension;
 

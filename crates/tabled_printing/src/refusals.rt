@@ -6,7 +6,8 @@ ghost use Rattle.tabled_printing.specs.Texts.{texts, pieces, width_of_text};
 ghost use Rattle.tabled_printing.specs.Refusal as refusal;
 ghost use Rattle.tabled_printing.specs.Refusal.{fits_height, fits_width, cell_faults, row_faults, table_faults};
 
-use crate::{PrintError, SpannedConfig};
+use crate::PrintError;
+use tabled_configuration::SpannedConfig;
 use tabled_object::Dimension;
 use unicode_width::UnicodeWidthStr;
 

@@ -12,8 +12,9 @@ ghost use Rattle.tabled_printing.specs.Picture.{edge_size, printed};
 ghost use Rattle.tabled_printing.specs.Refusal.{has_no_spans, table_faults};
 ghost use Rattle.tabled_printing.specs.Texts.{texts};
 
-use crate::{ColoredConfig, PrintError, SpannedConfig, print_plain};
+use crate::{PrintError, print_plain};
 use tabled_border::ANSIBuf;
+use tabled_configuration::{ColoredConfig, SpannedConfig};
 use tabled_grid::{LineOf, Place};
 use tabled_kept::{Meter, Probes};
 use tabled_object::Dimension;

@@ -7,9 +7,10 @@ ghost use Rattle.tabled_printing.specs.Alike.{NoneForPlaces, NoneForLines};
 ghost use Rattle.tabled_printing.specs.Marks.{mark_of};
 ghost use Rattle.tabled_printing.specs.Beside.{plain_side};
 
+use crate::Mark;
 use crate::mark::plain_mark;
-use crate::{Mark, SpannedConfig};
 use tabled_border::OutOfMemory;
+use tabled_configuration::SpannedConfig;
 use tabled_grid::{LineOf, Place};
 use tabled_kept::Probes;
 
