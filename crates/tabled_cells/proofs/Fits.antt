@@ -4,13 +4,13 @@ use Rattle.std.specs.Prelude.{chars}
 use Rattle.std.specs.Str.{IsUtf8}
 use Rattle.std.specs.Int.{is_in_range}
 use Rattle.std.specs.List.{join_with_byte, list_all, position_or_len, All}
-use Rattle.std.proofs.lemmas.Bool.{ltb-true, ltb-false, and_from, and_parts, eqb-true}
+use Rattle.std.proofs.lemmas.Bool.{ltb-true, ltb-false, and_parts, eqb-true}
 use Rattle.std.proofs.lemmas.Bool.Decides.{nat_tests}
-use Rattle.std.proofs.lemmas.List.{get_or-take, get_or_default, get_or-reverse, take_all, drop_all, take_at, length-replicate, length-reverse, length-map, reverse-append, reverse-reverse, append-nil, get_or_at}
-use Rattle.std.proofs.lemmas.List.Elements.{All-nil, All-head, All-tail, All-cons, All-append, All-replicate, All-map, All-take}
+use Rattle.std.proofs.lemmas.List.{get_or-take, get_or_default, get_or-reverse, take_all, drop_all, take_at, length-replicate, length-reverse, reverse-append, reverse-reverse, append-nil, get_or_at}
+use Rattle.std.proofs.lemmas.List.Elements.{All-nil, All-head, All-tail, All-cons, All-append, All-replicate, All-map}
 use Rattle.std.proofs.lemmas.List.Splits.{slice_split_none, slice_split_at}
 use Rattle.std.proofs.lemmas.List.Sums.{fails_before_first, prefix_len_stops}
-use Rattle.std.proofs.lemmas.Str.{chars-nil, chars-append, chars-IsAscii, IsUtf8-nil, IsUtf8-append, IsUtf8-take, IsUtf8-drop, IsUtf8-from_ascii, IsCharBoundary-before_ascii, IsCharBoundary-after_ascii, inside_one}
+use Rattle.std.proofs.lemmas.Str.{chars-append, chars-IsAscii, IsUtf8-nil, IsUtf8-append, IsUtf8-take, IsUtf8-drop, IsUtf8-from_ascii, IsCharBoundary-before_ascii, IsCharBoundary-after_ascii, inside_one}
 use Rattle.unicode_width.specs.Width.{str_width, step, past_emoji, read_before, plain, Reading, is_emoji_variation_base}
 use Rattle.unicode_width.proofs.Rules.{str_width-append_simple, str_width-printable, is_simple}
 use Rattle.unicode_width.proofs.Computing.{unicode_width}

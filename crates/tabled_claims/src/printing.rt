@@ -1,6 +1,6 @@
 //! The plain printer.
 
-ghost use Rattle.std.specs.Prelude.{◌≡◌, ◌+◌, ◌*◌, ◌<◌, ◌≤◌, ℕ, true, false, if◌then◌else◌, List, [], ◌∷◌, ◌++◌, length, map, Some, None, option_map, slice_get, IfOk, OnOk, OnErr, IsOkUnless, MatchOption, MatchResult, string_bytes};
+ghost use Rattle.std.specs.Prelude.{◌≡◌, ◌+◌, ◌*◌, ◌<◌, ◌≤◌, ℕ, false, if◌then◌else◌, List, [], ◌∷◌, ◌++◌, length, map, Some, None, option_map, slice_get, IfOk, OnOk, OnErr, IsOkUnless, MatchOption, MatchResult, string_bytes};
 ghost use Rattle.std.specs.List.{flat_map, join_with_byte};
 ghost use Rattle.tabled_grid.specs.declared.place.LineOf.{LineOf as Line};
 ghost use Rattle.tabled_grid.specs.declared.place.Place.{Place as Spot};

@@ -78,7 +78,7 @@ impl Model for TextTable {
 }
 
 impl TextTable {
-    ghost use Rattle.std.specs.Prelude.{◌≡◌, ℕ, List, [], ◌++◌, ◌⊎◌, true, None, Err, map, length, take, string_bytes, slice_get, IfOk, IfErr, OnOk, OnErr, MatchOption, IsOkUnless};
+    ghost use Rattle.std.specs.Prelude.{◌≡◌, ℕ, List, [], ◌++◌, ◌⊎◌, None, Err, map, length, take, string_bytes, slice_get, IfOk, IfErr, OnOk, OnErr, MatchOption, IsOkUnless};
     ghost use Rattle.std.specs.Borrow.{Lends, sem};
     ghost use Rattle.tabled_configuration.specs.Colored.{Shows, Changes};
     ghost use Rattle.tabled_configuration.specs.Configuration.{ConfigEvent};
