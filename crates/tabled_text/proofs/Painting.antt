@@ -1,5 +1,5 @@
 -- The text of a table, plain and in color, by what its configuration keeps.
-use Rattle.std.proofs.Common.{◌≡◌, ◌<◌, ℕ, true, Option, List, [], length, get_or, refl, sym, ap, ◌∙◌, arith}
+use Rattle.std.proofs.Common.{◌≡◌, ◌<◌, ℕ, true, Option, List, [], length, get_or, sym, ap, ◌∙◌, arith}
 use Rattle.std.specs.Prelude.{slice_index, slice_index_or}
 use Rattle.std.specs.List.{All, join_with_byte}
 use Rattle.std.proofs.lemmas.List.{get_or_default}

@@ -1,5 +1,5 @@
 -- A table of texts with its configuration, and the text that it prints.
-use Rattle.std.specs.Prelude.{ℕ, None, List, length, map, slice_index}
+use Rattle.std.specs.Prelude.{ℕ, List, length, map, slice_index}
 use Rattle.std.specs.Coded.{Coded, codes}
 use Rattle.std.specs.FinMap as finmap
 use Rattle.tabled_object.specs.declared.dimension.FixedDimension.{FixedDimension}
