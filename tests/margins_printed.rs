@@ -160,6 +160,21 @@ fn a_margin_may_be_of_characters_of_several_bytes(rt: HostRuntime) -> Result<(),
 }
 
 #[test]
+fn a_character_that_is_not_surely_one_column_wide_leaves_a_margin_blank(
+    rt: HostRuntime,
+) -> Result<(), Fail> {
+    let left = |fill| Sides::new(Indent::new(2, fill), Indent::default(), Indent::default(), Indent::default());
+    let blank = "\n  +---+\n  | a |\n  +---+\n";
+    // a wide one, an accent, an emoji, a letter that is joined to one before it
+    for fill in ['漢', '\u{301}', '🍏', '\u{627}', '\t', '\n'] {
+        assert!(rt; is_around(rt.alloc(), left(fill), blank)?);
+    }
+    let dots = "\n••+---+\n••| a |\n••+---+\n";
+    assert!(rt; is_around(rt.alloc(), left('•'), dots)?);
+    Ok(())
+}
+
+#[test]
 fn a_margin_is_as_long_as_lines_without_borders(rt: HostRuntime) -> Result<(), Fail> {
     let mut table = TextTable::new(rt.alloc(), &[&["a", "bb"], &["c\nd", "e"]])?;
     table

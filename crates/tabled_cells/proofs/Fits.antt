@@ -1,57 +1,23 @@
 -- Each line of a cell is as wide as its column, and has no line feed.
-use Rattle.std.proofs.Common.{◌≡◌, ◌==◌, ◌&&◌, ℕ, ◌+◌, ◌-◌, ◌<◌, ◌≤◌, zero, suc, max, fold, Bool, true, false, if◌then◌else◌, cond, not, ltb, eqb, List, [], ◌∷◌, ◌++◌, map, length, get_or, take, replicate, reverse, refl, sym, ap, subst, ◌∙◌, arith, lit<, eq-eqb, encode_utf8, length-append}
+use Rattle.std.proofs.Common.{◌≡◌, ◌==◌, ◌&&◌, ℕ, ◌+◌, ◌-◌, ◌<◌, ◌≤◌, zero, suc, max, fold, Bool, true, false, if◌then◌else◌, not, ltb, List, [], ◌∷◌, ◌++◌, map, length, get_or, take, replicate, reverse, refl, sym, ap, subst, ◌∙◌, arith, lit<, encode_utf8, length-append}
 use Rattle.std.specs.Prelude.{chars}
 use Rattle.std.specs.Str.{IsUtf8}
-use Rattle.std.specs.Int.{is_in_range}
-use Rattle.std.specs.List.{join_with_byte, list_all, position_or_len, All}
-use Rattle.std.proofs.lemmas.Bool.{ltb-true, ltb-false, and_parts, eqb-true}
-use Rattle.std.proofs.lemmas.Bool.Decides.{nat_tests}
-use Rattle.std.proofs.lemmas.List.{get_or-take, get_or_default, get_or-reverse, take_all, drop_all, take_at, length-replicate, length-reverse, reverse-append, reverse-reverse, append-nil, get_or_at}
+use Rattle.std.specs.List.{All}
+use Rattle.std.proofs.lemmas.Bool.{ltb-true, and_parts, eqb-true}
+use Rattle.std.proofs.lemmas.List.{get_or_default, get_or-reverse, take_at, length-replicate, length-reverse, reverse-append, reverse-reverse, get_or_at}
 use Rattle.std.proofs.lemmas.List.Elements.{All-nil, All-head, All-tail, All-cons, All-append, All-replicate, All-map}
-use Rattle.std.proofs.lemmas.List.Splits.{slice_split_none, slice_split_at}
-use Rattle.std.proofs.lemmas.List.Sums.{fails_before_first, prefix_len_stops}
-use Rattle.std.proofs.lemmas.Str.{chars-append, chars-IsAscii, IsUtf8-nil, IsUtf8-append, IsUtf8-take, IsUtf8-drop, IsUtf8-from_ascii, IsCharBoundary-before_ascii, IsCharBoundary-after_ascii, inside_one}
-use Rattle.unicode_width.specs.Width.{str_width, step, past_emoji, read_before, plain, Reading, is_emoji_variation_base}
-use Rattle.unicode_width.proofs.Rules.{str_width-append_simple, str_width-printable, is_simple}
-use Rattle.unicode_width.proofs.Computing.{unicode_width}
+use Rattle.std.proofs.lemmas.Str.{chars-append, chars-IsAscii, IsUtf8-append, IsUtf8-take, IsUtf8-drop, IsUtf8-from_ascii, IsCharBoundary-before_ascii, IsCharBoundary-after_ascii}
+use Rattle.unicode_width.specs.Width.{str_width}
+use Rattle.unicode_width.proofs.Rules.{str_width-append_simple, str_width-printable}
 use Rattle.tabled_settings.specs.declared.alignment.AlignmentHorizontal.{AlignmentHorizontal}
 use Rattle.tabled_settings.specs.declared.alignment.AlignmentHorizontal.TheVariants.{Left, Center, Right}
 use Rattle.tabled_printing.specs.Texts.{pieces, width_of_text}
-use Rattle.tabled_printing.specs.Pieces.{first_piece, after_first_piece}
-use Rattle.tabled_printing.proofs.PieceLemmas.{first_of_pieces, rest_of_pieces}
+use Rattle.tabled_printing.proofs.PieceTexts.{IsUtf8-piece, piece_lacks}
+use Rattle.tabled_printing.proofs.Tiles.{IsOther, Lacks, Tile, Tile-space, Tile-times, Splits-append, Splits-encoded, Splits-utf8, Splits-space, char_lacks, spaces_simple, spaces_printable, space_first, from_space}
 use Rattle.tabled_cells.specs.declared.placement.Placement.{Placement}
 use Rattle.tabled_cells.specs.Trimmed.{without_first, without_ends, is_space, is_blank, line_shown, lines_shown}
 use Rattle.tabled_cells.specs.Placed.{line_parts, free_before, free_above, times, filled, fill_of, greatest, aligned_width}
 use Rattle.tabled_printing.proofs.TimesLemmas.{IsAscii-spaces, times_spaces}
-
--- ---- what stands before and after a line feed is a text too
-
-line_feed_at : (text : List ℕ) → position_or_len (λ byte. byte == 10) text < length text → get_or text (position_or_len (λ byte. byte == 10) text) 0 ≡ 10
-line_feed_at text inside = let stops = prefix_len_stops (λ byte. not (byte == 10)) text 0 inside in grind (arith, nat_tests)
-
-rest_by : (text : List ℕ) (inside : Bool) → ltb (position_or_len (λ byte. byte == 10) text) (length text) ≡ inside → IsUtf8 text → IsUtf8 (after_first_piece text)
-rest_by text true e u =
-    let at = ltb-true _ _ e in
-    IsUtf8-drop text _ u (IsCharBoundary-after_ascii text _ u at (let here = line_feed_at text at in omega arith))
-rest_by text false e u =
-    let past = ltb-false _ _ e in
-    subst IsUtf8 (sym (drop_all (position_or_len (λ byte. byte == 10) text + 1) text (omega arith))) IsUtf8-nil
-
-pub IsUtf8-rest : (text : List ℕ) → IsUtf8 text → IsUtf8 (after_first_piece text)
-IsUtf8-rest text u = rest_by text _ refl u
-
-first_by : (text : List ℕ) (inside : Bool) → ltb (position_or_len (λ byte. byte == 10) text) (length text) ≡ inside → IsUtf8 text → IsUtf8 (first_piece text)
-first_by text true e u =
-    let at = ltb-true _ _ e in
-    IsUtf8-take text _ u (IsCharBoundary-before_ascii text _ at (let here = line_feed_at text at in omega arith))
-first_by text false e u =
-    let past = ltb-false _ _ e in
-    subst IsUtf8 (sym (take_all (position_or_len (λ byte. byte == 10) text) text past)) u
-
-pub IsUtf8-piece : (k : ℕ) (text : List ℕ) → IsUtf8 text → IsUtf8 (get_or (pieces text) k [])
-IsUtf8-piece zero text u = subst IsUtf8 (sym (first_of_pieces text)) (first_by text _ refl u)
-IsUtf8-piece (suc k) text u =
-    subst IsUtf8 (rest_of_pieces text k ∙ ap (λ n. get_or (pieces text) n []) (omega arith)) (IsUtf8-piece k (after_first_piece text) (IsUtf8-rest text u))
 
 -- ---- a line of a cell, as text
 
@@ -68,65 +34,6 @@ placed_at how width height lines n =
     let line = get_or lines (n - above) [] in
     if ltb n above then empty_line width else if ltb (n - above) (length lines) then placed_line how width (aligned_width how lines line) line else empty_line width
 
--- ---- how wide spaces are
-
-spaces_simple : (n : ℕ) → list_all is_simple (replicate n 32) ≡ true
-spaces_simple zero = refl
-spaces_simple (suc n) = spaces_simple n
-
-spaces_printable : (n : ℕ) → list_all (is_in_range 0x20 0x7E) (replicate n 32) ≡ true
-spaces_printable zero = refl
-spaces_printable (suc n) = spaces_printable n
-
-not_a_base : is_emoji_variation_base 32 ≡ false
-unfolding unicode_width
-not_a_base = refl
-
-after_space : (emoji : Bool) (n : ℕ) (other : Reading) → (cond (not emoji) (n + 1, plain) (if is_emoji_variation_base 32 then other else (n + 1, plain))).0 ≡ n + 1
-after_space false n other = refl
-after_space true n other = ap (λ b. (if b then other else (n + 1, plain)).0) not_a_base
-
--- a space takes one column, whatever follows it
-space_first : (cs : List ℕ) → str_width false (32 ∷ cs) ≡ str_width false cs + 1
-unfolding str_width step past_emoji
-space_first cs = after_space (read_before false cs (0, plain)).1.emoji (read_before false cs (0, plain)).0 _
-
--- ---- lines without line feeds, joined, are cut into exactly these
-
-abbrev pub IsOther : ℕ → Type 0
-IsOther byte = eqb byte 10 ≡ false
-
--- a text without line feeds
-abbrev pub Lacks : List ℕ → Type 0
-Lacks line = All IsOther line
-
-cut_joined : (line : List ℕ) (lines : List (List ℕ)) → All Lacks (line ∷ lines) → pieces (join_with_byte 10 (line ∷ lines)) ≡ line ∷ lines
-cut_joined line [] lack = slice_split_none (λ b. eqb b 10) line (All-head Lacks line [] lack)
-cut_joined line (next ∷ lines) lack =
-    slice_split_at (λ b. eqb b 10) line 10 (join_with_byte 10 (next ∷ lines)) (All-head Lacks line (next ∷ lines) lack) refl
-    ∙ ap (λ rest. line ∷ rest) (cut_joined next lines (All-tail Lacks line (next ∷ lines) lack))
-
-pub cut_lines : (lines : List (List ℕ)) → 0 < length lines → All Lacks lines → pieces (join_with_byte 10 lines) ≡ lines
-cut_lines [] some lack = absurd (omega arith)
-cut_lines (line ∷ lines) some lack = cut_joined line lines lack
-
-take_short : (n : ℕ) (text : List ℕ) → length (take n text) ≤ n
-take_short zero text = omega arith
-take_short (suc n) [] = omega arith
-take_short (suc n) (b ∷ bs) = omega (arith, take_short n bs)
-
--- a piece of a text has no line feed
-first_lacks : (text : List ℕ) → Lacks (first_piece text)
-first_lacks text k d within =
-    let place : ℕ = position_or_len (λ byte. byte == 10) text in
-    let short : length (first_piece text) ≤ place = take_short place text in
-    let inside : k < place = omega arith in
-    ap (λ b. eqb b 10) (get_or-take place text k d inside) ∙ fails_before_first (λ byte. byte == 10) text k d inside
-
-piece_lacks : (k : ℕ) (text : List ℕ) → Lacks (get_or (pieces text) k [])
-piece_lacks zero text = subst Lacks (sym (first_of_pieces text)) (first_lacks text)
-piece_lacks (suc k) text = subst Lacks (rest_of_pieces text k ∙ ap (λ n. get_or (pieces text) n []) (omega arith)) (piece_lacks k (after_first_piece text))
-
 fold-max-start : (a : ℕ) (ns : List ℕ) → a ≤ fold max a ns
 fold-max-start a [] = omega arith
 fold-max-start a (n ∷ ns) = omega (arith, fold-max-start (max a n) ns)
@@ -142,10 +49,17 @@ greatest_bound f a (x ∷ xs) (suc k) d within = greatest_bound f (max a (f x)) 
 IsUtf8-spaces : (n : ℕ) → IsUtf8 (replicate n 32)
 IsUtf8-spaces n = IsUtf8-from_ascii (replicate n 32) (IsAscii-spaces n)
 
+space_read : (text : List ℕ) → chars (32 ∷ text) ≡ 32 ∷ chars text
+space_read text = chars-append (32 ∷ []) text (IsUtf8-spaces 1) ∙ ap (λ cs. cs ++ chars text) (chars-IsAscii (32 ∷ []) (IsAscii-spaces 1))
+
 one_space : (text : List ℕ) → width_of_text (32 ∷ text) ≡ width_of_text text + 1
-one_space text =
-    ap (str_width false) (chars-append (32 ∷ []) text (IsUtf8-spaces 1) ∙ ap (λ cs. cs ++ chars text) (chars-IsAscii (32 ∷ []) (IsAscii-spaces 1)))
-    ∙ space_first (chars text)
+one_space text = ap (str_width false) (space_read text) ∙ space_first (chars text)
+
+-- what stands before a space does not join it
+pub widths_add : (front text : List ℕ) → IsUtf8 front → width_of_text (front ++ 32 ∷ text) ≡ width_of_text front + width_of_text (32 ∷ text)
+widths_add front text u =
+    ap (str_width false) (chars-append front (32 ∷ text) u ∙ ap (λ cs. chars front ++ cs) (space_read text)) ∙ from_space (chars front) (chars text)
+    ∙ ap (λ cs. width_of_text front + str_width false cs) (sym (space_read text))
 
 spaces_before : (n : ℕ) (text : List ℕ) → width_of_text (replicate n 32 ++ text) ≡ n + width_of_text text
 spaces_before zero text = omega arith
@@ -198,17 +112,6 @@ wide_line how width aligned line u narrow room =
 
 -- ---- no line has a line feed
 
-char_lacks : (character : ℕ) → (character == 10) ≡ false → Lacks (encode_utf8 character)
-char_lacks character other k d within = byte_by _ refl
-  where
-    byte_by : (feed : Bool) → eqb (get_or (encode_utf8 character) k d) 10 ≡ feed → eqb (get_or (encode_utf8 character) k d) 10 ≡ false
-    byte_by false e = e
-    byte_by true e =
-        let same : get_or (encode_utf8 character) k d ≡ get_or (encode_utf8 character) k 0 = get_or_default (encode_utf8 character) k d 0 within in
-        let ten : get_or (encode_utf8 character) k d ≡ 10 = eqb-true _ 10 e in
-        let itself : character ≡ get_or (encode_utf8 character) k 0 = inside_one character [] (encode_utf8 character) k (sym (append-nil (encode_utf8 character))) within (omega arith) in
-        absurd (let no = sym (eq-eqb character 10 (itself ∙ sym same ∙ ten)) ∙ other in cc)
-
 times_lack : (count character : ℕ) → (character == 10) ≡ false → Lacks (times count character)
 times_lack zero character other = All-nil IsOther
 times_lack (suc count) character other = All-append IsOther (encode_utf8 character) (times count character) (char_lacks character other) (times_lack count character other)
@@ -237,6 +140,22 @@ placed_lacks how width aligned line lack =
     let before : ℕ = free_before how.alignment_horizontal (width - 2 - aligned) in
     let after : ℕ = width - 2 - before - width_of_text line in
     filled_lacks (fill_of how.justification width before after line) before after line (fill_other how.justification width before after line _ refl) lack
+
+-- a line that is filled begins with a space, so it joins nothing before it
+line_tile : (how : Placement) (width aligned : ℕ) (line : List ℕ) → IsUtf8 line → width_of_text (placed_line how width aligned line) ≡ width → Lacks (placed_line how width aligned line)
+    → Tile width (placed_line how width aligned line)
+unfolding placed_line line_parts
+line_tile how width aligned line u wide lacks =
+    let before : ℕ = free_before how.alignment_horizontal (width - 2 - aligned) in
+    let after : ℕ = width - 2 - before - width_of_text line in
+    let fill : ℕ = fill_of how.justification width before after line in
+    Tile-space width (times before fill ++ line ++ times after fill ++ 32 ∷ [])
+    (Splits-append (times before fill ++ line ++ times after fill) (32 ∷ [])
+    (Splits-append (times before fill ++ line) (times after fill)
+    (Splits-append (times before fill) line (Splits-encoded (replicate before fill)) (Splits-utf8 line u))
+    (Splits-encoded (replicate after fill)))
+    Splits-space)
+    wide (All-tail IsOther 32 _ lacks)
 
 -- ---- what is trimmed of lines
 
@@ -386,18 +305,30 @@ module _ (how : Placement) (width height : ℕ) (text : List ℕ) (n : ℕ) wher
       by_case false true is = placed_lacks how width (aligned_width how shown line) line (shown_lacks how text (n - above) [] (ltb-true (n - above) (length shown) is))
       by_case false false is = empty_lacks
 
-  -- and is as wide as its column, where that leaves room for the text
-  pub placed_at_wide : IsUtf8 text → greatest (map width_of_text (pieces text)) + 2 ≤ width → width_of_text (placed_at how width height (lines_shown how text) n) ≡ width
-  placed_at_wide u room = by_case (ltb n above) (ltb (n - above) (length shown)) refl
+  text_wide : IsUtf8 text → greatest (map width_of_text (pieces text)) + 2 ≤ width → n - above < length shown → width_of_text (placed_line how width (aligned_width how shown line) line) ≡ width
+  text_wide u room within =
+      let most : ℕ = greatest (map width_of_text (pieces text)) in
+      let good : Good most line = shown_good how text u (n - above) [] within in
+      let all : greatest (map width_of_text shown) ≤ most = widest_narrow most 0 shown (omega arith) (shown_good how text u) in
+      let own : width_of_text line ≤ greatest (map width_of_text shown) = greatest_bound width_of_text 0 shown (n - above) [] within in
+      wide_line how width (aligned_width how shown line) line good.utf8 (aligned_room how.line_alignment (width_of_text line) (greatest (map width_of_text shown)) own)
+      (let least = aligned_most how.line_alignment (width_of_text line) (greatest (map width_of_text shown)) most good.narrow all in omega (arith, least))
+
+  -- a line of a cell is a tile of its column: whatever stands before it, it is as wide as that
+  pub placed_at_tile : IsUtf8 text → greatest (map width_of_text (pieces text)) + 2 ≤ width → Tile width (placed_at how width height (lines_shown how text) n)
+  placed_at_tile u room = by_case (ltb n above) (ltb (n - above) (length shown)) refl
     where
-      by_case : (first second : Bool) → ltb (n - above) (length shown) ≡ second → width_of_text (by_place first second) ≡ width
-      by_case true second is = empty_wide width
+      empty_tile : Tile width (empty_line width)
+      empty_tile = subst (Tile width) (times_spaces width) (Tile-times width 32 refl)
+
+      by_case : (first second : Bool) → ltb (n - above) (length shown) ≡ second → Tile width (by_place first second)
+      by_case true second is = empty_tile
       by_case false true is =
           let within = ltb-true (n - above) (length shown) is in
-          let most : ℕ = greatest (map width_of_text (pieces text)) in
-          let good : Good most line = shown_good how text u (n - above) [] within in
-          let all : greatest (map width_of_text shown) ≤ most = widest_narrow most 0 shown (omega arith) (shown_good how text u) in
-          let own : width_of_text line ≤ greatest (map width_of_text shown) = greatest_bound width_of_text 0 shown (n - above) [] within in
-          wide_line how width (aligned_width how shown line) line good.utf8 (aligned_room how.line_alignment (width_of_text line) (greatest (map width_of_text shown)) own)
-          (let least = aligned_most how.line_alignment (width_of_text line) (greatest (map width_of_text shown)) most good.narrow all in omega (arith, least))
-      by_case false false is = empty_wide width
+          line_tile how width (aligned_width how shown line) line (shown_good how text u (n - above) [] within).utf8 (text_wide u room within)
+          (placed_lacks how width (aligned_width how shown line) line (shown_lacks how text (n - above) [] within))
+      by_case false false is = empty_tile
+
+  -- so it is as wide as its column, where that leaves room for the text
+  pub placed_at_wide : IsUtf8 text → greatest (map width_of_text (pieces text)) + 2 ≤ width → width_of_text (placed_at how width height (lines_shown how text) n) ≡ width
+  placed_at_wide u room = (placed_at_tile u room).wide

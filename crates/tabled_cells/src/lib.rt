@@ -11,4 +11,4 @@ mod width;
 pub use filling::{LineParts, aligned, line_parts, widest};
 pub use placement::{Placement, free_above};
 pub use trim::show_lines;
-pub use width::{is_printable, width_of};
+pub use width::{is_printable, width_of, widths_add_before_a_space};

@@ -1,7 +1,8 @@
 //! How wide a text is on a terminal.
 
-ghost use Rattle.std.specs.Prelude.{◌≡◌};
+ghost use Rattle.std.specs.Prelude.{◌≡◌, ◌+◌, ◌++◌, ◌∷◌, List, ℕ};
 ghost use Rattle.std.specs.List.{list_all};
+ghost use Rattle.std.specs.Str.{IsUtf8};
 ghost use Rattle.tabled_printing.specs.Texts.{width_of_text};
 ghost use Rattle.tabled_cells.specs.Printable.{is_printable};
 
@@ -29,3 +30,9 @@ pub fn width_of(line: &str) -> usize
         line.width()
     }
 }
+
+/// What stands before a text that begins with a space does not join it: the widths of both add up, whatever they are, joined emoji,
+/// flags and accents included.
+pub fn widths_add_before_a_space()
+    ensures { (front text : List ℕ) → IsUtf8 front → width_of_text (front ++ 32 ∷ text) ≡ width_of_text front + width_of_text (32 ∷ text) }
+{}

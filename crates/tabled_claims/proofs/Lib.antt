@@ -3,3 +3,7 @@ pub mod EachOnce
 pub mod InOrder
 pub mod Shown
 pub mod CellTexts
+pub mod NarrowWrites
+pub mod ReadyNarrow
+pub mod PagesEven
+pub mod NarrowTables

@@ -36,10 +36,14 @@ pub fn placement_of_a_cell(cfg: &SpannedConfig, position: Position) -> Placement
     Placement::of(cfg, position)
 }
 
-/// Whatever is set for it, each line of a cell is as wide as its column, where that leaves room for its text, and has no line feed.
+/// Whatever is set for it, each line of a cell is as wide as its column, where that leaves room for its text, also after any text that
+/// stands before it, and has no line feed.
 pub fn cells_always_fit()
     ensures wide { (how : How) (colors : Coloring) (width height : ℕ) (text : List ℕ) (line : ℕ) → IsUtf8 text → greatest (map width_of_text (pieces text)) + 2 ≤ width
         → width_of_text (plain (cell_line how colors width height (lines_shown how text) line)) ≡ width }
+    ensures after_any_text { (how : How) (colors : Coloring) (width height : ℕ) (text : List ℕ) (line : ℕ) (front : List ℕ) → IsUtf8 front → IsUtf8 text
+        → greatest (map width_of_text (pieces text)) + 2 ≤ width
+        → width_of_text (front ++ plain (cell_line how colors width height (lines_shown how text) line)) ≡ width_of_text front + width }
     ensures one_line { (how : How) (colors : Coloring) (width height : ℕ) (text : List ℕ) (line : ℕ)
         → All (λ byte. (byte == 10) ≡ false) (plain (cell_line how colors width height (lines_shown how text) line)) }
 {}

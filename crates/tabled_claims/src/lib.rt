@@ -9,6 +9,7 @@
 
 pub mod cells;
 pub mod colors;
+pub mod columns;
 pub mod formats;
 pub mod lists;
 pub mod objects;

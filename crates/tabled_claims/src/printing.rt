@@ -1,7 +1,8 @@
 //! The plain printer.
 
-ghost use Rattle.std.specs.Prelude.{◌≡◌, ◌+◌, ◌*◌, ◌<◌, ◌≤◌, ℕ, false, if◌then◌else◌, List, [], ◌∷◌, ◌++◌, length, map, Some, None, option_map, slice_get, IfOk, OnOk, OnErr, IsOkUnless, MatchOption, MatchResult, string_bytes};
-ghost use Rattle.std.specs.List.{flat_map, join_with_byte};
+ghost use Rattle.std.specs.Prelude.{◌≡◌, ◌==◌, ◌+◌, ◌*◌, ◌<◌, ◌≤◌, ℕ, true, false, if◌then◌else◌, List, [], ◌∷◌, ◌++◌, length, map, Some, None, option_map, slice_get, slice_index_or, IfOk, OnOk, OnErr, IsOkUnless, MatchOption, MatchResult, string_bytes};
+ghost use Rattle.std.specs.List.{flat_map, join_with_byte, list_all};
+ghost use Rattle.std.specs.Str.{IsUtf8};
 ghost use Rattle.tabled_grid.specs.declared.place.LineOf.{LineOf as Line};
 ghost use Rattle.tabled_grid.specs.declared.place.Place.{Place as Spot};
 ghost use Rattle.tabled_grid.specs.declared.site.Direction.TheVariants.{Horizontal, Vertical};
@@ -9,13 +10,14 @@ ghost use Rattle.tabled_grid.specs.Probing.{IsRaised};
 ghost use Rattle.tabled_configuration.specs.Configuration.{ConfigEvent, Shows, all_writes};
 ghost use Rattle.tabled_printing.specs.Along.{along, is_empty};
 ghost use Rattle.tabled_printing.specs.Alike.{NoneForPlaces, NoneForLines};
+ghost use Rattle.tabled_printing.specs.Columns.{StandsStraight, WritesNarrow, stands_apart, table_width};
 ghost use Rattle.tabled_printing.specs.LinePieces.{lines_met};
 ghost use Rattle.tabled_printing.specs.Marks.{mark_of, marks_of, run_marks};
 ghost use Rattle.tabled_printing.specs.Picture.{Look, look, text_marked, text_shown, mark_at, marks_along, marks, line_if_drawn, text_lines, printed};
-ghost use Rattle.tabled_printing.specs.Refusal.{first_refusal};
+ghost use Rattle.tabled_printing.specs.Refusal.{first_refusal, table_faults};
 ghost use Rattle.tabled_printing.specs.Sides.{side_at};
 ghost use Rattle.tabled_printing.specs.TextOrder.{text_order, line_text, place_in};
-ghost use Rattle.tabled_printing.specs.Texts.{Table, texts};
+ghost use Rattle.tabled_printing.specs.Texts.{Table, pieces, texts, width_of_text};
 ghost use Rattle.tabled_printing.specs.Viewed.{frame_look, with_colors_if};
 
 use tabled_border::OutOfMemory;
@@ -190,4 +192,21 @@ pub fn marks_in_order()
     ensures texts { (view : Look) (cells : Table) → is_empty view.shape ≡ false → text_lines view cells ≡ map (line_text view cells) (text_order view) }
     ensures marks { (view : Look) (col : ℕ) → is_empty view.shape ≡ false → col ≤ view.shape.1
         → marks_along view (Line.Vertical col) ≡ map (λ at. mark_at view (place_in col at)) (text_order view) }
+{}
+
+/// Where only narrow characters were written, the cells fit, and each line of a cell joins nothing that stands before it, the lines that
+/// the plain printer joins are as wide as the table, and vertical lines stand straight; and where there are some, its text has no others.
+pub fn plain_text_is_a_rectangle()
+    ensures rectangle { (events : List ConfigEvent) (shape : ℕ × ℕ) (widths heights : ℕ → ℕ) (cells : Table) → is_empty shape ≡ false → WritesNarrow events
+        → table_faults widths heights shape cells ≡ [] → ((r c : ℕ) → IsUtf8 (slice_index_or (slice_index_or cells r []) c []))
+        → ((r c k : ℕ) → stands_apart (slice_index_or (pieces (slice_index_or (slice_index_or cells r []) c [])) k []) ≡ true)
+        → list_all (λ line. width_of_text line == table_width (look events shape widths heights)) (text_lines (look events shape widths heights) cells) ≡ true }
+    ensures straight { (events : List ConfigEvent) (shape : ℕ × ℕ) (widths heights : ℕ → ℕ) (cells : Table) → is_empty shape ≡ false → WritesNarrow events
+        → table_faults widths heights shape cells ≡ [] → ((r c : ℕ) → IsUtf8 (slice_index_or (slice_index_or cells r []) c []))
+        → ((r c k : ℕ) → stands_apart (slice_index_or (pieces (slice_index_or (slice_index_or cells r []) c [])) k []) ≡ true)
+        → (c : ℕ) → c ≤ shape.1 → (look events shape widths heights).vertical c ≡ true → StandsStraight (look events shape widths heights) c (text_lines (look events shape widths heights) cells) }
+    ensures lines { (events : List ConfigEvent) (shape : ℕ × ℕ) (widths heights : ℕ → ℕ) (cells : Table) → is_empty shape ≡ false → WritesNarrow events
+        → table_faults widths heights shape cells ≡ [] → ((r c : ℕ) → IsUtf8 (slice_index_or (slice_index_or cells r []) c []))
+        → ((r c k : ℕ) → stands_apart (slice_index_or (pieces (slice_index_or (slice_index_or cells r []) c [])) k []) ≡ true)
+        → 0 < length (text_lines (look events shape widths heights) cells) → pieces (printed events shape widths heights cells) ≡ text_lines (look events shape widths heights) cells }
 {}

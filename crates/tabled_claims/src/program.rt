@@ -1,14 +1,19 @@
 //! The program.
 
-ghost use Rattle.std.specs.Prelude.{◌≡◌, ◌≢◌, ◌↔◌, ◌≤◌, ◌+◌, ℕ, List, None, length, map, string_bytes, true, IsSome, IfSome, IfErr, OnOk, IsErrOf};
+ghost use Rattle.std.specs.Prelude.{◌≡◌, ◌≢◌, ◌==◌, ◌↔◌, ◌≤◌, ◌+◌, ℕ, List, None, length, map, string_bytes, true, IsSome, IfSome, IfErr, OnOk, IsErrOf};
 ghost use Rattle.std.specs.Io.KnownBytes.{Appends, Consumes, IsAtEnd, Keeps};
 ghost use Rattle.std.specs.List.{list_all};
 ghost use Rattle.tabled_object.specs.Entities.{below};
+ghost use Rattle.tabled_printing.specs.Texts.{width_of_text};
+ghost use Rattle.tabled_painting.specs.Widths.{text_width};
+ghost use Rattle.tabled_style.specs.declared.ready_style.ReadyStyle.{ReadyStyle as Named};
+ghost use Rattle.tabled_text.specs.Cells.{margin_set};
+ghost use Rattle.tabled_text.specs.TextTable.{look_of};
 ghost use Rattle.tabled_text.specs.Sizes.{cell, column_count, column_widths, greatest, row_heights};
-ghost use Rattle.tabled_pages.specs.Input.{fault_of, is_allowed, rows_of};
+ghost use Rattle.tabled_pages.specs.Input.{fault_of, is_allowed, lines_of, rows_of};
 ghost use Rattle.tabled_pages.specs.Page.{page};
 ghost use Rattle.tabled_pages.specs.Refusal.{answer_of, exit_status};
-ghost use Rattle.tabled_pages.specs.Style.{style_of};
+ghost use Rattle.tabled_pages.specs.Style.{style_of, styled};
 ghost use Rattle.tabled_pages.specs.declared.error.ShowError.{ShowError as Fault};
 
 use std::alloc::Global;
@@ -44,4 +49,11 @@ pub fn one_line_a_row()
     ensures heights { (input : List ℕ) → list_all is_allowed input ≡ true → row_heights (rows_of input) ≡ map (λ row. 1) (rows_of input) }
     ensures widths { (input : List ℕ) → list_all is_allowed input ≡ true
         → column_widths (rows_of input) ≡ map (λ col. greatest (map (λ row. length (cell row col) + 2) (rows_of input))) (below (column_count (rows_of input))) }
+{}
+
+/// Every page that the program writes is a rectangle: each of its lines, which end in line feeds, takes as many columns of the terminal as the
+/// others.
+pub fn page_is_a_rectangle()
+    ensures { (style : Named) (input : List ℕ) → fault_of input ≡ None → let rows = rows_of input in
+        list_all (λ line. width_of_text line == text_width (look_of (styled style) rows) (margin_set (styled style))) (lines_of (page style input)) ≡ true }
 {}

@@ -1,21 +1,25 @@
 //! Tables of texts.
 
-ghost use Rattle.std.specs.Prelude.{◌≡◌, ◌++◌, ◌⊎◌, ℕ, List, [], true, slice_index, map, length, take, string_bytes, slice_get, IfOk, IfErr, OnOk, OnErr, MatchOption, IsOkUnless};
+ghost use Rattle.std.specs.Prelude.{◌≡◌, ◌≤◌, ◌++◌, ◌⊎◌, ℕ, List, [], true, false, None, slice_index, slice_index_or, map, length, take, string_bytes, slice_get, IfOk, IfErr, OnOk, OnErr, MatchOption, IsOkUnless};
 ghost use Rattle.std.specs.Io.KnownBytes.{Appends};
+ghost use Rattle.std.specs.Str.{IsUtf8};
 ghost use Rattle.tabled_configuration.specs.Colored.{Shows, Changes};
 ghost use Rattle.tabled_configuration.specs.Configuration.{ConfigEvent};
 ghost use Rattle.tabled_configuration.specs.Configuration as borders;
 ghost use Rattle.tabled_configuration.specs.Options.{MakesInTurn};
+ghost use Rattle.tabled_printing.specs.Along.{is_empty};
+ghost use Rattle.tabled_printing.specs.Columns.{IsRectangle, WritesNarrow};
 ghost use Rattle.tabled_printing.specs.Refusal.{span_faults};
 ghost use Rattle.tabled_printing.specs.Picture.{printed};
-ghost use Rattle.tabled_printing.specs.Texts.{Table, texts};
+ghost use Rattle.tabled_printing.specs.Texts.{Table, pieces, texts};
 ghost use Rattle.tabled_painting.specs.Margin.{is_without_room};
 ghost use Rattle.tabled_painting.specs.PaintedTable.{plain_text, colored_text};
+ghost use Rattle.tabled_painting.specs.Widths.{StandsStraightIn, text_width};
 ghost use Rattle.tabled_text.specs.Cells.{cell_texts, margin_set};
 ghost use Rattle.tabled_printing.specs.declared.print_error.PrintError.{PrintError as Fault};
 ghost use Rattle.tabled_text.specs.Refusal.{of_printer, unequal};
-ghost use Rattle.tabled_text.specs.Sizes.{column_count, column_widths, row_heights, unequal_row};
-ghost use Rattle.tabled_text.specs.TextTable.{lent_rows, shape_of, text_of, painted};
+ghost use Rattle.tabled_text.specs.Sizes.{cell, column_count, column_widths, row_heights, unequal_row};
+ghost use Rattle.tabled_text.specs.TextTable.{lent_rows, look_of, shape_of, text_of, painted};
 ghost use Rattle.tabled_text.specs.declared.table_error.TableError.{TableError as Refusal};
 ghost use Rattle.std.specs.Fmt.{WritesOnOk};
 
@@ -142,6 +146,21 @@ pub fn text_written<W: fmt::Write>(table: &TextTable, out: &mut W) -> Result<(),
 {
     table.write_to(out)
 }
+
+/// Where only narrow characters were written, the text of a table of equal rows is a rectangle, whatever its cells say and however they
+/// stand, and with any margin: each of its lines takes as many columns of the terminal as the others.
+pub fn text_is_a_rectangle()
+    ensures { (events : List ConfigEvent) (table : Table) → unequal_row table ≡ None → ((r c : ℕ) → IsUtf8 (cell (slice_index_or table r []) c)) → WritesNarrow events
+        → IsRectangle (text_width (look_of events table) (margin_set events)) (text_of events table) }
+{}
+
+/// And each vertical line that is drawn stands straight: reading the text's lines in the column that follows the left side of the margin and
+/// the columns before the line gives, from top to bottom, what the places along it show.
+pub fn vertical_lines_stand_straight()
+    ensures { (events : List ConfigEvent) (table : Table) → unequal_row table ≡ None → ((r c : ℕ) → IsUtf8 (cell (slice_index_or table r []) c)) → WritesNarrow events
+        → is_empty (look_of events table).shape ≡ false → (c : ℕ) → c ≤ column_count table → (look_of events table).vertical c ≡ true
+        → StandsStraightIn (look_of events table) (margin_set events) c (pieces (text_of events table)) }
+{}
 
 /// Where the margin has no room, the text of a table is what the plain printer prints around its cells.
 pub fn text_without_margin()

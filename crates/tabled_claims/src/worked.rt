@@ -1,13 +1,14 @@
-//! The headline at work: what two options show where four cells meet.
+//! The promises at work: what two options show where four cells meet, and a table that is a rectangle.
 
-ghost use Rattle.std.specs.Prelude.{◌≡◌, ℕ, List, [], ◌∷◌, ◌++◌, Some, None, IfOk, OnOk};
+ghost use Rattle.std.specs.Prelude.{◌≡◌, ℕ, List, [], ◌∷◌, ◌++◌, Some, None, IfOk, OnOk, string_bytes};
 ghost use Rattle.tabled_border.specs.declared.border.Border.{Border as Around};
 ghost use Rattle.tabled_object.specs.declared.entity.Entity.TheVariants.{Cell};
 ghost use Rattle.tabled_grid.specs.declared.place.Place.TheVariants.{Cross};
 ghost use Rattle.tabled_grid.specs.Event.{replay};
 ghost use Rattle.tabled_grid.specs.Value.{value};
 ghost use Rattle.tabled_configuration.specs.Colored.{Colored, Changes};
-ghost use Rattle.tabled_configuration.specs.Configuration.{ConfigEvent, borders_replaced, characters_of};
+ghost use Rattle.tabled_configuration.specs.Configuration.{ConfigEvent, Shows, borders_replaced, characters_of};
+ghost use Rattle.tabled_printing.specs.Columns.{IsRectangle, WritesNarrow};
 ghost use Rattle.tabled_printing.specs.Headline.{HaveMade};
 ghost use Rattle.tabled_configuration.specs.Options.{MakesInTurn, entity_bordered};
 ghost use Rattle.tabled_style.specs.Ready.{ascii};
@@ -17,8 +18,11 @@ use std::alloc::Global;
 use tabled_border::{Border, OutOfMemory};
 use tabled_configuration::{CellOption, ColoredConfig, SpannedConfig, TableOption};
 use tabled_grid::{LineOf, Place};
-use tabled_object::{Entity, FixedDimension, Shape};
+use tabled_highlight::Highlight;
+use tabled_object::{Entity, FirstRow, FixedDimension, Shape};
+use tabled_options::LineText;
 use tabled_style::Style;
+use tabled_text::{TableError, TextTable};
 
 /// Two options on a table of two rows and two columns: the style `ascii`, and then a `#` at the upper left corner of the last
 /// cell. Where the four cells meet the table shows that `#`, and not the `+` of the style.
@@ -67,4 +71,50 @@ fn shown_in_the_middle(alloc: Global, cfg: &ColoredConfig) -> Option<char>
     let place = Place::Cross { row: 1, col: 1 };
     let line = LineOf::Horizontal(1);
     headline(cfg, &sizes, (2, 2), &[], place, line, &mut out).character
+}
+
+/// Rows of texts in a rounded frame, with a title on its first line and an outline around the first row: whatever the cells say, each line
+/// of the text takes as many columns of the terminal as the others.
+///
+/// ```text
+/// Prices###
+/// # a │ b #
+/// #########
+/// │ c │ d │
+/// ╰───┴───╯
+/// ```
+pub fn framed_with_a_title(alloc: Global, rows: Vec<Vec<String>>) -> Result<String, TableError>
+    ensures { IfOk result (λ text. (width : ℕ) × IsRectangle width (string_bytes text)) }
+{
+    let mut table = in_a_rounded_frame(alloc, rows)?;
+    outlined(&mut table)?;
+    entitled(alloc, &mut table)?;
+    let text = table.to_text()?;
+    Ok(text)
+}
+
+/// A table of these rows in a rounded frame.
+fn in_a_rounded_frame(alloc: Global, rows: Vec<Vec<String>>) -> Result<TextTable, TableError>
+    ensures { IfOk result (λ table. (events : List ConfigEvent) × Shows events table.config.spanned × WritesNarrow events) }
+{
+    let mut table = TextTable::from_rows(alloc, rows)?;
+    table.apply(Style::rounded())?;
+    Ok(table)
+}
+
+/// Outlines the first row of a table.
+fn outlined(table: &mut TextTable) -> Result<(), OutOfMemory>
+    requires { (events : List ConfigEvent) × Shows events table.old.config.spanned × WritesNarrow events }
+    ensures { OnOk result ((events : List ConfigEvent) × Shows events table.new.config.spanned × WritesNarrow events) }
+{
+    table.apply(Highlight::outline(FirstRow, '#'))
+}
+
+/// Writes a title on the first line of a table.
+fn entitled(alloc: Global, table: &mut TextTable) -> Result<(), OutOfMemory>
+    requires { (events : List ConfigEvent) × Shows events table.old.config.spanned × WritesNarrow events }
+    ensures { OnOk result ((events : List ConfigEvent) × Shows events table.new.config.spanned × WritesNarrow events) }
+{
+    let title = LineText::new(alloc, "Prices", FirstRow)?;
+    table.apply(title)
 }

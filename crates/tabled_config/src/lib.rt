@@ -10,6 +10,6 @@ pub use tabled_configuration::{
 };
 pub use tabled_printing::{
     Frame, Mark, PrintError, Run, Seen, Sides, Sink, character_seen, color_seen, crossing_line,
-    crossing_of, edge_of, has_line, headline, join_lines, line_marks, line_runs, line_seen,
-    piece_size, pieces_of, print_plain, push_spaces_before, push_times,
+    crossing_of, draws_plainly, edge_of, has_line, headline, join_lines, line_marks, line_runs,
+    line_seen, piece_size, pieces_of, print_plain, push_spaces_before, push_times,
 };

@@ -7,3 +7,5 @@ pub mod Plain
 pub mod StretchLemmas
 pub mod AlikeLemmas
 pub mod BareLemmas
+pub mod MarginWidths
+pub mod Even

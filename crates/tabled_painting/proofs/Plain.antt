@@ -9,7 +9,7 @@ use Rattle.tabled_grid.specs.declared.place.LineOf.{LineOf}
 use Rattle.tabled_layout.specs.declared.margin.Margin.{Margin}
 use Rattle.tabled_printing.specs.Along.{is_empty}
 use Rattle.tabled_printing.specs.Texts.{Table, pieces}
-use Rattle.tabled_printing.specs.Picture.{Look, Shown, character, text_shown, text_marked, mark_at, marks_along, side_shown, line_of_pieces, row_line, line_if_drawn, row_lines, text_lines}
+use Rattle.tabled_printing.specs.Picture.{Look, Shown, character, text_shown, text_marked, mark_at, marks_along, side_shown, line_of_pieces, line_if_drawn, text_lines}
 use Rattle.tabled_cells.specs.declared.placement.Placement.{Placement}
 use Rattle.tabled_cells.specs.Placed.{times, free_above, line_parts, aligned_width}
 use Rattle.tabled_cells.proofs.Fits.{empty_line, placed_line, placed_at}
@@ -22,16 +22,17 @@ use Rattle.tabled_painting.specs.PaintedTable.{Cells, painted_mark, painted_mark
 use Rattle.tabled_painting.proofs.PainterLemmas.{plain_paint, goes_on, stays}
 use Rattle.tabled_painting.proofs.MarginLemmas.{between_none}
 use Rattle.tabled_painting.proofs.FrameLemmas.{flat_map_same}
+use Rattle.tabled_printing.proofs.Straight.{lines_around}
 use Rattle.tabled_printing.proofs.ViewedLemmas.{kept_text, kept_count}
 use Rattle.tabled_painting.specs.Pages.{text_of_lines}
 use Rattle.tabled_painting.specs.PaintedTable.{painted_table}
 use Rattle.tabled_printing.specs.Viewed as looks
 use Rattle.std.specs.List.{join_with_byte}
 
-plain_both : (xs ys : Painted) → plain (xs ++ ys) ≡ plain xs ++ plain ys
+pub plain_both : (xs ys : Painted) → plain (xs ++ ys) ≡ plain xs ++ plain ys
 plain_both xs ys = map-append (λ painted. painted.0) xs ys
 
-plain_flat : {X : Type 0} (f : X → Painted) (xs : List X) → plain (flat_map f xs) ≡ flat_map (λ x. plain (f x)) xs
+pub plain_flat : {X : Type 0} (f : X → Painted) (xs : List X) → plain (flat_map f xs) ≡ flat_map (λ x. plain (f x)) xs
 plain_flat f [] = refl
 plain_flat f (x ∷ xs) = plain_both (f x) (flat_map f xs) ∙ ap (λ rest. plain (f x) ++ rest) (plain_flat f xs)
 
@@ -83,27 +84,36 @@ module _ (view : Look) where
   mapped_twice f g [] = refl
   mapped_twice f g (x ∷ xs) = ap (λ rest. f (g x) ∷ rest) (mapped_twice f g xs)
 
+  -- around what stands in the cells
+  plain_row : (cells : Cells) (r : ℕ) (piece : ℕ → ℕ → List ℕ) → ((c k : ℕ) → c < view.shape.1 → k < view.heights r → plain (cells r c k) ≡ piece c k)
+      → map plain (painted_row view cells r) ≡ map (λ k. line_of_pieces view r k (λ c. piece c k)) (below (view.heights r))
+  plain_row cells r piece shows =
+      mapped_twice plain (λ k. painted_between view r k (λ c. cells r c k)) (below (view.heights r))
+      ∙ map_same (λ k. plain (painted_between view r k (λ c. cells r c k))) (λ k. line_of_pieces view r k (λ c. piece c k)) (view.heights r)
+      (λ k within. plain_between r k (λ c. cells r c k) (λ c. piece c k) (λ c inside. shows c k inside within))
+
+  pub plain_around : (cells : Cells) (piece : ℕ → ℕ → ℕ → List ℕ) → ((r c k : ℕ) → r < view.shape.0 → c < view.shape.1 → k < view.heights r → plain (cells r c k) ≡ piece r c k)
+      → map plain (painted_lines view cells) ≡ lines_around view piece
+  unfolding painted_lines
+  plain_around cells piece shows =
+      let rows : ℕ → List Painted = λ r. painted_if_drawn view r ++ painted_row view cells r in
+      let texts : ℕ → List (List ℕ) = λ r. map (λ k. line_of_pieces view r k (λ c. piece r c k)) (below (view.heights r)) in
+      map-append plain (flat_map rows (below view.shape.0)) (painted_if_drawn view view.shape.0)
+      ∙ (λ i. map_flat plain rows (below view.shape.0) i ++ plain_if_drawn view.shape.0 i)
+      ∙ ap (λ lines. lines ++ line_if_drawn view view.shape.0)
+      (flat_map_same (λ r. map plain (rows r)) (λ r. line_if_drawn view r ++ texts r) view.shape.0
+      (λ r within. map-append plain (painted_if_drawn view r) (painted_row view cells r) ∙ (λ i. plain_if_drawn r i ++ plain_row cells r (piece r) (λ c k inside above. shows r c k within inside above) i)))
+
   -- what the cells of a row show is what their texts have at each line
   abbrev pub ShowsTexts : Cells → ℕ → List (List ℕ) → Type 0
   ShowsTexts cells r texts = (k c : ℕ) → k < view.heights r → c < view.shape.1 → plain (cells r c k) ≡ get_or (pieces (get_or texts c [])) k []
 
-  plain_row : (cells : Cells) (r : ℕ) (texts : List (List ℕ)) → ShowsTexts cells r texts → map plain (painted_row view cells r) ≡ row_lines view r texts
-  plain_row cells r texts shows =
-      mapped_twice plain (λ k. painted_between view r k (λ c. cells r c k)) (below (view.heights r))
-      ∙ map_same (λ k. plain (painted_between view r k (λ c. cells r c k))) (row_line view r texts) (view.heights r)
-      (λ k within. plain_between r k (λ c. cells r c k) (λ c. get_or (pieces (get_or texts c [])) k []) (λ c inside. shows k c within inside))
-
   pub plain_lines : (cells : Cells) (table : Table) → is_empty view.shape ≡ false → ((r : ℕ) → r < view.shape.0 → ShowsTexts cells r (get_or table r []))
       → map plain (painted_lines view cells) ≡ text_lines view table
-  unfolding painted_lines
   plain_lines cells table any shows =
-      let rows : ℕ → List Painted = λ r. painted_if_drawn view r ++ painted_row view cells r in
-      map-append plain (flat_map rows (below view.shape.0)) (painted_if_drawn view view.shape.0)
-      ∙ (λ i. map_flat plain rows (below view.shape.0) i ++ plain_if_drawn view.shape.0 i)
-      ∙ ap (λ lines. lines ++ line_if_drawn view view.shape.0)
-      (flat_map_same (λ r. map plain (rows r)) (λ r. line_if_drawn view r ++ row_lines view r (get_or table r [])) view.shape.0
-      (λ r within. map-append plain (painted_if_drawn view r) (painted_row view cells r) ∙ (λ i. plain_if_drawn r i ++ plain_row cells r (get_or table r []) (shows r within) i)))
-      ∙ ap (λ b. if b then [] else flat_map (λ r. line_if_drawn view r ++ row_lines view r (get_or table r [])) (below view.shape.0) ++ line_if_drawn view view.shape.0) (sym any)
+      let piece : ℕ → ℕ → ℕ → List ℕ = λ r c k. get_or (pieces (get_or (get_or table r []) c [])) k [] in
+      plain_around cells piece (λ r c k within inside above. shows r within k c above inside)
+      ∙ ap (λ b. if b then [] else lines_around view piece) (sym any)
 
 -- ---- a cell
 
@@ -140,7 +150,7 @@ plain_cell how colors width height lines n = by_place (nat_lt n above) (nat_lt (
 
 -- ---- a margin around lines
 
-plain_three : (xs ys zs : Painted) → plain (xs ++ ys ++ zs) ≡ plain xs ++ plain ys ++ plain zs
+pub plain_three : (xs ys zs : Painted) → plain (xs ++ ys ++ zs) ≡ plain xs ++ plain ys ++ plain zs
 plain_three xs ys zs = plain_both (xs ++ ys) zs ∙ ap (λ bs. bs ++ plain zs) (plain_both xs ys)
 
 between_same : (left right : Side) (high n : ℕ) (lines others : List Painted) → map plain lines ≡ map plain others → map plain (between_sides left right high n lines) ≡ map plain (between_sides left right high n others)

@@ -10,3 +10,4 @@ pub mod Viewed
 pub mod Rows
 pub mod Stretches
 pub mod BareCells
+pub mod Widths

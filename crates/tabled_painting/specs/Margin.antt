@@ -5,28 +5,34 @@ use Rattle.tabled_border.specs.Texts.{Texts}
 use Rattle.tabled_object.specs.Entities.{below}
 use Rattle.tabled_grid.specs.declared.offset.Offset.{Offset}
 use Rattle.tabled_layout.specs.declared.margin.Margin.{Margin}
+use Rattle.tabled_printing.specs.Columns.{draws_plainly}
 use Rattle.tabled_cells.specs.Placed.{times}
 use Rattle.tabled_painting.specs.declared.margin_side.MarginSide.{MarginSide}
 use Rattle.tabled_painting.specs.Painted.{Painted, paint}
 
--- one side of a margin: how wide it is and what fills it, what its offset leaves out, and its color
+-- one side of a margin: how wide it is and what is shown in it, what its offset leaves out, and its color
 pub record Side : Type 0 where
   pub size : ℕ
   pub fill : ℕ
   pub offset : Offset
   pub color : Option Texts
 
+-- what is shown of the character that fills a side: the character where it draws plainly, else a space. So each line stays as wide
+-- as the others
+abbrev pub fill_shown : ℕ → ℕ
+fill_shown character = if draws_plainly character then character else 32
+
 abbrev pub left_side : Margin → Side
-left_side margin = record { size = margin.size.left.size; fill = margin.size.left.fill; offset = margin.offset.left; color = margin.color.left }
+left_side margin = record { size = margin.size.left.size; fill = fill_shown margin.size.left.fill; offset = margin.offset.left; color = margin.color.left }
 
 abbrev pub right_side : Margin → Side
-right_side margin = record { size = margin.size.right.size; fill = margin.size.right.fill; offset = margin.offset.right; color = margin.color.right }
+right_side margin = record { size = margin.size.right.size; fill = fill_shown margin.size.right.fill; offset = margin.offset.right; color = margin.color.right }
 
 abbrev pub top_side : Margin → Side
-top_side margin = record { size = margin.size.top.size; fill = margin.size.top.fill; offset = margin.offset.top; color = margin.color.top }
+top_side margin = record { size = margin.size.top.size; fill = fill_shown margin.size.top.fill; offset = margin.offset.top; color = margin.color.top }
 
 abbrev pub bottom_side : Margin → Side
-bottom_side margin = record { size = margin.size.bottom.size; fill = margin.size.bottom.fill; offset = margin.offset.bottom; color = margin.color.bottom }
+bottom_side margin = record { size = margin.size.bottom.size; fill = fill_shown margin.size.bottom.fill; offset = margin.offset.bottom; color = margin.color.bottom }
 
 -- whether an offset leaves number n of an extent out: the first ones, or the last ones
 abbrev pub is_left_out : Offset → ℕ → ℕ → Bool

@@ -11,18 +11,30 @@ use std::alloc::AllocError;
 use tabled_border::ANSIBuf;
 use tabled_grid::Offset;
 use tabled_layout::Indent;
+use tabled_printing::draws_plainly;
 
 /// One side of a margin.
 #[derive(Clone, Copy, Debug)]
 pub(crate) struct MarginSide<'a> {
     /// How many columns or lines it is wide.
     pub(crate) size: usize,
-    /// The character that fills it.
+    /// The character that is shown in it.
     pub(crate) fill: char,
     /// Where it begins or ends: spaces stand in the places that this leaves out.
     pub(crate) offset: Offset,
     /// Its color, if it has one.
     pub(crate) color: Option<&'a ANSIBuf>,
+}
+
+/// What is shown of the character that fills a side: the character where it surely takes one column and joins nothing, else a space.
+fn fill_shown(character: char) -> char
+    ensures { result ≡ margin.fill_shown character }
+{
+    if draws_plainly(character) {
+        character
+    } else {
+        ' '
+    }
 }
 
 /// Whether an offset leaves number `n` of an extent out.
@@ -38,12 +50,12 @@ fn is_left_out(offset: Offset, extent: usize, n: usize) -> bool
 impl<'a> MarginSide<'a> {
     /// A side of that room, offset and color.
     pub(crate) fn new(indent: Indent, offset: Offset, color: &'a Option<ANSIBuf>) -> Self
-        ensures { side_of result ≡ record { size = indent.size; fill = indent.fill; offset = offset; color = color.now } }
+        ensures { side_of result ≡ record { size = indent.size; fill = margin.fill_shown indent.fill; offset = offset; color = color.now } }
     {
         let Indent { size, fill } = indent;
         MarginSide {
             size,
-            fill,
+            fill: fill_shown(fill),
             offset,
             color: color.as_ref(),
         }

@@ -58,15 +58,15 @@ none_first : {E : Type 0} (xs : List E) → slice_get xs 0 ≡ None → xs ≡ [
 none_first [] e = refl
 none_first (x ∷ xs) e = absurd cc
 
-none_front : {E : Type 0} (xs ys : List E) → xs ++ ys ≡ [] → xs ≡ []
+pub none_front : {E : Type 0} (xs ys : List E) → xs ++ ys ≡ [] → xs ≡ []
 none_front [] ys e = refl
 none_front (x ∷ xs) ys e = absurd cc
 
-none_rest : {E : Type 0} (xs ys : List E) → xs ++ ys ≡ [] → ys ≡ []
+pub none_rest : {E : Type 0} (xs ys : List E) → xs ++ ys ≡ [] → ys ≡ []
 none_rest [] ys e = e
 none_rest (x ∷ xs) ys e = absurd cc
 
-no_fault : (b : Bool) (fault : PrintError) → unless b fault ≡ [] → b ≡ true
+pub no_fault : (b : Bool) (fault : PrintError) → unless b fault ≡ [] → b ≡ true
 no_fault true fault e = refl
 no_fault false fault e = absurd cc
 

@@ -9,3 +9,9 @@ pub mod PieceLemmas
 pub mod TimesLemmas
 pub mod LookedLemmas
 pub mod ViewedLemmas
+pub mod Tiles
+pub mod Straight
+pub mod Ranges
+pub mod PieceTexts
+pub mod NarrowLemmas
+pub mod PlainEven

@@ -12,3 +12,5 @@ pub mod Viewed
 pub mod TextOrder
 pub mod Refusal
 pub mod Headline
+pub mod Columns
+pub mod NarrowParts

@@ -4,6 +4,7 @@
 #![tactic(auto)]
 
 mod alike;
+mod columns;
 mod frame;
 mod line_pieces;
 mod mark;
@@ -17,6 +18,10 @@ mod sides;
 mod sink;
 mod walk;
 
+pub use columns::{
+    box_drawing_is_narrow, draws_plainly, narrow_writes_make_narrow_borders,
+    plain_text_is_a_rectangle,
+};
 pub use frame::Frame;
 pub use line_pieces::{crossing_line, crossing_of, edge_of, has_line, piece_size, pieces_of};
 pub use mark::{Mark, Run};

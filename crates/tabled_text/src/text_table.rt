@@ -78,20 +78,24 @@ impl Model for TextTable {
 }
 
 impl TextTable {
-    ghost use Rattle.std.specs.Prelude.{◌≡◌, ℕ, List, [], ◌++◌, ◌⊎◌, None, Err, map, length, take, string_bytes, slice_get, IfOk, IfErr, OnOk, OnErr, MatchOption, IsOkUnless};
+    ghost use Rattle.std.specs.Prelude.{◌≡◌, ◌≤◌, ℕ, List, [], ◌++◌, ◌⊎◌, true, false, None, Err, map, length, take, string_bytes, slice_get, IfOk, IfErr, OnOk, OnErr, MatchOption, IsOkUnless};
     ghost use Rattle.std.specs.Borrow.{Lends, sem};
     ghost use Rattle.tabled_configuration.specs.Colored.{Shows, Changes};
     ghost use Rattle.tabled_configuration.specs.Configuration.{ConfigEvent};
     ghost use Rattle.tabled_configuration.specs.Configuration as borders;
     ghost use Rattle.tabled_configuration.specs.Options.{MakesInTurn};
+    ghost use Rattle.tabled_printing.specs.Along.{is_empty};
+    ghost use Rattle.tabled_printing.specs.Columns.{IsRectangle, WritesNarrow};
     ghost use Rattle.tabled_printing.specs.Pieces.{lent};
     ghost use Rattle.tabled_printing.specs.Refusal.{span_faults};
-    ghost use Rattle.tabled_printing.specs.Texts.{texts};
+    ghost use Rattle.tabled_printing.specs.Texts.{pieces, texts};
     ghost use Rattle.tabled_printing.specs.declared.print_error.PrintError.{PrintError as Fault};
     ghost use Rattle.tabled_text.specs.Refusal.{of_printer, unequal};
     ghost use Rattle.tabled_text.specs.Sizes.{column_count, column_widths, row_heights, unequal_row};
     ghost use Rattle.tabled_painting.specs.PaintedTable.{plain_text, colored_text};
-    ghost use Rattle.tabled_text.specs.TextTable.{lent_rows, shape_of, text_of, painted};
+    ghost use Rattle.tabled_painting.specs.Widths.{StandsStraightIn, text_width};
+    ghost use Rattle.tabled_text.specs.Cells.{margin_set};
+    ghost use Rattle.tabled_text.specs.TextTable.{lent_rows, look_of, shape_of, text_of, painted};
     ghost use Rattle.tabled_text.specs.contracts.text_table.TextTable.{the_row};
     ghost use Rattle.tabled_configuration.specs.contracts.colored_config.ColoredConfig.{the_row as config_row};
 
@@ -259,8 +263,16 @@ impl TextTable {
 
     /// The text of the table without colors: its cells as they are set for each, its borders, and its margin around them. Where a
     /// cell spans several columns or rows it is refused for that; else where memory is refused, and for nothing else.
+    ///
+    /// Where only narrow characters were written, the text is a rectangle: each of its lines takes as many columns of a terminal as the
+    /// others; and each vertical line stands in one column.
     pub fn to_text(&self) -> Result<String, PrintError>
         ensures text { (es : List ConfigEvent) → borders.Shows es self.now.config.spanned → IfOk result (λ text. string_bytes text ≡ text_of es self.now.texts) }
+        ensures rectangle { (es : List ConfigEvent) → borders.Shows es self.now.config.spanned → WritesNarrow es
+            → IfOk result (λ text. IsRectangle (text_width (look_of es self.now.texts) (margin_set es)) (string_bytes text)) }
+        ensures straight { (es : List ConfigEvent) → borders.Shows es self.now.config.spanned → WritesNarrow es → is_empty (look_of es self.now.texts).shape ≡ false
+            → (c : ℕ) → c ≤ column_count self.now.texts → (look_of es self.now.texts).vertical c ≡ true
+            → IfOk result (λ text. StandsStraightIn (look_of es self.now.texts) (margin_set es) c (pieces (string_bytes text))) }
         ensures refusal { MatchOption (slice_get (span_faults self.now.config.spanned) 0) (IsOkUnless result Fault.OutOfMemory) (λ e. result ≡ Err e) }
     {
         if self.config().config().has_spans() {

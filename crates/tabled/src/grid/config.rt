@@ -3,7 +3,7 @@
 pub use tabled_border::{Border, Keep, OutOfMemory};
 pub use tabled_config::{
     ColorMap, ColoredConfig, Colors, CompactConfig, CompactMultilineConfig, Configured, Formatting,
-    PrintError, SpannedConfig, print_plain,
+    PrintError, SpannedConfig, draws_plainly, print_plain,
 };
 pub use tabled_grid::{Borders, HorizontalLine, Layers, LineOf, Offset, Place, VerticalLine};
 pub use tabled_kept::Probes;

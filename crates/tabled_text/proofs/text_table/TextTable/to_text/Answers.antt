@@ -1,11 +1,16 @@
 -- The characters of the painted table.
-use Rattle.std.proofs.Common.{ap, sym, subst, ◌∙◌}
-use Rattle.tabled_printing.specs.Texts.{texts}
+use Rattle.std.proofs.Common.{◌≡◌, ◌≤◌, true, false, ap, sym, subst, ◌∙◌}
+use Rattle.tabled_printing.specs.Along.{is_empty}
+use Rattle.tabled_printing.specs.Columns.{IsRectangle}
+use Rattle.tabled_printing.specs.Texts.{texts, pieces}
 use Rattle.tabled_configuration.specs.Configuration as borders
 use Rattle.tabled_painting.specs.PaintedTable.{painted_by, plain_text}
+use Rattle.tabled_painting.specs.Widths.{text_width, StandsStraightIn}
+use Rattle.tabled_text.specs.Cells.{margin_set}
 use Rattle.tabled_text.specs.Sizes.{column_count}
-use Rattle.tabled_text.specs.TextTable.{text_of}
+use Rattle.tabled_text.specs.TextTable.{Drawing, look_of, text_of}
 use Rattle.tabled_text.proofs.EqualRows.{all_equal}
+use Rattle.tabled_text.proofs.Even.{utf8_cells, text_even, text_straight}
 use Rattle.tabled_text.proofs.Painting.{is_plain_text, rows_equal}
 use Rattle.tabled_text.proofs.text_table.TextTable.to_text.Goals as goal
 
@@ -23,3 +28,22 @@ returns-clause-text c es shows =
     ∙ ap (λ items. plain_text (painted_by cfg (c.self.inside.shape.rows, c.self.inside.shape.cols) c.self.inside.sizes.widths.items c.self.inside.sizes.heights.items (texts items))) c.deref.ensures.value
     ∙ is_plain_text cfg.spanned (texts rows) c.self.inside.shape c.self.inside.sizes.widths.items c.self.inside.sizes.heights.items c.self.invariant.1 c.self.invariant.2 c.self.invariant.3 cfg.cell_colors es shown
     ∙ ap (λ table. text_of es table.texts) c.self.view_is
+
+pub returns-clause-rectangle : goal.returns-clause-rectangle
+returns-clause-rectangle c es shows narrow =
+    let rows = c.self.inside.cells.items in
+    let table = texts rows in
+    let of_view : Drawing → Type 0 = λ drawing. IsRectangle (text_width (look_of es drawing.texts) (margin_set es)) (text_of es drawing.texts) in
+    let own = subst of_view c.self.view_is (text_even es table (all_equal (column_count table) 0 table c.self.invariant.0) (utf8_cells rows) narrow) in
+    subst (IsRectangle (text_width (look_of es c.args.self.now.texts) (margin_set es))) (sym (returns-clause-text c es shows)) own
+
+pub returns-clause-straight : goal.returns-clause-straight
+returns-clause-straight c es shows narrow some col inside drawn =
+    let rows = c.self.inside.cells.items in
+    let table = texts rows in
+    let of_view : Drawing → Type 0 = λ drawing. is_empty (look_of es drawing.texts).shape ≡ false → col ≤ column_count drawing.texts → (look_of es drawing.texts).vertical col ≡ true
+    → StandsStraightIn (look_of es drawing.texts) (margin_set es) col (pieces (text_of es drawing.texts)) in
+    let of_rows : of_view (record { texts = table; sizes = c.self.inside.sizes; config = c.self.inside.config.value }) = λ some inside drawn.
+    text_straight es table (all_equal (column_count table) 0 table c.self.invariant.0) (utf8_cells rows) narrow some col inside drawn in
+    let own = subst of_view c.self.view_is of_rows some inside drawn in
+    subst (λ text. StandsStraightIn (look_of es c.args.self.now.texts) (margin_set es) col (pieces text)) (sym (returns-clause-text c es shows)) own

@@ -1,0 +1,401 @@
+-- What is made of narrow characters writes narrow characters alone.
+use Rattle.std.proofs.Common.{◌≡◌, ◌<◌, ℕ, zero, suc, Bool, true, false, cond, if◌then◌else◌, ◌&&◌, length, get_or, arith, Option, Some, None, List, [], ◌∷◌, ◌++◌, map, take, drop, refl, ap, ◌∙◌}
+use Rattle.std.specs.Option.{option_or}
+use Rattle.std.specs.Prelude.{IfSome, option_map}
+use Rattle.std.specs.List.{list_all, zip, filter, filter_map, cons_option, flat_map}
+use Rattle.std.proofs.lemmas.List.Elements.{filter_map-append}
+use Rattle.std.proofs.lemmas.Bool.{and_parts, and_from}
+use Rattle.tabled_border.specs.declared.border.Border.{Border}
+use Rattle.tabled_border.specs.Border.{no_border}
+use Rattle.tabled_border.specs.Texts.{Texts}
+use Rattle.tabled_object.specs.declared.entity.Entity.{Entity}
+use Rattle.tabled_object.specs.declared.position.Position.{Position}
+use Rattle.tabled_object.specs.Entities.{cells_of, is_inside}
+use Rattle.tabled_object.specs.Listing.{listed}
+use Rattle.tabled_grid.specs.declared.borders.Borders.{Borders}
+use Rattle.tabled_grid.specs.declared.event.Event.{Event}
+use Rattle.tabled_grid.specs.declared.event.Event.TheVariants.{Write as write, Erase as erase}
+use Rattle.tabled_grid.specs.declared.event.Written.TheVariants.{Sign as sign}
+use Rattle.tabled_grid.specs.declared.event.Region.TheVariants.{All as every_site}
+use Rattle.tabled_grid.specs.declared.lines.HorizontalLine.{HorizontalLine}
+use Rattle.tabled_grid.specs.declared.lines.VerticalLine.{VerticalLine}
+use Rattle.tabled_grid.specs.declared.place.LineOf.{LineOf}
+use Rattle.tabled_grid.specs.declared.place.Place.{Place}
+use Rattle.tabled_grid.specs.declared.place.Rank.TheVariants.{First as at_first, Inner as inside, Last as at_last}
+use Rattle.tabled_grid.specs.declared.site.Class.{Class}
+use Rattle.tabled_grid.specs.declared.site.Class.TheVariants.{Edges as edges, Crossings as crossings}
+use Rattle.tabled_grid.specs.declared.site.Direction.TheVariants.{Horizontal, Vertical}
+use Rattle.tabled_grid.specs.declared.site.Part.{Part}
+use Rattle.tabled_grid.specs.declared.site.Site.{Site}
+use Rattle.tabled_grid.specs.declared.site.Site.TheVariants.{Class as of_class, Cell as at_spot}
+use Rattle.tabled_grid.specs.declared.site.Spot.{Spot}
+use Rattle.tabled_grid.specs.declared.site.Spot.TheVariants.{Edge, Crossing}
+use Rattle.tabled_grid.specs.Borders.{has_horizontal, has_vertical}
+use Rattle.tabled_grid.specs.Calls.{given_write, places_set, border_set, borders_of, entity_border_set}
+use Rattle.tabled_grid.specs.CellBorder.{border_fields, border_places}
+use Rattle.tabled_grid.specs.Lines.{part_write, horizontal_line_set, vertical_line_set}
+use Rattle.tabled_grid.specs.Site.{class_value}
+use Rattle.tabled_grid.specs.State.{class_record_set, class_writes, classes}
+use Rattle.tabled_configuration.specs.Configuration.{ConfigEvent, characters_of, by_characters, by_colors, borders_replaced, borders_set, horizontal_lines_put, vertical_lines_put}
+use Rattle.tabled_configuration.specs.Options.{entity_bordered, framed, table_bordered}
+use Rattle.tabled_printing.specs.Columns.{is_narrow, is_narrow_write, WritesNarrow}
+use Rattle.tabled_printing.specs.NarrowParts.{is_narrow_if_given, is_narrow_border, is_narrow_record, is_narrow_horizontal, is_narrow_vertical}
+use Rattle.tabled_printing.specs.Picture.{Look}
+use Rattle.tabled_color.specs.Shade.{Shade}
+use Rattle.tabled_highlight.specs.Highlighting.{drawn_with, outline_if, highlight_events}
+use Rattle.tabled_highlight.specs.Outline.{CellSet, Outlining, across_value, down_value, crossing_value, outline_value, every_spot, outline, upper_left, upper_right, lower_left, lower_right}
+use Rattle.tabled_options.specs.LineChar.{EdgeChar, direction_of, has_edge, mark_written, line_char_events}
+use Rattle.tabled_options.specs.LineText.{Lettering, character_written, characters_written, laid, places_along, places_taken, takes_character, text_events}
+use Rattle.tabled_options.specs.TextStart.{limited, text_start}
+use Rattle.tabled_style.specs.Shown.{StyleShown}
+use Rattle.tabled_theme.specs.Events.{as_style, color_texts, style_applied, theme_applied}
+use Rattle.tabled_theme.specs.Shown.{ThemeShown}
+
+-- ---- lists
+
+pub all_both : {A : Type 0} (p : A → Bool) (xs ys : List A) → list_all p xs ≡ true → list_all p ys ≡ true → list_all p (xs ++ ys) ≡ true
+all_both p [] ys first second = second
+all_both p (x ∷ xs) ys first second =
+    let parts = and_parts (p x) (list_all p xs) first in
+    and_from (p x) (list_all p (xs ++ ys)) parts.0 (all_both p xs ys parts.1 second)
+
+all_one : {A : Type 0} (p : A → Bool) (x : A) → p x ≡ true → list_all p (x ∷ []) ≡ true
+all_one p x h = and_from (p x) true h refl
+
+all_flat : {A B : Type 0} (p : B → Bool) (f : A → List B) (xs : List A) → ((x : A) → list_all p (f x) ≡ true) → list_all p (flat_map f xs) ≡ true
+all_flat p f [] each = refl
+all_flat p f (x ∷ xs) each = all_both p (f x) (flat_map f xs) (each x) (all_flat p f xs each)
+
+all_mapped : {A B : Type 0} (p : B → Bool) (f : A → B) (xs : List A) → ((x : A) → p (f x) ≡ true) → list_all p (map f xs) ≡ true
+all_mapped p f [] each = refl
+all_mapped p f (x ∷ xs) each = and_from (p (f x)) (list_all p (map f xs)) (each x) (all_mapped p f xs each)
+
+all_chosen : {A : Type 0} (p : A → Bool) (x : A) (chosen : List A) (t : Bool) → p x ≡ true → list_all p chosen ≡ true → list_all p (cond t (x ∷ chosen) chosen) ≡ true
+all_chosen p x chosen true here rest = and_from (p x) (list_all p chosen) here rest
+all_chosen p x chosen false here rest = rest
+
+all_filtered : {A : Type 0} (p q : A → Bool) (xs : List A) → list_all p xs ≡ true → list_all p (filter q xs) ≡ true
+all_filtered p q [] all = refl
+all_filtered p q (x ∷ xs) all = let parts = and_parts (p x) (list_all p xs) all in all_chosen p x (filter q xs) (q x) parts.0 (all_filtered p q xs parts.1)
+
+all_taken : {A : Type 0} (p : A → Bool) (n : ℕ) (xs : List A) → list_all p xs ≡ true → list_all p (take n xs) ≡ true
+all_taken p zero xs all = refl
+all_taken p (suc n) [] all = refl
+all_taken p (suc n) (x ∷ xs) all = let parts = and_parts (p x) (list_all p xs) all in and_from (p x) (list_all p (take n xs)) parts.0 (all_taken p n xs parts.1)
+
+-- ---- events of one kind
+
+no_characters : (colors : List (Event Texts)) → characters_of (by_colors colors) ≡ []
+no_characters [] = refl
+no_characters (event ∷ colors) = no_characters colors
+
+both_kinds : (characters : List (Event ℕ)) (colors : List (Event Texts)) → characters_of (by_characters characters ++ by_colors colors) ≡ characters
+both_kinds [] colors = no_characters colors
+both_kinds (event ∷ characters) colors = ap (λ l. event ∷ l) (both_kinds characters colors)
+
+one_kind : (characters : List (Event ℕ)) → characters_of (by_characters characters) ≡ characters
+one_kind [] = refl
+one_kind (event ∷ characters) = ap (λ l. event ∷ l) (one_kind characters)
+
+pub narrow_both : (characters : List (Event ℕ)) (colors : List (Event Texts)) → list_all is_narrow_write characters ≡ true → WritesNarrow (by_characters characters ++ by_colors colors)
+narrow_both characters colors all = ap (list_all is_narrow_write) (both_kinds characters colors) ∙ all
+
+pub narrow_characters : (characters : List (Event ℕ)) → list_all is_narrow_write characters ≡ true → WritesNarrow (by_characters characters)
+narrow_characters characters all = ap (list_all is_narrow_write) (one_kind characters) ∙ all
+
+characters_both : (xs ys : List ConfigEvent) → characters_of (xs ++ ys) ≡ characters_of xs ++ characters_of ys
+characters_both xs ys = filter_map-append _ xs ys
+
+-- the writes of both lists
+pub narrow_append : (xs ys : List ConfigEvent) → WritesNarrow xs → WritesNarrow ys → WritesNarrow (xs ++ ys)
+narrow_append xs ys first second = ap (list_all is_narrow_write) (characters_both xs ys) ∙ all_both is_narrow_write (characters_of xs) (characters_of ys) first second
+
+-- ---- styles and themes
+
+part_narrow : (line : LineOf) (part : Part) (field : Option ℕ) → is_narrow_if_given field ≡ true → list_all is_narrow_write (part_write line part field) ≡ true
+part_narrow line part None h = refl
+part_narrow line part (Some character) h = and_from (is_narrow character) true h refl
+
+four : (a b c d : Option ℕ) → list_all is_narrow_if_given (a ∷ b ∷ c ∷ d ∷ []) ≡ true
+    → (is_narrow_if_given a ≡ true) × (is_narrow_if_given b ≡ true) × (is_narrow_if_given c ≡ true) × (is_narrow_if_given d ≡ true)
+four a b c d h =
+    let first = and_parts (is_narrow_if_given a) _ h in
+    let second = and_parts (is_narrow_if_given b) _ first.1 in
+    let third = and_parts (is_narrow_if_given c) _ second.1 in
+    let fourth = and_parts (is_narrow_if_given d) _ third.1 in
+    (first.0, second.0, third.0, fourth.0)
+
+parts_narrow : (line : LineOf) (p q r s : Part) (a b c d : Option ℕ) → list_all is_narrow_if_given (a ∷ b ∷ c ∷ d ∷ []) ≡ true
+    → list_all is_narrow_write (part_write line p a ++ part_write line q b ++ part_write line r c ++ part_write line s d) ≡ true
+parts_narrow line p q r s a b c d h =
+    let each = four a b c d h in
+    all_both is_narrow_write (part_write line p a ++ part_write line q b ++ part_write line r c) (part_write line s d)
+    (all_both is_narrow_write (part_write line p a ++ part_write line q b) (part_write line r c)
+    (all_both is_narrow_write (part_write line p a) (part_write line q b) (part_narrow line p a each.0) (part_narrow line q b each.1)) (part_narrow line r c each.2))
+    (part_narrow line s d each.3)
+
+horizontal_narrow : (n : ℕ) (line : HorizontalLine ℕ) → is_narrow_horizontal line ≡ true → list_all is_narrow_write (horizontal_line_set n line) ≡ true
+unfolding horizontal_line_set
+horizontal_narrow n line h = parts_narrow (LineOf.Horizontal n) _ _ _ _ line.main line.intersection line.left line.right h
+
+vertical_narrow : (n : ℕ) (line : VerticalLine ℕ) → is_narrow_vertical line ≡ true → list_all is_narrow_write (vertical_line_set n line) ≡ true
+unfolding vertical_line_set
+vertical_narrow n line h = parts_narrow (LineOf.Vertical n) _ _ _ _ line.main line.intersection line.top line.bottom h
+
+horizontals_narrow : (lines : List (ℕ × HorizontalLine ℕ)) → list_all (λ line. is_narrow_horizontal line.1) lines ≡ true → list_all is_narrow_write (horizontal_lines_put lines) ≡ true
+unfolding horizontal_lines_put
+horizontals_narrow [] all = refl
+horizontals_narrow (line ∷ lines) all =
+    let parts = and_parts (is_narrow_horizontal line.1) (list_all (λ line. is_narrow_horizontal line.1) lines) all in
+    all_both is_narrow_write (horizontal_line_set line.0 line.1) _ (horizontal_narrow line.0 line.1 parts.0) (horizontals_narrow lines parts.1)
+
+verticals_narrow : (lines : List (ℕ × VerticalLine ℕ)) → list_all (λ line. is_narrow_vertical line.1) lines ≡ true → list_all is_narrow_write (vertical_lines_put lines) ≡ true
+unfolding vertical_lines_put
+verticals_narrow [] all = refl
+verticals_narrow (line ∷ lines) all =
+    let parts = and_parts (is_narrow_vertical line.1) (list_all (λ line. is_narrow_vertical line.1) lines) all in
+    all_both is_narrow_write (vertical_line_set line.0 line.1) _ (vertical_narrow line.0 line.1 parts.0) (verticals_narrow lines parts.1)
+
+-- an event that may be there passes where it is
+passes : Option (Event ℕ) → Bool
+passes None = true
+passes (Some event) = is_narrow_write event
+
+cons_narrow : (event : Option (Event ℕ)) (events : List (Event ℕ)) → passes event ≡ true → list_all is_narrow_write events ≡ true → list_all is_narrow_write (cons_option event events) ≡ true
+unfolding passes
+cons_narrow None events h all = all
+cons_narrow (Some event) events h all = and_from (is_narrow_write event) (list_all is_narrow_write events) h all
+
+all_maybe : {A : Type 0} (f : A → Option (Event ℕ)) (xs : List A) → ((x : A) → passes (f x) ≡ true) → list_all is_narrow_write (filter_map f xs) ≡ true
+all_maybe f [] each = refl
+all_maybe f (x ∷ xs) each = cons_narrow (f x) (filter_map f xs) (each x) (all_maybe f xs each)
+
+written_narrow : (site : Site) (value : Option ℕ) → is_narrow_if_given value ≡ true → passes (option_map (λ x. write site (sign x)) value) ≡ true
+unfolding passes
+written_narrow site None h = refl
+written_narrow site (Some character) h = h
+
+class_writes_narrow : (borders : Borders ℕ) (some : List Class) → list_all (λ class. is_narrow_if_given (class_value class borders)) some ≡ true → list_all is_narrow_write (class_writes borders some) ≡ true
+unfolding class_writes
+class_writes_narrow borders [] all = refl
+class_writes_narrow borders (class ∷ some) all =
+    let parts = and_parts (is_narrow_if_given (class_value class borders)) (list_all (λ class. is_narrow_if_given (class_value class borders)) some) all in
+    cons_narrow (option_map (λ x. write (of_class class) (sign x)) (class_value class borders)) (class_writes borders some)
+    (written_narrow (of_class class) (class_value class borders) parts.0) (class_writes_narrow borders some parts.1)
+
+pub style_narrow : (style : StyleShown) → is_narrow_record style.borders ≡ true → list_all (λ line. is_narrow_horizontal line.1) style.horizontals ≡ true
+    → list_all (λ line. is_narrow_vertical line.1) style.verticals ≡ true → WritesNarrow (style_applied style)
+unfolding borders_replaced class_record_set
+style_narrow style borders horizontals verticals =
+    narrow_both (erase every_site ∷ horizontal_lines_put style.horizontals ++ vertical_lines_put style.verticals ++ class_record_set style.borders) (erase every_site ∷ [])
+    (all_both is_narrow_write (horizontal_lines_put style.horizontals ++ vertical_lines_put style.verticals) (class_record_set style.borders)
+    (all_both is_narrow_write (horizontal_lines_put style.horizontals) (vertical_lines_put style.verticals) (horizontals_narrow style.horizontals horizontals) (verticals_narrow style.verticals verticals))
+    (class_writes_narrow style.borders classes borders))
+
+pub theme_narrow : (theme : ThemeShown) → is_narrow_record theme.characters ≡ true → list_all (λ line. is_narrow_horizontal line.1) (as_style theme).horizontals ≡ true
+    → list_all (λ line. is_narrow_vertical line.1) (as_style theme).verticals ≡ true → WritesNarrow (theme_applied theme)
+unfolding theme_applied
+theme_narrow theme borders horizontals verticals =
+    narrow_append (style_applied (as_style theme)) (by_colors (class_record_set (color_texts theme))) (style_narrow (as_style theme) borders horizontals verticals)
+    (ap (list_all is_narrow_write) (no_characters (class_record_set (color_texts theme))))
+
+-- ---- borders of cells
+
+given_narrow : (place : Option Place) (value : Option ℕ) → is_narrow_if_given value ≡ true → passes (given_write (place, value)) ≡ true
+unfolding passes
+given_narrow None None h = refl
+given_narrow None (Some character) h = refl
+given_narrow (Some place) None h = refl
+given_narrow (Some place) (Some character) h = h
+
+zipped_narrow : (places : List (Option Place)) (values : List (Option ℕ)) → list_all is_narrow_if_given values ≡ true → list_all is_narrow_write (filter_map given_write (zip places values)) ≡ true
+zipped_narrow [] values all = refl
+zipped_narrow (place ∷ places) [] all = refl
+zipped_narrow (place ∷ places) (value ∷ values) all =
+    let parts = and_parts (is_narrow_if_given value) (list_all is_narrow_if_given values) all in
+    cons_narrow (given_write (place, value)) (filter_map given_write (zip places values)) (given_narrow place value parts.0) (zipped_narrow places values parts.1)
+
+pub border_narrow : (border : Border ℕ) (shape : ℕ × ℕ) (entity : Entity) → is_narrow_border border ≡ true → WritesNarrow (entity_bordered border shape entity)
+unfolding entity_bordered borders_of places_set
+border_narrow border shape entity h =
+    narrow_characters (entity_border_set entity shape border)
+    (all_flat is_narrow_write (λ pos. border_set pos border) (filter (is_inside shape.0 shape.1) (cells_of entity shape.0 shape.1)) (λ pos. zipped_narrow (border_fields (border_places pos)) (border_fields border) h))
+
+-- ---- characters and texts on lines
+
+pub line_char_narrow : (mark : EdgeChar) (shape : ℕ × ℕ) (entity : Entity) → is_narrow mark.character ≡ true → WritesNarrow (line_char_events mark shape entity)
+unfolding line_char_events
+line_char_narrow mark shape entity h =
+    narrow_characters (map (mark_written mark) (filter (has_edge (direction_of mark) shape) (cells_of entity shape.0 shape.1)))
+    (all_mapped is_narrow_write (mark_written mark) (filter (has_edge (direction_of mark) shape) (cells_of entity shape.0 shape.1)) (λ pos. h))
+
+abbrev letter_narrow : Place × ℕ → Bool
+letter_narrow at = is_narrow at.1
+
+letters_zipped : (places : List Place) (letters : List ℕ) → list_all is_narrow letters ≡ true → list_all letter_narrow (zip places letters) ≡ true
+letters_zipped [] letters all = refl
+letters_zipped (place ∷ places) [] all = refl
+letters_zipped (place ∷ places) (letter ∷ letters) all =
+    let parts = and_parts (is_narrow letter) (list_all is_narrow letters) all in
+    and_from (is_narrow letter) (list_all letter_narrow (zip places letters)) parts.0 (letters_zipped places letters parts.1)
+
+laid_narrow : (start : Option ℕ) (letters : List ℕ) (places : List Place) → list_all is_narrow letters ≡ true → list_all letter_narrow (laid start letters places) ≡ true
+laid_narrow None letters places all = refl
+laid_narrow (Some start) letters places all = letters_zipped (drop start places) letters all
+
+limited_narrow : (limit : Option ℕ) (letters : List ℕ) → list_all is_narrow letters ≡ true → list_all is_narrow (limited limit letters) ≡ true
+limited_narrow None letters all = all
+limited_narrow (Some n) letters all = all_taken is_narrow n letters all
+
+taken_narrow : {L : Type 0} (text : Lettering L) (view : Look) (line : Option LineOf) → list_all is_narrow text.text ≡ true → list_all letter_narrow (places_taken text view line) ≡ true
+unfolding places_taken
+taken_narrow text view None all = refl
+taken_narrow text view (Some line) all =
+    laid_narrow (text_start line (length (places_along view line)) (limited text.limit text.text) text.alignment text.offset) (limited text.limit text.text) (places_along view line)
+    (limited_narrow text.limit text.text all)
+
+letters_written : (taken : List (Place × ℕ)) → list_all letter_narrow taken ≡ true → list_all is_narrow_write (map character_written taken) ≡ true
+letters_written [] all = refl
+letters_written (at ∷ taken) all =
+    let parts = and_parts (letter_narrow at) (list_all letter_narrow taken) all in
+    and_from (is_narrow_write (character_written at)) (list_all is_narrow_write (map character_written taken)) parts.0 (letters_written taken parts.1)
+
+pub text_narrow : {L : Type 0} (text : Lettering L) (view : Look) (line : Option LineOf) → list_all is_narrow text.text ≡ true → WritesNarrow (text_events text view line)
+unfolding text_events characters_written
+text_narrow text view line all =
+    narrow_both (characters_written view.shown (places_taken text view line)) _
+    (letters_written (filter (λ at. takes_character view.shown at.0) (places_taken text view line))
+    (all_filtered letter_narrow (λ at. takes_character view.shown at.0) (places_taken text view line) (taken_narrow text view line all)))
+
+-- ---- outlines
+
+-- each side and corner
+record EachNarrow (border : Border ℕ) : Type 0 where
+  top : is_narrow_if_given border.top ≡ true
+  bottom : is_narrow_if_given border.bottom ≡ true
+  left : is_narrow_if_given border.left ≡ true
+  right : is_narrow_if_given border.right ≡ true
+  left_top_corner : is_narrow_if_given border.left_top_corner ≡ true
+  left_bottom_corner : is_narrow_if_given border.left_bottom_corner ≡ true
+  right_top_corner : is_narrow_if_given border.right_top_corner ≡ true
+  right_bottom_corner : is_narrow_if_given border.right_bottom_corner ≡ true
+
+each_narrow : (border : Border ℕ) → is_narrow_border border ≡ true → EachNarrow border
+each_narrow border h =
+    let a = and_parts (is_narrow_if_given border.top) _ h in
+    let b = and_parts (is_narrow_if_given border.bottom) _ a.1 in
+    let c = and_parts (is_narrow_if_given border.left) _ b.1 in
+    let d = and_parts (is_narrow_if_given border.right) _ c.1 in
+    let e = and_parts (is_narrow_if_given border.left_top_corner) _ d.1 in
+    let f = and_parts (is_narrow_if_given border.left_bottom_corner) _ e.1 in
+    let g = and_parts (is_narrow_if_given border.right_top_corner) _ f.1 in
+    let i = and_parts (is_narrow_if_given border.right_bottom_corner) _ g.1 in
+    record { top = a.0; bottom = b.0; left = c.0; right = d.0; left_top_corner = e.0; left_bottom_corner = f.0; right_top_corner = g.0; right_bottom_corner = i.0 }
+
+or_narrow : (first second : Option ℕ) → is_narrow_if_given first ≡ true → is_narrow_if_given second ≡ true → is_narrow_if_given (option_or first second) ≡ true
+or_narrow None second a b = b
+or_narrow (Some character) second a b = a
+
+module _ (cells : CellSet) (given : Outlining ℕ) (each : EachNarrow given.border) (diagonal : is_narrow_if_given given.diagonal ≡ true) where
+  across_narrow : (above under : Bool) → is_narrow_if_given (across_value given.border above under) ≡ true
+  across_narrow false true = each.top
+  across_narrow true false = each.bottom
+  across_narrow false false = refl
+  across_narrow true true = refl
+
+  down_narrow : (before after : Bool) → is_narrow_if_given (down_value given.border before after) ≡ true
+  down_narrow false true = each.left
+  down_narrow true false = each.right
+  down_narrow false false = refl
+  down_narrow true true = refl
+
+  crossing_narrow : (a b c d : Bool) → is_narrow_if_given (crossing_value given (a, b) (c, d)) ≡ true
+  crossing_narrow false false false true = each.left_top_corner
+  crossing_narrow false false true false = each.right_top_corner
+  crossing_narrow false true false false = each.left_bottom_corner
+  crossing_narrow true false false false = each.right_bottom_corner
+  crossing_narrow false false true true = each.top
+  crossing_narrow true true false false = each.bottom
+  crossing_narrow false true false true = each.left
+  crossing_narrow true false true false = each.right
+  crossing_narrow true false false true =
+      or_narrow given.diagonal (option_or given.border.left_top_corner given.border.right_bottom_corner) diagonal
+      (or_narrow given.border.left_top_corner given.border.right_bottom_corner each.left_top_corner each.right_bottom_corner)
+  crossing_narrow false true true false =
+      or_narrow given.diagonal (option_or given.border.right_top_corner given.border.left_bottom_corner) diagonal
+      (or_narrow given.border.right_top_corner given.border.left_bottom_corner each.right_top_corner each.left_bottom_corner)
+  crossing_narrow false true true true = each.right_bottom_corner
+  crossing_narrow true false true true = each.left_bottom_corner
+  crossing_narrow true true false true = each.right_top_corner
+  crossing_narrow true true true false = each.left_top_corner
+  crossing_narrow false false false false = refl
+  crossing_narrow true true true true = refl
+
+  value_narrow : (spot : Spot) → is_narrow_if_given (outline_value cells given spot) ≡ true
+  value_narrow (Edge Horizontal r c) = across_narrow (upper_right cells r c) (lower_right cells r c)
+  value_narrow (Edge Vertical r c) = down_narrow (lower_left cells r c) (lower_right cells r c)
+  value_narrow (Crossing r c) = crossing_narrow (upper_left cells r c) (upper_right cells r c) (lower_left cells r c) (lower_right cells r c)
+
+  outline_narrow : (shape : ℕ × ℕ) → list_all is_narrow_write (outline shape cells given) ≡ true
+  unfolding outline
+  outline_narrow shape =
+      all_maybe (λ spot. option_map (λ value. write (at_spot spot) (sign value)) (outline_value cells given spot)) (every_spot shape)
+      (λ spot. written_narrow (at_spot spot) (outline_value cells given spot) (value_narrow spot))
+
+drawn_narrow : (shape : ℕ × ℕ) (cells : CellSet) (border : Option (Border ℕ)) (diagonal : Option ℕ) → IfSome border (λ given. is_narrow_border given ≡ true) → is_narrow_if_given diagonal ≡ true
+    → list_all is_narrow_write (outline_if shape cells (drawn_with border diagonal)) ≡ true
+drawn_narrow shape cells None None first second = refl
+drawn_narrow shape cells None (Some character) first second =
+    outline_narrow cells (record { border = no_border; diagonal = Some character }) (each_narrow no_border refl) second shape
+drawn_narrow shape cells (Some border) diagonal first second = outline_narrow cells (record { border = border; diagonal = diagonal }) (each_narrow border first) second shape
+
+pub highlight_narrow : (shape : ℕ × ℕ) (entities : List Entity) (border : Option (Border ℕ)) (diagonal : Option ℕ) (color : Option (Border Shade))
+    → IfSome border (λ given. is_narrow_border given ≡ true) → is_narrow_if_given diagonal ≡ true → WritesNarrow (highlight_events shape entities border diagonal color)
+unfolding highlight_events
+highlight_narrow shape entities border diagonal color first second =
+    narrow_both (outline_if shape (listed entities shape.0 shape.1) (drawn_with border diagonal)) _ (drawn_narrow shape (listed entities shape.0 shape.1) border diagonal first second)
+
+-- ---- the frame of a table
+
+all_at : {A : Type 0} (p : A → Bool) (xs : List A) → list_all p xs ≡ true → (k : ℕ) (d : A) → k < length xs → p (get_or xs k d) ≡ true
+all_at p [] all k d within = absurd (omega arith)
+all_at p (x ∷ xs) all zero d within = (and_parts (p x) (list_all p xs) all).0
+all_at p (x ∷ xs) all (suc k) d within = all_at p xs (and_parts (p x) (list_all p xs) all).1 k d (omega arith)
+
+all_each : {A : Type 0} (p : A → Bool) (xs : List A) → ((x : A) → p x ≡ true) → list_all p xs ≡ true
+all_each p [] each = refl
+all_each p (x ∷ xs) each = and_from (p x) (list_all p xs) (each x) (all_each p xs each)
+
+either_narrow : (b : Bool) (first second : Option ℕ) → is_narrow_if_given first ≡ true → is_narrow_if_given second ≡ true → is_narrow_if_given (if b then first else second) ≡ true
+either_narrow true first second a b = a
+either_narrow false first second a b = b
+
+module _ (border : Border ℕ) (class : Borders ℕ) (each : EachNarrow border) (h : is_narrow_record class ≡ true) where
+  -- what the class record has, by the number of the class
+  field : (k : ℕ) → k < length classes → is_narrow_if_given (class_value (get_or classes k (edges Horizontal at_first)) class) ≡ true
+  field k within = all_at (λ of. is_narrow_if_given (class_value of class)) classes h k (edges Horizontal at_first) within
+
+  framed_field : (of : Class) → is_narrow_if_given (class_value of (framed border class)) ≡ true
+  unfolding classes
+  framed_field (edges Horizontal at_first) = each.top
+  framed_field (edges Horizontal inside) = field 1 (omega arith)
+  framed_field (edges Horizontal at_last) = each.bottom
+  framed_field (edges Vertical at_first) = each.left
+  framed_field (edges Vertical inside) = field 4 (omega arith)
+  framed_field (edges Vertical at_last) = each.right
+  framed_field (crossings at_first at_first) = each.left_top_corner
+  framed_field (crossings at_first inside) = either_narrow (has_vertical inside class) border.top class.top_intersection each.top (field 7 (omega arith))
+  framed_field (crossings at_first at_last) = each.right_top_corner
+  framed_field (crossings inside at_first) = either_narrow (has_horizontal inside class) border.left class.left_intersection each.left (field 9 (omega arith))
+  framed_field (crossings inside inside) = field 10 (omega arith)
+  framed_field (crossings inside at_last) = either_narrow (has_horizontal inside class) border.right class.right_intersection each.right (field 11 (omega arith))
+  framed_field (crossings at_last at_first) = each.left_bottom_corner
+  framed_field (crossings at_last inside) = either_narrow (has_vertical inside class) border.bottom class.bottom_intersection each.bottom (field 13 (omega arith))
+  framed_field (crossings at_last at_last) = each.right_bottom_corner
+
+pub frame_narrow : (border : Border ℕ) (class : Borders ℕ) → is_narrow_border border ≡ true → is_narrow_record class ≡ true → WritesNarrow (table_bordered border class)
+unfolding table_bordered borders_set class_record_set
+frame_narrow border class first second =
+    narrow_characters (class_record_set (framed border class))
+    (class_writes_narrow (framed border class) classes
+    (all_each (λ of. is_narrow_if_given (class_value of (framed border class))) classes (framed_field border class (each_narrow border first) second)))

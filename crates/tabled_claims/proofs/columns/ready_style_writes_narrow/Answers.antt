@@ -1,0 +1,5 @@
+use Rattle.tabled_claims.proofs.ReadyNarrow.{ready_narrow}
+use Rattle.tabled_claims.proofs.columns.ready_style_writes_narrow.Goals as goal
+
+pub returns : goal.returns
+returns c = ready_narrow

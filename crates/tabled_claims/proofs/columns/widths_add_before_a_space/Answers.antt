@@ -1,0 +1,5 @@
+use Rattle.tabled_cells.proofs.Fits.{widths_add}
+use Rattle.tabled_claims.proofs.columns.widths_add_before_a_space.Goals as goal
+
+pub returns : goal.returns
+returns c = λ front text u. widths_add front text u

@@ -1,0 +1,7 @@
+use Rattle.tabled_text.specs.Sizes.{column_count}
+use Rattle.tabled_text.proofs.EqualRows.{all_equal}
+use Rattle.tabled_text.proofs.Even.{text_even}
+use Rattle.tabled_claims.proofs.tables.text_is_a_rectangle.Goals as goal
+
+pub returns : goal.returns
+returns c = λ events table equal utf8 narrow. text_even events table (all_equal (column_count table) 0 table equal) utf8 narrow

@@ -1,0 +1,64 @@
+//! How wide the lines of a table's text are, and in which column each vertical line stands.
+
+ghost use Rattle.std.specs.Prelude.{◌≡◌, ◌==◌, ◌&&◌, ◌<◌, ◌≤◌, ℕ, nat_lt, true, false, IsTrue, List, [], length, slice_index_or};
+ghost use Rattle.std.specs.List.{list_all};
+ghost use Rattle.std.specs.Str.{IsUtf8};
+ghost use Rattle.unicode_width.specs.Kind.{kind};
+ghost use Rattle.tabled_configuration.specs.Configuration.{ConfigEvent};
+ghost use Rattle.tabled_printing.specs.Along.{is_empty};
+ghost use Rattle.tabled_printing.specs.Columns.{HasNarrowBorders, StandsStraight, draws_plainly, is_ambiguous_kind, is_narrow, WritesNarrow, stands_apart, table_width};
+ghost use Rattle.tabled_printing.specs.Picture.{look, printed, text_lines};
+ghost use Rattle.tabled_printing.specs.Refusal.{table_faults};
+ghost use Rattle.tabled_printing.specs.Texts.{Table, pieces, width_of_text};
+
+use unicode_width::UnicodeWidthChar;
+
+/// Whether a character above U+00A0 takes one column, and two in an East Asian context.
+fn is_ambiguous(character: char) -> bool
+    ensures { result ≡ (nat_lt 0xA0 character && is_ambiguous_kind (kind character)) }
+{
+    let width = character.width().unwrap_or(0);
+    let width_cjk = character.width_cjk().unwrap_or(0);
+    (character as u32 > 0xA0) & ((width == 1) & (width_cjk == 2))
+}
+
+/// Whether a character is surely narrow: a printable one of ASCII, one that draws boxes or blocks (U+2500 to U+259F), or one that
+/// takes one column, and two in an East Asian context, such as `·` or `•`. Each of these takes one column and joins nothing that
+/// stands before it, so a border of them keeps the text of a table a rectangle.
+pub fn draws_plainly(character: char) -> bool
+    ensures test { result ≡ draws_plainly character }
+    ensures narrow { IsTrue result → is_narrow character ≡ true }
+{
+    let code = character as u32;
+    let in_ascii = (code >= 0x20) & (code <= 0x7E);
+    let draws_boxes = (code >= 0x2500) & (code <= 0x259F);
+    in_ascii | (draws_boxes | is_ambiguous(character))
+}
+
+/// Each character that draws boxes or blocks is narrow.
+pub fn box_drawing_is_narrow()
+    ensures { (c : ℕ) → 0x2500 ≤ c → c ≤ 0x259F → is_narrow c ≡ true }
+{}
+
+/// Where only narrow characters are written, a table shows no others.
+pub fn narrow_writes_make_narrow_borders()
+    ensures { (es : List ConfigEvent) (shape : ℕ × ℕ) (widths heights : ℕ → ℕ) → WritesNarrow es → HasNarrowBorders (look es shape widths heights) }
+{}
+
+/// Where only narrow characters are written, the cells fit, and each line of a cell joins nothing that stands before it, the lines of
+/// what the plain printer prints are as wide as the table, and vertical lines stand straight; and where there are some, the text
+/// has no others.
+pub fn plain_text_is_a_rectangle()
+    ensures rectangle { (es : List ConfigEvent) (shape : ℕ × ℕ) (widths heights : ℕ → ℕ) (cells : Table) → is_empty shape ≡ false → WritesNarrow es
+        → table_faults widths heights shape cells ≡ [] → ((r c : ℕ) → IsUtf8 (slice_index_or (slice_index_or cells r []) c []))
+        → ((r c k : ℕ) → stands_apart (slice_index_or (pieces (slice_index_or (slice_index_or cells r []) c [])) k []) ≡ true)
+        → list_all (λ line. width_of_text line == table_width (look es shape widths heights)) (text_lines (look es shape widths heights) cells) ≡ true }
+    ensures straight { (es : List ConfigEvent) (shape : ℕ × ℕ) (widths heights : ℕ → ℕ) (cells : Table) → is_empty shape ≡ false → WritesNarrow es
+        → table_faults widths heights shape cells ≡ [] → ((r c : ℕ) → IsUtf8 (slice_index_or (slice_index_or cells r []) c []))
+        → ((r c k : ℕ) → stands_apart (slice_index_or (pieces (slice_index_or (slice_index_or cells r []) c [])) k []) ≡ true)
+        → (c : ℕ) → c ≤ shape.1 → (look es shape widths heights).vertical c ≡ true → StandsStraight (look es shape widths heights) c (text_lines (look es shape widths heights) cells) }
+    ensures lines { (es : List ConfigEvent) (shape : ℕ × ℕ) (widths heights : ℕ → ℕ) (cells : Table) → is_empty shape ≡ false → WritesNarrow es
+        → table_faults widths heights shape cells ≡ [] → ((r c : ℕ) → IsUtf8 (slice_index_or (slice_index_or cells r []) c []))
+        → ((r c k : ℕ) → stands_apart (slice_index_or (pieces (slice_index_or (slice_index_or cells r []) c [])) k []) ≡ true)
+        → 0 < length (text_lines (look es shape widths heights) cells) → pieces (printed es shape widths heights cells) ≡ text_lines (look es shape widths heights) cells }
+{}
