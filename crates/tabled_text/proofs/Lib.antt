@@ -2,3 +2,4 @@ pub mod Measuring
 pub mod CellLemmas
 pub mod EqualRows
 pub mod Painting
+pub mod ChangedLemmas
