@@ -1,0 +1,21 @@
+//! Texts within so many columns of a terminal: wrapped, wrapped at spaces, or cut off.
+//!
+//! `docs/DEFINITIONS.md` explains the words of the contracts.
+#![tactic(auto)]
+
+mod clusters;
+mod cut_off;
+mod height;
+mod limit;
+mod lines;
+mod measure;
+mod rows;
+mod shares;
+
+pub use clusters::first_cluster;
+pub use cut_off::truncated;
+pub use height::shortened;
+pub use limit::Overflow;
+pub use measure::{fits, is_printable, width_of};
+pub use rows::{wrapped, wrapped_words};
+pub use shares::shares_of;
