@@ -1,7 +1,9 @@
 -- How a cluster grows, character by character.
-use Rattle.std.proofs.Common.{◌≡◌, ◌==◌, ℕ, ◌+◌, ◌-◌, Bool, true, false, ◌||◌, ◌&&◌, if◌then◌else◌, List, [], ◌∷◌, ◌++◌, map, length, drop, take, slice_range, encode_utf8, encode_utf8_all, chars, refl, sym, ap, subst, ◌∙◌, arith, append_assoc, append-nil, length-append, take_at, drop_at}
+use Rattle.std.proofs.Common.{◌≡◌, ◌==◌, ℕ, ◌+◌, ◌-◌, ◌<◌, Bool, true, false, ◌||◌, ◌&&◌, if◌then◌else◌, List, [], ◌∷◌, ◌++◌, map, length, drop, take, slice_range, encode_utf8, encode_utf8_all, chars, refl, sym, ap, subst, ◌∙◌, arith, append_assoc, append-nil, length-append, take_at, drop_at}
+use Rattle.std.specs.List.{All, concat}
 use Rattle.std.specs.Str.{IsUtf8, IsCharBoundary}
-use Rattle.std.proofs.lemmas.Str.{encodes-append, IsCharBoundary-from_drop}
+use Rattle.std.proofs.lemmas.List.Elements.{All-nil, All-cons, All-head, All-tail}
+use Rattle.std.proofs.lemmas.Str.{encodes-append, encodes-chars, length-le-encodes, IsCharBoundary-from_drop}
 use Rattle.tabled_width.specs.Clusters.{takes_none, is_skin_tone, is_indicator, is_half_flag, ends_with_joiner, belongs, grouped, clusters_of, clusters, IsAfterCluster}
 
 half_flag_after : (front : List ℕ) (last c : ℕ) → is_half_flag ((front ++ last ∷ []) ++ c ∷ []) ≡ false
@@ -103,3 +105,48 @@ module _ (line rest after : List ℕ) (first : ℕ) (next : chars line ≡ first
 pub no_clusters : (line : List ℕ) → chars line ≡ [] → clusters line ≡ []
 unfolding clusters
 no_clusters line none = ap (λ cs. map encode_utf8_all (clusters_of cs)) none
+
+-- ---- the clusters of a line, put together, are the line, and none is empty
+
+concat_grouped : (cluster cs : List ℕ) → concat (grouped cluster cs) ≡ cluster ++ cs
+concat_grouped cluster [] = ap concat (grouped_end cluster)
+concat_grouped cluster (c ∷ cs) = by (belongs cluster c) refl (λ next. concat_grouped next cs)
+  where
+    by : (b : Bool) → belongs cluster c ≡ b → ((next : List ℕ) → concat (grouped next cs) ≡ next ++ cs) → concat (grouped cluster (c ∷ cs)) ≡ cluster ++ c ∷ cs
+    by true e rest = ap concat (grouped_more cluster c cs e) ∙ rest (cluster ++ c ∷ []) ∙ append_assoc cluster (c ∷ []) cs
+    by false e rest = ap concat (grouped_next cluster c cs e) ∙ ap (λ bs. cluster ++ bs) (rest (c ∷ []))
+
+concat_encoded : (groups : List (List ℕ)) → concat (map encode_utf8_all groups) ≡ encode_utf8_all (concat groups)
+concat_encoded [] = refl
+concat_encoded (g ∷ groups) = ap (λ bs. encode_utf8_all g ++ bs) (concat_encoded groups) ∙ sym (encodes-append g (concat groups))
+
+concat_of : (cs : List ℕ) → concat (clusters_of cs) ≡ cs
+concat_of [] = refl
+concat_of (c ∷ cs) = concat_grouped (c ∷ []) cs
+
+pub concat_clusters : (line : List ℕ) → IsUtf8 line → concat (clusters line) ≡ line
+unfolding clusters
+concat_clusters line text = concat_encoded (clusters_of (chars line)) ∙ ap encode_utf8_all (concat_of (chars line)) ∙ encodes-chars line text
+
+nonempty_grouped : (cluster cs : List ℕ) → 0 < length cluster → All (λ u. 0 < length u) (grouped cluster cs)
+nonempty_grouped cluster [] some = subst (All (λ u. 0 < length u)) (sym (grouped_end cluster)) (All-cons (λ u. 0 < length u) cluster [] some (All-nil (λ u. 0 < length u)))
+nonempty_grouped cluster (c ∷ cs) some = by (belongs cluster c) refl (λ next more. nonempty_grouped next cs more)
+  where
+    by : (b : Bool) → belongs cluster c ≡ b → ((next : List ℕ) → 0 < length next → All (λ u. 0 < length u) (grouped next cs)) → All (λ u. 0 < length u) (grouped cluster (c ∷ cs))
+    by true e rest = subst (All (λ u. 0 < length u)) (sym (grouped_more cluster c cs e)) (rest (cluster ++ c ∷ []) (omega (arith, length-append cluster (c ∷ []))))
+    by false e rest = subst (All (λ u. 0 < length u)) (sym (grouped_next cluster c cs e)) (All-cons (λ u. 0 < length u) cluster (grouped (c ∷ []) cs) some (rest (c ∷ []) (omega arith)))
+
+nonempty_encoded : (groups : List (List ℕ)) → All (λ u. 0 < length u) groups → All (λ u. 0 < length u) (map encode_utf8_all groups)
+nonempty_encoded [] some = All-nil (λ u. 0 < length u)
+nonempty_encoded (g ∷ groups) some =
+    let here = All-head (λ u. 0 < length u) g groups some in
+    All-cons (λ u. 0 < length u) (encode_utf8_all g) (map encode_utf8_all groups) (omega (arith, here, length-le-encodes g))
+    (nonempty_encoded groups (All-tail (λ u. 0 < length u) g groups some))
+
+nonempty_of : (cs : List ℕ) → All (λ u. 0 < length u) (clusters_of cs)
+nonempty_of [] = All-nil (λ u. 0 < length u)
+nonempty_of (c ∷ cs) = nonempty_grouped (c ∷ []) cs (omega arith)
+
+pub clusters_nonempty : (line : List ℕ) → All (λ u. 0 < length u) (clusters line)
+unfolding clusters
+clusters_nonempty line = nonempty_encoded (clusters_of (chars line)) (nonempty_of (chars line))

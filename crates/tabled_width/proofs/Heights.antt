@@ -1,12 +1,14 @@
 -- A text that is shortened, line by line.
-use Rattle.std.proofs.Common.{◌≡◌, ℕ, ◌-◌, ◌<◌, ◌≤◌, zero, suc, nat_le, Bool, true, false, if◌then◌else◌, List, [], ◌∷◌, ◌++◌, length, take, encode_utf8, refl, sym, ap, ◌∙◌, arith, lit<, append_assoc}
-use Rattle.std.specs.List.{join_with_byte}
+use Rattle.std.proofs.Common.{◌≡◌, ◌==◌, ℕ, ◌-◌, ◌<◌, ◌≤◌, zero, suc, nat_le, Bool, true, false, if◌then◌else◌, List, [], ◌∷◌, ◌++◌, length, take, encode_utf8, refl, sym, ap, ◌∙◌, arith, lit<, append_assoc}
+use Rattle.std.specs.List.{All, join_with_byte}
+use Rattle.std.proofs.lemmas.List.Elements.{All-head, All-tail, All-append, All-same, All-take}
 use Rattle.std.proofs.lemmas.Bool.Decides.{nat_tests}
-use Rattle.std.proofs.lemmas.List.Splits.{join_with_byte-slice_split}
+use Rattle.std.proofs.lemmas.List.Splits.{slice_split_none, slice_split_at, join_with_byte-slice_split}
 use Rattle.std.proofs.lemmas.Str.{encode_ascii}
 use Rattle.tabled_width.specs.Texts.{pieces}
 use Rattle.tabled_width.specs.CutOff.{shortened}
 use Rattle.tabled_width.proofs.Pieces.{some_pieces}
+use Rattle.tabled_width.proofs.PieceFacts.{Lacks, all_lack}
 
 is_le : (n m : ℕ) → n ≤ m → nat_le n m ≡ true
 is_le n m le = grind (arith, nat_tests)
@@ -90,3 +92,41 @@ pub line_last : (left : ℕ) (suffix rest written out goal : List ℕ) → 1 ≤
 line_last zero suffix rest written out goal some last is so_far = absurd (omega arith)
 line_last (suc count) suffix rest written out goal some last is so_far =
     is ∙ ap (λ bs. written ++ bs) (sym (whole_stays count suffix rest (omega (arith, ap length last)))) ∙ so_far
+
+-- ---- a text that is shortened has no more lines than that
+
+-- lines without line feeds, joined, and then a text without line feeds
+joined_then : (suffix line : List ℕ) (lines : List (List ℕ)) → All (Lacks 10) (line ∷ lines) → Lacks 10 suffix → length (pieces (join_with_byte 10 (line ∷ lines) ++ suffix)) ≡ length (line ∷ lines)
+joined_then suffix line [] lack ends =
+    ap length (slice_split_none (λ b. b == 10) (line ++ suffix) (All-append (λ b. (b == 10) ≡ false) line suffix (All-head (Lacks 10) line [] lack) ends))
+joined_then suffix line (next ∷ lines) lack ends =
+    ap (λ bs. length (pieces bs)) (append_assoc line (10 ∷ join_with_byte 10 (next ∷ lines)) suffix)
+    ∙ ap length (slice_split_at (λ b. b == 10) line 10 (join_with_byte 10 (next ∷ lines) ++ suffix) (All-head (Lacks 10) line (next ∷ lines) lack) refl)
+    ∙ ap suc (joined_then suffix next lines (All-tail (Lacks 10) line (next ∷ lines) lack) ends)
+
+take_length : (n : ℕ) (ls : List (List ℕ)) → n ≤ length ls → length (take n ls) ≡ n
+take_length zero ls within = refl
+take_length (suc n) [] within = absurd (omega (arith, within))
+take_length (suc n) (l ∷ ls) within = ap suc (take_length n ls (omega (arith, within)))
+
+first_lines : (count : ℕ) (suffix : List ℕ) (ls : List (List ℕ)) → suc count < length ls → All (Lacks 10) ls → Lacks 10 suffix → length (pieces (join_with_byte 10 (take (suc count) ls) ++ suffix)) ≡ suc count
+first_lines count suffix [] many lack ends = absurd (omega (arith, many))
+first_lines count suffix (l ∷ ls) many lack ends =
+    joined_then suffix l (take count ls) (All-take (Lacks 10) (suc count) (l ∷ ls) lack) ends ∙ ap suc (take_length count ls (omega (arith, many)))
+
+pub shortened_fits : (count : ℕ) (suffix text : List ℕ) → pieces suffix ≡ suffix ∷ [] → 1 ≤ count → length (pieces (shortened count suffix text)) ≤ count
+shortened_fits zero suffix text one some = absurd (omega (arith, some))
+shortened_fits (suc count) suffix text one some = by (nat_le (length (pieces text)) (suc count)) refl
+  where
+    by : (b : Bool) → nat_le (length (pieces text)) (suc count) ≡ b → length (pieces (shortened (suc count) suffix text)) ≤ suc count
+    by true e =
+        let few = le_is (length (pieces text)) (suc count) e in
+        omega (arith, few, ap (λ bs. length (pieces bs)) (whole_stays count suffix text few))
+    by false e =
+        let many = not_le_is (length (pieces text)) (suc count) e in
+        let ends = All-head (Lacks 10) suffix [] (All-same (Lacks 10) (suffix ∷ []) (pieces suffix) (sym one) (all_lack 10 suffix)) in
+        omega (arith, ap (λ bs. length (pieces bs)) (rest_goes count suffix text many), first_lines count suffix (pieces text) many (all_lack 10 text) ends)
+
+pub low_stays : (count : ℕ) (suffix text : List ℕ) → length (pieces text) ≤ count → shortened count suffix text ≡ text
+low_stays zero suffix text few = let first = some_pieces text in absurd (omega (arith, few, ap length first.2))
+low_stays (suc count) suffix text few = whole_stays count suffix text few

@@ -1,6 +1,6 @@
 -- Lines that are too wide, cut into rows.
-use Rattle.std.specs.Prelude.{◌≡◌, ℕ, ◌+◌, ◌==◌, false, if◌then◌else◌, List, [], ◌∷◌, ◌++◌, map, replicate}
-use Rattle.std.specs.List.{Contains, slice_split, flat_map, join_with_byte}
+use Rattle.std.specs.Prelude.{◌≡◌, ℕ, ◌+◌, ◌==◌, true, false, if◌then◌else◌, List, [], ◌∷◌, ◌++◌, map, replicate}
+use Rattle.std.specs.List.{All, Contains, slice_split, flat_map, join_with_byte}
 use Rattle.tabled_width.specs.Texts.{pieces, fits}
 use Rattle.tabled_width.specs.Clusters.{clusters}
 
@@ -89,3 +89,13 @@ wrapped width = by_lines (λ line. join_with_byte 10 (line_rows width line))
 
 unfoldable pub wrapped_words : ℕ → List ℕ → List ℕ
 wrapped_words width = by_lines (λ line. join_with_byte 10 (word_rows width line))
+
+-- ---- what laws ask for
+
+-- each cluster of each line fits
+abbrev pub ClustersFit : ℕ → List ℕ → Type 0
+ClustersFit width text = All (λ line. All (λ cluster. fits width cluster ≡ true) (clusters line)) (pieces text)
+
+-- each cluster of each word of a line fits
+abbrev pub WordsFit : ℕ → List ℕ → Type 0
+WordsFit width line = All (λ word. All (λ cluster. fits width cluster ≡ true) (clusters word.text)) (words line)
