@@ -1,15 +1,14 @@
 -- Rows of a line of printable ASCII, of which each byte is a cluster of one column.
-use Rattle.std.proofs.Common.{◌≡◌, ◌==◌, ℕ, ◌+◌, ◌-◌, ◌<◌, ◌≤◌, zero, suc, max, nat_le, Bool, true, false, ◌&&◌, ◌||◌, unwrap_or, lit<, if◌then◌else◌, Option, Some, List, [], ◌∷◌, ◌++◌, map, length, get_or, take, drop, slice_range, encode_utf8, encode_utf8_all, chars, refl, sym, ap, ◌∙◌, arith, append_assoc, append-nil, length-append}
+use Rattle.std.proofs.Common.{◌≡◌, ◌==◌, ℕ, ◌+◌, ◌-◌, ◌<◌, ◌≤◌, zero, suc, max, nat_le, Bool, true, false, ◌&&◌, ◌||◌, unwrap_or, lit<, if◌then◌else◌, Some, List, [], ◌∷◌, ◌++◌, map, length, take, drop, slice_range, encode_utf8, encode_utf8_all, refl, sym, ap, ◌∙◌, arith, append_assoc, append-nil, length-append}
 use Rattle.std.specs.List.{list_all, join_with_byte}
 use Rattle.std.proofs.lemmas.Bool.{and_parts}
 use Rattle.std.proofs.lemmas.Bool.Decides.{nat_tests}
 use Rattle.std.proofs.lemmas.List.Folds.{list_all-append}
-use Rattle.std.proofs.lemmas.List.Sums.{AllPass-from_list_all, list_all-from_AllPass}
 use Rattle.std.proofs.lemmas.Str.{encode_ascii, chars-IsAscii}
 use Rattle.unicode_width.specs.Width.{char_width}
 use Rattle.tabled_width.specs.Texts.{fits, is_printable}
 use Rattle.tabled_width.specs.Clusters.{takes_none, is_skin_tone, is_indicator, belongs, grouped, clusters_of, clusters}
-use Rattle.tabled_width.specs.Rows.{close, joined, before, rows}
+use Rattle.tabled_width.specs.Rows.{close, before, rows}
 use Rattle.tabled_width.proofs.Printing.{below_128, printable_ascii, printable_width}
 use Rattle.tabled_width.proofs.Filling.{step_fits, step_full, step_end, some_rows}
 

@@ -8,7 +8,7 @@ use Rattle.std.proofs.lemmas.Str.{chars-IsAscii}
 use Rattle.std.proofs.lemmas.Str.Ascii.{IsAscii-from_all}
 use Rattle.unicode_width.proofs.Rules.{str_width-printable}
 use Rattle.unicode_width.specs.Width.{str_width}
-use Rattle.tabled_width.specs.Texts.{pieces, width_of_text, is_printable}
+use Rattle.tabled_width.specs.Texts.{width_of_text, is_printable}
 
 pub below_128 : (b : ℕ) → is_printable b ≡ true → b < 128
 below_128 b h = grind (arith, nat_tests)

@@ -24,13 +24,6 @@ pub used-grows : (low high : ℕ) (xs : List ℕ) → low ≤ high → used low 
 used-grows low high [] le = omega arith
 used-grows low high (x ∷ xs) le = let rest = used-grows low high xs le in omega arith
 
--- with caps of which the lower is as great as the room, all that fits is the same
-pub used-past : (low high room : ℕ) (xs : List ℕ) → room ≤ low → low ≤ high → used high xs ≤ room → used high xs ≡ used low xs
-used-past low high room [] past le fit = refl
-used-past low high room (x ∷ xs) past le fit =
-    let rest : used high xs ≡ used low xs = used-past low high room xs past le (omega (arith, fit)) in
-    omega (arith, rest)
-
 -- a cap above all that is asked for takes what is asked for
 pub used-all : (low high : ℕ) (xs : List ℕ) → ((i : ℕ) → i < length xs → get_or xs i 0 ≤ low) → low ≤ high → used high xs ≡ used low xs
 used-all low high [] each le = refl
@@ -96,27 +89,12 @@ pub some_fits : (n room : ℕ) (r : Option ℕ) → r ≡ (if nat_le n room then
 some_fits n room r is some =
     ⊎_elim (λ (lt : room < n). absurd (let no = sym some ∙ ap is_some (is ∙ ap (λ b. if b then Some (room - n) else None) (not_le n room lt)) in cc)) (λ (le : n ≤ room). le) (cases_lt room n)
 
-pub none_over : (n room : ℕ) (r : Option ℕ) → r ≡ (if nat_le n room then Some (room - n) else None) → is_some r ≡ false → room < n
-none_over n room r is none =
-    ⊎_elim (λ (lt : room < n). lt) (λ (le : n ≤ room). absurd (let no = sym none ∙ ap is_some (is ∙ ap (λ b. if b then Some (room - n) else None) (is_le n room le)) in cc)) (cases_lt room n)
-  where
-    is_le : (n m : ℕ) → n ≤ m → nat_le n m ≡ true
-    is_le n m le = grind (arith, nat_tests)
-
 -- a cap at which the next does not fit
-pub cap_below : (room cap : ℕ) (xs : List ℕ) → 1 ≤ cap → (cap ≡ 1) ⊎ (used cap xs ≤ room) → room < used (cap + 1) xs → IsCap room xs cap
-cap_below room cap xs some fit over = record {
+pub cap_below : (room cap next : ℕ) (xs : List ℕ) → 1 ≤ cap → (cap ≡ 1) ⊎ (used cap xs ≤ room) → next ≤ cap + 1 → room < used next xs → IsCap room xs cap
+cap_below room cap next xs some fit close over = record {
   some = some;
   fits = fit;
-  most = λ more lt le. absurd (let grows = used-grows (cap + 1) more xs (omega (arith, lt)) in omega (arith, grows, le, over));
-}
-
--- a cap as great as the room
-pub cap_past : (room cap : ℕ) (xs : List ℕ) → 1 ≤ cap → (cap ≡ 1) ⊎ (used cap xs ≤ room) → room ≤ cap → IsCap room xs cap
-cap_past room cap xs some fit past = record {
-  some = some;
-  fits = fit;
-  most = λ more lt le. used-past cap more room xs past (omega (arith, lt)) le;
+  most = λ more lt le. absurd (let grows = used-grows next more xs (omega (arith, lt, close)) in omega (arith, grows, le, over));
 }
 
 -- a cap above all that is asked for

@@ -1,5 +1,5 @@
 -- A line that is cut at its spaces loses spaces alone.
-use Rattle.std.proofs.Common.{◌≡◌, ◌==◌, ℕ, ◌+◌, ◌<◌, Bool, true, false, if◌then◌else◌, List, [], ◌∷◌, ◌++◌, map, length, get_or, replicate, refl, sym, ap, subst, ◌∙◌, arith, lit<, append_assoc, append-nil, length-append}
+use Rattle.std.proofs.Common.{◌≡◌, ◌==◌, ℕ, ◌+◌, ◌<◌, Bool, true, false, if◌then◌else◌, List, [], ◌∷◌, ◌++◌, map, length, replicate, refl, sym, ap, subst, ◌∙◌, arith, lit<, append_assoc, append-nil, length-append}
 use Rattle.std.specs.List.{All, concat, slice_split, flat_map, join_with_byte}
 use Rattle.std.specs.Str.{IsUtf8}
 use Rattle.std.proofs.lemmas.List.{replicate_more, replicate-append-replicate, get_or_append_left, get_or-append-add}
@@ -21,15 +21,23 @@ written_out (p ∷ ps) = replicate p.gap 32 ++ (p.text ++ written_out ps)
 
 more_spaces : (n : ℕ) (rs : List (List ℕ)) (line : List ℕ) → IsSpacedOut rs line → IsSpacedOut rs (replicate n 32 ++ line)
 more_spaces n [] line is = (n + is.0, ap (λ bs. replicate n 32 ++ bs) is.1 ∙ replicate-append-replicate n is.0 32)
-more_spaces n (r ∷ rs) line is =
-    (n + is.0, is.1, ap (λ bs. replicate n 32 ++ bs) is.2 ∙ sym (append_assoc (replicate n 32) (replicate is.0 32) (r ++ is.1))
-    ∙ ap (λ bs. bs ++ (r ++ is.1)) (replicate-append-replicate n is.0 32), is.3)
+more_spaces n (r ∷ rs) line is = (
+  n + is.0,
+  is.1,
+  ap (λ bs. replicate n 32 ++ bs) is.2 ∙ sym (append_assoc (replicate n 32) (replicate is.0 32) (r ++ is.1))
+      ∙ ap (λ bs. bs ++ (r ++ is.1)) (replicate-append-replicate n is.0 32),
+  is.3,
+)
 
 spaces_after : (n : ℕ) (rs : List (List ℕ)) (line : List ℕ) → IsSpacedOut rs line → IsSpacedOut rs (line ++ replicate n 32)
 spaces_after n [] line is = (is.0 + n, ap (λ bs. bs ++ replicate n 32) is.1 ∙ replicate-append-replicate is.0 n 32)
-spaces_after n (r ∷ rs) line is =
-    (is.0, is.1 ++ replicate n 32, ap (λ bs. bs ++ replicate n 32) is.2 ∙ append_assoc (replicate is.0 32) (r ++ is.1) (replicate n 32)
-    ∙ ap (λ bs. replicate is.0 32 ++ bs) (append_assoc r is.1 (replicate n 32)), spaces_after n rs is.1 is.3)
+spaces_after n (r ∷ rs) line is = (
+  is.0,
+  is.1 ++ replicate n 32,
+  ap (λ bs. bs ++ replicate n 32) is.2 ∙ append_assoc (replicate is.0 32) (r ++ is.1) (replicate n 32)
+      ∙ ap (λ bs. replicate is.0 32 ++ bs) (append_assoc r is.1 (replicate n 32)),
+  spaces_after n rs is.1 is.3,
+)
 
 row_before : (row : List ℕ) (rs : List (List ℕ)) (line : List ℕ) → IsSpacedOut rs line → IsSpacedOut (before row rs) (row ++ line)
 row_before [] rs line is = is
@@ -79,6 +87,7 @@ written_word width word is = by (fits width word.text) refl
   where
     whole : concat (clusters word.text) ≡ word.text
     whole = concat_clusters word.text is.0
+
     by : (b : Bool) → fits width word.text ≡ b → written_out (if b then word ∷ [] else spaced word.gap (clusters word.text)) ≡ replicate word.gap 32 ++ word.text
     by true e = ap (λ bs. replicate word.gap 32 ++ bs) (append-nil word.text)
     by false e =
@@ -106,16 +115,20 @@ line_of_words : (gap : ℕ) (ps : List (List ℕ)) → (k : ℕ) × (replicate g
 line_of_words gap [] = (gap, append-nil (replicate gap 32))
 line_of_words gap ([] ∷ []) = (gap, append-nil (replicate gap 32))
 line_of_words gap ([] ∷ (p ∷ ps)) =
-    let rest = line_of_words (gap + 1) (p ∷ ps) in
-    (rest.0, sym (append_assoc (replicate gap 32) (32 ∷ []) (join_with_byte 32 (p ∷ ps)))
-    ∙ ap (λ bs. bs ++ join_with_byte 32 (p ∷ ps)) (replicate_more gap 32) ∙ rest.1)
+    let rest = line_of_words (gap + 1) (p ∷ ps) in (
+      rest.0,
+      sym (append_assoc (replicate gap 32) (32 ∷ []) (join_with_byte 32 (p ∷ ps)))
+          ∙ ap (λ bs. bs ++ join_with_byte 32 (p ∷ ps)) (replicate_more gap 32) ∙ rest.1,
+    )
 line_of_words gap ((b ∷ bs) ∷ []) =
     (0, ap (λ cs. replicate gap 32 ++ cs) (sym (append-nil (b ∷ bs))) ∙ sym (append-nil (replicate gap 32 ++ ((b ∷ bs) ++ []))))
 line_of_words gap ((b ∷ bs) ∷ (p ∷ ps)) =
-    let rest = line_of_words 1 (p ∷ ps) in
-    (rest.0, ap (λ cs. replicate gap 32 ++ ((b ∷ bs) ++ cs)) rest.1
-    ∙ ap (λ cs. replicate gap 32 ++ cs) (sym (append_assoc (b ∷ bs) (written_out (words_from 1 (p ∷ ps))) (replicate rest.0 32)))
-    ∙ sym (append_assoc (replicate gap 32) ((b ∷ bs) ++ written_out (words_from 1 (p ∷ ps))) (replicate rest.0 32)))
+    let rest = line_of_words 1 (p ∷ ps) in (
+      rest.0,
+      ap (λ cs. replicate gap 32 ++ ((b ∷ bs) ++ cs)) rest.1
+          ∙ ap (λ cs. replicate gap 32 ++ cs) (sym (append_assoc (b ∷ bs) (written_out (words_from 1 (p ∷ ps))) (replicate rest.0 32)))
+          ∙ sym (append_assoc (replicate gap 32) ((b ∷ bs) ++ written_out (words_from 1 (p ∷ ps))) (replicate rest.0 32)),
+    )
 
 pub line_spaced : (width : ℕ) (line : List ℕ) → IsUtf8 line → IsSpacedOut (word_rows width line) line
 unfolding word_rows
@@ -123,12 +136,15 @@ line_spaced width line text = by (fits width line) refl
   where
     parts : List Part
     parts = flat_map (parts_of width) (words line)
+
     cut : (k : ℕ) × (join_with_byte 32 (slice_split (λ byte. byte == 32) line) ≡ written_out (words line) ++ replicate k 32)
     cut = line_of_words 0 (slice_split (λ byte. byte == 32) line)
+
     whole : written_out parts ++ replicate cut.0 32 ≡ line
     whole =
         ap (λ bs. bs ++ replicate cut.0 32) (written_words width (words line) (words_are 0 (slice_split (λ byte. byte == 32) line) (all_texts 32 (lit< tt) line text)))
         ∙ sym cut.1 ∙ join_with_byte-slice_split 32 line
+
     by : (b : Bool) → fits width line ≡ b → IsSpacedOut (if b then line ∷ [] else rows width [] (flat_map (parts_of width) (words line))) line
     by true e = one_row line
     by false e = subst (IsSpacedOut (rows width [] parts)) whole (spaces_after cut.0 (rows width [] parts) (written_out parts) (rows_spaced width [] parts))

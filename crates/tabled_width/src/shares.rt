@@ -25,15 +25,18 @@ fn left_over(cap: usize, asked: &[usize], room: usize) -> Option<usize>
 fn cap_of(asked: &[usize], room: usize) -> usize
     ensures { IsCap room asked.now result }
 {
-    if left_over(usize::MAX, asked, room).is_some() {
-        return usize::MAX;
+    let mut too_great = usize::MAX;
+    if left_over(too_great, asked, room).is_some() {
+        return too_great;
     }
     let mut cap: usize = 1;
-    while cap < room {
-        if left_over(cap + 1, asked, room).is_none() {
-            return cap;
+    while too_great - cap > 1 {
+        let middle = cap + (too_great - cap) / 2;
+        if left_over(middle, asked, room).is_some() {
+            cap = middle;
+        } else {
+            too_great = middle;
         }
-        cap += 1;
     }
     cap
 }
@@ -58,7 +61,9 @@ fn shared_out(alloc: Global, asked: &[usize], room: usize) -> Result<Vec<usize>,
 
 /// How many terminal columns each column of a table gets of the room that there is for all. Where not all get what they ask for,
 /// each gets what it asks for up to a cap, the greatest for which there is room, and what is left over goes one by one to the first
-/// columns that ask for more. Each gets one at least, if it asks for any.
+/// columns that ask for more. Each gets one at least, if it asks for any, even where there is no room for that.
+///
+/// `shares_of(alloc, &[3, 10, 20], 20)?` is `[3, 9, 8]`. Only memory can be refused.
 pub fn shares_of(alloc: Global, asked: &[usize], room: usize) -> Result<Vec<usize>, OutOfMemory>
     ensures shares { IfOk result (λ shares. (cap : ℕ) × IsCap room asked.now cap × (shares.items ≡ shared cap (room - used cap asked.now) asked.now)) }
     ensures fits { IfOk result (λ shares. length asked.now ≤ room → sum shares.items ≤ room) }

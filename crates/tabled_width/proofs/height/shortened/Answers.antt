@@ -1,5 +1,5 @@
 -- One line more, or the last of those that stay.
-use Rattle.std.proofs.Common.{◌≡◌, ◌<◌, ◌∙◌, sym, arith, rules, string_bytes}
+use Rattle.std.proofs.Common.{◌∙◌, sym, arith, rules, string_bytes}
 use Rattle.tabled_width.proofs.Heights.{none_stays, line_more, line_cut, line_last}
 use Rattle.tabled_width.proofs.height.shortened.Goals as goal
 

@@ -1,5 +1,5 @@
 -- The rows are written when no cluster is left.
-use Rattle.std.proofs.Common.{◌++◌, map, sym, ap, ◌∙◌, string_bytes}
+use Rattle.std.proofs.Common.{◌++◌, map, ap, ◌∙◌, string_bytes}
 use Rattle.tabled_width.specs.Rows.{close}
 use Rattle.tabled_width.proofs.Filling.{rows_end}
 use Rattle.tabled_width.proofs.rows.push_clusters.Goals as goal

@@ -1,5 +1,5 @@
 -- The line as it is, or its rows.
-use Rattle.std.proofs.Common.{◌++◌, map, sym, ap, ◌∙◌, string_bytes}
+use Rattle.std.proofs.Common.{◌++◌, sym, ap, ◌∙◌, string_bytes}
 use Rattle.std.specs.List.{join_with_byte}
 use Rattle.tabled_width.proofs.Filling.{line_short, line_long}
 use Rattle.tabled_width.proofs.rows.push_line.Goals as goal

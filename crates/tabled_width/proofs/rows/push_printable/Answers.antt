@@ -1,5 +1,5 @@
 -- One row more, or the last.
-use Rattle.std.proofs.Common.{◌≡◌, true, rules, length, drop, sym, ap, ◌∙◌, arith, string_bytes}
+use Rattle.std.proofs.Common.{rules, ap, ◌∙◌, arith, string_bytes}
 use Rattle.std.specs.List.{list_all}
 use Rattle.tabled_width.specs.Texts.{is_printable}
 use Rattle.tabled_width.proofs.PrintableRows.{dropped_printable, row_more, row_last}

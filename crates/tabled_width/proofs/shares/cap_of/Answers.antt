@@ -1,7 +1,7 @@
 -- The cap is the greatest with which the columns fit.
-use Rattle.std.proofs.Common.{◌+◌, not, ap, sym, ◌∙◌, arith, lit≤}
+use Rattle.std.proofs.Common.{sym, ◌∙◌, arith, lit≤}
 use Rattle.tabled_width.specs.Shares.{used}
-use Rattle.tabled_width.proofs.Sharing.{some_fits, none_over, cap_above, cap_below, cap_past}
+use Rattle.tabled_width.proofs.Sharing.{some_fits, cap_above, cap_below}
 use Rattle.tabled_width.proofs.shares.cap_of.Goals as goal
 
 pub returns-then-is_some : goal.returns-then-is_some
@@ -10,10 +10,8 @@ returns-then-is_some c =
     (some_fits (used 18446744073709551615 c.args.asked.now) c.args.room c.left_over.result c.left_over.ensures (sym c.is_some.ensures ∙ c.if-is_some.true))
     (λ i within. let fit = c.type_inv.asked i in omega (arith, fit))
 
-pub returns-then-is_none : goal.returns-then-is_none
-returns-then-is_none c =
-    cap_below c.args.room c.loop-cap.cap c.args.asked.now c.loop-cap.invariant.some c.loop-cap.invariant.fits
-    (none_over (used (c.loop-cap.cap + 1) c.args.asked.now) c.args.room c.left_over-in-loop-cap.result c.left_over-in-loop-cap.ensures (c.is_none.ensures ∙ ap not c.if-is_none.true))
-
 pub returns : goal.returns
-returns c = cap_past c.args.room c.loop-cap.cap c.args.asked.now c.loop-cap.invariant.some c.loop-cap.invariant.fits c.loop-cap-test.false
+returns c =
+    let here = c.loop-too_great.invariant in
+    let next = c.loop-too_great-test.false in
+    cap_below c.args.room c.loop-too_great.cap c.loop-too_great.too_great c.args.asked.now here.some here.fits (omega (arith, next)) here.over
