@@ -1,13 +1,16 @@
 -- Rows of a line of printable ASCII, of which each byte is a cluster of one column.
-use Rattle.std.proofs.Common.{◌≡◌, ◌==◌, ℕ, ◌+◌, ◌-◌, ◌<◌, ◌≤◌, zero, suc, max, nat_le, Bool, true, false, ◌&&◌, ◌||◌, unwrap_or, lit<, if◌then◌else◌, Some, List, [], ◌∷◌, ◌++◌, map, length, take, drop, slice_range, encode_utf8, encode_utf8_all, refl, sym, ap, ◌∙◌, arith, append_assoc, append-nil, length-append}
-use Rattle.std.specs.List.{list_all, join_with_byte}
-use Rattle.std.proofs.lemmas.Bool.{and_parts}
+use Rattle.std.proofs.Common.{◌≡◌, ◌==◌, ℕ, ◌+◌, ◌-◌, ◌<◌, ◌≤◌, zero, suc, max, min, ⊎_elim, nat_le, Bool, true, false, ◌&&◌, ◌||◌, unwrap_or, lit<, if◌then◌else◌, Some, List, [], ◌∷◌, ◌++◌, map, length, take, drop, slice_range, encode_utf8, encode_utf8_all, refl, sym, ap, ◌∙◌, arith, append_assoc, append-nil, length-append}
+use Rattle.std.specs.List.{All, list_all, join_with_byte}
+use Rattle.std.proofs.lemmas.Bool.{and_parts, cases_lt}
 use Rattle.std.proofs.lemmas.Bool.Decides.{nat_tests}
+use Rattle.std.proofs.lemmas.List.{take_all}
+use Rattle.std.proofs.lemmas.List.Elements.{All-nil, All-cons, All-same}
 use Rattle.std.proofs.lemmas.List.Folds.{list_all-append}
 use Rattle.std.proofs.lemmas.Str.{encode_ascii, chars-IsAscii}
 use Rattle.unicode_width.specs.Width.{char_width}
 use Rattle.tabled_width.specs.Texts.{fits, is_printable}
 use Rattle.tabled_width.specs.Clusters.{takes_none, is_skin_tone, is_indicator, belongs, grouped, clusters_of, clusters}
+use Rattle.tabled_width.specs.CutOff.{beginning}
 use Rattle.tabled_width.specs.Rows.{close, before, rows}
 use Rattle.tabled_width.proofs.Printing.{below_128, printable_ascii, printable_width}
 use Rattle.tabled_width.proofs.Filling.{step_fits, step_full, step_end, some_rows}
@@ -192,3 +195,67 @@ module _ (width : ℕ) where
       is ∙ ap (λ rs. written ++ join_with_byte 10 rs) (sym (last_row rest printable few))
       ∙ ap (λ us. written ++ join_with_byte 10 (rows width [] (map close us))) (sym (clusters_printable rest printable))
       ∙ so_far
+
+-- ---- as many bytes before a suffix as there are columns left
+
+-- whether one byte more fits
+fits_before : (width : ℕ) (shown taken : List ℕ) (b : ℕ) → list_all is_printable shown ≡ true → list_all is_printable taken ≡ true → is_printable b ≡ true
+    → fits width ((taken ++ b ∷ []) ++ shown) ≡ nat_le (length taken + 1 + length shown) width
+fits_before width shown taken b ends here next =
+    let printable : list_all is_printable ((taken ++ b ∷ []) ++ shown) ≡ true =
+    list_all-append is_printable (taken ++ b ∷ []) shown ∙ ap (λ t. t && list_all is_printable shown) (more_printable taken b here next) ∙ ends in
+    let size : length ((taken ++ b ∷ []) ++ shown) ≡ length taken + 1 + length shown =
+    length-append (taken ++ b ∷ []) shown ∙ ap (λ n. n + length shown) (length-append taken (b ∷ [])) in
+    fits_printable width ((taken ++ b ∷ []) ++ shown) printable ∙ ap (λ n. nat_le n width) size
+
+take_least : (n m : ℕ) (line : List ℕ) → n ≡ length line → take (min n m) line ≡ take m line
+take_least n m line is =
+    ⊎_elim
+    (λ (short : m < n). ap (λ k. take k line) (omega arith))
+    (λ (long : n ≤ m). take_all (min n m) line (omega (arith, is)) ∙ sym (take_all m line (omega (arith, is))))
+    (cases_lt m n)
+
+-- a beginning with so many columns left
+begin_bytes : (width n : ℕ) (shown taken bs : List ℕ) → list_all is_printable shown ≡ true → list_all is_printable taken ≡ true → list_all is_printable bs ≡ true
+    → length taken + length shown + n ≡ width → beginning width shown taken (singles bs) ≡ taken ++ take n bs
+unfolding beginning
+begin_bytes width n shown taken [] ends here rest room = sym (append-nil taken) ∙ ap (λ more. taken ++ more) (take_none n)
+  where
+    take_none : (n : ℕ) → [] ≡ take {A = ℕ} n []
+    take_none zero = refl
+    take_none (suc n) = refl
+begin_bytes width zero shown taken (b ∷ bs) ends here rest room =
+    let parts = and_parts (is_printable b) (list_all is_printable bs) rest in
+    ap (λ t. if t then beginning width shown (taken ++ b ∷ []) (singles bs) else taken)
+    (fits_before width shown taken b ends here parts.0 ∙ is_not (length taken + 1 + length shown) width (omega (arith, room)))
+    ∙ sym (append-nil taken)
+  where
+    is_not : (n m : ℕ) → m < n → nat_le n m ≡ false
+    is_not n m lt = grind (arith, nat_tests)
+begin_bytes width (suc n) shown taken (b ∷ bs) ends here rest room =
+    let parts = and_parts (is_printable b) (list_all is_printable bs) rest in
+    ap (λ t. if t then beginning width shown (taken ++ b ∷ []) (singles bs) else taken)
+    (fits_before width shown taken b ends here parts.0 ∙ is_le (length taken + 1 + length shown) width (omega (arith, room)))
+    ∙ begin_bytes width n shown (taken ++ b ∷ []) bs ends (more_printable taken b here parts.0) parts.1 (omega (arith, room, length-append taken (b ∷ [])))
+    ∙ append_assoc taken (b ∷ []) (take n bs)
+  where
+    is_le : (n m : ℕ) → n ≤ m → nat_le n m ≡ true
+    is_le n m le = grind (arith, nat_tests)
+
+pub begin_printable : (width count : ℕ) (shown line front : List ℕ) → list_all is_printable shown ≡ true → list_all is_printable line ≡ true → length shown ≤ width
+    → count ≡ min (length line) (width - length shown) → front ≡ slice_range line 0 count → front ≡ beginning width shown [] (clusters line)
+begin_printable width count shown line front ends printable within is cut =
+    let same : count - 0 ≡ count = omega arith in
+    cut ∙ ap (λ n. take n line) (same ∙ is) ∙ take_least (length line) (width - length shown) line refl
+    ∙ sym (begin_bytes width (width - length shown) shown [] line ends refl printable (omega (arith, within)))
+    ∙ ap (beginning width shown []) (sym (clusters_printable line printable))
+
+-- each cluster of a line of printable ASCII fits a row of a column
+pub each_fits : (width : ℕ) (line : List ℕ) → 1 ≤ width → list_all is_printable line ≡ true → All (λ cluster. fits width cluster ≡ true) (clusters line)
+each_fits width line some printable = All-same (λ cluster. fits width cluster ≡ true) (clusters line) (singles line) (clusters_printable line printable) (singles_fit line printable)
+  where
+    singles_fit : (bs : List ℕ) → list_all is_printable bs ≡ true → All (λ cluster. fits width cluster ≡ true) (singles bs)
+    singles_fit [] h = All-nil (λ cluster. fits width cluster ≡ true)
+    singles_fit (b ∷ bs) h =
+        let parts = and_parts (is_printable b) (list_all is_printable bs) h in
+        All-cons (λ cluster. fits width cluster ≡ true) (b ∷ []) (singles bs) (has_room width [] b refl parts.0 (omega (arith, some))) (singles_fit bs parts.1)

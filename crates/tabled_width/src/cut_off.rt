@@ -8,7 +8,7 @@ ghost use Rattle.tabled_width.specs.Texts.{fits};
 
 use crate::clusters::first_cluster;
 use crate::lines::cut_at;
-use crate::measure::fits;
+use crate::measure::{fits, is_printable};
 use std::alloc::Global;
 use tabled_border::OutOfMemory;
 
@@ -34,6 +34,11 @@ fn begin(row: &mut String, width: usize, suffix: &str, line: &str) -> Result<(),
     ensures { OnOk result (string_bytes row.new ≡ beginning width suffix.now [] (clusters line.now)) }
 {
     row.clear();
+    if suffix.len() <= width && is_printable(suffix) && is_printable(line) {
+        let count = line.len().min(width - suffix.len());
+        row.push_str(&line[..count])?;
+        return Ok(());
+    }
     let mut rest = line;
     while let Some((cluster, more)) = first_cluster(rest) {
         if !take(row, width, cluster, suffix)? {

@@ -1,17 +1,22 @@
 //! What holds of rows, for every width and every line: each function does nothing, and its contract is a law.
 
 ghost use Rattle.std.specs.Prelude.{◌≡◌, ◌⊎◌, ℕ, ◌<◌, ◌≤◌, List, [], ◌∷◌, true, length, All, Contains};
-ghost use Rattle.std.specs.List.{concat};
+ghost use Rattle.std.specs.List.{concat, list_all};
 ghost use Rattle.std.specs.Str.{IsUtf8};
 ghost use Rattle.tabled_width.specs.Clusters.{clusters};
 ghost use Rattle.tabled_width.specs.CutOff.{cut_off, shortened, suffix_shown, truncated};
 ghost use Rattle.tabled_width.specs.Rows.{AreFull, ClustersFit, IsSpacedOut, WordsFit, line_rows, word_rows, wrapped, wrapped_words};
-ghost use Rattle.tabled_width.specs.Texts.{LinesFit, fits, pieces};
+ghost use Rattle.tabled_width.specs.Texts.{LinesFit, fits, is_printable, pieces};
 
 /// The clusters of a line, one after another, are the line, and none is empty.
 pub fn clusters_make_the_line()
     ensures line { (line : List ℕ) → IsUtf8 line → concat (clusters line) ≡ line }
     ensures some { (line : List ℕ) → All (λ cluster. 0 < length cluster) (clusters line) }
+{}
+
+/// Each cluster of a line of printable ASCII fits where there is a column.
+pub fn printable_clusters_fit()
+    ensures { (width : ℕ) (line : List ℕ) → 1 ≤ width → list_all is_printable line ≡ true → All (λ cluster. fits width cluster ≡ true) (clusters line) }
 {}
 
 /// The rows of a line that is cut between its clusters make up the line.
