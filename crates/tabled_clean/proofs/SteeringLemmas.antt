@@ -201,8 +201,8 @@ all_plain [] e = refl
 all_plain (c ∷ cs) e =
     list_all-append is_plain_byte (encode_utf8 c) (encode_utf8_all cs)
     ∙ both_true (list_all is_plain_byte (encode_utf8 c)) (list_all is_plain_byte (encode_utf8_all cs))
-      (character_plain c (quiet (steers c) (first_of (not (steers c)) (list_all (λ x. not (steers x)) cs) e)))
-      (all_plain cs (rest_of (not (steers c)) (list_all (λ x. not (steers x)) cs) e))
+    (character_plain c (quiet (steers c) (first_of (not (steers c)) (list_all (λ x. not (steers x)) cs) e)))
+    (all_plain cs (rest_of (not (steers c)) (list_all (λ x. not (steers x)) cs) e))
 
 pub cleaned_bytes : (text : List ℕ) → IsUtf8 text → list_all (λ byte. (nat_le 32 byte && not (byte == 127)) || (byte == 10)) (cleaned text) ≡ true
 unfolding cleaned

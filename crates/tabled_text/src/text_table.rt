@@ -10,7 +10,7 @@ ghost use Rattle.tabled_text.specs.Refusal.{unequal as refusal_of};
 ghost use Rattle.tabled_text.specs.Sizes.{column_widths, row_heights};
 ghost use Rattle.tabled_text.specs.TextTable.{lent_rows};
 
-mod cleaning;
+mod limits;
 
 use crate::TableError;
 use crate::measure::{column_count, sizes_of, unequal_row};

@@ -5,7 +5,7 @@ ghost use Rattle.tabled_width.specs.CutOff.{shortened, truncated};
 ghost use Rattle.tabled_width.specs.Limited.{overflow_of};
 ghost use Rattle.tabled_width.specs.Rows.{wrapped, wrapped_words};
 
-use crate::Overflow;
+use crate::{Overflow, TextLimit};
 use std::alloc::Global;
 use tabled_border::OutOfMemory;
 
@@ -69,12 +69,13 @@ impl Wrap {
             Overflow::Wrap
         }
     }
+}
 
-    /// A text of which each line that is too wide is cut into rows. Only memory can be refused.
-    pub fn limited(&self, alloc: Global, text: &str) -> Result<String, OutOfMemory>
-        ensures { IfOk result (λ found. string_bytes found
-            ≡ (if self.now.keeps_words then wrapped_words self.now.width text.now else wrapped self.now.width text.now)) }
-    {
+/// Each line that is too wide is cut into rows.
+impl TextLimit for Wrap {
+    ghost limits = { λ wrap text. if wrap.keeps_words then wrapped_words wrap.width text else wrapped wrap.width text };
+
+    fn limited(&self, alloc: Global, text: &str) -> Result<String, OutOfMemory> {
         let found = self.overflow().limited(alloc, text, self.width)?;
         Ok(found)
     }
@@ -100,11 +101,13 @@ impl Truncate<'_> {
             suffix,
         }
     }
+}
 
-    /// A text of which each line that is too wide is cut off. Only memory can be refused.
-    pub fn limited(&self, alloc: Global, text: &str) -> Result<String, OutOfMemory>
-        ensures { IfOk result (λ found. string_bytes found ≡ truncated self.now.width self.now.suffix.now text.now) }
-    {
+/// Each line that is too wide is cut off.
+impl TextLimit for Truncate<'_> {
+    ghost limits = { λ cut text. truncated cut.width cut.suffix.now text };
+
+    fn limited(&self, alloc: Global, text: &str) -> Result<String, OutOfMemory> {
         let found = crate::truncated(alloc, text, self.width, self.suffix)?;
         Ok(found)
     }
@@ -146,11 +149,13 @@ impl HeightLimit<'_> {
             suffix,
         }
     }
+}
 
-    /// A text of at most so many lines. Only memory can be refused.
-    pub fn limited(&self, alloc: Global, text: &str) -> Result<String, OutOfMemory>
-        ensures { IfOk result (λ found. string_bytes found ≡ shortened self.now.count self.now.suffix.now text.now) }
-    {
+/// Texts keep at most so many lines.
+impl TextLimit for HeightLimit<'_> {
+    ghost limits = { λ limit text. shortened limit.count limit.suffix.now text };
+
+    fn limited(&self, alloc: Global, text: &str) -> Result<String, OutOfMemory> {
         let found = crate::shortened(alloc, text, self.count, self.suffix)?;
         Ok(found)
     }

@@ -13,6 +13,7 @@ mod lines;
 mod measure;
 mod rows;
 mod shares;
+mod text_limit;
 
 pub use builders::{Height, HeightLimit, Truncate, Width, Wrap};
 pub use clusters::first_cluster;
@@ -27,3 +28,4 @@ pub use limit::Overflow;
 pub use measure::{fits, is_printable, width_of};
 pub use rows::{wrapped, wrapped_words};
 pub use shares::shares_of;
+pub use text_limit::TextLimit;
