@@ -21,5 +21,6 @@
 pub mod grid;
 pub mod proved;
 pub mod settings;
+pub mod texts;
 
 pub use tabled_text::{TableError, TextTable};

@@ -11,3 +11,4 @@ pub use tabled_formatting::{Alignment, Justification, MarginColor, PaddingColor,
 pub use tabled_highlight::Highlight;
 pub use tabled_style::{Border, Style};
 pub use tabled_theme::Theme;
+pub use tabled_width::{Height, Width};

@@ -19,6 +19,7 @@ pub mod setting_calls;
 pub mod store_reads;
 pub mod style_lines;
 pub mod style_records;
+pub mod texts;
 pub mod theme_colors;
 pub mod themes;
 pub mod values;

@@ -25,4 +25,5 @@ pub mod spans;
 pub mod store;
 pub mod styles;
 pub mod tables;
+pub mod texts;
 pub mod worked;

@@ -9,23 +9,7 @@ ghost use Rattle.tabled_highlight.specs.Around.{has};
 use std::alloc::Global;
 use std::collections::BTreeSet;
 use tabled_border::OutOfMemory;
-use tabled_object::{Entity, ExactRecords, Object, Position, Records};
-
-/// The entities that an object lists, each once.
-pub(crate) fn listed_entities<R, O>(
-    alloc: Global,
-    records: &R,
-    target: &O,
-) -> Result<BTreeSet<Entity>, OutOfMemory>
-where
-    R: Records + ExactRecords,
-    O: Object<R>,
-    ensures { IfOk result (λ entities. (cell : At) → covered entities.keys cell
-        ≡ covered (O.listing target.now (R.row_count records.now) (R.column_count records.now)) cell) }
-{
-    let entities = target.cells(alloc, records)?.collect(alloc)?;
-    Ok(entities)
-}
+use tabled_object::{Entity, Position};
 
 /// The cells of a table of `shape.0` rows and `shape.1` columns that entities name, each once, in row order.
 pub(crate) fn cells_inside(

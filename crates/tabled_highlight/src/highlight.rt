@@ -9,7 +9,7 @@ ghost use Rattle.tabled_highlight.specs.Around.{written_around};
 ghost use Rattle.tabled_highlight.specs.Highlighting.{drawn_with, highlight_events};
 
 use crate::around::outline_writes;
-use crate::cells::{cells_inside, listed_entities};
+use crate::cells::cells_inside;
 use std::alloc::Global;
 use std::collections::BTreeSet;
 use std::marker::Model;
@@ -17,7 +17,7 @@ use tabled_border::{ANSIBuf, Border as GridBorder, OutOfMemory};
 use tabled_color::{BorderColor, Color};
 use tabled_configuration::{ColoredConfig, SpannedConfig, TableOption};
 use tabled_grid::Write;
-use tabled_object::{Entity, ExactRecords, Object, Position, Records};
+use tabled_object::{Entity, ExactRecords, Object, Position, Records, listed_entities};
 use tabled_style::Border;
 
 /// An outline around the cells that an object names: characters and colors along the border of the whole set of them.

@@ -14,7 +14,7 @@ pub use entity::{Entity, EntityIterator};
 pub use object::{
     Cell, Column, Columns, Combine, Difference, DifferenceIterator, FirstColumn, FirstRow,
     LastColumn, LastColumnOffset, LastRow, LastRowOffset, Object, Row, Rows, Segment, SegmentAll,
-    Union,
+    Union, is_covered, listed_entities,
 };
 pub use position::Position;
 pub use records::{ExactRecords, Records, Shape};

@@ -18,6 +18,7 @@ use crate::{Entity, ExactRecords, Records};
 pub use cell::Cell;
 pub use columns::{Column, Columns, FirstColumn, LastColumn, LastColumnOffset};
 pub use combined::{Combine, Union};
+pub use covering::{is_covered, listed_entities};
 pub use difference::{Difference, DifferenceIterator};
 pub use rows::{FirstRow, LastRow, LastRowOffset, Row, Rows};
 pub use segment::{Segment, SegmentAll};

@@ -3,3 +3,4 @@ pub mod CellLemmas
 pub mod EqualRows
 pub mod Painting
 pub mod Even
+pub mod ChangedLemmas

@@ -2,3 +2,4 @@ pub mod Sizes
 pub mod Cells
 pub mod Refusal
 pub mod TextTable
+pub mod Changed

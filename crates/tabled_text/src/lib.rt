@@ -3,6 +3,7 @@
 //! `docs/DEFINITIONS.md` explains the words of the contracts.
 #![tactic(auto)]
 
+mod changing;
 mod display;
 mod measure;
 mod table_error;

@@ -10,11 +10,13 @@ ghost use Rattle.tabled_text.specs.Refusal.{unequal as refusal_of};
 ghost use Rattle.tabled_text.specs.Sizes.{column_widths, row_heights};
 ghost use Rattle.tabled_text.specs.TextTable.{lent_rows};
 
+mod limits;
+
 use crate::TableError;
 use crate::measure::{column_count, sizes_of, unequal_row};
 use std::alloc::{AllocError, Global};
 use std::marker::Model;
-use std::{fmt, io};
+use std::{fmt, io, mem};
 use tabled_border::OutOfMemory;
 use tabled_configuration::{CellOption, ColoredConfig, SpannedConfig, TableOption, modify};
 use tabled_object::{FixedDimension, Object, Shape};
@@ -148,6 +150,20 @@ impl TextTable {
             sizes,
             config: unset_config(alloc)?,
         })
+    }
+
+    /// Puts other texts in the place of the table's, as many in each row, and measures them. Where memory is refused nothing changes.
+    fn set_cells(&mut self, cells: Vec<Vec<String>>) -> Result<(), OutOfMemory>
+        requires { map length (texts cells.items) ≡ map length self.old.texts }
+        ensures texts { OnOk result (self.new.texts ≡ texts cells.items) }
+        ensures config { self.new.config ≡ self.old.config }
+        ensures err { OnErr result (self.new ≡ self.old) }
+    {
+        let alloc = self.config().config().allocator();
+        let sizes = sizes_of(alloc, &cells)?;
+        drop(mem::replace(&mut self.cells, cells));
+        drop(mem::replace(&mut self.sizes, sizes));
+        Ok(())
     }
 
     /// Applies an option to the whole table, and lends the table for a further call. Where memory is refused the table is as it

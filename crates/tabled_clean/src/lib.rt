@@ -1,0 +1,8 @@
+//! Texts from outside, in which nothing steers a terminal.
+//!
+//! `docs/DEFINITIONS.md` explains the words of the contracts.
+#![tactic(auto)]
+
+mod cleaning;
+
+pub use cleaning::{cleaned, is_clean, steers};

@@ -1,0 +1,128 @@
+-- How rows are filled, part by part.
+use Rattle.std.proofs.Common.{◌≡◌, map, ℕ, Bool, true, false, if◌then◌else◌, List, [], ◌∷◌, ◌++◌, length, take, replicate, refl, sym, ap, subst, ◌∙◌, ◌≤◌, arith, append_assoc, String, string_bytes, string_len, rules}
+use Rattle.std.specs.List.{flat_map, join_with_byte}
+use Rattle.std.specs.Str.{IsUtf8, IsCharBoundary}
+use Rattle.std.proofs.lemmas.List.{take_at, length-append}
+use Rattle.std.proofs.lemmas.Str.{IsCharBoundary-from_take}
+use Rattle.tabled_width.specs.Texts.{fits}
+use Rattle.tabled_width.specs.Clusters.{clusters}
+use Rattle.tabled_width.specs.Rows.{Part, close, spaced, parts_of, joined, before, rows, going_on, line_rows, word_rows, words}
+use Rattle.tabled_width.specs.CutOff.{beginning, cut_off}
+
+pub step_fits : (width : ℕ) (row : List ℕ) (part : Part) (parts : List Part) → fits width (joined row part) ≡ true → rows width row (part ∷ parts) ≡ rows width (joined row part) parts
+unfolding rows
+step_fits width row part parts e = ap (λ b. if b then rows width (joined row part) parts else before row (rows width part.text parts)) e
+
+pub step_full : (width : ℕ) (row : List ℕ) (part : Part) (parts : List Part) → fits width (joined row part) ≡ false → rows width row (part ∷ parts) ≡ before row (rows width part.text parts)
+unfolding rows
+step_full width row part parts e = ap (λ b. if b then rows width (joined row part) parts else before row (rows width part.text parts)) e
+
+pub step_end : (width : ℕ) (row : List ℕ) → rows width row [] ≡ row ∷ []
+unfolding rows
+step_end width row = refl
+
+-- there is a row
+some_before : (row : List ℕ) (rs : List (List ℕ)) → ((first : List ℕ) × (more : List (List ℕ)) × (rs ≡ first ∷ more)) → (first : List ℕ) × (more : List (List ℕ)) × (before row rs ≡ first ∷ more)
+some_before [] rs some = some
+some_before (b ∷ bs) rs some = (b ∷ bs, rs, refl)
+
+some_if : (width : ℕ) (row : List ℕ) (part : Part) (parts : List Part) (b : Bool) → fits width (joined row part) ≡ b
+    → ((row : List ℕ) → (first : List ℕ) × (more : List (List ℕ)) × (rows width row parts ≡ first ∷ more))
+    → (first : List ℕ) × (more : List (List ℕ)) × (rows width row (part ∷ parts) ≡ first ∷ more)
+some_if width row part parts true e some =
+    let next = some (joined row part) in
+    (next.0, next.1, step_fits width row part parts e ∙ next.2)
+some_if width row part parts false e some =
+    let next = some_before row (rows width part.text parts) (some part.text) in
+    (next.0, next.1, step_full width row part parts e ∙ next.2)
+
+pub some_rows : (width : ℕ) (row : List ℕ) (parts : List Part) → (first : List ℕ) × (more : List (List ℕ)) × (rows width row parts ≡ first ∷ more)
+some_rows width row [] = (row, [], step_end width row)
+some_rows width row (part ∷ parts) = some_if width row part parts (fits width (joined row part)) refl (λ next. some_rows width next parts)
+
+-- the part stands on the row
+pub put_here : (written row gone there : List ℕ) (width gap : ℕ) (text : List ℕ) → gone ≡ row ++ replicate gap 32 → there ≡ gone ++ text → fits width there ≡ true
+    → (parts : List Part) → going_on written width there parts ≡ going_on written width row (record { gap = gap; text = text } ∷ parts)
+put_here written row gone there width gap text spaced is fit parts =
+    let part : Part = record { gap = gap; text = text } in
+    let same : there ≡ joined row part = is ∙ ap (λ bs. bs ++ text) spaced ∙ append_assoc row (replicate gap 32) text in
+    ap (λ bs. going_on written width bs parts) same
+    ∙ ap (λ rs. written ++ join_with_byte 10 rs) (sym (step_fits width row part parts (ap (fits width) (sym same) ∙ fit)))
+
+-- the part stands on the next row
+pub put_next : (written new row gone there cut after : List ℕ) (width gap : ℕ) (text : List ℕ) → gone ≡ row ++ replicate gap 32 → there ≡ gone ++ text → fits width there ≡ false
+    → cut ≡ row → after ≡ text
+    → ((first : List ℕ) (more : List (List ℕ)) → new ++ join_with_byte 10 (first ∷ more) ≡ written ++ join_with_byte 10 (before cut (first ∷ more)))
+    → (parts : List Part) → going_on new width after parts ≡ going_on written width row (record { gap = gap; text = text } ∷ parts)
+put_next written new row gone there cut after width gap text spaced is full kept begun ended parts =
+    let part : Part = record { gap = gap; text = text } in
+    let same : there ≡ joined row part = is ∙ ap (λ bs. bs ++ text) spaced ∙ append_assoc row (replicate gap 32) text in
+    let next = some_rows width text parts in
+    ap (λ bs. going_on new width bs parts) begun
+    ∙ ap (λ rs. new ++ join_with_byte 10 rs) next.2
+    ∙ ended next.0 next.1
+    ∙ ap (λ bs. written ++ join_with_byte 10 (before bs (next.0 ∷ next.1))) kept
+    ∙ ap (λ rs. written ++ join_with_byte 10 (before row rs)) (sym next.2)
+    ∙ ap (λ rs. written ++ join_with_byte 10 rs) (sym (step_full width row part parts (ap (fits width) (sym same) ∙ full)))
+
+-- the length of a text
+pub len_is : {Z : Type 0} (text : String Z) → length (string_bytes text) ≡ string_len text
+len_is text = search rules
+
+-- a text may be cut where another was appended to it
+pub seam : (front more whole : List ℕ) (n : ℕ) → IsUtf8 front → whole ≡ front ++ more → n ≡ length front → IsUtf8 whole → IsCharBoundary whole n
+seam front more whole n text is at utf8 =
+    let here : take n whole ≡ front = ap (take n) is ∙ take_at front more n (sym at) in
+    let within : n ≤ length whole = omega (arith, ap length is, length-append front more) in
+    IsCharBoundary-from_take whole n utf8 within (subst IsUtf8 (sym here) text)
+
+-- ---- a line that is cut between its clusters
+
+pub line_short : (width : ℕ) (line : List ℕ) → fits width line ≡ true → join_with_byte 10 (line_rows width line) ≡ line
+unfolding line_rows
+line_short width line e = ap (λ b. join_with_byte 10 (if b then line ∷ [] else rows width [] (map close (clusters line)))) e
+
+pub line_long : (width : ℕ) (line : List ℕ) → fits width line ≡ false → line_rows width line ≡ rows width [] (map close (clusters line))
+unfolding line_rows
+line_long width line e = ap (λ b. if b then line ∷ [] else rows width [] (map close (clusters line))) e
+
+pub rows_end : (written row out goal : List ℕ) (width : ℕ) (parts : List Part) → going_on written width row parts ≡ goal → parts ≡ [] → out ≡ written ++ row → out ≡ goal
+rows_end written row out goal width parts so_far none is =
+    is ∙ ap (λ rs. written ++ join_with_byte 10 rs) (sym (step_end width row)) ∙ ap (going_on written width row) (sym none) ∙ so_far
+
+pub words_short : (width : ℕ) (line : List ℕ) → fits width line ≡ true → join_with_byte 10 (word_rows width line) ≡ line
+unfolding word_rows
+words_short width line e = ap (λ b. join_with_byte 10 (if b then line ∷ [] else rows width [] (flat_map (parts_of width) (words line)))) e
+
+pub words_long : (width : ℕ) (line : List ℕ) → fits width line ≡ false → word_rows width line ≡ rows width [] (flat_map (parts_of width) (words line))
+unfolding word_rows
+words_long width line e = ap (λ b. if b then line ∷ [] else rows width [] (flat_map (parts_of width) (words line))) e
+
+-- ---- beginnings
+
+pub begin_more : (width : ℕ) (suffix taken next u : List ℕ) (left more : List (List ℕ)) (goal : List ℕ) → beginning width suffix taken left ≡ goal → left ≡ u ∷ more
+    → fits width ((taken ++ u) ++ suffix) ≡ true → next ≡ taken ++ u → beginning width suffix next more ≡ goal
+unfolding beginning
+begin_more width suffix taken next u left more goal so_far first room is =
+    ap (λ bs. beginning width suffix bs more) is
+    ∙ sym (ap (λ b. if b then beginning width suffix (taken ++ u) more else taken) room)
+    ∙ ap (beginning width suffix taken) (sym first) ∙ so_far
+
+pub begin_full : (width : ℕ) (suffix taken u : List ℕ) (left more : List (List ℕ)) (goal : List ℕ) → beginning width suffix taken left ≡ goal → left ≡ u ∷ more
+    → fits width ((taken ++ u) ++ suffix) ≡ false → taken ≡ goal
+unfolding beginning
+begin_full width suffix taken u left more goal so_far first none =
+    sym (ap (λ b. if b then beginning width suffix (taken ++ u) more else taken) none)
+    ∙ ap (beginning width suffix taken) (sym first) ∙ so_far
+
+pub begin_end : (width : ℕ) (suffix taken : List ℕ) (left : List (List ℕ)) (goal : List ℕ) → beginning width suffix taken left ≡ goal → left ≡ [] → taken ≡ goal
+unfolding beginning
+begin_end width suffix taken left goal so_far none = ap (beginning width suffix taken) (sym none) ∙ so_far
+
+pub cut_short : (width : ℕ) (shown line : List ℕ) → fits width line ≡ true → cut_off width shown line ≡ line
+unfolding cut_off
+cut_short width shown line e = ap (λ b. if b then line else beginning width shown [] (clusters line) ++ shown) e
+
+pub cut_long : (width : ℕ) (shown line : List ℕ) → fits width line ≡ false → cut_off width shown line ≡ beginning width shown [] (clusters line) ++ shown
+unfolding cut_off
+cut_long width shown line e = ap (λ b. if b then line else beginning width shown [] (clusters line) ++ shown) e

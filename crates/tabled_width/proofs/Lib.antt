@@ -1,0 +1,13 @@
+pub mod Printing
+pub mod ClusterLemmas
+pub mod Pieces
+pub mod PieceFacts
+pub mod Heights
+pub mod Filling
+pub mod PrintableRows
+pub mod RowLaws
+pub mod FullRows
+pub mod WordLaws
+pub mod Spaces
+pub mod TextLaws
+pub mod Sharing

@@ -1,0 +1,106 @@
+-- How much capped columns take.
+use Rattle.std.proofs.Common.{◌≡◌, ◌⊎◌, inr, ⊎_elim, ℕ, ◌+◌, ◌-◌, ◌<◌, ◌≤◌, min, nat_le, sum, true, false, if◌then◌else◌, Option, Some, None, is_some, List, [], ◌∷◌, ◌++◌, length, take, get_or, zero, suc, refl, sym, ap, ◌∙◌, arith}
+use Rattle.std.proofs.lemmas.Bool.Decides.{nat_tests}
+use Rattle.std.proofs.lemmas.List.{take_more}
+use Rattle.std.proofs.lemmas.Bool.{cases_lt}
+use Rattle.std.proofs.lemmas.List.Sums.{sum_by-cons}
+use Rattle.tabled_width.specs.Shares.{used, IsCap, shared}
+
+pub used-append : (cap : ℕ) (xs ys : List ℕ) → used cap (xs ++ ys) ≡ used cap xs + used cap ys
+used-append cap [] ys = omega arith
+used-append cap (x ∷ xs) ys = let rest = used-append cap xs ys in omega arith
+
+pub used-more : (cap : ℕ) (xs : List ℕ) (i : ℕ) (d : ℕ) → i < length xs → used cap (take (i + 1) xs) ≡ used cap (take i xs) + min cap (get_or xs i d)
+used-more cap xs i d within = ap (used cap) (take_more xs i d within) ∙ used-append cap (take i xs) (get_or xs i d ∷ []) ∙ omega arith
+
+pub used-take : (cap : ℕ) (xs : List ℕ) (i : ℕ) → used cap (take i xs) ≤ used cap xs
+used-take cap [] zero = omega arith
+used-take cap [] (suc i) = omega arith
+used-take cap (x ∷ xs) zero = omega arith
+used-take cap (x ∷ xs) (suc i) = let rest = used-take cap xs i in omega arith
+
+-- a greater cap takes no less
+pub used-grows : (low high : ℕ) (xs : List ℕ) → low ≤ high → used low xs ≤ used high xs
+used-grows low high [] le = omega arith
+used-grows low high (x ∷ xs) le = let rest = used-grows low high xs le in omega arith
+
+-- a cap above all that is asked for takes what is asked for
+pub used-all : (low high : ℕ) (xs : List ℕ) → ((i : ℕ) → i < length xs → get_or xs i 0 ≤ low) → low ≤ high → used high xs ≡ used low xs
+used-all low high [] each le = refl
+used-all low high (x ∷ xs) each le =
+    let rest : used high xs ≡ used low xs = used-all low high xs (λ i within. each (suc i) (omega (arith, within))) le in
+    let here : x ≤ low = each 0 (omega arith) in
+    omega arith
+
+-- ---- the sum of shares
+
+step_small : (cap left n : ℕ) (ns : List ℕ) → n ≤ cap → shared cap left (n ∷ ns) ≡ n ∷ shared cap left ns
+step_small cap left n ns le = ap (λ b. if b then n ∷ shared cap left ns else (cap + min left 1) ∷ shared cap (left - 1) ns) (is_le n cap le)
+  where
+    is_le : (n m : ℕ) → n ≤ m → nat_le n m ≡ true
+    is_le n m le = grind (arith, nat_tests)
+
+step_great : (cap left n : ℕ) (ns : List ℕ) → cap < n → shared cap left (n ∷ ns) ≡ (cap + min left 1) ∷ shared cap (left - 1) ns
+step_great cap left n ns lt = ap (λ b. if b then n ∷ shared cap left ns else (cap + min left 1) ∷ shared cap (left - 1) ns) (is_not n cap lt)
+  where
+    is_not : (n m : ℕ) → m < n → nat_le n m ≡ false
+    is_not n m lt = grind (arith, nat_tests)
+
+pub sum_shared : (cap left : ℕ) (ns : List ℕ) → sum (shared cap left ns) ≤ used cap ns + left
+sum_shared cap left [] = omega arith
+sum_shared cap left (n ∷ ns) =
+    let few = sum_shared cap left ns in
+    let one = sum_shared cap (left - 1) ns in
+    ⊎_elim
+    (λ (lt : cap < n). let e = ap sum (step_great cap left n ns lt) ∙ sum_by-cons (λ x. x) (cap + min left 1) (shared cap (left - 1) ns) in omega (arith, e, one))
+    (λ (le : n ≤ cap). let e = ap sum (step_small cap left n ns le) ∙ sum_by-cons (λ x. x) n (shared cap left ns) in omega (arith, e, few))
+    (cases_lt cap n)
+
+used-one : (ns : List ℕ) → used 1 ns ≤ length ns
+used-one [] = omega arith
+used-one (n ∷ ns) = let rest = used-one ns in omega arith
+
+-- where there is a column of room for each, the shares fit
+pub shares_fit : (room cap : ℕ) (ns : List ℕ) → IsCap room ns cap → length ns ≤ room → sum (shared cap (room - used cap ns) ns) ≤ room
+shares_fit room cap ns is few =
+    let most = sum_shared cap (room - used cap ns) ns in
+    let fit : used cap ns ≤ room = ⊎_elim (λ (one : cap ≡ 1). omega (arith, ap (λ c. used c ns) one, used-one ns)) (λ (le : used cap ns ≤ room). le) is.fits in
+    omega arith
+
+-- ---- what is left
+
+not_le : (n m : ℕ) → m < n → nat_le n m ≡ false
+not_le n m lt = grind (arith, nat_tests)
+
+pub room_over : (cap room left taken i : ℕ) (xs : List ℕ) → left + used cap (take i xs) ≡ room → i < length xs → taken ≡ min cap (get_or xs i 0) → left < taken
+    → None ≡ (if nat_le (used cap xs) room then Some (room - used cap xs) else None)
+room_over cap room left taken i xs so_far within is over =
+    let most : used cap (take (i + 1) xs) ≤ used cap xs = used-take cap xs (i + 1) in
+    let here : used cap (take (i + 1) xs) ≡ used cap (take i xs) + min cap (get_or xs i 0) = used-more cap xs i 0 within in
+    sym (ap (λ b. if b then Some (room - used cap xs) else None) (not_le (used cap xs) room (omega (arith, most, here))))
+
+pub room_more : (cap room left taken i : ℕ) (xs : List ℕ) → left + used cap (take i xs) ≡ room → i < length xs → taken ≡ min cap (get_or xs i 0) → taken ≤ left
+    → (left - taken) + used cap (take (i + 1) xs) ≡ room
+room_more cap room left taken i xs so_far within is fit =
+    let here : used cap (take (i + 1) xs) ≡ used cap (take i xs) + min cap (get_or xs i 0) = used-more cap xs i 0 within in
+    omega (arith, here)
+
+pub some_fits : (n room : ℕ) (r : Option ℕ) → r ≡ (if nat_le n room then Some (room - n) else None) → is_some r ≡ true → n ≤ room
+some_fits n room r is some =
+    ⊎_elim (λ (lt : room < n). absurd (let no = sym some ∙ ap is_some (is ∙ ap (λ b. if b then Some (room - n) else None) (not_le n room lt)) in cc)) (λ (le : n ≤ room). le) (cases_lt room n)
+
+-- a cap at which the next does not fit
+pub cap_below : (room cap next : ℕ) (xs : List ℕ) → 1 ≤ cap → (cap ≡ 1) ⊎ (used cap xs ≤ room) → next ≤ cap + 1 → room < used next xs → IsCap room xs cap
+cap_below room cap next xs some fit close over = record {
+  some = some;
+  fits = fit;
+  most = λ more lt le. absurd (let grows = used-grows next more xs (omega (arith, lt, close)) in omega (arith, grows, le, over));
+}
+
+-- a cap above all that is asked for
+pub cap_above : (room cap : ℕ) (xs : List ℕ) → 1 ≤ cap → used cap xs ≤ room → ((i : ℕ) → i < length xs → get_or xs i 0 ≤ cap) → IsCap room xs cap
+cap_above room cap xs some fit each = record {
+  some = some;
+  fits = inr fit;
+  most = λ more lt le. used-all cap more xs each (omega (arith, lt));
+}

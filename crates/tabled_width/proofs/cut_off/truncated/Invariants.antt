@@ -1,0 +1,18 @@
+-- What is written, and the lines that are left.
+use Rattle.std.proofs.Common.{◌≡◌, ◌++◌, map, length, string_bytes}
+use Rattle.std.specs.List.{join_with_byte}
+use denote.Text.{Utf8}
+use denote.Shadow.{shadow}
+use Rattle.tabled_width.specs.Texts.{pieces}
+use Rattle.tabled_width.specs.CutOff.{cut_off}
+use Rattle.tabled_width.proofs.cut_off.truncated.Given as goal
+
+abbrev pub invariant-loop-line : goal.invariant-loop-line
+invariant-loop-line l = record {
+  text : shadow (Utf8 l.rest);
+  changed : string_bytes l.out ++ join_with_byte 10 (map (cut_off l.width (string_bytes l.suffix)) (pieces l.rest))
+      ≡ join_with_byte 10 (map (cut_off l.width (string_bytes l.suffix)) (pieces l.text));
+}
+
+abbrev pub decreases-loop-line : goal.decreases-loop-line
+decreases-loop-line l = length l.rest

@@ -1,0 +1,6 @@
+pub mod Texts
+pub mod Clusters
+pub mod Rows
+pub mod CutOff
+pub mod Shares
+pub mod Limited

@@ -1,0 +1,24 @@
+-- Texts: bytes that are cut at line feeds, and how many columns they take on a terminal.
+use Rattle.std.specs.Prelude.{◌≡◌, ℕ, Bool, true, false, ◌&&◌, ◌==◌, nat_le, List, chars}
+use Rattle.std.specs.List.{All, slice_split}
+use Rattle.unicode_width.specs.Width.{str_width}
+
+-- the lines of a text: the pieces between its line feeds, one more than there are line feeds
+abbrev pub pieces : List ℕ → List (List ℕ)
+pieces text = slice_split (λ byte. byte == 10) text
+
+-- how many terminal columns a text takes
+abbrev pub width_of_text : List ℕ → ℕ
+width_of_text text = str_width false (chars text)
+
+-- whether a text takes at most so many columns
+abbrev pub fits : ℕ → List ℕ → Bool
+fits width text = nat_le (width_of_text text) width
+
+-- each line of a text fits
+abbrev pub LinesFit : ℕ → List ℕ → Type 0
+LinesFit width text = All (λ line. fits width line ≡ true) (pieces text)
+
+-- whether a byte is a printable character of ASCII
+abbrev pub is_printable : ℕ → Bool
+is_printable byte = nat_le 32 byte && nat_le byte 126

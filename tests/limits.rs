@@ -1,0 +1,68 @@
+//! Tables whose texts are kept within a number of columns or lines.
+
+use std::test::Fail;
+use tabled::settings::object::{Columns, Combine, Rows, Segment};
+use tabled::settings::{Height, Style, Width};
+use tabled::{TableError, TextTable};
+
+const NEWS: &[&[&str]] = &[
+    &["name", "what it is"],
+    &["tea", "leaves in hot water"],
+    &["coffee", "roasted beans, ground, in hot water"],
+];
+
+#[test]
+fn cells_are_wrapped_at_spaces(rt: HostRuntime) -> Result<(), TableError> {
+    let mut table = TextTable::new(rt.alloc(), NEWS)?;
+    table.with(Style::rounded())?;
+    table.limit_cells(Columns::one(1), Width::wrap(14).keep_words())?;
+    let expected = "╭────────┬────────────────╮\n\
+                    │ name   │ what it is     │\n\
+                    ├────────┼────────────────┤\n\
+                    │ tea    │ leaves in hot  │\n\
+                    │        │ water          │\n\
+                    │ coffee │ roasted beans, │\n\
+                    │        │ ground, in hot │\n\
+                    │        │ water          │\n\
+                    ╰────────┴────────────────╯";
+    assert_eq!(rt; table.to_text()?.as_str(), expected);
+    Ok(())
+}
+
+#[test]
+fn cells_are_wrapped_and_cut_off(rt: HostRuntime) -> Result<(), TableError> {
+    let mut table = TextTable::new(rt.alloc(), NEWS)?;
+    table.with(Style::ascii())?;
+    table.limit_cells(Columns::one(0), Width::wrap(3))?;
+    table.limit_cells(Columns::one(1).not(Rows::first()), Width::truncate(9).suffix("…"))?;
+    let expected = "+-----+------------+\n\
+                    | nam | what it is |\n\
+                    | e   |            |\n\
+                    +-----+------------+\n\
+                    | tea | leaves i…  |\n\
+                    +-----+------------+\n\
+                    | cof | roasted …  |\n\
+                    | fee |            |\n\
+                    +-----+------------+";
+    assert_eq!(rt; table.to_text()?.as_str(), expected);
+    Ok(())
+}
+
+#[test]
+fn cells_keep_their_first_lines(rt: HostRuntime) -> Result<(), TableError> {
+    let mut table = TextTable::new(rt.alloc(), &[&["a\nb\nc", "d\ne"]])?;
+    table.with(Style::ascii())?;
+    table.limit_cells(Segment::all(), Height::limit(2).suffix(".."))?;
+    assert_eq!(rt; table.to_text()?.as_str(), "+-----+---+\n| a   | d |\n| b.. | e |\n+-----+---+");
+    Ok(())
+}
+
+#[test]
+fn a_width_of_zero_leaves_a_character_a_line(rt: HostRuntime) -> Result<(), Fail> {
+    let mut table = TextTable::new(rt.alloc(), &[&["abc"]])?;
+    table.limit_cells(Segment::all(), Width::wrap(0))?;
+    assert_eq!(rt; table.to_text()?.as_str(), " a \n b \n c ");
+    table.limit_cells(Segment::all(), Width::wrap(usize::MAX))?;
+    assert_eq!(rt; table.to_text()?.as_str(), " a \n b \n c ");
+    Ok(())
+}
