@@ -10,4 +10,5 @@ pub mod FullRows
 pub mod WordLaws
 pub mod Spaces
 pub mod TextLaws
+pub mod LimitedLaws
 pub mod Sharing

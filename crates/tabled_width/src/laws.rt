@@ -5,6 +5,8 @@ ghost use Rattle.std.specs.List.{concat, list_all};
 ghost use Rattle.std.specs.Str.{IsUtf8};
 ghost use Rattle.tabled_width.specs.Clusters.{clusters};
 ghost use Rattle.tabled_width.specs.CutOff.{cut_off, shortened, suffix_shown, truncated};
+ghost use Rattle.tabled_width.specs.Limited.{CanFit, limited};
+ghost use Rattle.tabled_width.specs.declared.limit.Overflow.{Overflow};
 ghost use Rattle.tabled_width.specs.Rows.{AreFull, ClustersFit, IsSpacedOut, WordsFit, line_rows, word_rows, wrapped, wrapped_words};
 ghost use Rattle.tabled_width.specs.Texts.{LinesFit, fits, is_printable, pieces};
 
@@ -67,6 +69,11 @@ pub fn wrapped_lines_fit()
 /// Each line fits after the text was cut off, if the suffix has no line feed.
 pub fn truncated_lines_fit()
     ensures { (width : ℕ) (suffix : List ℕ) (text : List ℕ) → IsUtf8 text → IsUtf8 suffix → pieces suffix ≡ suffix ∷ [] → LinesFit width (truncated width suffix text) }
+{}
+
+/// Each line of a text that was limited fits, whatever is done with those that are too wide, where what this asks for is so.
+pub fn limited_lines_fit()
+    ensures { (how : Overflow) (width : ℕ) (text : List ℕ) → IsUtf8 text → CanFit how width text → LinesFit width (limited how width text) }
 {}
 
 /// A text that was shortened has no more lines than it may, if the suffix has no line feed.

@@ -1,0 +1,6 @@
+-- By the law.
+use Rattle.tabled_width.proofs.LimitedLaws.{limited_fits}
+use Rattle.tabled_width.proofs.laws.limited_lines_fit.Goals as goal
+
+pub returns : goal.returns
+returns c = limited_fits
