@@ -4,6 +4,7 @@ pub mod Pieces
 pub mod PieceFacts
 pub mod Heights
 pub mod Filling
+pub mod Prefixes
 pub mod PrintableRows
 pub mod RowLaws
 pub mod FullRows
