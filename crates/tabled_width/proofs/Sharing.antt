@@ -94,3 +94,24 @@ cap_above room cap xs some fit each = record {
   fits = inr fit;
   most = λ more lt le. used-all cap more xs each (omega (arith, lt));
 }
+
+-- ---- a share for each, and none greater than what is asked for
+
+pub length_shared : (cap left : ℕ) (ns : List ℕ) → length (shared cap left ns) ≡ length ns
+length_shared cap left [] = refl
+length_shared cap left (n ∷ ns) =
+    ⊎_elim
+    (λ (lt : cap < n). ap length (step_great cap left n ns lt) ∙ ap suc (length_shared cap (left - 1) ns))
+    (λ (le : n ≤ cap). ap length (step_small cap left n ns le) ∙ ap suc (length_shared cap left ns))
+    (cases_lt cap n)
+
+pub shared_asked : (cap left : ℕ) (ns : List ℕ) → sum (shared cap left ns) ≤ sum ns
+shared_asked cap left [] = omega arith
+shared_asked cap left (n ∷ ns) =
+    let few = shared_asked cap left ns in
+    let one = shared_asked cap (left - 1) ns in
+    let all = sum_by-cons (λ x. x) n ns in
+    ⊎_elim
+    (λ (lt : cap < n). let e = ap sum (step_great cap left n ns lt) ∙ sum_by-cons (λ x. x) (cap + min left 1) (shared cap (left - 1) ns) in omega (arith, e, one, all))
+    (λ (le : n ≤ cap). let e = ap sum (step_small cap left n ns le) ∙ sum_by-cons (λ x. x) n (shared cap left ns) in omega (arith, e, few, all))
+    (cases_lt cap n)
