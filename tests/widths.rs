@@ -262,6 +262,16 @@ fn a_suffix_that_does_not_fit_is_cut_off_itself(rt: HostRuntime) -> Result<(), F
 }
 
 #[test]
+fn a_suffix_that_widens_what_it_follows_is_measured_with_it(rt: HostRuntime) -> Result<(), Fail> {
+    let alloc = rt.alloc();
+    // a digit takes two columns with U+FE0F after it
+    assert!(rt; is_cut(alloc, "111", 2, "\u{FE0F}", "1\u{FE0F}")?);
+    assert!(rt; is_cut(alloc, "1111", 3, "\u{FE0F}", "11\u{FE0F}")?);
+    assert!(rt; is_cut(alloc, "aaa", 2, "\u{FE0F}", "aa\u{FE0F}")?);
+    Ok(())
+}
+
+#[test]
 fn long_texts_are_shortened(rt: HostRuntime) -> Result<(), Fail> {
     let alloc = rt.alloc();
     assert!(rt; is_shortened(alloc, "a\nb\nc", 2, "…", "a\nb…")?);

@@ -9,7 +9,7 @@ use Rattle.std.proofs.lemmas.Str.Ascii.{IsAscii-from_all}
 use Rattle.unicode_width.proofs.Rules.{str_width-printable}
 use Rattle.unicode_width.specs.Width.{str_width}
 use Rattle.tabled_printing.specs.Texts.{pieces, width_of_text}
-use Rattle.tabled_cells.specs.Printable.{is_printable}
+use Rattle.tabled_width.specs.Texts.{is_printable}
 
 no_line_feed : (b : ℕ) → is_printable b ≡ true → eqb b 10 ≡ false
 no_line_feed b h = grind (arith, nat_tests)

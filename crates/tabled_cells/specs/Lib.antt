@@ -1,4 +1,3 @@
 pub mod Placements
 pub mod Trimmed
 pub mod Placed
-pub mod Printable

@@ -9,10 +9,10 @@ ghost use Rattle.tabled_cells.specs.Placed as parts;
 
 use crate::Placement;
 use crate::placement::free_before;
-use crate::width::width_of;
 use std::alloc::{AllocError, Global};
 use tabled_printing::push_times;
 use tabled_settings::AlignmentHorizontal;
+use tabled_width::width_of;
 
 /// What stands beside the text of a line, between the spaces at its ends.
 #[derive(Clone, Copy, Debug)]

@@ -6,9 +6,7 @@
 mod filling;
 mod placement;
 mod trim;
-mod width;
 
 pub use filling::{LineParts, aligned, line_parts, widest};
 pub use placement::{Placement, free_above};
 pub use trim::show_lines;
-pub use width::{is_printable, width_of, widths_add_before_a_space};

@@ -6,6 +6,8 @@ ghost use Rattle.std.specs.Str.{IsUtf8};
 ghost use Rattle.tabled_clean.specs.Steering.{cleaned, is_clean};
 ghost use Rattle.tabled_width.specs.Clusters.{clusters};
 ghost use Rattle.tabled_width.specs.CutOff.{cut_off, shortened, suffix_shown, truncated};
+ghost use Rattle.tabled_width.specs.Limited.{CanFit, limited};
+ghost use Rattle.tabled_width.specs.declared.limit.Overflow.{Overflow as How};
 ghost use Rattle.tabled_width.specs.Rows.{AreFull, ClustersFit, IsSpacedOut, WordsFit, line_rows, word_rows, wrapped, wrapped_words};
 ghost use Rattle.tabled_width.specs.Texts.{LinesFit, fits, is_printable, pieces};
 
@@ -101,4 +103,9 @@ pub fn limited_twice_is_once()
     ensures words { (width : ℕ) (text : List ℕ) → IsUtf8 text → All (WordsFit width) (pieces text) → wrapped_words width (wrapped_words width text) ≡ wrapped_words width text }
     ensures truncated { (width : ℕ) (suffix : List ℕ) (text : List ℕ) → IsUtf8 text → IsUtf8 suffix → pieces suffix ≡ suffix ∷ []
         → truncated width suffix (truncated width suffix text) ≡ truncated width suffix text }
+{}
+
+/// Each line of a text that was limited fits, whatever is done with those that are too wide, where what this asks for is so.
+pub fn limited_lines_fit()
+    ensures { (how : How) (width : ℕ) (text : List ℕ) → IsUtf8 text → CanFit how width text → LinesFit width (limited how width text) }
 {}

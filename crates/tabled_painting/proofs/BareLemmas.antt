@@ -18,7 +18,7 @@ use Rattle.tabled_cells.specs.declared.filling.LineParts.{LineParts}
 use Rattle.tabled_cells.specs.declared.placement.Placement.{Placement}
 use Rattle.tabled_cells.specs.Placed.{times, free_before, free_above, fill_of, line_parts, aligned_width}
 use Rattle.tabled_cells.specs.Placements.{placement_at}
-use Rattle.tabled_cells.specs.Printable.{is_printable}
+use Rattle.tabled_width.specs.Texts.{is_printable}
 use Rattle.tabled_cells.specs.Trimmed.{without_ends, is_space, is_blank, line_shown, lines_shown}
 use Rattle.tabled_cells.proofs.Printing.{one_piece, printable_width}
 use Rattle.tabled_painting.specs.Painted.{Painted, paint}

@@ -23,11 +23,12 @@ use crate::page::Page;
 use crate::{CellColors, Painter};
 use std::alloc::Global;
 use tabled_border::OutOfMemory;
-use tabled_cells::{Placement, is_printable};
+use tabled_cells::Placement;
 use tabled_configuration::{ColorMap, ColoredConfig};
 use tabled_kept::Probes;
 use tabled_object::{Dimension, FixedDimension, Position};
 use tabled_printing::{Frame, Mark};
+use tabled_width::is_printable;
 
 /// From how many rows on it pays to keep what stands between them.
 const MANY_ROWS: usize = 3;
@@ -295,6 +296,16 @@ fn line_between(alloc: Global, frame: &Frame<FixedDimension>) -> Result<Option<S
     }
 }
 
+/// How many bytes a horizontal line takes, or more: at most three for each column of most characters. It saturates.
+fn line_room(frame: &Frame<FixedDimension>) -> usize {
+    let (_, cols) = frame.shape;
+    let mut columns = cols.saturating_add(2);
+    for col in 0..cols {
+        columns = columns.saturating_add(frame.dims.get_width(col));
+    }
+    columns.saturating_mul(3)
+}
+
 /// A horizontal line as it is written, with its line feed.
 fn line_written(
     alloc: Global,
@@ -305,6 +316,7 @@ fn line_written(
     ensures { IfOk result (λ text. string_bytes text ≡ written frame.now.with_colors (painted_marks (marks_along (looks.viewed frame.now) (Line.Horizontal row)))) }
 {
     let mut painter = Painter::new(alloc, frame.with_colors);
+    painter.reserve(line_room(frame))?;
     frame.put_line(row, &mut painter, &mut Probes::new())?;
     painter.end_line()?;
     Ok(painter.into_text())

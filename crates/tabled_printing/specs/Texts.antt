@@ -1,4 +1,5 @@
 -- Cell texts: bytes that are cut at line feeds, and how wide they are on a terminal.
+pub use Rattle.tabled_width.specs.Texts.{pieces, width_of_text}
 use Rattle.std.specs.Prelude.{◌≡◌, ℕ, false, ◌==◌, List, ◌++◌, map, length, take, replicate, chars, encode_utf8_all, MatchResult, Result}
 use Rattle.std.specs.List.{slice_split}
 use Rattle.std.specs.String.{string_bytes}
@@ -13,14 +14,6 @@ Table = List (List (List ℕ))
 -- the bytes of each cell of rows of texts
 abbrev pub texts : {Z W : Type 0} → List (Vec (String Z) W) → Table
 texts rows = map (λ row. map string_bytes row.items) rows
-
--- the pieces of a text between its line feeds, one more than there are line feeds
-abbrev pub pieces : List ℕ → List (List ℕ)
-pieces text = slice_split (λ byte. byte == 10) text
-
--- how many terminal columns a text takes
-abbrev pub width_of_text : List ℕ → ℕ
-width_of_text text = str_width false (chars text)
 
 -- a character, the given number of times
 abbrev pub times : ℕ → ℕ → List ℕ

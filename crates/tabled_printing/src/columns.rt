@@ -34,31 +34,3 @@ pub fn draws_plainly(character: char) -> bool
     let draws_boxes = (code >= 0x2500) & (code <= 0x259F);
     in_ascii | (draws_boxes | is_ambiguous(character))
 }
-
-/// Each character that draws boxes or blocks is narrow.
-pub fn box_drawing_is_narrow()
-    ensures { (c : ℕ) → 0x2500 ≤ c → c ≤ 0x259F → is_narrow c ≡ true }
-{}
-
-/// Where only narrow characters are written, a table shows no others.
-pub fn narrow_writes_make_narrow_borders()
-    ensures { (es : List ConfigEvent) (shape : ℕ × ℕ) (widths heights : ℕ → ℕ) → WritesNarrow es → HasNarrowBorders (look es shape widths heights) }
-{}
-
-/// Where only narrow characters are written, the cells fit, and each line of a cell joins nothing that stands before it, the lines of
-/// what the plain printer prints are as wide as the table, and vertical lines stand straight; and where there are some, the text
-/// has no others.
-pub fn plain_text_is_a_rectangle()
-    ensures rectangle { (es : List ConfigEvent) (shape : ℕ × ℕ) (widths heights : ℕ → ℕ) (cells : Table) → is_empty shape ≡ false → WritesNarrow es
-        → table_faults widths heights shape cells ≡ [] → ((r c : ℕ) → IsUtf8 (slice_index_or (slice_index_or cells r []) c []))
-        → ((r c k : ℕ) → stands_apart (slice_index_or (pieces (slice_index_or (slice_index_or cells r []) c [])) k []) ≡ true)
-        → list_all (λ line. width_of_text line == table_width (look es shape widths heights)) (text_lines (look es shape widths heights) cells) ≡ true }
-    ensures straight { (es : List ConfigEvent) (shape : ℕ × ℕ) (widths heights : ℕ → ℕ) (cells : Table) → is_empty shape ≡ false → WritesNarrow es
-        → table_faults widths heights shape cells ≡ [] → ((r c : ℕ) → IsUtf8 (slice_index_or (slice_index_or cells r []) c []))
-        → ((r c k : ℕ) → stands_apart (slice_index_or (pieces (slice_index_or (slice_index_or cells r []) c [])) k []) ≡ true)
-        → (c : ℕ) → c ≤ shape.1 → (look es shape widths heights).vertical c ≡ true → StandsStraight (look es shape widths heights) c (text_lines (look es shape widths heights) cells) }
-    ensures lines { (es : List ConfigEvent) (shape : ℕ × ℕ) (widths heights : ℕ → ℕ) (cells : Table) → is_empty shape ≡ false → WritesNarrow es
-        → table_faults widths heights shape cells ≡ [] → ((r c : ℕ) → IsUtf8 (slice_index_or (slice_index_or cells r []) c []))
-        → ((r c k : ℕ) → stands_apart (slice_index_or (pieces (slice_index_or (slice_index_or cells r []) c [])) k []) ≡ true)
-        → 0 < length (text_lines (look es shape widths heights) cells) → pieces (printed es shape widths heights cells) ≡ text_lines (look es shape widths heights) cells }
-{}

@@ -18,10 +18,7 @@ mod sides;
 mod sink;
 mod walk;
 
-pub use columns::{
-    box_drawing_is_narrow, draws_plainly, narrow_writes_make_narrow_borders,
-    plain_text_is_a_rectangle,
-};
+pub use columns::draws_plainly;
 pub use frame::Frame;
 pub use line_pieces::{crossing_line, crossing_of, edge_of, has_line, piece_size, pieces_of};
 pub use mark::{Mark, Run};

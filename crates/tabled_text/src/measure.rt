@@ -6,8 +6,8 @@ ghost use Rattle.tabled_text.specs.Sizes.{cell, greatest, column_count, unequal_
 
 use std::alloc::{AllocError, Global};
 use tabled_border::OutOfMemory;
-use tabled_cells::{is_printable, width_of};
 use tabled_object::FixedDimension;
+use tabled_width::{is_printable, width_of};
 
 /// How many cells the first row has.
 pub(crate) fn column_count(rows: &[Vec<String>]) -> usize

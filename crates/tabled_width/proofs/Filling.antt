@@ -1,5 +1,5 @@
 -- How rows are filled, part by part.
-use Rattle.std.proofs.Common.{◌≡◌, map, ℕ, Bool, true, false, if◌then◌else◌, List, [], ◌∷◌, ◌++◌, length, take, replicate, refl, sym, ap, subst, ◌∙◌, ◌≤◌, arith, append_assoc, String, string_bytes, string_len, rules}
+use Rattle.std.proofs.Common.{◌≡◌, map, ℕ, Bool, true, false, if◌then◌else◌, List, [], ◌∷◌, ◌++◌, length, take, replicate, refl, sym, ap, subst, ◌∙◌, ◌<◌, ◌≤◌, arith, append_assoc, String, string_bytes, string_len, rules}
 use Rattle.std.specs.List.{flat_map, join_with_byte}
 use Rattle.std.specs.Str.{IsUtf8, IsCharBoundary}
 use Rattle.std.proofs.lemmas.List.{take_at, length-append}
@@ -20,6 +20,11 @@ step_full width row part parts e = ap (λ b. if b then rows width (joined row pa
 pub step_end : (width : ℕ) (row : List ℕ) → rows width row [] ≡ row ∷ []
 unfolding rows
 step_end width row = refl
+
+-- a row on which something stands is not left out
+pub before_some : (row : List ℕ) (rs : List (List ℕ)) → 0 < length row → before row rs ≡ row ∷ rs
+before_some [] rs some = absurd (omega arith)
+before_some (b ∷ bs) rs some = refl
 
 -- there is a row
 some_before : (row : List ℕ) (rs : List (List ℕ)) → ((first : List ℕ) × (more : List (List ℕ)) × (rs ≡ first ∷ more)) → (first : List ℕ) × (more : List (List ℕ)) × (before row rs ≡ first ∷ more)

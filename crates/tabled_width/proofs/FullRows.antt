@@ -6,16 +6,12 @@ use Rattle.tabled_width.specs.Texts.{fits}
 use Rattle.tabled_width.specs.Clusters.{clusters}
 use Rattle.tabled_width.specs.Rows.{close, joined, before, rows, line_rows, AreFull}
 use Rattle.tabled_width.proofs.ClusterLemmas.{clusters_nonempty}
-use Rattle.tabled_width.proofs.Filling.{step_fits, step_full, step_end}
+use Rattle.tabled_width.proofs.Filling.{before_some, step_fits, step_full, step_end}
 use Rattle.tabled_width.proofs.RowLaws.{contains_each}
 
 -- rows of which the first begins with something
 abbrev pub BeginWith : List ℕ → List (List ℕ) → Type 0
 BeginWith row rs = (rest : List ℕ) × (more : List (List ℕ)) × (rs ≡ (row ++ rest) ∷ more)
-
-some_row : (row : List ℕ) (rs : List (List ℕ)) → 0 < length row → before row rs ≡ row ∷ rs
-some_row [] rs some = absurd (omega arith)
-some_row (b ∷ bs) rs some = refl
 
 more_of : (row u : List ℕ) (rs : List (List ℕ)) → BeginWith (row ++ u) rs → BeginWith row rs
 more_of row u rs begin = (u ++ begin.0, begin.1, begin.2 ∙ ap (λ r. r ∷ begin.1) (append_assoc row u begin.0))
@@ -27,7 +23,7 @@ begin_by : (width : ℕ) (row u : List ℕ) (us : List (List ℕ)) (b : Bool) �
     → BeginWith (row ++ u) (rows width (row ++ u) (map close us)) → BeginWith row (rows width row (map close (u ∷ us)))
 begin_by width row u us true e some next = subst (BeginWith row) (sym (step_fits width row (close u) (map close us) e)) (more_of row u (rows width (row ++ u) (map close us)) next)
 begin_by width row u us false e some next =
-    ([], rows width u (map close us), step_full width row (close u) (map close us) e ∙ some_row row (rows width u (map close us)) some ∙ ap (λ r. r ∷ rows width u (map close us)) (sym (append-nil row)))
+    ([], rows width u (map close us), step_full width row (close u) (map close us) e ∙ before_some row (rows width u (map close us)) some ∙ ap (λ r. r ∷ rows width u (map close us)) (sym (append-nil row)))
 
 pub rows_begin : (width : ℕ) (row : List ℕ) (us : List (List ℕ)) → 0 < length row → BeginWith row (rows width row (map close us))
 rows_begin width row [] some = ([], [], step_end width row ∙ ap (λ r. r ∷ []) (sym (append-nil row)))

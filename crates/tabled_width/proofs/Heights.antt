@@ -2,35 +2,23 @@
 use Rattle.std.proofs.Common.{◌≡◌, ◌==◌, ℕ, ◌-◌, ◌<◌, ◌≤◌, zero, suc, nat_le, Bool, true, false, if◌then◌else◌, List, [], ◌∷◌, ◌++◌, length, take, encode_utf8, refl, sym, ap, ◌∙◌, arith, lit<, append_assoc}
 use Rattle.std.specs.List.{All, join_with_byte}
 use Rattle.std.proofs.lemmas.List.Elements.{All-head, All-tail, All-append, All-same, All-take}
-use Rattle.std.proofs.lemmas.Bool.Decides.{nat_tests}
 use Rattle.std.proofs.lemmas.List.Splits.{slice_split_none, slice_split_at, join_with_byte-slice_split}
 use Rattle.std.proofs.lemmas.Str.{encode_ascii}
+use Rattle.std.proofs.lemmas.Bool.{leb-true, leb-false, le-leb, lt-leb}
 use Rattle.tabled_width.specs.Texts.{pieces}
 use Rattle.tabled_width.specs.CutOff.{shortened}
 use Rattle.tabled_width.proofs.Pieces.{some_pieces}
 use Rattle.tabled_width.proofs.PieceFacts.{Lacks, all_lack}
 
-is_le : (n m : ℕ) → n ≤ m → nat_le n m ≡ true
-is_le n m le = grind (arith, nat_tests)
-
-is_not_le : (n m : ℕ) → m < n → nat_le n m ≡ false
-is_not_le n m lt = grind (arith, nat_tests)
-
-le_is : (n m : ℕ) → nat_le n m ≡ true → n ≤ m
-le_is n m e = grind (arith, nat_tests)
-
-not_le_is : (n m : ℕ) → nat_le n m ≡ false → m < n
-not_le_is n m e = grind (arith, nat_tests)
-
 pub whole_stays : (count : ℕ) (suffix text : List ℕ) → length (pieces text) ≤ suc count → shortened (suc count) suffix text ≡ text
 unfolding shortened
 whole_stays count suffix text few =
-    ap (λ b. if b then text else join_with_byte 10 (take (suc count) (pieces text)) ++ suffix) (is_le (length (pieces text)) (suc count) few)
+    ap (λ b. if b then text else join_with_byte 10 (take (suc count) (pieces text)) ++ suffix) (le-leb (length (pieces text)) (suc count) few)
 
 pub rest_goes : (count : ℕ) (suffix text : List ℕ) → suc count < length (pieces text) → shortened (suc count) suffix text ≡ join_with_byte 10 (take (suc count) (pieces text)) ++ suffix
 unfolding shortened
 rest_goes count suffix text many =
-    ap (λ b. if b then text else join_with_byte 10 (take (suc count) (pieces text)) ++ suffix) (is_not_le (length (pieces text)) (suc count) many)
+    ap (λ b. if b then text else join_with_byte 10 (take (suc count) (pieces text)) ++ suffix) (lt-leb (length (pieces text)) (suc count) many)
 
 pub none_stays : (count : ℕ) (suffix text : List ℕ) → count ≡ 0 → shortened count suffix text ≡ []
 unfolding shortened
@@ -53,12 +41,12 @@ first_of_more suffix rest line more first =
 one_more : (count : ℕ) (suffix rest line more : List ℕ) → pieces rest ≡ line ∷ pieces more → (b : Bool) → nat_le (length (pieces more)) (suc count) ≡ b
     → shortened (suc (suc count)) suffix rest ≡ line ++ 10 ∷ shortened (suc count) suffix more
 one_more count suffix rest line more first true e =
-    let few = le_is (length (pieces more)) (suc count) e in
+    let few = leb-true (length (pieces more)) (suc count) e in
     whole_stays (suc count) suffix rest (omega (arith, ap length first, few))
     ∙ rest_after rest line more first
     ∙ ap (λ bs. line ++ 10 ∷ bs) (sym (whole_stays count suffix more few))
 one_more count suffix rest line more first false e =
-    let many = not_le_is (length (pieces more)) (suc count) e in
+    let many = leb-false (length (pieces more)) (suc count) e in
     let next = some_pieces more in
     rest_goes (suc count) suffix rest (omega (arith, ap length first, many))
     ∙ ap (λ ps. join_with_byte 10 (take (suc (suc count)) ps) ++ suffix) first
@@ -120,10 +108,10 @@ shortened_fits (suc count) suffix text one some = by (nat_le (length (pieces tex
   where
     by : (b : Bool) → nat_le (length (pieces text)) (suc count) ≡ b → length (pieces (shortened (suc count) suffix text)) ≤ suc count
     by true e =
-        let few = le_is (length (pieces text)) (suc count) e in
+        let few = leb-true (length (pieces text)) (suc count) e in
         omega (arith, few, ap (λ bs. length (pieces bs)) (whole_stays count suffix text few))
     by false e =
-        let many = not_le_is (length (pieces text)) (suc count) e in
+        let many = leb-false (length (pieces text)) (suc count) e in
         let ends = All-head (Lacks 10) suffix [] (All-same (Lacks 10) (suffix ∷ []) (pieces suffix) (sym one) (all_lack 10 suffix)) in
         omega (arith, ap (λ bs. length (pieces bs)) (rest_goes count suffix text many), first_lines count suffix (pieces text) many (all_lack 10 text) ends)
 

@@ -4,10 +4,12 @@ pub mod Pieces
 pub mod PieceFacts
 pub mod Heights
 pub mod Filling
+pub mod Prefixes
 pub mod PrintableRows
 pub mod RowLaws
 pub mod FullRows
 pub mod WordLaws
 pub mod Spaces
 pub mod TextLaws
+pub mod LimitedLaws
 pub mod Sharing

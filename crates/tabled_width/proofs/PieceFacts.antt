@@ -55,9 +55,6 @@ module _ (separator : ℕ) where
   rest_of_parts : (text : List ℕ) (k : ℕ) → get_or (parts (after_first_part text)) k [] ≡ get_or (parts text) (k + 1) []
   rest_of_parts text k = (taken_apart text _ refl).1 k
 
-  is_it : (n : ℕ) → (n == separator) ≡ true → n ≡ separator
-  is_it n e = grind (arith, nat_tests)
-
   separator_at : (text : List ℕ) → place text < length text → get_or text (place text) 0 ≡ separator
   separator_at text inside = let stops = prefix_len_stops (λ byte. not (byte == separator)) text 0 inside in grind (arith, nat_tests)
 

@@ -1,19 +1,20 @@
 -- Rows of a line of printable ASCII, of which each byte is a cluster of one column.
-use Rattle.std.proofs.Common.{◌≡◌, ◌==◌, ℕ, ◌+◌, ◌-◌, ◌<◌, ◌≤◌, zero, suc, max, min, ⊎_elim, nat_le, Bool, true, false, ◌&&◌, ◌||◌, unwrap_or, lit<, if◌then◌else◌, Some, List, [], ◌∷◌, ◌++◌, map, length, take, drop, slice_range, encode_utf8, encode_utf8_all, refl, sym, ap, ◌∙◌, arith, append_assoc, append-nil, length-append}
+use Rattle.std.proofs.Common.{◌≡◌, ◌==◌, ℕ, ◌+◌, ◌-◌, ◌<◌, ◌≤◌, zero, suc, max, min, ⊎_elim, nat_le, Bool, true, false, ◌&&◌, ◌||◌, unwrap_or, lit<, if◌then◌else◌, Some, List, [], ◌∷◌, ◌++◌, map, length, take, drop, slice_range, encode_utf8, chars, encode_utf8_all, refl, sym, ap, ◌∙◌, arith, append_assoc, append-nil, length-append}
 use Rattle.std.specs.List.{All, list_all, join_with_byte}
-use Rattle.std.proofs.lemmas.Bool.{and_parts, cases_lt}
+use Rattle.std.proofs.lemmas.Bool.{and_parts, cases_lt, le-leb, lt-leb}
 use Rattle.std.proofs.lemmas.Bool.Decides.{nat_tests}
 use Rattle.std.proofs.lemmas.List.{take_all}
 use Rattle.std.proofs.lemmas.List.Elements.{All-nil, All-cons, All-same}
 use Rattle.std.proofs.lemmas.List.Folds.{list_all-append}
 use Rattle.std.proofs.lemmas.Str.{encode_ascii, chars-IsAscii}
 use Rattle.unicode_width.specs.Width.{char_width}
-use Rattle.tabled_width.specs.Texts.{fits, is_printable}
+use Rattle.tabled_width.specs.Texts.{begins_with, fits, is_printable, width_of_text}
 use Rattle.tabled_width.specs.Clusters.{takes_none, is_skin_tone, is_indicator, belongs, grouped, clusters_of, clusters}
 use Rattle.tabled_width.specs.CutOff.{beginning}
-use Rattle.tabled_width.specs.Rows.{close, before, rows}
+use Rattle.tabled_width.specs.Rows.{close, rows}
 use Rattle.tabled_width.proofs.Printing.{below_128, printable_ascii, printable_width}
-use Rattle.tabled_width.proofs.Filling.{step_fits, step_full, step_end, some_rows}
+use Rattle.tabled_width.proofs.Prefixes.{width_before}
+use Rattle.tabled_width.proofs.Filling.{step_fits, step_full, step_end, some_rows, before_some}
 
 -- each byte by itself
 abbrev pub singles : List ℕ → List (List ℕ)
@@ -84,22 +85,12 @@ more_printable row b here next =
 has_room : (width : ℕ) (row : List ℕ) (b : ℕ) → list_all is_printable row ≡ true → is_printable b ≡ true → length row + 1 ≤ width → fits width (row ++ b ∷ []) ≡ true
 has_room width row b here next room =
     let size : length (row ++ b ∷ []) ≤ width = omega (arith, length-append row (b ∷ [])) in
-    fits_printable width (row ++ b ∷ []) (more_printable row b here next) ∙ is_le (length (row ++ b ∷ [])) width size
-  where
-    is_le : (n m : ℕ) → n ≤ m → nat_le n m ≡ true
-    is_le n m le = grind (arith, nat_tests)
+    fits_printable width (row ++ b ∷ []) (more_printable row b here next) ∙ le-leb (length (row ++ b ∷ [])) width size
 
 is_full : (width : ℕ) (row : List ℕ) (b : ℕ) → list_all is_printable row ≡ true → is_printable b ≡ true → width ≤ length row → fits width (row ++ b ∷ []) ≡ false
 is_full width row b here next full =
     let size : width < length (row ++ b ∷ []) = omega (arith, length-append row (b ∷ [])) in
-    fits_printable width (row ++ b ∷ []) (more_printable row b here next) ∙ is_not (length (row ++ b ∷ [])) width size
-  where
-    is_not : (n m : ℕ) → m < n → nat_le n m ≡ false
-    is_not n m lt = grind (arith, nat_tests)
-
-some_before : (row : List ℕ) (rs : List (List ℕ)) → 0 < length row → before row rs ≡ row ∷ rs
-some_before [] rs some = absurd (omega arith)
-some_before (b ∷ bs) rs some = refl
+    fits_printable width (row ++ b ∷ []) (more_printable row b here next) ∙ lt-leb (length (row ++ b ∷ [])) width size
 
 -- an empty row takes the first byte, whether it fits or not
 takes_first : (width b : ℕ) (us : List (List ℕ)) → rows width [] (map close ((b ∷ []) ∷ us)) ≡ rows width (b ∷ []) (map close us)
@@ -122,7 +113,7 @@ module _ (width : ℕ) where
   fill zero row (b ∷ bs) here rest some room more =
       let parts = and_parts (is_printable b) (list_all is_printable bs) rest in
       step_full width row (close (b ∷ [])) (map close (singles bs)) (is_full width row b here parts.0 (omega (arith, room)))
-      ∙ some_before row (rows width (b ∷ []) (map close (singles bs))) some
+      ∙ before_some row (rows width (b ∷ []) (map close (singles bs))) some
       ∙ ap (λ r. r ∷ rows width (b ∷ []) (map close (singles bs))) (sym (append-nil row))
       ∙ ap (λ rs. (row ++ []) ∷ rs) (sym (takes_first width b (singles bs)))
   fill (suc n) row (b ∷ bs) here rest some room more =
@@ -196,17 +187,13 @@ module _ (width : ℕ) where
       ∙ ap (λ us. written ++ join_with_byte 10 (rows width [] (map close us))) (sym (clusters_printable rest printable))
       ∙ so_far
 
--- ---- as many bytes before a suffix as there are columns left
+-- ---- as many bytes before a suffix as it leaves columns
 
 -- whether one byte more fits
-fits_before : (width : ℕ) (shown taken : List ℕ) (b : ℕ) → list_all is_printable shown ≡ true → list_all is_printable taken ≡ true → is_printable b ≡ true
-    → fits width ((taken ++ b ∷ []) ++ shown) ≡ nat_le (length taken + 1 + length shown) width
-fits_before width shown taken b ends here next =
-    let printable : list_all is_printable ((taken ++ b ∷ []) ++ shown) ≡ true =
-    list_all-append is_printable (taken ++ b ∷ []) shown ∙ ap (λ t. t && list_all is_printable shown) (more_printable taken b here next) ∙ ends in
-    let size : length ((taken ++ b ∷ []) ++ shown) ≡ length taken + 1 + length shown =
-    length-append (taken ++ b ∷ []) shown ∙ ap (λ n. n + length shown) (length-append taken (b ∷ [])) in
-    fits_printable width ((taken ++ b ∷ []) ++ shown) printable ∙ ap (λ n. nat_le n width) size
+fits_before : (width : ℕ) (shown taken : List ℕ) (b : ℕ) → begins_with 0xFE0F (chars shown) ≡ false → list_all is_printable taken ≡ true → is_printable b ≡ true
+    → fits width ((taken ++ b ∷ []) ++ shown) ≡ nat_le (length taken + 1 + width_of_text shown) width
+fits_before width shown taken b apart here next =
+    ap (λ n. nat_le n width) (width_before (taken ++ b ∷ []) shown (more_printable taken b here next) apart ∙ ap (λ n. n + width_of_text shown) (length-append taken (b ∷ [])))
 
 take_least : (n m : ℕ) (line : List ℕ) → n ≡ length line → take (min n m) line ≡ take m line
 take_least n m line is =
@@ -216,38 +203,32 @@ take_least n m line is =
     (cases_lt m n)
 
 -- a beginning with so many columns left
-begin_bytes : (width n : ℕ) (shown taken bs : List ℕ) → list_all is_printable shown ≡ true → list_all is_printable taken ≡ true → list_all is_printable bs ≡ true
-    → length taken + length shown + n ≡ width → beginning width shown taken (singles bs) ≡ taken ++ take n bs
+begin_bytes : (width n : ℕ) (shown taken bs : List ℕ) → begins_with 0xFE0F (chars shown) ≡ false → list_all is_printable taken ≡ true → list_all is_printable bs ≡ true
+    → n ≡ width - (length taken + width_of_text shown) → beginning width shown taken (singles bs) ≡ taken ++ take n bs
 unfolding beginning
-begin_bytes width n shown taken [] ends here rest room = sym (append-nil taken) ∙ ap (λ more. taken ++ more) (take_none n)
+begin_bytes width n shown taken [] apart here rest room = sym (append-nil taken) ∙ ap (λ more. taken ++ more) (take_none n)
   where
     take_none : (n : ℕ) → [] ≡ take {A = ℕ} n []
     take_none zero = refl
     take_none (suc n) = refl
-begin_bytes width zero shown taken (b ∷ bs) ends here rest room =
+begin_bytes width zero shown taken (b ∷ bs) apart here rest room =
     let parts = and_parts (is_printable b) (list_all is_printable bs) rest in
     ap (λ t. if t then beginning width shown (taken ++ b ∷ []) (singles bs) else taken)
-    (fits_before width shown taken b ends here parts.0 ∙ is_not (length taken + 1 + length shown) width (omega (arith, room)))
+    (fits_before width shown taken b apart here parts.0 ∙ lt-leb (length taken + 1 + width_of_text shown) width (omega (arith, room)))
     ∙ sym (append-nil taken)
-  where
-    is_not : (n m : ℕ) → m < n → nat_le n m ≡ false
-    is_not n m lt = grind (arith, nat_tests)
-begin_bytes width (suc n) shown taken (b ∷ bs) ends here rest room =
+begin_bytes width (suc n) shown taken (b ∷ bs) apart here rest room =
     let parts = and_parts (is_printable b) (list_all is_printable bs) rest in
     ap (λ t. if t then beginning width shown (taken ++ b ∷ []) (singles bs) else taken)
-    (fits_before width shown taken b ends here parts.0 ∙ is_le (length taken + 1 + length shown) width (omega (arith, room)))
-    ∙ begin_bytes width n shown (taken ++ b ∷ []) bs ends (more_printable taken b here parts.0) parts.1 (omega (arith, room, length-append taken (b ∷ [])))
+    (fits_before width shown taken b apart here parts.0 ∙ le-leb (length taken + 1 + width_of_text shown) width (omega (arith, room)))
+    ∙ begin_bytes width n shown (taken ++ b ∷ []) bs apart (more_printable taken b here parts.0) parts.1 (omega (arith, room, length-append taken (b ∷ [])))
     ∙ append_assoc taken (b ∷ []) (take n bs)
-  where
-    is_le : (n m : ℕ) → n ≤ m → nat_le n m ≡ true
-    is_le n m le = grind (arith, nat_tests)
 
-pub begin_printable : (width count : ℕ) (shown line front : List ℕ) → list_all is_printable shown ≡ true → list_all is_printable line ≡ true → length shown ≤ width
-    → count ≡ min (length line) (width - length shown) → front ≡ slice_range line 0 count → front ≡ beginning width shown [] (clusters line)
-begin_printable width count shown line front ends printable within is cut =
+pub begin_printable : (width count : ℕ) (shown line front : List ℕ) → begins_with 0xFE0F (chars shown) ≡ false → list_all is_printable line ≡ true
+    → count ≡ min (length line) (width - width_of_text shown) → front ≡ slice_range line 0 count → front ≡ beginning width shown [] (clusters line)
+begin_printable width count shown line front apart printable is cut =
     let same : count - 0 ≡ count = omega arith in
-    cut ∙ ap (λ n. take n line) (same ∙ is) ∙ take_least (length line) (width - length shown) line refl
-    ∙ sym (begin_bytes width (width - length shown) shown [] line ends refl printable (omega (arith, within)))
+    cut ∙ ap (λ n. take n line) (same ∙ is) ∙ take_least (length line) (width - width_of_text shown) line refl
+    ∙ sym (begin_bytes width (width - width_of_text shown) shown [] line apart refl printable (omega arith))
     ∙ ap (beginning width shown []) (sym (clusters_printable line printable))
 
 -- each cluster of a line of printable ASCII fits a row of a column

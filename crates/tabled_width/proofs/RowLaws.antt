@@ -1,15 +1,15 @@
 -- What holds of rows, whatever they are made of.
-use Rattle.std.proofs.Common.{◌≡◌, ◌⊎◌, inl, inr, ℕ, nat_le, Bool, true, false, if◌then◌else◌, List, [], ◌∷◌, ◌++◌, map, get_or, refl, sym, ap, ◌∙◌, arith, append_assoc, append-nil}
+use Rattle.std.proofs.Common.{◌≡◌, ◌⊎◌, inl, inr, ℕ, nat_le, Bool, true, false, if◌then◌else◌, List, [], ◌∷◌, ◌++◌, map, get_or, refl, sym, ap, ◌∙◌, append_assoc, append-nil}
 use Rattle.std.specs.List.{All, Contains, concat}
 use Rattle.std.specs.Str.{IsUtf8}
 use Rattle.std.proofs.lemmas.List.Elements.{All-nil, All-cons, All-head, All-tail}
-use Rattle.std.proofs.lemmas.Bool.Decides.{nat_tests}
 use Rattle.std.proofs.lemmas.List.{get_or_default}
 use Rattle.std.proofs.lemmas.Str.{chars-nil}
 use Rattle.unicode_width.specs.Width.{str_width}
+use Rattle.std.proofs.Math.Dec.{leb-zero}
 use Rattle.tabled_width.specs.Texts.{fits}
 use Rattle.tabled_width.specs.Clusters.{clusters}
-use Rattle.tabled_width.specs.Rows.{close, joined, before, rows, line_rows}
+use Rattle.tabled_width.specs.Rows.{close, joined, before, rows, line_rows, Part}
 use Rattle.tabled_width.specs.CutOff.{beginning, suffix_shown, cut_off}
 use Rattle.tabled_width.proofs.ClusterLemmas.{concat_clusters}
 use Rattle.tabled_width.proofs.Filling.{step_fits, step_full, step_end, line_long}
@@ -43,26 +43,31 @@ concat_line width line text = by (fits width line) refl
 abbrev pub Stands : ℕ → (List ℕ → Type 0) → List ℕ → Type 0
 Stands width Alone row = (fits width row ≡ true) ⊎ Alone row
 
-zero_below : (n : ℕ) → nat_le 0 n ≡ true
-zero_below n = grind (arith, nat_tests)
-
 pub nothing_fits : (width : ℕ) → fits width [] ≡ true
 unfolding str_width
-nothing_fits width = ap (λ cs. nat_le (str_width false cs) width) chars-nil ∙ zero_below width
+nothing_fits width = ap (λ cs. nat_le (str_width false cs) width) chars-nil ∙ leb-zero width
+
+-- what a part has
+abbrev pub PartStands : ℕ → (List ℕ → Type 0) → Part → Type 0
+PartStands width Alone part = Stands width Alone part.text
 
 module _ (width : ℕ) (Alone : List ℕ → Type 0) where
   before_stands : (row : List ℕ) (rs : List (List ℕ)) → Stands width Alone row → All (Stands width Alone) rs → All (Stands width Alone) (before row rs)
   before_stands [] rs here all = all
   before_stands (b ∷ bs) rs here all = All-cons (Stands width Alone) (b ∷ bs) rs here all
 
-  pub rows_stand : (row : List ℕ) (us : List (List ℕ)) → Stands width Alone row → All Alone us → All (Stands width Alone) (rows width row (map close us))
+  pub parts_stand : (row : List ℕ) (ps : List Part) → Stands width Alone row → All (PartStands width Alone) ps → All (Stands width Alone) (rows width row ps)
   unfolding rows
-  rows_stand row [] here all = All-cons (Stands width Alone) row [] here (All-nil (Stands width Alone))
-  rows_stand row (u ∷ us) here all = by (fits width (joined row (close u))) refl (λ r there. rows_stand r us there (All-tail Alone u us all))
+  parts_stand row [] here all = All-cons (Stands width Alone) row [] here (All-nil (Stands width Alone))
+  parts_stand row (p ∷ ps) here all = by (fits width (joined row p)) refl (λ r there. parts_stand r ps there (All-tail (PartStands width Alone) p ps all))
     where
-      by : (b : Bool) → fits width (joined row (close u)) ≡ b → ((r : List ℕ) → Stands width Alone r → All (Stands width Alone) (rows width r (map close us))) → All (Stands width Alone) (if b then rows width (joined row (close u)) (map close us) else before row (rows width u (map close us)))
-      by true e rest = rest (row ++ u) (inl e)
-      by false e rest = before_stands row (rows width u (map close us)) here (rest u (inr (All-head Alone u us all)))
+      by : (b : Bool) → fits width (joined row p) ≡ b → ((r : List ℕ) → Stands width Alone r → All (Stands width Alone) (rows width r ps)) → All (Stands width Alone) (if b then rows width (joined row p) ps else before row (rows width p.text ps))
+      by true e rest = rest (joined row p) (inl e)
+      by false e rest = before_stands row (rows width p.text ps) here (rest p.text (All-head (PartStands width Alone) p ps all))
+
+  pub close_stand : (us : List (List ℕ)) → All Alone us → All (PartStands width Alone) (map close us)
+  close_stand [] all = All-nil (PartStands width Alone)
+  close_stand (u ∷ us) all = All-cons (PartStands width Alone) (close u) (map close us) (inr (All-head Alone u us all)) (close_stand us (All-tail Alone u us all))
 
 pub contains_each : (xs : List (List ℕ)) → All (Contains xs) xs
 contains_each xs k d within = (k, within, get_or_default xs k (get_or xs k d) d within)
@@ -73,7 +78,7 @@ line_stands width line = by (fits width line) refl
   where
     by : (b : Bool) → fits width line ≡ b → All (Stands width (Contains (clusters line))) (if b then line ∷ [] else rows width [] (map close (clusters line)))
     by true e = All-cons (Stands width (Contains (clusters line))) line [] (inl e) (All-nil (Stands width (Contains (clusters line))))
-    by false e = rows_stand width (Contains (clusters line)) [] (clusters line) (inl (nothing_fits width)) (contains_each (clusters line))
+    by false e = parts_stand width (Contains (clusters line)) [] (map close (clusters line)) (inl (nothing_fits width)) (close_stand width (Contains (clusters line)) (clusters line) (contains_each (clusters line)))
 
 -- ---- a line that is cut off fits
 

@@ -1,8 +1,7 @@
 -- How much capped columns take.
-use Rattle.std.proofs.Common.{◌≡◌, ◌⊎◌, inr, ⊎_elim, ℕ, ◌+◌, ◌-◌, ◌<◌, ◌≤◌, min, nat_le, sum, true, false, if◌then◌else◌, Option, Some, None, is_some, List, [], ◌∷◌, ◌++◌, length, take, get_or, zero, suc, refl, sym, ap, ◌∙◌, arith}
-use Rattle.std.proofs.lemmas.Bool.Decides.{nat_tests}
+use Rattle.std.proofs.Common.{◌≡◌, ◌⊎◌, inr, ⊎_elim, ℕ, ◌+◌, ◌-◌, ◌<◌, ◌≤◌, min, nat_le, sum, true, if◌then◌else◌, Option, Some, None, is_some, List, [], ◌∷◌, ◌++◌, length, take, get_or, zero, suc, refl, sym, ap, ◌∙◌, arith}
 use Rattle.std.proofs.lemmas.List.{take_more}
-use Rattle.std.proofs.lemmas.Bool.{cases_lt}
+use Rattle.std.proofs.lemmas.Bool.{cases_lt, le-leb, lt-leb}
 use Rattle.std.proofs.lemmas.List.Sums.{sum_by-cons}
 use Rattle.tabled_width.specs.Shares.{used, IsCap, shared}
 
@@ -35,16 +34,10 @@ used-all low high (x ∷ xs) each le =
 -- ---- the sum of shares
 
 step_small : (cap left n : ℕ) (ns : List ℕ) → n ≤ cap → shared cap left (n ∷ ns) ≡ n ∷ shared cap left ns
-step_small cap left n ns le = ap (λ b. if b then n ∷ shared cap left ns else (cap + min left 1) ∷ shared cap (left - 1) ns) (is_le n cap le)
-  where
-    is_le : (n m : ℕ) → n ≤ m → nat_le n m ≡ true
-    is_le n m le = grind (arith, nat_tests)
+step_small cap left n ns le = ap (λ b. if b then n ∷ shared cap left ns else (cap + min left 1) ∷ shared cap (left - 1) ns) (le-leb n cap le)
 
 step_great : (cap left n : ℕ) (ns : List ℕ) → cap < n → shared cap left (n ∷ ns) ≡ (cap + min left 1) ∷ shared cap (left - 1) ns
-step_great cap left n ns lt = ap (λ b. if b then n ∷ shared cap left ns else (cap + min left 1) ∷ shared cap (left - 1) ns) (is_not n cap lt)
-  where
-    is_not : (n m : ℕ) → m < n → nat_le n m ≡ false
-    is_not n m lt = grind (arith, nat_tests)
+step_great cap left n ns lt = ap (λ b. if b then n ∷ shared cap left ns else (cap + min left 1) ∷ shared cap (left - 1) ns) (lt-leb n cap lt)
 
 pub sum_shared : (cap left : ℕ) (ns : List ℕ) → sum (shared cap left ns) ≤ used cap ns + left
 sum_shared cap left [] = omega arith
@@ -69,15 +62,12 @@ shares_fit room cap ns is few =
 
 -- ---- what is left
 
-not_le : (n m : ℕ) → m < n → nat_le n m ≡ false
-not_le n m lt = grind (arith, nat_tests)
-
 pub room_over : (cap room left taken i : ℕ) (xs : List ℕ) → left + used cap (take i xs) ≡ room → i < length xs → taken ≡ min cap (get_or xs i 0) → left < taken
     → None ≡ (if nat_le (used cap xs) room then Some (room - used cap xs) else None)
 room_over cap room left taken i xs so_far within is over =
     let most : used cap (take (i + 1) xs) ≤ used cap xs = used-take cap xs (i + 1) in
     let here : used cap (take (i + 1) xs) ≡ used cap (take i xs) + min cap (get_or xs i 0) = used-more cap xs i 0 within in
-    sym (ap (λ b. if b then Some (room - used cap xs) else None) (not_le (used cap xs) room (omega (arith, most, here))))
+    sym (ap (λ b. if b then Some (room - used cap xs) else None) (lt-leb (used cap xs) room (omega (arith, most, here))))
 
 pub room_more : (cap room left taken i : ℕ) (xs : List ℕ) → left + used cap (take i xs) ≡ room → i < length xs → taken ≡ min cap (get_or xs i 0) → taken ≤ left
     → (left - taken) + used cap (take (i + 1) xs) ≡ room
@@ -87,7 +77,7 @@ room_more cap room left taken i xs so_far within is fit =
 
 pub some_fits : (n room : ℕ) (r : Option ℕ) → r ≡ (if nat_le n room then Some (room - n) else None) → is_some r ≡ true → n ≤ room
 some_fits n room r is some =
-    ⊎_elim (λ (lt : room < n). absurd (let no = sym some ∙ ap is_some (is ∙ ap (λ b. if b then Some (room - n) else None) (not_le n room lt)) in cc)) (λ (le : n ≤ room). le) (cases_lt room n)
+    ⊎_elim (λ (lt : room < n). absurd (let no = sym some ∙ ap is_some (is ∙ ap (λ b. if b then Some (room - n) else None) (lt-leb n room lt)) in cc)) (λ (le : n ≤ room). le) (cases_lt room n)
 
 -- a cap at which the next does not fit
 pub cap_below : (room cap next : ℕ) (xs : List ℕ) → 1 ≤ cap → (cap ≡ 1) ⊎ (used cap xs ≤ room) → next ≤ cap + 1 → room < used next xs → IsCap room xs cap
@@ -104,3 +94,24 @@ cap_above room cap xs some fit each = record {
   fits = inr fit;
   most = λ more lt le. used-all cap more xs each (omega (arith, lt));
 }
+
+-- ---- a share for each, and none greater than what is asked for
+
+pub length_shared : (cap left : ℕ) (ns : List ℕ) → length (shared cap left ns) ≡ length ns
+length_shared cap left [] = refl
+length_shared cap left (n ∷ ns) =
+    ⊎_elim
+    (λ (lt : cap < n). ap length (step_great cap left n ns lt) ∙ ap suc (length_shared cap (left - 1) ns))
+    (λ (le : n ≤ cap). ap length (step_small cap left n ns le) ∙ ap suc (length_shared cap left ns))
+    (cases_lt cap n)
+
+pub shared_asked : (cap left : ℕ) (ns : List ℕ) → sum (shared cap left ns) ≤ sum ns
+shared_asked cap left [] = omega arith
+shared_asked cap left (n ∷ ns) =
+    let few = shared_asked cap left ns in
+    let one = shared_asked cap (left - 1) ns in
+    let all = sum_by-cons (λ x. x) n ns in
+    ⊎_elim
+    (λ (lt : cap < n). let e = ap sum (step_great cap left n ns lt) ∙ sum_by-cons (λ x. x) (cap + min left 1) (shared cap (left - 1) ns) in omega (arith, e, one, all))
+    (λ (le : n ≤ cap). let e = ap sum (step_small cap left n ns le) ∙ sum_by-cons (λ x. x) n (shared cap left ns) in omega (arith, e, few, all))
+    (cases_lt cap n)

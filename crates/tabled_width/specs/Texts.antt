@@ -1,5 +1,5 @@
 -- Texts: bytes that are cut at line feeds, and how many columns they take on a terminal.
-use Rattle.std.specs.Prelude.{◌≡◌, ℕ, Bool, true, false, ◌&&◌, ◌==◌, nat_le, List, chars}
+use Rattle.std.specs.Prelude.{◌≡◌, ℕ, Bool, true, false, ◌&&◌, ◌==◌, nat_le, List, [], ◌∷◌, chars}
 use Rattle.std.specs.List.{All, slice_split}
 use Rattle.unicode_width.specs.Width.{str_width}
 
@@ -22,3 +22,8 @@ LinesFit width text = All (λ line. fits width line ≡ true) (pieces text)
 -- whether a byte is a printable character of ASCII
 abbrev pub is_printable : ℕ → Bool
 is_printable byte = nat_le 32 byte && nat_le byte 126
+
+-- whether the first of some characters is this one
+abbrev pub begins_with : ℕ → List ℕ → Bool
+begins_with character [] = false
+begins_with character (first ∷ more) = first == character

@@ -1,11 +1,14 @@
 //! Which characters of a line belong together.
 
 ghost use Rattle.std.specs.Prelude.{◌≡◌, ◌<◌, ◌≤◌, [], ◌∷◌, ◌++◌, length, encode_utf8, chars, MatchOption, IfSome, ◌||◌, ◌&&◌, ◌==◌};
+ghost use Rattle.tabled_width.specs.Texts.{begins_with};
 ghost use Rattle.tabled_width.specs.Clusters.{clusters, IsAfterCluster, is_indicator, is_skin_tone, takes_none};
 
 use unicode_width::UnicodeWidthChar;
 
 const JOINER: char = '\u{200D}';
+
+const EMOJI_SELECTOR: char = '\u{FE0F}';
 
 /// The first character of a text and what follows it.
 fn first_character(text: &str) -> Option<(char, &str)>
@@ -17,6 +20,16 @@ fn first_character(text: &str) -> Option<(char, &str)>
     match characters.next() {
         Some(character) => Some((character, characters.as_str())),
         None => None,
+    }
+}
+
+/// Whether a text begins with U+FE0F, which can make what stands before it wider.
+pub(crate) fn starts_with_selector(text: &str) -> bool
+    ensures { result ≡ begins_with 0xFE0F (chars text.now) }
+{
+    match first_character(text) {
+        Some((character, _)) => character == EMOJI_SELECTOR,
+        None => false,
     }
 }
 

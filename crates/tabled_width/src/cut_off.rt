@@ -6,9 +6,9 @@ ghost use Rattle.tabled_width.specs.CutOff.{beginning, cut_off, suffix_shown};
 ghost use Rattle.tabled_width.specs.CutOff as spec;
 ghost use Rattle.tabled_width.specs.Texts.{fits};
 
-use crate::clusters::first_cluster;
+use crate::clusters::{first_cluster, starts_with_selector};
 use crate::lines::cut_at;
-use crate::measure::{fits, is_printable};
+use crate::measure::{fits, is_printable, width_of};
 use std::alloc::Global;
 use tabled_border::OutOfMemory;
 
@@ -34,8 +34,8 @@ fn begin(row: &mut String, width: usize, suffix: &str, line: &str) -> Result<(),
     ensures { OnOk result (string_bytes row.new ≡ beginning width suffix.now [] (clusters line.now)) }
 {
     row.clear();
-    if suffix.len() <= width && is_printable(suffix) && is_printable(line) {
-        let count = line.len().min(width - suffix.len());
+    if is_printable(line) && !starts_with_selector(suffix) {
+        let count = line.len().min(width.saturating_sub(width_of(suffix)));
         row.push_str(&line[..count])?;
         return Ok(());
     }

@@ -7,7 +7,6 @@ mod builders;
 mod clusters;
 mod cut_off;
 mod height;
-mod laws;
 mod limit;
 mod lines;
 mod measure;
@@ -19,11 +18,6 @@ pub use builders::{Height, HeightLimit, Truncate, Width, Wrap};
 pub use clusters::first_cluster;
 pub use cut_off::truncated;
 pub use height::shortened;
-pub use laws::{
-    clusters_make_the_line, cut_off_lines_fit, nothing_is_lost, only_spaces_are_lost,
-    rows_are_full, rows_fit, shortened_lines_are_few, truncated_lines_fit, twice_is_once,
-    what_fits_stays, word_rows_fit, wrapped_lines_fit,
-};
 pub use limit::Overflow;
 pub use measure::{fits, is_printable, width_of};
 pub use rows::{wrapped, wrapped_words};

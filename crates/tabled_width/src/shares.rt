@@ -66,6 +66,8 @@ fn shared_out(alloc: Global, asked: &[usize], room: usize) -> Result<Vec<usize>,
 /// `shares_of(alloc, &[3, 10, 20], 20)?` is `[3, 9, 8]`. Only memory can be refused.
 pub fn shares_of(alloc: Global, asked: &[usize], room: usize) -> Result<Vec<usize>, OutOfMemory>
     ensures shares { IfOk result (λ shares. (cap : ℕ) × IsCap room asked.now cap × (shares.items ≡ shared cap (room - used cap asked.now) asked.now)) }
+    ensures count { IfOk result (λ shares. length shares.items ≡ length asked.now) }
+    ensures asked { IfOk result (λ shares. sum shares.items ≤ sum asked.now) }
     ensures fits { IfOk result (λ shares. length asked.now ≤ room → sum shares.items ≤ room) }
 {
     let shares = shared_out(alloc, asked, room)?;

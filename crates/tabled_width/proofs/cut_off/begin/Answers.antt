@@ -1,5 +1,5 @@
 -- One cluster more, as long as there is room, or as many bytes as there are columns left.
-use Rattle.std.proofs.Common.{rules, ◌++◌, if◌then◌else◌, sym, ap, ◌∙◌, string_bytes}
+use Rattle.std.proofs.Common.{rules, ◌-◌, min, length, ◌++◌, if◌then◌else◌, sym, ap, ◌∙◌, string_bytes}
 use Rattle.tabled_width.proofs.Filling.{begin_more, begin_full, begin_end}
 use Rattle.tabled_width.proofs.PrintableRows.{begin_printable}
 use Rattle.tabled_width.proofs.cut_off.begin.Goals as goal
@@ -21,9 +21,9 @@ loop-cluster-preserved c = record {
 pub returns : goal.returns
 returns c = begin_end c.args.width c.args.suffix.now (string_bytes c.loop-cluster.row) _ _ c.loop-cluster.invariant.taken c.in_default.ensures.clusters
 
-pub returns-then-is_printable-2 : goal.returns-then-is_printable-2
-returns-then-is_printable-2 c =
+pub returns-then-not-starts_with_selector : goal.returns-then-not-starts_with_selector
+returns-then-not-starts_with_selector c =
+    let count = c.min-count.ensures ∙ ap (min (length c.args.line.now)) (c.saturating_sub.ensures ∙ ap (λ n. c.args.width - n) c.width_of.ensures) in
     c.in_ok-push_str.ensures.bytes ∙ ap (λ bs. bs ++ c.range.result.now) c.clear.ensures.bytes
     ∙ begin_printable c.args.width c.min-count.result c.args.suffix.now c.args.line.now c.range.result.now
-    (sym c.is_printable.ensures ∙ c.if-is_printable.true) (sym c.is_printable-then-is_printable.ensures ∙ c.if-is_printable-2.true)
-    c.if-suffix-width.true c.min-count.ensures c.range.ensures.value
+    (sym c.starts_with_selector.ensures ∙ c.if-not-starts_with_selector.true) (sym c.is_printable.ensures ∙ c.if-is_printable.true) count c.range.ensures.value

@@ -1,8 +1,0 @@
--- The bytes so far.
-use Rattle.std.proofs.Common.{◌≡◌, take}
-use Rattle.std.specs.List.{list_all}
-use Rattle.tabled_cells.specs.Printable.{is_printable}
-use Rattle.tabled_cells.proofs.width.is_printable.Given as goal
-
-abbrev pub invariant-loop-byte : goal.invariant-loop-byte
-invariant-loop-byte l = l.all ≡ list_all is_printable (take l.byte-index l.byte-items)

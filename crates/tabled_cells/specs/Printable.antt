@@ -1,6 +1,0 @@
--- Texts of printable characters of ASCII.
-use Rattle.std.specs.Prelude.{ℕ, Bool, ◌&&◌, nat_le}
-
--- whether a byte is one of these characters
-abbrev pub is_printable : ℕ → Bool
-is_printable byte = nat_le 32 byte && nat_le byte 126

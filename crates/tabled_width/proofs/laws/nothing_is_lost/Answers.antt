@@ -1,6 +1,0 @@
--- By the law.
-use Rattle.tabled_width.proofs.RowLaws.{concat_line}
-use Rattle.tabled_width.proofs.laws.nothing_is_lost.Goals as goal
-
-pub returns : goal.returns
-returns c = concat_line

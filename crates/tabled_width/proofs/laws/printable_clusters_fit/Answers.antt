@@ -1,6 +1,0 @@
--- By the law.
-use Rattle.tabled_width.proofs.PrintableRows.{each_fits}
-use Rattle.tabled_width.proofs.laws.printable_clusters_fit.Goals as goal
-
-pub returns : goal.returns
-returns c = each_fits

@@ -1,6 +1,0 @@
--- By the law.
-use Rattle.tabled_width.proofs.RowLaws.{line_stands}
-use Rattle.tabled_width.proofs.laws.rows_fit.Goals as goal
-
-pub returns : goal.returns
-returns c = line_stands

@@ -1,6 +1,0 @@
--- By the law.
-use Rattle.tabled_width.proofs.Heights.{shortened_fits}
-use Rattle.tabled_width.proofs.laws.shortened_lines_are_few.Goals as goal
-
-pub returns : goal.returns
-returns c = shortened_fits

@@ -1,6 +1,0 @@
--- By the law.
-use Rattle.tabled_width.proofs.TextLaws.{truncated_fits}
-use Rattle.tabled_width.proofs.laws.truncated_lines_fit.Goals as goal
-
-pub returns : goal.returns
-returns c = truncated_fits

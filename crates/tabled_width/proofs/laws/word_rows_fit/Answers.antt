@@ -1,6 +1,0 @@
--- By the law.
-use Rattle.tabled_width.proofs.WordLaws.{word_rows_fit}
-use Rattle.tabled_width.proofs.laws.word_rows_fit.Goals as goal
-
-pub returns : goal.returns
-returns c = word_rows_fit
