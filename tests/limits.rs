@@ -1,9 +1,14 @@
 //! Tables whose texts are kept within a number of columns or lines.
 
+use std::alloc::Global;
 use std::test::Fail;
-use tabled::settings::object::{Columns, Combine, Rows, Segment};
+use tabled::grid::config::Position;
+use tabled::grid::records::Shape;
+use tabled::settings::object::{Columns, Combine, Object, Rows, Segment};
 use tabled::settings::{Height, Style, Width};
 use tabled::{TableError, TextTable};
+use tabled_border::OutOfMemory;
+use tabled_object::{is_covered, listed_entities};
 
 const NEWS: &[&[&str]] = &[
     &["name", "what it is"],
@@ -54,6 +59,22 @@ fn cells_keep_their_first_lines(rt: HostRuntime) -> Result<(), TableError> {
     table.with(Style::ascii())?;
     table.limit_cells(Segment::all(), Height::limit(2).suffix(".."))?;
     assert_eq!(rt; table.to_text()?.as_str(), "+-----+---+\n| a   | d |\n| b.. | e |\n+-----+---+");
+    Ok(())
+}
+
+/// Whether these are the cells of a table of two rows and columns that the first row and the last cell cover.
+fn covers(alloc: Global, object: &impl Object<Shape>) -> Result<bool, OutOfMemory> {
+    let shape = Shape { rows: 2, cols: 2 };
+    let entities = listed_entities(alloc, &shape, object)?;
+    Ok(is_covered(&entities, Position::new(0, 1))
+        && is_covered(&entities, Position::new(1, 1))
+        && !is_covered(&entities, Position::new(1, 0)))
+}
+
+#[test]
+fn entities_cover_what_an_object_lists(rt: HostRuntime) -> Result<(), Fail> {
+    assert!(rt; covers(rt.alloc(), &Rows::first().and((1, 1)))?);
+    assert!(rt; covers(rt.alloc(), &Segment::all().not((1, 0)))?);
     Ok(())
 }
 

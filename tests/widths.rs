@@ -5,7 +5,7 @@ use std::alloc::Global;
 use std::test::Fail;
 use tabled_border::OutOfMemory;
 use tabled_width::{
-    Height, Overflow, Width, first_cluster, fits, is_printable, shares_of, shortened, truncated,
+    Height, Overflow, TextLimit, Width, first_cluster, fits, is_printable, shares_of, shortened, truncated,
     width_of, wrapped, wrapped_words,
 };
 

@@ -10,6 +10,7 @@ mod printing;
 mod sample;
 mod settings;
 mod store;
+mod texts;
 mod themes;
 mod turn;
 mod values;
@@ -53,6 +54,8 @@ fn main(rt: HostRuntime) -> ExitCode {
             &printing::tables(),
             &painting::texts(),
             &painting::tables(),
+            &texts::calls(),
+            &texts::tables(),
             &pages::calls(),
         ],
     )
