@@ -1,13 +1,15 @@
 //! Which characters of a line belong together.
 
 ghost use Rattle.std.specs.Prelude.{◌≡◌, ◌<◌, ◌≤◌, [], ◌∷◌, ◌++◌, length, encode_utf8, chars, MatchOption, IfSome, ◌||◌, ◌&&◌, ◌==◌};
-ghost use Rattle.tabled_width.specs.Texts.{begins_with};
 ghost use Rattle.tabled_width.specs.Clusters.{clusters, IsAfterCluster, is_indicator, is_skin_tone, takes_none};
+ghost use Rattle.tabled_width.specs.Texts.{begins_with};
 
 use unicode_width::UnicodeWidthChar;
 
+/// Zero width joiner: what follows it stays with what precedes it.
 const JOINER: char = '\u{200D}';
 
+/// Variation selector 16, which asks for a colored picture of the character before it.
 const EMOJI_SELECTOR: char = '\u{FE0F}';
 
 /// The first character of a text and what follows it.
@@ -44,16 +46,14 @@ fn takes_none(character: char) -> bool
 fn is_skin_tone(character: char) -> bool
     ensures { result ≡ is_skin_tone character }
 {
-    let number = character as u32;
-    0x1F3FB <= number && number <= 0x1F3FF
+    matches!(character, '\u{1F3FB}'..='\u{1F3FF}')
 }
 
 /// Whether a character is a regional indicator, of which two make a flag.
 fn is_indicator(character: char) -> bool
     ensures { result ≡ is_indicator character }
 {
-    let number = character as u32;
-    0x1F1E6 <= number && number <= 0x1F1FF
+    matches!(character, '\u{1F1E6}'..='\u{1F1FF}')
 }
 
 /// Whether a character belongs to the cluster before it, which ends with `last`.
