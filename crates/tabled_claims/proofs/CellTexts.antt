@@ -1,5 +1,5 @@
 -- The characters of a painted table are what the plain printer prints around its cells.
-use Rattle.std.proofs.Common.{◌≡◌, ◌==◌, ℕ, ◌<◌, ◌≤◌, Bool, true, false, if◌then◌else◌, List, [], ◌++◌, map, length, get_or, refl, sym, ap, subst, ◌∙◌, arith}
+use Rattle.std.proofs.Common.{◌≡◌, ◌==◌, ℕ, ◌<◌, Bool, true, false, if◌then◌else◌, List, [], ◌++◌, map, length, get_or, refl, sym, ap, subst, ◌∙◌, arith}
 use Rattle.std.specs.Prelude.{slice_index, slice_index_or}
 use Rattle.std.specs.List.{All, flat_map, join_with_byte}
 use Rattle.std.proofs.lemmas.Bool.{and_parts, eqb-true}
@@ -17,7 +17,7 @@ use Rattle.tabled_cells.specs.Trimmed.{lines_shown}
 use Rattle.tabled_printing.proofs.PieceTexts.{cut_lines}
 use Rattle.tabled_printing.proofs.Tiles.{Lacks}
 use Rattle.tabled_cells.proofs.Fits.{placed_at_lacks}
-use Rattle.tabled_painting.specs.Painted.{Painted, plain}
+use Rattle.tabled_painting.specs.Painted.{plain}
 use Rattle.tabled_painting.specs.CellLines.{coloring_at}
 use Rattle.tabled_painting.specs.Margin.{in_margin, is_without_room}
 use Rattle.tabled_painting.specs.PaintedTable.{Cells, painted_cells, painted_lines, painted_table}
