@@ -1,6 +1,6 @@
 //! The border of one cell, in characters and in colors.
 
-ghost use Rattle.std.specs.Prelude.{◌≡◌, ℕ, [], ◌∷◌, map, None, IfOk, IsSome, option_map};
+ghost use Rattle.std.specs.Prelude.{◌≡◌, ℕ, [], ◌∷◌, map, IfOk, IsSome, option_map};
 ghost use Rattle.tabled_border.specs.Border.{no_border};
 ghost use Rattle.tabled_border.specs.declared.border.Border.{Border as Eight};
 ghost use Rattle.tabled_color.specs.Shade.{Shade, texts_of};

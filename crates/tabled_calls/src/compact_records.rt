@@ -1,6 +1,6 @@
 //! Compact configurations, which are plain records, and the options on them. None of these calls takes memory.
 
-ghost use Rattle.std.specs.Prelude.{◌≡◌, [], true, IsOk};
+ghost use Rattle.std.specs.Prelude.{◌≡◌, IsOk};
 ghost use Rattle.tabled_compact.specs.Compact.{IsPlain, IsPlainMultiline};
 ghost use Rattle.tabled_compact.specs.declared.compact_config.CompactConfig.{CompactConfig as OneLine};
 ghost use Rattle.tabled_compact.specs.declared.multiline_config.CompactMultilineConfig.{CompactMultilineConfig as Lines};

@@ -1,9 +1,7 @@
 //! The options as values: what each call that makes one, or changes it, gives.
 
-ghost use Rattle.std.specs.Prelude.{◌≡◌, ℕ, [], ◌∷◌, true, false, None, Option, IfOk, chars};
+ghost use Rattle.std.specs.Prelude.{◌≡◌, [], ◌∷◌, true, false, None, Option, IfOk, chars};
 ghost use Rattle.tabled_border.specs.LentTexts.{lent_texts};
-ghost use Rattle.tabled_border.specs.Texts.{Texts};
-ghost use Rattle.tabled_color.specs.Shade.{Shade};
 ghost use Rattle.tabled_colorization.specs.declared.pattern.Pattern.TheVariants as pattern;
 ghost use Rattle.tabled_configuration.specs.CellColors.{no_color};
 ghost use Rattle.tabled_formatting.specs.Alignment.{horizontal_of, vertical_of};

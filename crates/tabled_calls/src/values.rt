@@ -1,6 +1,6 @@
 //! The values that borders are made of: borders of one cell, class records, lines, places, and the texts of colors.
 
-ghost use Rattle.std.specs.Prelude.{◌≡◌, ◌↔◌, ℕ, [], ◌∷◌, false, None, IfOk, IsOk, IsTrue, OnOk, is_some};
+ghost use Rattle.std.specs.Prelude.{◌≡◌, ◌↔◌, [], ◌∷◌, false, IfOk, IsOk, IsTrue, OnOk, is_some};
 ghost use Rattle.std.specs.List.{list_all, list_any};
 ghost use Rattle.std.specs.Option.{option_eq};
 ghost use Rattle.tabled_border.specs.Border.{no_border};

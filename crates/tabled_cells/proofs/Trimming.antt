@@ -1,5 +1,5 @@
 -- What a walk over a line, or over lines, drops at their ends.
-use Rattle.std.proofs.Common.{◌≡◌, ◌≢◌, ℕ, ◌+◌, ◌-◌, ◌<◌, ◌≤◌, Bool, true, false, ◌&&◌, if◌then◌else◌, ◌==◌, Option, Some, None, IfSome, MatchOption, List, [], ◌∷◌, ◌++◌, reverse, length, get_or, refl, sym, ap, ◌∙◌, arith, lit<, length-append, Result, Ok, Err, OnOk}
+use Rattle.std.proofs.Common.{◌≡◌, ◌≢◌, ℕ, ◌+◌, ◌-◌, ◌<◌, Bool, true, false, ◌&&◌, if◌then◌else◌, ◌==◌, Option, Some, None, IfSome, MatchOption, List, [], ◌∷◌, ◌++◌, reverse, length, get_or, refl, sym, ap, ◌∙◌, arith, lit<, length-append, Result, Ok, Err, OnOk}
 use Rattle.std.proofs.lemmas.Bool.{eqb-true}
 use Rattle.std.proofs.lemmas.Bool.Decides.{nat_tests}
 use Rattle.std.proofs.lemmas.List.{append-nil, append_assoc, reverse-append, reverse-reverse, get_or_default}
@@ -7,7 +7,6 @@ use Rattle.std.proofs.lemmas.List.Splits.{slice_split_none, slice_split_at}
 use Rattle.std.proofs.lemmas.Str.Pattern.{IsSplitOnceResult, split_parts}
 use denote.Ref.{Bor}
 use Rattle.tabled_printing.specs.Texts.{pieces}
-use Rattle.tabled_printing.specs.Pieces.{lent}
 use Rattle.tabled_cells.specs.declared.placement.Placement.{Placement}
 use Rattle.tabled_cells.specs.Trimmed.{without_first, without_ends, is_space, is_blank, goes_on, lines_kept}
 
@@ -100,16 +99,6 @@ pub last_put : {T E : Type 0} (r : Result T E) (how : Placement) (old new : List
     → OnOk r ((more : List (List ℕ)) → new ++ goes_on how new more ≡ old ++ goes_on how old (line ∷ more)) → old ++ goes_on how old (line ∷ []) ≡ whole → OnOk r (new ≡ whole)
 last_put (Ok x) how old new line whole put so_far = sym (goes_nowhere how new) ∙ put [] ∙ so_far
 last_put (Err e) how old new line whole put so_far = tt
-
--- ---- blank lines below the others
-
-pub blank_dropped : (front lines : List (List ℕ)) (last : List ℕ) → lines ≡ front ++ last ∷ [] → is_blank last ≡ true → without_first is_blank (reverse front) ≡ without_first is_blank (reverse lines)
-blank_dropped front lines last are blank = sym (ap (λ xs. without_first is_blank (reverse xs)) are ∙ ap (without_first is_blank) (reverse-append front (last ∷ [])) ∙ passes_first is_blank last (reverse front) blank)
-
-pub other_kept : (front lines : List (List ℕ)) (last : List ℕ) → lines ≡ front ++ last ∷ [] → is_blank last ≡ false → lines ≡ reverse (without_first is_blank (reverse lines))
-other_kept front lines last are filled =
-    sym (ap reverse (ap (λ xs. without_first is_blank (reverse xs)) are ∙ ap (without_first is_blank) (reverse-append front (last ∷ [])) ∙ fails_first is_blank last (reverse front) filled
-    ∙ sym (reverse-append front (last ∷ [])) ∙ ap reverse (sym are)) ∙ reverse-reverse lines)
 
 -- ---- the lines that are shown
 

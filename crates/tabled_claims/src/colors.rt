@@ -1,7 +1,6 @@
 //! The texts of colors.
 
 ghost use Rattle.std.specs.Prelude.{◌≡◌, ◌↔◌, [], ◌∷◌, true, false, codes, IsTrue, IfOk, string_bytes, if◌then◌else◌, None, IsOk, option_map};
-ghost use Rattle.std.specs.declared.cmp.Ordering.{Ordering as Order};
 ghost use Rattle.tabled_color.specs.Shade.{Shade, texts_of, static_shade, owned_shade, sequence, rgb_sequence, joined};
 ghost use Rattle.tabled_color.specs.Painting.{colorized};
 ghost use Rattle.tabled_border.specs.Texts.{Texts};

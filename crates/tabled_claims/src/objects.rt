@@ -1,6 +1,6 @@
 //! Which cells an option is applied to.
 
-ghost use Rattle.std.specs.Prelude.{◌≡◌, ◌↔◌, ℕ, List, [], ◌∷◌, ◌++◌, ◌&&◌, ◌||◌, not, IfOk, IsOk, IsTrue, slice_index};
+ghost use Rattle.std.specs.Prelude.{◌≡◌, ◌↔◌, ℕ, List, ◌++◌, ◌&&◌, ◌||◌, not, IfOk, IsOk, IsTrue, slice_index};
 ghost use Rattle.std.specs.List.{Contains};
 ghost use Rattle.tabled_object.specs.declared.entity.Entity.{Entity as Cells};
 ghost use Rattle.tabled_object.specs.declared.position.Position.{Position as At};

@@ -1,6 +1,6 @@
 //! Outlines.
 
-ghost use Rattle.std.specs.Prelude.{◌≡◌, ◌↔◌, ℕ, ◌==◌, ◌||◌, ◌≤◌, List, length, true, false, Option, is_some, option_map, IsTrue};
+ghost use Rattle.std.specs.Prelude.{◌≡◌, ◌↔◌, ℕ, ◌==◌, ◌||◌, List, length, true, false, Option, is_some, option_map, IsTrue};
 ghost use Rattle.std.specs.List.{Contains, IsDistinct};
 ghost use Rattle.tabled_border.specs.declared.border.Border.{Border};
 ghost use Rattle.tabled_object.specs.declared.position.Position.{Position as At};
@@ -8,7 +8,7 @@ ghost use Rattle.tabled_object.specs.declared.entity.Entity.{Entity};
 ghost use Rattle.tabled_object.specs.Listing.{listed};
 ghost use Rattle.tabled_grid.specs.declared.site.Direction.TheVariants.{Horizontal, Vertical};
 ghost use Rattle.tabled_grid.specs.declared.site.Spot.{Spot};
-ghost use Rattle.tabled_grid.specs.declared.site.Spot.TheVariants.{Edge, Crossing};
+ghost use Rattle.tabled_grid.specs.declared.site.Spot.TheVariants.{Edge};
 ghost use Rattle.tabled_grid.specs.declared.site.Site.{Site};
 ghost use Rattle.tabled_grid.specs.declared.site.Site.TheVariants.{Cell as at_spot};
 ghost use Rattle.tabled_grid.specs.declared.event.Written.TheVariants.{Sign as sign};

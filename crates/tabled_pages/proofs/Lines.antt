@@ -56,9 +56,6 @@ lines_of-first input some = elim (cases_lt (position_or_len (is_byte LINE_FEED) 
       ∙ ap (λ rest. before_first (is_byte LINE_FEED) input ∷ without_empty_last (pieces LINE_FEED rest)) (sym (after-none LINE_FEED input none))
 ]
 
-pub rows_of-nil : rows_of [] ≡ []
-rows_of-nil = ap (map cells_of) lines_of-nil
-
 pub rows_of-first : (input : List ℕ) → 0 < length input
     → rows_of input ≡ cells_of (before_first (is_byte LINE_FEED) input) ∷ rows_of (after_first (is_byte LINE_FEED) input)
 rows_of-first input some = ap (map cells_of) (lines_of-first input some)

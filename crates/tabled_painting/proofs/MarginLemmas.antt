@@ -1,7 +1,6 @@
 -- How large a table is, and what its margin is where it has none.
-use Rattle.std.proofs.Common.{◌≡◌, ℕ, ◌+◌, Bool, true, false, ◌||◌, ◌==◌, if◌then◌else◌, List, [], ◌∷◌, ◌++◌, map, length, replicate, refl, sym, ap, subst, ◌∙◌, arith, Result, Ok, Err, IfOk}
+use Rattle.std.proofs.Common.{◌≡◌, ℕ, ◌+◌, Bool, true, false, ◌||◌, ◌==◌, if◌then◌else◌, List, [], ◌∷◌, ◌++◌, map, length, replicate, refl, sym, ap, subst, ◌∙◌, Result, Ok, Err, IfOk}
 use Rattle.std.specs.List.{flat_map, join_with_byte}
-use Rattle.std.proofs.lemmas.Bool.Decides.{nat_tests}
 use Rattle.std.proofs.lemmas.List.{append-nil, length-append}
 use Rattle.std.proofs.lemmas.List.FromFn.{length-map-range_with_len}
 use Rattle.tabled_object.specs.Entities.{below}
@@ -130,6 +129,3 @@ no_columns rows cols none = ap (λ n. (rows == 0) || (n == 0)) none ∙ or_true 
     or_true : (b : Bool) → b || true ≡ true
     or_true true = refl
     or_true false = refl
-
-pub any_places : (rows cols : ℕ) → (rows ≡ 0 → ⊥) → (cols ≡ 0 → ⊥) → is_empty (rows, cols) ≡ false
-any_places rows cols some more = grind (arith, nat_tests)

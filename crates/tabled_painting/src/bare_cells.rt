@@ -1,6 +1,6 @@
 //! Whether nothing is set for the cells of a table, so that their texts are shown as they are.
 
-ghost use Rattle.std.specs.Prelude.{◌↔◌, IsTrue};
+ghost use Rattle.std.specs.Prelude.{IsTrue};
 ghost use Rattle.tabled_painting.specs.BareCells.{AreBare, IsBareCell};
 ghost use Rattle.tabled_painting.specs.CellLines.{coloring_of};
 

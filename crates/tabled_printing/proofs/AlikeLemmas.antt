@@ -1,13 +1,12 @@
 -- What edges, crossings and vertical lines have in common, where nothing is kept for single places or single lines.
-use Rattle.std.proofs.Common.{◌≡◌, ◌↔◌, ◌≢◌, ◌⊎◌, inl, inr, ℕ, ◌+◌, ◌==◌, ◌<◌, ◌≤◌, zero, suc, Bool, true, false, not, ◌&&◌, nat_le, nat_lt, if◌then◌else◌, Option, Some, None, unwrap_or, is_some, option_map, option_and_then, MatchOption, IsTrue, List, [], ◌∷◌, ◌++◌, length, map, get_or, refl, sym, ap, subst, ◌∙◌, arith}
-use Rattle.std.specs.FinMap.{FinMap, empty, get, get-empty, entries, len-entries, len-empty, empty_of_len}
+use Rattle.std.proofs.Common.{◌≡◌, ℕ, ◌+◌, ◌==◌, ◌<◌, ◌≤◌, zero, suc, Bool, true, false, not, ◌&&◌, nat_le, nat_lt, if◌then◌else◌, Option, Some, None, unwrap_or, is_some, option_map, option_and_then, List, [], ◌∷◌, ◌++◌, map, get_or, refl, sym, ap, ◌∙◌, arith}
+use Rattle.std.specs.FinMap.{FinMap, empty, get, get-empty, entries}
 use Rattle.std.specs.Ordering.{nat_cmp}
 use Rattle.std.specs.declared.cmp.Ordering.{Ordering}
 use Rattle.std.proofs.lemmas.Bool.{lt-ltb, le-leb}
 use Rattle.std.proofs.lemmas.Bool.Decides.{nat_tests}
 use Rattle.std.proofs.lemmas.List.{map-append}
 use Rattle.std.proofs.lemmas.List.FromFn.{get_or-map-range_with_len, map-range_with_len_more}
-use Rattle.tabled_border.specs.Texts.{Texts}
 use Rattle.tabled_grid.specs.declared.place.Place.{Place}
 use Rattle.tabled_grid.specs.declared.place.LineOf.{LineOf}
 use Rattle.tabled_grid.specs.declared.place.Rank.{Rank}
@@ -24,7 +23,7 @@ use Rattle.tabled_grid.specs.Drawn.{draws, drawn, Drawn}
 use Rattle.tabled_grid.specs.Reading.{direction_of}
 use Rattle.tabled_grid.specs.Site.{rank, stands}
 use Rattle.tabled_grid.specs.Value.{has_spot, sign_or, plain_value}
-use Rattle.tabled_grid.specs.State.{State, state_at, horizontal_part, vertical_part, HasNoCells, HasNoOffsets, HasNoLines}
+use Rattle.tabled_grid.specs.State.{State, state_at, horizontal_part, vertical_part, HasNoCells, HasNoOffsets}
 use Rattle.tabled_grid.specs.Keys.{spot_cmp}
 use Rattle.tabled_grid.proofs.DrawnLemmas.{drawn-answer, Drawn-drawn}
 use Rattle.tabled_object.specs.Entities.{below}
@@ -32,7 +31,7 @@ use Rattle.tabled_configuration.specs.Configuration.{Configuration, all_writes, 
 use Rattle.tabled_configuration.proofs.ConfigurationLemmas.{shown_characters}
 use Rattle.tabled_printing.specs.declared.mark.Mark.{Mark}
 use Rattle.tabled_printing.specs.declared.sides.Sides.{Sides}
-use Rattle.tabled_printing.specs.Alike.{HasNoSingles, NoneForPlaces, NoneForLines}
+use Rattle.tabled_printing.specs.Alike.{NoneForPlaces, NoneForLines}
 use Rattle.tabled_printing.specs.LinePieces.{pieces_of, piece_size, crossing_of, edge_of, crossing_places, piece_places}
 use Rattle.tabled_printing.specs.Marks.{mark_of}
 use Rattle.tabled_printing.specs.Picture.{Look, Shown, look, mark_at}
@@ -303,9 +302,6 @@ pub some_beside : (view : Look) (r k c : ℕ) (mark : Shown) → view.vertical c
 some_beside view r k c mark drawn_there shows = ap Some shows ∙ sym (ap (λ b. if b then Some (mark_at view (Place.Vertical r c k)) else None) drawn_there)
 
 -- the same of a crossing
-pub none_drawn : (view : Look) (c : ℕ) (mark : Shown) → view.vertical c ≡ false → [] ≡ mark_if_drawn view c mark
-none_drawn view c mark not_drawn = sym (ap (λ b. if b then mark ∷ [] else []) not_drawn)
-
 pub some_drawn : (view : Look) (c : ℕ) (mark : Shown) → view.vertical c ≡ true → mark ∷ [] ≡ mark_if_drawn view c mark
 some_drawn view c mark drawn_there = sym (ap (λ b. if b then mark ∷ [] else []) drawn_there)
 

@@ -60,12 +60,9 @@ edge_length widths heights (LineOf.Horizontal r) n k = refl
 edge_length widths heights (LineOf.Vertical c) n k = refl
 
 module _ (view : Look) (line : LineOf) where
-  -- how many places an edge and a piece have
+  -- how many places an edge has
   pub edge_count : (n : ℕ) → length (edge_places view line n) ≡ piece_size view.widths view.heights line n
   edge_count n = length-map-range_with_len (edge_of line n) 0 (piece_size view.widths view.heights line n)
-
-  pub piece_count : (n : ℕ) → length (piece_places view line n) ≡ length (crossing_places view line n) + length (edge_places view line n)
-  piece_count n = length-append (crossing_places view line n) (edge_places view line n)
 
   -- one more piece
   pub before_more : (n : ℕ) → places_before view line (n + 1) ≡ places_before view line n ++ piece_places view line n
@@ -115,12 +112,9 @@ module _ (view : Look) (line : LineOf) where
   pub piece_marks : (n : ℕ) → map (mark_at view) (piece_places view line n) ≡ map (mark_at view) (crossing_places view line n) ++ map (mark_at view) (edge_places view line n)
   piece_marks n = map-append (mark_at view) (crossing_places view line n) (edge_places view line n)
 
--- the marks of a line that is there, and of one that is not
+-- the marks of a line that is there
 pub marks_are : (view : Look) (line : LineOf) → has_line view.shape line ≡ true → marks_along view line ≡ map (mark_at view) (all_places view line)
 marks_are view line there = ap (map (mark_at view)) (along_pieces view line there)
-
-pub no_marks : (view : Look) (line : LineOf) → has_line view.shape line ≡ false → marks_along view line ≡ []
-no_marks view line absent = ap (map (mark_at view)) (no_places view line absent)
 
 -- how many marks there are, and how many lines meet it
 pub marks_count : (view : Look) (line : LineOf) → has_line view.shape line ≡ true → length (marks_along view line) ≡ length (all_places view line)

@@ -1,8 +1,8 @@
 -- How a table looks, by what its configuration returns.
-use Rattle.std.proofs.Common.{◌≡◌, ℕ, ◌+◌, ◌-◌, ◌≤◌, ◌<◌, Bool, true, false, ◌&&◌, if◌then◌else◌, Option, None, option_map, List, [], ◌∷◌, ◌++◌, length, get_or, map, refl, sym, ap, ◌∙◌, IsTrue, ◌↔◌, arith}
+use Rattle.std.proofs.Common.{◌≡◌, ℕ, ◌+◌, ◌-◌, ◌<◌, Bool, true, false, ◌&&◌, if◌then◌else◌, Option, None, option_map, List, [], ◌∷◌, ◌++◌, map, refl, sym, ap, ◌∙◌, IsTrue, ◌↔◌, arith}
 use Rattle.std.specs.FinMap.{get, get-empty}
 use Rattle.std.proofs.lemmas.Bool.{lt-ltb}
-use Rattle.std.proofs.lemmas.List.FromFn.{length-map-range_with_len, get_or-map-range_with_len, map-range_with_len_more}
+use Rattle.std.proofs.lemmas.List.FromFn.{map-range_with_len_more}
 use Rattle.tabled_grid.specs.declared.place.Place.{Place}
 use Rattle.tabled_grid.specs.declared.place.LineOf.{LineOf}
 use Rattle.tabled_grid.specs.declared.offset.Offset.{Offset}
@@ -119,13 +119,6 @@ own_crossing_color_if cfg shape widths heights line n false place found at is = 
 -- where no colors are wanted there is none
 pub uncolored : {X : Type 0} (wanted : Bool) (color : Option X) → wanted ≡ false → None ≡ (if wanted then color else None)
 uncolored wanted color plain = sym (ap (λ b. if b then color else None) plain)
-
--- the lines that are drawn, listed
-pub listed_within : {X : Type 0} (f : ℕ → X) (xs : List X) (n k : ℕ) → xs ≡ map f (below (n + 1)) → k ≤ n → k < length xs
-listed_within f xs n k e h = let l : length xs ≡ n + 1 = ap length e ∙ length-map-range_with_len f 0 (n + 1) in omega arith
-
-pub listed_at : {X : Type 0} (f : ℕ → X) (xs : List X) (n k : ℕ) (d : X) → xs ≡ map f (below (n + 1)) → k ≤ n → get_or xs k d ≡ f k
-listed_at f xs n k d e h = ap (λ l. get_or l k d) e ∙ get_or-map-range_with_len f 0 (n + 1) k k d (omega arith) (omega arith)
 
 -- one more line is listed
 pub listed_more : (cfg : Configuration) (shape : ℕ × ℕ) (line across : LineOf) (count n m : ℕ) (answer : Bool) (before after : List Bool) → count ≡ pieces_of shape line → across ≡ crossing_line line n → m ≡ n

@@ -1,5 +1,5 @@
 -- What a horizontal line shows where the class record alone decides it.
-use Rattle.std.proofs.Common.{◌≡◌, ◌∙◌, ℕ, ◌<◌, ◌≤◌, Bool, true, false, None, Option, if◌then◌else◌, sym, ap, refl, arith}
+use Rattle.std.proofs.Common.{◌≡◌, ◌∙◌, ℕ, ◌<◌, ◌≤◌, Bool, true, false, None, Option, if◌then◌else◌, sym, ap, arith}
 use Rattle.std.proofs.lemmas.Bool.Decides.{nat_tests}
 use Rattle.tabled_border.specs.Texts.{Texts}
 use Rattle.tabled_grid.specs.declared.borders.Borders.{Borders}

@@ -1,7 +1,7 @@
 -- The bytes of a text, written part by part.
-use Rattle.std.proofs.Common.{◌≡◌, ℕ, ◌+◌, ◌-◌, ◌<◌, ◌≤◌, Bool, true, false, cond, Option, List, [], ◌∷◌, ◌++◌, length, take, map, refl, sym, ap, subst, ◌∙◌, arith, lit<, if◌then◌else◌, get_or, encode_utf8, encode_utf8_all, ◌||◌, nat_lt, Result, Ok, Err, IsErr, MatchResult, is_err, rules, String, string_len, Vec, string_bytes}
+use Rattle.std.proofs.Common.{◌≡◌, ℕ, ◌+◌, ◌-◌, ◌<◌, ◌≤◌, Bool, true, false, List, [], ◌∷◌, ◌++◌, length, take, map, refl, sym, ap, subst, ◌∙◌, arith, lit<, if◌then◌else◌, get_or, encode_utf8, encode_utf8_all, Result, Ok, Err, IsErr, MatchResult, is_err, rules, String, string_len, Vec, string_bytes}
 use Rattle.std.specs.List.{flat_map, join_with_byte}
-use Rattle.std.proofs.lemmas.List.{append-nil, append_assoc, map-append, take_at, take_all, length-append, take-take, get_or-map, get_or_at}
+use Rattle.std.proofs.lemmas.List.{append-nil, append_assoc, take_at, take_all, length-append, take-take, get_or-map, get_or_at}
 use Rattle.std.proofs.lemmas.List.Concat.{flat_map-append}
 use Rattle.std.proofs.lemmas.List.FromFn.{map-range_with_len_more}
 use Rattle.std.proofs.lemmas.Str.{encode_ascii, IsCharBoundary-from_take, IsUtf8-string_bytes}

@@ -124,9 +124,6 @@ module _ (piece : List ℕ) (count character size : ℕ) (is : piece ≡ times 6
   at_seam : length (times count character) ≡ count * size
   at_seam = length-times count character ∙ ap (λ n. count * n) (sym sized)
 
-  pub part_fits : count * size ≤ length piece
-  part_fits = omega (arith, at_seam, ap length in_parts, length-append (times count character) (times (64 - count) character))
-
   pub part_split : IsScalar character → IsCharBoundary piece (count * size)
   part_split scalar = subst (IsCharBoundary piece) at_seam (IsCharBoundary-at_seam piece (times count character) (times (64 - count) character) in_parts (IsUtf8-times (64 - count) character scalar))
 

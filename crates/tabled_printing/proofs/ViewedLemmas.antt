@@ -1,13 +1,12 @@
 -- How a table looks with its colors, or without them: the same characters.
-use Rattle.std.proofs.Common.{◌≡◌, ℕ, Bool, true, false, if◌then◌else◌, Option, Some, None, List, [], ◌∷◌, ◌++◌, map, length, get_or, refl, sym, ap, ◌∙◌}
+use Rattle.std.proofs.Common.{◌≡◌, Bool, if◌then◌else◌, None, List, [], ◌∷◌, ◌++◌, map, length, get_or, refl, ap, ◌∙◌}
 use Rattle.std.specs.List.{flat_map}
 use Rattle.std.proofs.lemmas.List.{length-map}
 use Rattle.tabled_grid.specs.declared.place.Place.{Place}
 use Rattle.tabled_grid.specs.declared.place.LineOf.{LineOf}
 use Rattle.tabled_object.specs.Entities.{below}
 use Rattle.tabled_printing.specs.Along.{is_empty, along}
-use Rattle.tabled_printing.specs.Picture.{Look, Shown, mark_at, marks_along, text_marked, text_shown, side_shown, row_lines, text_lines}
-use Rattle.tabled_printing.specs.Beside.{mark_beside}
+use Rattle.tabled_printing.specs.Picture.{Look, Shown, mark_at, marks_along, text_marked, text_shown, row_lines, text_lines}
 use Rattle.tabled_printing.specs.Texts.{Table}
 use Rattle.tabled_printing.specs.Viewed.{with_colors_if}
 
@@ -40,15 +39,3 @@ module _ (wanted : Bool) (view : Look) where
       if is_empty view.shape then [] else
       flat_map (λ r. (if view.horizontal r then kept_text (LineOf.Horizontal r) i ∷ [] else []) ++ row_lines view r (get_or cells r [])) (below view.shape.0)
       ++ (if view.horizontal view.shape.0 then kept_text (LineOf.Horizontal view.shape.0) i ∷ [] else [])
-
--- the text of what stands beside a line of text
-abbrev pub text_beside : Option Shown → List ℕ
-text_beside None = []
-text_beside (Some mark) = text_shown (mark.0 ∷ [])
-
-pub side_text : (view : Look) (r k c : ℕ) → text_beside (mark_beside view r k c) ≡ text_shown (side_shown view r k c)
-side_text view r k c = by_case (view.vertical c)
-  where
-    by_case : (b : Bool) → text_beside (if b then Some (mark_at view (Place.Vertical r c k)) else None) ≡ text_shown (if b then view.shown (Place.Vertical r c k) ∷ [] else [])
-    by_case true = refl
-    by_case false = refl

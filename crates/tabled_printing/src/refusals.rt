@@ -4,7 +4,7 @@ ghost use Rattle.std.specs.Prelude.{◌≡◌, ◌==◌, length, map, slice_get,
 ghost use Rattle.std.specs.List.{list_all};
 ghost use Rattle.tabled_printing.specs.Texts.{texts, pieces, width_of_text};
 ghost use Rattle.tabled_printing.specs.Refusal as refusal;
-ghost use Rattle.tabled_printing.specs.Refusal.{fits_height, fits_width, cell_faults, row_faults, table_faults};
+ghost use Rattle.tabled_printing.specs.Refusal.{fits_height, cell_faults, row_faults, table_faults};
 
 use crate::PrintError;
 use tabled_configuration::SpannedConfig;

@@ -1,6 +1,6 @@
 //! What the marks of a line are put into: a text, a list of marks, a list of runs, or a number that counts them.
 
-ghost use Rattle.std.specs.Prelude.{◌≡◌, List, [], ◌++◌};
+ghost use Rattle.std.specs.Prelude.{List, [], ◌++◌};
 ghost use Rattle.tabled_printing.specs.Marks.{run_marks};
 ghost use Rattle.tabled_printing.specs.Picture.{Shown};
 ghost use Rattle.tabled_printing.specs.Sinks.{Put};

@@ -1,5 +1,5 @@
 -- The last line is put, and nothing goes on.
-use Rattle.std.proofs.Common.{[], ◌++◌, ap, sym, ◌∙◌, map}
+use Rattle.std.proofs.Common.{◌++◌, ap, sym, ◌∙◌, map}
 use Rattle.tabled_printing.specs.Pieces.{lent}
 use Rattle.tabled_cells.specs.Trimmed.{line_shown, goes_on}
 use Rattle.tabled_cells.proofs.Trimming.{last_put}

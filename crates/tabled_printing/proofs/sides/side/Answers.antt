@@ -3,7 +3,6 @@ use Rattle.std.proofs.Common.{Some, None, if◌then◌else◌, ap, sym, ◌∙�
 use Rattle.tabled_grid.specs.declared.place.LineOf.{LineOf}
 use Rattle.tabled_grid.specs.declared.place.Place.{Place}
 use Rattle.tabled_printing.specs.Beside.{plain_mark}
-use Rattle.tabled_printing.specs.Marks.{mark_of}
 use Rattle.tabled_printing.proofs.LookLemmas.{own_drawn}
 use Rattle.tabled_printing.proofs.sides.side.Goals as goal
 

@@ -1,9 +1,8 @@
 -- One piece more, and the last crossing.
-use Rattle.std.proofs.Common.{◌≡◌, ℕ, ◌+◌, ◌++◌, List, map, sym, subst, ap, ◌∙◌, arith, rules}
-use Rattle.tabled_grid.specs.declared.place.Place.{Place}
+use Rattle.std.proofs.Common.{◌≡◌, ◌+◌, ◌++◌, map, sym, subst, ap, ◌∙◌, arith, rules}
 use Rattle.tabled_grid.specs.declared.place.LineOf.{LineOf}
 use Rattle.tabled_object.specs.Entities.{below}
-use Rattle.tabled_printing.specs.LinePieces.{crossing_places, piece_places, places_before, all_places}
+use Rattle.tabled_printing.specs.LinePieces.{places_before}
 use Rattle.tabled_printing.specs.Marks.{mark_of}
 use Rattle.tabled_printing.specs.Picture.{Look, mark_at, marks_along}
 use Rattle.tabled_printing.specs.Beside.{mark_if_drawn}

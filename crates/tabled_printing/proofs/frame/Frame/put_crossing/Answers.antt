@@ -1,9 +1,9 @@
 -- A line that is drawn has a mark.
-use Rattle.std.proofs.Common.{◌≡◌, true, false, is_some, not, [], ◌∷◌, ap, sym, ◌∙◌, rules}
+use Rattle.std.proofs.Common.{[], ◌∷◌, rules}
 use Rattle.tabled_printing.specs.Marks.{mark_of}
 use Rattle.tabled_printing.specs.Beside.{mark_if_drawn}
 use Rattle.tabled_printing.specs.Viewed.{frame_look}
-use Rattle.tabled_printing.proofs.AlikeLemmas.{side_drawn, none_drawn, some_drawn}
+use Rattle.tabled_printing.proofs.AlikeLemmas.{some_drawn}
 use Rattle.tabled_printing.proofs.MarkLemmas.{put_same}
 use Rattle.tabled_printing.proofs.frame.Frame.put_crossing.Goals as goal
 

@@ -1,10 +1,9 @@
 -- The marks of a line that is there are those of all its places.
-use Rattle.std.proofs.Common.{◌≡◌, ◌+◌, ◌*◌, true, length, map, sym, ◌∙◌, arith}
+use Rattle.std.proofs.Common.{◌+◌, ◌*◌, length, map, sym, arith}
 use Rattle.tabled_grid.specs.declared.place.LineOf.{LineOf}
 use Rattle.tabled_printing.specs.Picture.{Look, mark_at, marks_along}
-use Rattle.tabled_printing.specs.LinePieces.{has_line, all_places}
+use Rattle.tabled_printing.specs.LinePieces.{all_places}
 use Rattle.tabled_printing.specs.Viewed.{frame_look}
-use Rattle.tabled_printing.proofs.AlikeLemmas.{side_drawn}
 use Rattle.tabled_printing.proofs.LineLemmas.{marks_are, marks_count, horizontal_there}
 use Rattle.tabled_printing.proofs.MarkLemmas.{put_same, raised_least}
 use Rattle.tabled_printing.proofs.frame.Frame.put_line.Goals as goal
