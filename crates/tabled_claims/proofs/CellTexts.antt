@@ -17,7 +17,7 @@ use Rattle.tabled_cells.specs.Trimmed.{lines_shown}
 use Rattle.tabled_printing.proofs.PieceTexts.{cut_lines}
 use Rattle.tabled_printing.proofs.Tiles.{Lacks}
 use Rattle.tabled_cells.proofs.Fits.{placed_at_lacks}
-use Rattle.tabled_painting.specs.Painted.{Painted, plain}
+use Rattle.tabled_painting.specs.Painted.{plain}
 use Rattle.tabled_painting.specs.CellLines.{coloring_at}
 use Rattle.tabled_painting.specs.Margin.{in_margin, is_without_room}
 use Rattle.tabled_painting.specs.PaintedTable.{Cells, painted_cells, painted_lines, painted_table}

@@ -1,5 +1,5 @@
 -- A table that shows narrow writes alone still does after an option that makes no others.
-use Rattle.std.proofs.Common.{◌≡◌, ℕ, true, List, [], ◌∷◌, ◌++◌, refl}
+use Rattle.std.proofs.Common.{◌≡◌, true, List, [], ◌∷◌, ◌++◌, refl}
 use Rattle.std.specs.List.{list_all}
 use Rattle.std.specs.Str.{chars}
 use Rattle.tabled_configuration.specs.Colored.{Colored, Changes}

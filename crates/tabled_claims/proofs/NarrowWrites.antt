@@ -1,5 +1,5 @@
 -- What is made of narrow characters writes narrow characters alone.
-use Rattle.std.proofs.Common.{◌≡◌, ◌<◌, ℕ, zero, suc, Bool, true, false, cond, if◌then◌else◌, ◌&&◌, length, get_or, arith, Option, Some, None, List, [], ◌∷◌, ◌++◌, map, take, drop, refl, ap, ◌∙◌}
+use Rattle.std.proofs.Common.{◌≡◌, ◌==◌, ◌||◌, ◌<◌, ℕ, zero, suc, Bool, true, false, cond, if◌then◌else◌, length, get_or, arith, Option, Some, None, List, [], ◌∷◌, ◌++◌, map, take, drop, refl, ap, ◌∙◌}
 use Rattle.std.specs.Option.{option_or}
 use Rattle.std.specs.Prelude.{IfSome, option_map}
 use Rattle.std.specs.List.{list_all, zip, filter, filter_map, cons_option, flat_map}
@@ -9,14 +9,13 @@ use Rattle.tabled_border.specs.declared.border.Border.{Border}
 use Rattle.tabled_border.specs.Border.{no_border}
 use Rattle.tabled_border.specs.Texts.{Texts}
 use Rattle.tabled_object.specs.declared.entity.Entity.{Entity}
-use Rattle.tabled_object.specs.declared.position.Position.{Position}
 use Rattle.tabled_object.specs.Entities.{cells_of, is_inside}
 use Rattle.tabled_object.specs.Listing.{listed}
 use Rattle.tabled_grid.specs.declared.borders.Borders.{Borders}
 use Rattle.tabled_grid.specs.declared.event.Event.{Event}
 use Rattle.tabled_grid.specs.declared.event.Event.TheVariants.{Write as write, Erase as erase}
 use Rattle.tabled_grid.specs.declared.event.Written.TheVariants.{Sign as sign}
-use Rattle.tabled_grid.specs.declared.event.Region.TheVariants.{All as every_site}
+use Rattle.tabled_grid.specs.declared.event.Region.TheVariants.{All as every_site, One as one_site}
 use Rattle.tabled_grid.specs.declared.lines.HorizontalLine.{HorizontalLine}
 use Rattle.tabled_grid.specs.declared.lines.VerticalLine.{VerticalLine}
 use Rattle.tabled_grid.specs.declared.place.LineOf.{LineOf}
@@ -31,13 +30,13 @@ use Rattle.tabled_grid.specs.declared.site.Site.TheVariants.{Class as of_class, 
 use Rattle.tabled_grid.specs.declared.site.Spot.{Spot}
 use Rattle.tabled_grid.specs.declared.site.Spot.TheVariants.{Edge, Crossing}
 use Rattle.tabled_grid.specs.Borders.{has_horizontal, has_vertical}
-use Rattle.tabled_grid.specs.Calls.{given_write, places_set, border_set, borders_of, entity_border_set}
+use Rattle.tabled_grid.specs.Calls.{given_write, places_set, places_erased, spots_erased, spot_of, frame_erased, border_set, border_erased, borders_of, borders_erased, entity_border_set, entity_border_erased}
 use Rattle.tabled_grid.specs.CellBorder.{border_fields, border_places}
 use Rattle.tabled_grid.specs.Lines.{part_write, horizontal_line_set, vertical_line_set}
 use Rattle.tabled_grid.specs.Site.{class_value}
 use Rattle.tabled_grid.specs.State.{class_record_set, class_writes, classes}
 use Rattle.tabled_configuration.specs.Configuration.{ConfigEvent, characters_of, by_characters, by_colors, borders_replaced, borders_set, horizontal_lines_put, vertical_lines_put}
-use Rattle.tabled_configuration.specs.Options.{entity_bordered, framed, table_bordered}
+use Rattle.tabled_configuration.specs.Options.{entity_bordered, entity_unbordered, framed, inner_of, table_bordered, table_unbordered}
 use Rattle.tabled_printing.specs.Columns.{is_narrow, is_narrow_write, WritesNarrow}
 use Rattle.tabled_printing.specs.NarrowParts.{is_narrow_if_given, is_narrow_border, is_narrow_record, is_narrow_horizontal, is_narrow_vertical}
 use Rattle.tabled_printing.specs.Picture.{Look}
@@ -370,27 +369,27 @@ either_narrow : (b : Bool) (first second : Option ℕ) → is_narrow_if_given fi
 either_narrow true first second a b = a
 either_narrow false first second a b = b
 
-module _ (border : Border ℕ) (class : Borders ℕ) (each : EachNarrow border) (h : is_narrow_record class ≡ true) where
-  -- what the class record has, by the number of the class
-  field : (k : ℕ) → k < length classes → is_narrow_if_given (class_value (get_or classes k (edges Horizontal at_first)) class) ≡ true
-  field k within = all_at (λ of. is_narrow_if_given (class_value of class)) classes h k (edges Horizontal at_first) within
+-- what a class record has, by the number of the class
+class_field : (class : Borders ℕ) → is_narrow_record class ≡ true → (k : ℕ) → k < length classes → is_narrow_if_given (class_value (get_or classes k (edges Horizontal at_first)) class) ≡ true
+class_field class h k within = all_at (λ of. is_narrow_if_given (class_value of class)) classes h k (edges Horizontal at_first) within
 
+module _ (border : Border ℕ) (class : Borders ℕ) (each : EachNarrow border) (h : is_narrow_record class ≡ true) where
   framed_field : (of : Class) → is_narrow_if_given (class_value of (framed border class)) ≡ true
   unfolding classes
   framed_field (edges Horizontal at_first) = each.top
-  framed_field (edges Horizontal inside) = field 1 (omega arith)
+  framed_field (edges Horizontal inside) = class_field class h 1 (omega arith)
   framed_field (edges Horizontal at_last) = each.bottom
   framed_field (edges Vertical at_first) = each.left
-  framed_field (edges Vertical inside) = field 4 (omega arith)
+  framed_field (edges Vertical inside) = class_field class h 4 (omega arith)
   framed_field (edges Vertical at_last) = each.right
   framed_field (crossings at_first at_first) = each.left_top_corner
-  framed_field (crossings at_first inside) = either_narrow (has_vertical inside class) border.top class.top_intersection each.top (field 7 (omega arith))
+  framed_field (crossings at_first inside) = either_narrow (has_vertical inside class) border.top class.top_intersection each.top (class_field class h 7 (omega arith))
   framed_field (crossings at_first at_last) = each.right_top_corner
-  framed_field (crossings inside at_first) = either_narrow (has_horizontal inside class) border.left class.left_intersection each.left (field 9 (omega arith))
-  framed_field (crossings inside inside) = field 10 (omega arith)
-  framed_field (crossings inside at_last) = either_narrow (has_horizontal inside class) border.right class.right_intersection each.right (field 11 (omega arith))
+  framed_field (crossings inside at_first) = either_narrow (has_horizontal inside class) border.left class.left_intersection each.left (class_field class h 9 (omega arith))
+  framed_field (crossings inside inside) = class_field class h 10 (omega arith)
+  framed_field (crossings inside at_last) = either_narrow (has_horizontal inside class) border.right class.right_intersection each.right (class_field class h 11 (omega arith))
   framed_field (crossings at_last at_first) = each.left_bottom_corner
-  framed_field (crossings at_last inside) = either_narrow (has_vertical inside class) border.bottom class.bottom_intersection each.bottom (field 13 (omega arith))
+  framed_field (crossings at_last inside) = either_narrow (has_vertical inside class) border.bottom class.bottom_intersection each.bottom (class_field class h 13 (omega arith))
   framed_field (crossings at_last at_last) = each.right_bottom_corner
 
 pub frame_narrow : (border : Border ℕ) (class : Borders ℕ) → is_narrow_border border ≡ true → is_narrow_record class ≡ true → WritesNarrow (table_bordered border class)
@@ -399,3 +398,58 @@ frame_narrow border class first second =
     narrow_characters (class_record_set (framed border class))
     (class_writes_narrow (framed border class) classes
     (all_each (λ of. is_narrow_if_given (class_value of (framed border class))) classes (framed_field border class (each_narrow border first) second)))
+
+-- ---- borders taken away
+
+spots_narrow : (spots : List Spot) → list_all is_narrow_write (spots_erased spots) ≡ true
+unfolding spots_erased
+spots_narrow spots = all_mapped is_narrow_write (λ spot. erase (one_site (at_spot spot))) spots (λ spot. refl)
+
+erasure_narrow : (place : Option Place) → passes (option_map (λ at. erase (one_site (at_spot (spot_of at)))) place) ≡ true
+unfolding passes
+erasure_narrow None = refl
+erasure_narrow (Some place) = refl
+
+erasures_narrow : (places : List (Option Place)) → list_all is_narrow_write (places_erased places) ≡ true
+unfolding places_erased
+erasures_narrow places = all_maybe (option_map (λ place. erase (one_site (at_spot (spot_of place))))) places erasure_narrow
+
+pub unbordered_narrow : (shape : ℕ × ℕ) (entity : Entity) → WritesNarrow (entity_unbordered shape entity)
+unfolding entity_unbordered borders_erased
+unbordered_narrow shape entity =
+    narrow_characters (entity_border_erased entity shape)
+    (all_flat is_narrow_write border_erased (filter (is_inside shape.0 shape.1) (cells_of entity shape.0 shape.1)) (λ pos. erasures_narrow (border_fields (border_places pos))))
+
+inner_field : (class : Borders ℕ) → is_narrow_record class ≡ true → (of : Class) → is_narrow_if_given (class_value of (inner_of class)) ≡ true
+unfolding classes
+inner_field class h (edges Horizontal inside) = class_field class h 1 (omega arith)
+inner_field class h (edges Vertical inside) = class_field class h 4 (omega arith)
+inner_field class h (crossings inside inside) = class_field class h 10 (omega arith)
+inner_field class h (edges Horizontal at_first) = refl
+inner_field class h (edges Horizontal at_last) = refl
+inner_field class h (edges Vertical at_first) = refl
+inner_field class h (edges Vertical at_last) = refl
+inner_field class h (crossings at_first at_first) = refl
+inner_field class h (crossings at_first inside) = refl
+inner_field class h (crossings at_first at_last) = refl
+inner_field class h (crossings inside at_first) = refl
+inner_field class h (crossings inside at_last) = refl
+inner_field class h (crossings at_last at_first) = refl
+inner_field class h (crossings at_last inside) = refl
+inner_field class h (crossings at_last at_last) = refl
+
+none_or_spots : (none : Bool) (spots : List Spot) → list_all is_narrow_write (if none then [] else spots_erased spots) ≡ true
+none_or_spots true spots = refl
+none_or_spots false spots = spots_narrow spots
+
+none_or_narrow : (none : Bool) (characters : List (Event ℕ)) → list_all is_narrow_write characters ≡ true → WritesNarrow (if none then [] else by_characters characters)
+none_or_narrow true characters all = refl
+none_or_narrow false characters all = narrow_characters characters all
+
+pub unframed_narrow : (shape : ℕ × ℕ) (class : Borders ℕ) → is_narrow_record class ≡ true → WritesNarrow (table_unbordered shape class)
+unfolding table_unbordered class_record_set
+unframed_narrow shape class h =
+    none_or_narrow ((shape.0 == 0) || (shape.1 == 0)) (class_record_set (inner_of class) ++ frame_erased shape)
+    (all_both is_narrow_write (class_record_set (inner_of class)) (frame_erased shape)
+    (class_writes_narrow (inner_of class) classes (all_each (λ of. is_narrow_if_given (class_value of (inner_of class))) classes (inner_field class h)))
+    (none_or_spots ((shape.0 == 0) || (shape.1 == 0)) _))

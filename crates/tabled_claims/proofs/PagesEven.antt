@@ -1,6 +1,6 @@
 -- Every page that the program writes is a rectangle.
-use Rattle.std.proofs.Common.{◌≡◌, ◌==◌, ℕ, ◌+◌, ◌<◌, zero, suc, Bool, true, false, not, cond, if◌then◌else◌, eqb, nat_lt, Option, Some, None, List, [], ◌∷◌, ◌++◌, length, get_or, refl, sym, ap, subst, ◌∙◌, arith}
-use Rattle.std.specs.List.{slice_split, onto_first, list_all}
+use Rattle.std.proofs.Common.{◌≡◌, ◌==◌, ℕ, ◌<◌, Bool, true, false, not, cond, if◌then◌else◌, eqb, nat_lt, Option, Some, None, List, [], ◌∷◌, ◌++◌, length, get_or, refl, ap, ◌∙◌, arith}
+use Rattle.std.specs.List.{onto_first, list_all}
 use Rattle.std.specs.Str.{IsUtf8}
 use Rattle.std.proofs.lemmas.Bool.{eqb-true}
 use Rattle.std.proofs.lemmas.Bool.Decides.{nat_tests}
@@ -16,7 +16,7 @@ use Rattle.tabled_text.specs.Cells.{margin_set}
 use Rattle.tabled_text.specs.Sizes.{cell, column_count}
 use Rattle.tabled_text.specs.TextTable.{look_of, text_of}
 use Rattle.tabled_text.proofs.Even.{text_even}
-use Rattle.tabled_pages.specs.declared.bytes.TheConstants.{LINE_FEED, FIRST_PRINTABLE, LAST_PRINTABLE}
+use Rattle.tabled_pages.specs.declared.bytes.TheConstants.{LINE_FEED}
 use Rattle.tabled_pages.specs.declared.read.TheConstants.{INPUT_LIMIT}
 use Rattle.tabled_pages.specs.declared.error.ShowError.{ShowError}
 use Rattle.tabled_pages.specs.declared.error.ShowError.TheVariants.{TooLong, ByteOutOfRange, UnequalRows}

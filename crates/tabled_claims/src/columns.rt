@@ -9,7 +9,7 @@ ghost use Rattle.tabled_grid.specs.declared.borders.Borders.{Borders as Classes}
 ghost use Rattle.tabled_grid.specs.declared.place.LineOf.{LineOf};
 ghost use Rattle.tabled_object.specs.declared.entity.Entity.{Entity};
 ghost use Rattle.tabled_configuration.specs.Configuration.{ConfigEvent, characters_of};
-ghost use Rattle.tabled_configuration.specs.Options.{entity_bordered, table_bordered};
+ghost use Rattle.tabled_configuration.specs.Options.{entity_bordered, entity_unbordered, table_bordered, table_unbordered};
 ghost use Rattle.tabled_printing.specs.Columns.{HasNarrowBorders, WritesNarrow, draws_plainly, is_narrow};
 ghost use Rattle.tabled_printing.specs.NarrowParts.{is_narrow_border, is_narrow_horizontal, is_narrow_if_given, is_narrow_record, is_narrow_vertical};
 ghost use Rattle.tabled_printing.specs.Picture.{Look, look};
@@ -73,10 +73,13 @@ pub fn theme_writes_narrow()
         → list_all (λ line. is_narrow_vertical line.1) (as_style theme).verticals ≡ true → WritesNarrow (theme_applied theme) }
 {}
 
-/// A border does where it gives no others: around cells, and around a table whose class record has no others.
+/// A border does where it gives no others: around cells, and around a table whose class record has no others. Where borders are taken away
+/// nothing but such a class record is written.
 pub fn border_writes_narrow()
     ensures cells { (border : Frame ℕ) (shape : ℕ × ℕ) (entity : Entity) → is_narrow_border border ≡ true → WritesNarrow (entity_bordered border shape entity) }
     ensures table { (border : Frame ℕ) (class : Classes ℕ) → is_narrow_border border ≡ true → is_narrow_record class ≡ true → WritesNarrow (table_bordered border class) }
+    ensures no_border { (shape : ℕ × ℕ) (entity : Entity) → WritesNarrow (entity_unbordered shape entity) }
+    ensures no_frame { (shape : ℕ × ℕ) (class : Classes ℕ) → is_narrow_record class ≡ true → WritesNarrow (table_unbordered shape class) }
 {}
 
 /// A character on lines does where it is narrow, and a text on a line where its characters are.
