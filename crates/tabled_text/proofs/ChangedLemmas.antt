@@ -60,10 +60,10 @@ unequal_is columns row [] = refl
 unequal_is columns row (cells ∷ rows) = ap (λ o. if length cells == columns then o else Some row) (unequal_is columns (row + 1) rows)
 
 module _ (old new : Table) (same : map length new ≡ map length old) where
-  same_columns : column_count new ≡ column_count old
+  pub same_columns : column_count new ≡ column_count old
   same_columns = columns_by new ∙ ap first_count same ∙ sym (columns_by old)
 
-  same_rows : length new ≡ length old
+  pub same_rows : length new ≡ length old
   same_rows = sym (length-map new length) ∙ ap length same ∙ length-map old length
 
   pub same_unequal : unequal_row old ≡ None → unequal_row new ≡ None

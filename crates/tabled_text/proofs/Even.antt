@@ -42,7 +42,7 @@ utf8_cells (row ∷ rows) (suc r) c = utf8_cells rows r c
 
 -- ---- columns and rows leave room for it
 
-column_room : (table : Table) (r c : ℕ) → r < length table → c < column_count table → width_asked (cell (get_or table r []) c) ≤ slice_index (column_widths table) c
+pub column_room : (table : Table) (r c : ℕ) → r < length table → c < column_count table → width_asked (cell (get_or table r []) c) ≤ slice_index (column_widths table) c
 unfolding column_widths
 column_room table r c row_within within =
     let here : slice_index (column_widths table) c ≡ column_width table c = get_or-map-range_with_len (column_width table) 0 (column_count table) c c 0 within (omega arith) in

@@ -4,3 +4,6 @@ pub mod EqualRows
 pub mod Painting
 pub mod Even
 pub mod ChangedLemmas
+pub mod ShareSums
+pub mod Frames
+pub mod Totals

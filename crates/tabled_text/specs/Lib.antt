@@ -3,3 +3,4 @@ pub mod Cells
 pub mod Refusal
 pub mod TextTable
 pub mod Changed
+pub mod Fitted

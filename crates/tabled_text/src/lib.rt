@@ -5,6 +5,7 @@
 
 mod changing;
 mod display;
+mod fitting;
 mod measure;
 mod table_error;
 mod text_table;

@@ -33,10 +33,10 @@ used-all low high (x ∷ xs) each le =
 
 -- ---- the sum of shares
 
-step_small : (cap left n : ℕ) (ns : List ℕ) → n ≤ cap → shared cap left (n ∷ ns) ≡ n ∷ shared cap left ns
+pub step_small : (cap left n : ℕ) (ns : List ℕ) → n ≤ cap → shared cap left (n ∷ ns) ≡ n ∷ shared cap left ns
 step_small cap left n ns le = ap (λ b. if b then n ∷ shared cap left ns else (cap + min left 1) ∷ shared cap (left - 1) ns) (le-leb n cap le)
 
-step_great : (cap left n : ℕ) (ns : List ℕ) → cap < n → shared cap left (n ∷ ns) ≡ (cap + min left 1) ∷ shared cap (left - 1) ns
+pub step_great : (cap left n : ℕ) (ns : List ℕ) → cap < n → shared cap left (n ∷ ns) ≡ (cap + min left 1) ∷ shared cap (left - 1) ns
 step_great cap left n ns lt = ap (λ b. if b then n ∷ shared cap left ns else (cap + min left 1) ∷ shared cap (left - 1) ns) (lt-leb n cap lt)
 
 pub sum_shared : (cap left : ℕ) (ns : List ℕ) → sum (shared cap left ns) ≤ used cap ns + left

@@ -1,15 +1,21 @@
 //! Texts of a table that are cleaned, or kept within a number of columns or lines.
 
-ghost use Rattle.std.specs.Prelude.{◌≡◌, length, OnOk, OnErr};
+ghost use Rattle.std.specs.Prelude.{◌≡◌, ◌≤◌, ◌-◌, List, length, OnOk, OnErr};
+ghost use Rattle.tabled_configuration.specs.Configuration.{ConfigEvent, Shows};
 ghost use Rattle.tabled_clean.specs.Steering.{cleaned};
+ghost use Rattle.tabled_painting.specs.Widths.{text_width};
+ghost use Rattle.tabled_text.specs.Cells.{margin_set};
 ghost use Rattle.tabled_text.specs.Changed.{cells_changed, each_text, texts_of_cells};
+ghost use Rattle.tabled_text.specs.Fitted.{CanShare, IsFitted, frame_width, least_width};
 ghost use Rattle.tabled_text.specs.Sizes.{column_count};
+ghost use Rattle.tabled_text.specs.TextTable.{look_of};
 
 use super::TextTable;
-use crate::changing::{Cleaning, LimitedCells, changed_rows};
+use crate::changing::{Cleaning, LimitedCells, LimitedColumns, changed_rows};
+use crate::fitting::{room_for_texts, texts_asked};
 use tabled_border::OutOfMemory;
 use tabled_object::{Object, Shape, listed_entities};
-use tabled_width::TextLimit;
+use tabled_width::{Overflow, TextLimit, shares_of};
 
 impl TextTable {
     /// Cleans all texts of the table, so that nothing in them steers a terminal, as `tabled_clean::cleaned` says: a control character but
@@ -54,6 +60,40 @@ impl TextTable {
         let change = LimitedCells {
             entities: &entities,
             limit: &limit,
+        };
+        let cells = changed_rows(alloc, &change, &self.cells)?;
+        self.set_cells(cells)
+    }
+
+    /// Keeps the texts of the table within so many columns of the terminal that each line of the whole table takes no more than `total`
+    /// of them, with the spaces of its cells, its vertical lines and its margin. Columns that ask for little keep their width; the others
+    /// share what is left, as `tabled_width::shares_of` says. Options that change lines, the margin or sizes come before it, a text on a
+    /// line after it. Each column of texts keeps one column of the terminal at least, so a table of many columns may stay wider. Where
+    /// memory is refused the table is as it was.
+    ///
+    /// `table.fit(19, Overflow::WrapWords)?`:
+    ///
+    /// ```text
+    /// +-----+-----------+
+    /// | tea | leaves in |
+    /// |     | hot water |
+    /// +-----+-----------+
+    /// ```
+    pub fn fit(&mut self, total: usize, how: Overflow<'_>) -> Result<(), OutOfMemory>
+        ensures texts { (es : List ConfigEvent) → Shows es self.old.config.spanned → OnOk result (IsFitted how.entry (total - frame_width es self.old.texts) self.old.texts self.new.texts) }
+        ensures fits { (es : List ConfigEvent) → Shows es self.old.config.spanned → CanShare how.entry (total - frame_width es self.old.texts) self.old.texts → least_width es self.old.texts ≤ total
+            → OnOk result (text_width (look_of es self.new.texts) (margin_set es) ≤ total) }
+        ensures config { self.new.config ≡ self.old.config }
+        ensures err { OnErr result (self.new ≡ self.old) }
+    {
+        let config = self.config().config();
+        let alloc = config.allocator();
+        let room = room_for_texts(config, self.shape.cols, total);
+        let asked = texts_asked(alloc, &self.sizes.widths)?;
+        let widths = shares_of(alloc, &asked, room)?;
+        let change = LimitedColumns {
+            widths: &widths,
+            how,
         };
         let cells = changed_rows(alloc, &change, &self.cells)?;
         self.set_cells(cells)

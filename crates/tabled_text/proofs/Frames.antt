@@ -1,0 +1,57 @@
+-- What a table takes besides its texts, by what its configuration keeps.
+use Rattle.std.proofs.Common.{◌≡◌, ℕ, ◌+◌, ◌-◌, ◌<◌, false, if◌then◌else◌, List, [], ◌∷◌, length, sym, ap, subst, ◌∙◌, arith}
+use Rattle.std.specs.List.{sum_by}
+use Rattle.std.proofs.lemmas.Bool.Decides.{nat_tests}
+use Rattle.tabled_object.specs.Entities.{below}
+use Rattle.tabled_grid.specs.declared.place.LineOf.{LineOf}
+use Rattle.tabled_grid.specs.Drawn.{drawn}
+use Rattle.tabled_configuration.specs.Configuration.{Configuration, ConfigEvent, Shows, all_writes, characters_of}
+use Rattle.tabled_printing.specs.Along.{is_empty}
+use Rattle.tabled_printing.specs.Picture.{Look, look}
+use Rattle.tabled_printing.specs.Texts.{Table}
+use Rattle.tabled_printing.proofs.LookLemmas.{own_look}
+use Rattle.tabled_painting.specs.Widths.{text_width}
+use Rattle.tabled_text.specs.Cells.{margin_set}
+use Rattle.tabled_width.specs.declared.limit.Overflow.{Overflow}
+use Rattle.tabled_width.specs.Shares.{used, IsCap, shared}
+use Rattle.tabled_text.specs.Changed.{cells_changed, texts_of_columns}
+use Rattle.tabled_text.specs.Fitted.{IsFitted, frame_width, texts_asked}
+use Rattle.tabled_text.specs.Sizes.{column_count}
+use Rattle.tabled_text.proofs.ShareSums.{sum_more}
+
+pub not_empty : (table : Table) → 0 < column_count table → is_empty (length table, column_count table) ≡ false
+not_empty [] some = absurd (omega (arith, some))
+not_empty (row ∷ rows) some = grind (arith, nat_tests, some)
+
+-- how many columns a vertical line takes, by what is kept
+abbrev pub line_kept : Configuration → ℕ → ℕ → ℕ
+line_kept cfg cols line = if drawn (characters_of (all_writes cfg)) cols (LineOf.Vertical line) then 1 else 0
+
+pub frame_kept : (cfg : Configuration) (es : List ConfigEvent) (table : Table) → Shows es cfg → 0 < column_count table
+    → frame_width es table ≡ cfg.settings.margin.size.left.size
+    + (sum_by (λ col. line_kept cfg (column_count table) col + 2) (below (column_count table)) + line_kept cfg (column_count table) (column_count table))
+    + cfg.settings.margin.size.right.size
+frame_kept cfg es table shows some =
+    let shape : ℕ × ℕ = (length table, column_count table) in
+    let own : Look = look (all_writes cfg) shape (λ c. 2) (λ r. 1) in
+    ap (λ view. text_width view (margin_set es)) (sym (own_look cfg es shape (λ c. 2) (λ r. 1) shows))
+    ∙ ap (λ settings. text_width own settings.margin) (sym shows.settings_shown)
+    ∙ ap (λ b. if b then 0 else cfg.settings.margin.size.left.size
+    + (sum_by (λ col. line_kept cfg (column_count table) col + 2) (below (column_count table)) + line_kept cfg (column_count table) (column_count table))
+    + cfg.settings.margin.size.right.size) (not_empty table some)
+
+-- a table that was changed by shares of what its columns ask for
+pub fitted_by : (how : Overflow) (room left : ℕ) (before after : Table) (asked widths : List ℕ) (cap : ℕ) → asked ≡ texts_asked before → room ≡ left → IsCap room asked cap
+    → widths ≡ shared cap (room - used cap asked) asked → after ≡ cells_changed (texts_of_columns how widths) before → IsFitted how left before after
+fitted_by how room left before after asked widths cap asked_is room_is is given changed = record {
+  cap = cap;
+  is_cap = subst (λ r. IsCap r (texts_asked before) cap) room_is (subst (λ a. IsCap room a cap) asked_is is);
+  texts = changed ∙ ap (λ w. cells_changed (texts_of_columns how w) before) (given ∙ (λ i. shared cap (room_is i - used cap (asked_is i)) (asked_is i)));
+}
+
+-- what is left after one more
+pub left_after : (taken : ℕ → ℕ) (room left next col : ℕ) → left ≡ room - sum_by taken (below col) → next ≡ left - taken col → next ≡ room - sum_by taken (below (col + 1))
+left_after taken room left next col so_far one =
+    let more = sum_more taken 0 col in
+    let place : taken (0 + col) ≡ taken col = ap taken (omega arith) in
+    omega (arith, so_far, one, more, place)

@@ -1,0 +1,205 @@
+-- A table whose columns share a room is no wider than it may be.
+use Rattle.std.proofs.Common.{◌≡◌, ◌⊎◌, ⊎_elim, ℕ, ◌+◌, ◌-◌, ◌<◌, ◌≤◌, zero, suc, max, fold, nat_le, sum, true, false, Bool, if◌then◌else◌, get_or, Option, Some, None, List, [], ◌∷◌, map, length, refl, sym, ap, subst, ◌∙◌, arith}
+use Rattle.std.specs.Prelude.{slice_index, slice_get}
+use Rattle.std.specs.Str.{IsUtf8}
+use Rattle.std.specs.List.{All, sum_by}
+use Rattle.std.proofs.lemmas.Bool.{cases_lt, le-leb}
+use Rattle.std.proofs.lemmas.Bool.Decides.{nat_tests}
+use Rattle.std.proofs.lemmas.Option.{slice_get-get_or}
+use Rattle.std.proofs.lemmas.List.{length-map, get_or-map, get_or_default}
+use Rattle.std.proofs.lemmas.List.FromFn.{get_or-map-range_with_len, length-range_with_len}
+use Rattle.tabled_object.specs.Entities.{below}
+use Rattle.tabled_configuration.specs.Configuration.{ConfigEvent}
+use Rattle.tabled_layout.specs.declared.margin.Margin.{Margin}
+use Rattle.tabled_printing.specs.Along.{is_empty}
+use Rattle.tabled_printing.specs.Columns.{line_width}
+use Rattle.tabled_printing.specs.Picture.{Look, look}
+use Rattle.tabled_printing.specs.Texts.{Table, pieces, width_of_text}
+use Rattle.tabled_painting.specs.Widths.{text_width}
+use Rattle.tabled_width.specs.declared.limit.Overflow.{Overflow}
+use Rattle.tabled_width.specs.declared.limit.Overflow.TheVariants.{Wrap, WrapWords, Truncate}
+use Rattle.tabled_width.specs.Limited.{CanFit, limited}
+use Rattle.tabled_width.specs.Shares.{used, IsCap, shared}
+use Rattle.tabled_width.specs.Texts.{LinesFit}
+use Rattle.tabled_width.proofs.LimitedLaws.{limited_fits}
+use Rattle.tabled_width.proofs.TextLaws.{wrapped_same, words_same, truncated_same}
+use Rattle.tabled_width.proofs.Sharing.{sum_shared, length_shared, step_small, step_great}
+use Rattle.tabled_text.specs.Cells.{margin_set}
+use Rattle.tabled_text.specs.Changed.{cells_changed, row_changed, texts_of_columns, within}
+use Rattle.tabled_text.specs.Fitted.{IsFitted, CanShare, frame_width, least_width, shares, texts_asked}
+use Rattle.tabled_text.specs.Sizes.{cell, column_count, column_width, column_widths, row_heights, greatest, unequal_row, width_asked}
+use Rattle.tabled_text.specs.TextTable.{look_of}
+use Rattle.tabled_text.proofs.ChangedLemmas.{cells_at, counts_stay, length_cells, place_at, same_columns}
+use Rattle.tabled_text.proofs.EqualRows.{all_equal}
+use Rattle.tabled_text.proofs.Even.{column_room}
+use Rattle.tabled_cells.proofs.Fits.{greatest_bound}
+use Rattle.tabled_text.proofs.ShareSums.{sum_bound}
+
+-- ---- the greatest number is no greater than all are
+
+fold_most : {X : Type 0} (f : X → ℕ) (bound first : ℕ) (xs : List X) → first ≤ bound → All (λ x. f x ≤ bound) xs → fold max first (map f xs) ≤ bound
+fold_most f bound first [] least each = least
+fold_most f bound first (x ∷ xs) least each =
+    let here = each 0 x (omega arith) in
+    fold_most f bound (max first (f x)) xs (omega (arith, least, here)) (λ k d inside. each (suc k) d (omega (arith, inside)))
+
+greatest_most : {X : Type 0} (f : X → ℕ) (bound : ℕ) (xs : List X) → All (λ x. f x ≤ bound) xs → greatest (map f xs) ≤ bound
+greatest_most f bound xs each = fold_most f bound 0 xs (omega arith) each
+
+-- ---- columns within their shares
+
+at_most : (n m : ℕ) → nat_le n m ≡ true → n ≤ m
+at_most n m e = grind (arith, nat_tests, e)
+
+asked_within : (width : ℕ) (text : List ℕ) → LinesFit width text → width_asked text ≤ width + 2
+unfolding width_asked
+asked_within width text fit =
+    let most = greatest_most width_of_text width (pieces text) (λ k d inside. at_most _ width (fit k d inside)) in
+    omega (arith, most)
+
+sum_within : (cap room : ℕ) (asked : List ℕ) → IsCap room asked cap → used 1 asked ≤ room → sum (shared cap (room - used cap asked) asked) ≤ room
+sum_within cap room asked is few =
+    let most = sum_shared cap (room - used cap asked) asked in
+    let fit : used cap asked ≤ room = ⊎_elim (λ (one : cap ≡ 1). omega (arith, ap (λ c. used c asked) one, few)) (λ (le : used cap asked ≤ room). le) is.fits in
+    omega (arith, most, fit)
+
+-- only a column that asks for nothing has no share
+no_share : (cap left : ℕ) (asked : List ℕ) (col : ℕ) → 1 ≤ cap → col < length asked → get_or (shared cap left asked) col 0 ≡ 0 → get_or asked col 0 ≡ 0
+no_share cap left [] col some inside none = absurd (omega (arith, inside))
+no_share cap left (n ∷ ns) zero some inside none =
+    ⊎_elim
+    (λ (lt : cap < n). absurd (let e = ap (λ xs. get_or xs 0 0) (step_great cap left n ns lt) in omega (arith, e, none, some)))
+    (λ (le : n ≤ cap). sym (ap (λ xs. get_or xs 0 0) (step_small cap left n ns le)) ∙ none)
+    (cases_lt cap n)
+no_share cap left (n ∷ ns) (suc col) some inside none =
+    ⊎_elim
+    (λ (lt : cap < n). no_share cap (left - 1) ns col some (omega (arith, inside)) (sym (ap (λ xs. get_or xs (suc col) 0) (step_great cap left n ns lt)) ∙ none))
+    (λ (le : n ≤ cap). no_share cap left ns col some (omega (arith, inside)) (sym (ap (λ xs. get_or xs (suc col) 0) (step_small cap left n ns le)) ∙ none))
+    (cases_lt cap n)
+
+limited_same : (how : Overflow) (width : ℕ) (text : List ℕ) → LinesFit width text → limited how width text ≡ text
+limited_same Wrap width text fit = wrapped_same width text fit
+limited_same WrapWords width text fit = words_same width text fit
+limited_same (Truncate suffix) width text fit = truncated_same width suffix.now text fit
+
+-- the lines of a text that asks for no columns
+empty_fits : (text : List ℕ) → width_asked text ≤ 2 → LinesFit 0 text
+unfolding width_asked
+empty_fits text few k d inside =
+    let most = greatest_bound width_of_text 0 (pieces text) k d inside in
+    le-leb (width_of_text (get_or (pieces text) k d)) 0 (omega (arith, most, few))
+
+module _ (how : Overflow) (before after : Table) (room : ℕ) (equal : unequal_row before ≡ None) (utf8 : (r c : ℕ) → IsUtf8 (cell (get_or before r []) c))
+    (fitted : IsFitted how room before after) (can : CanShare how room before) where
+  abbrev share : ℕ → ℕ
+  share col = get_or (shares fitted.cap room before) col 0
+
+  counted : length (shares fitted.cap room before) ≡ column_count before
+  unfolding column_widths
+  counted = length_shared fitted.cap _ (texts_asked before) ∙ length-map (column_widths before) (λ width. width - 2) ∙ length-map (below (column_count before)) (column_width before) ∙ length-range_with_len 0 (column_count before)
+
+  asked_at : (col : ℕ) → col < column_count before → get_or (texts_asked before) col 0 ≡ slice_index (column_widths before) col - 2
+  unfolding column_widths
+  asked_at col inside =
+      get_or-map (λ width. width - 2) (column_widths before) col 0 0
+      (omega (arith, inside, length-map (below (column_count before)) (column_width before), length-range_with_len 0 (column_count before)))
+
+  -- a text that is kept within its share fits
+  text_fits : (row col : ℕ) → row < length before → col < column_count before → LinesFit (share col) (limited how (share col) (cell (get_or before row []) col))
+  text_fits row col row_inside inside = ⊎_elim
+      (λ (some : 0 < share col). limited_fits how (share col) (cell (get_or before row []) col) (utf8 row col) (can fitted.cap fitted.is_cap row col (omega (arith, some))))
+      (λ (none : share col ≤ 0).
+      let no : share col ≡ 0 = omega (arith, none) in
+      let unasked = no_share fitted.cap _ (texts_asked before) col fitted.is_cap.some (omega (arith, inside, counted, length_shared fitted.cap (room - used fitted.cap (texts_asked before)) (texts_asked before))) no in
+      let wide = column_room before row col row_inside inside in
+      let fit = empty_fits (cell (get_or before row []) col) (omega (arith, wide, unasked, asked_at col inside)) in
+      let at_share : LinesFit (share col) (cell (get_or before row []) col) = subst (λ n. LinesFit n (cell (get_or before row []) col)) (sym no) fit in
+      subst (LinesFit (share col)) (sym (limited_same how (share col) (cell (get_or before row []) col) at_share)) at_share)
+      (cases_lt 0 (share col))
+
+  -- so each cell asks for its share and two spaces at most, and each column takes no more
+  cell_within : (row col : ℕ) → row < length before → col < column_count before → width_asked (cell (get_or after row []) col) ≤ share col + 2
+  cell_within row col row_inside inside =
+      let change : ℕ → ℕ → List ℕ → List ℕ = texts_of_columns how (shares fitted.cap room before) in
+      let old : List (List ℕ) = get_or before row [] in
+      let long : length old ≡ column_count before = all_equal (column_count before) 0 before equal row row_inside in
+      let has : slice_get (shares fitted.cap room before) col ≡ Some (share col) = slice_get-get_or (shares fitted.cap room before) col 0 (omega (arith, inside, counted)) in
+      let new : cell (get_or after row []) col ≡ limited how (share col) (cell old col) =
+          ap (λ table. cell (get_or table row []) col) fitted.texts
+          ∙ ap (λ cells. cell cells col) (cells_at change before row row_inside)
+          ∙ place_at (change row) old col (omega (arith, inside, long))
+          ∙ ap (λ width. within how width (cell old col)) has in
+      subst (λ text. width_asked text ≤ share col + 2) (sym new) (asked_within (share col) (limited how (share col) (cell old col)) (text_fits row col row_inside inside))
+
+  rows_stay : length after ≡ length before
+  rows_stay = ap length fitted.texts ∙ length_cells (texts_of_columns how (shares fitted.cap room before)) before
+
+  columns_stay : column_count after ≡ column_count before
+  columns_stay = same_columns before after (ap (map length) fitted.texts ∙ counts_stay (texts_of_columns how (shares fitted.cap room before)) before)
+
+  pub column_within : (col : ℕ) → col < column_count before → slice_index (column_widths after) col ≤ share col + 2
+  unfolding column_widths
+  column_within col inside =
+      let here : slice_index (column_widths after) col ≡ column_width after col =
+          get_or-map-range_with_len (column_width after) 0 (column_count after) col col 0 (omega (arith, inside, columns_stay)) (omega arith) in
+      let most = greatest_most (λ row. width_asked (cell row col)) (share col + 2) after (λ row d row_inside.
+          let within : row < length before = omega (arith, row_inside, rows_stay) in
+          subst (λ cells. width_asked (cell cells col) ≤ share col + 2) (get_or_default after row [] d row_inside) (cell_within row col within inside)) in
+      omega (arith, here, most)
+
+-- ---- the whole line
+
+-- how wide a table with places is: as its columns and its lines are, and the sides of its margin
+width_of_places : (view : Look) (margin : Margin) → is_empty view.shape ≡ false
+    → text_width view margin ≡ margin.size.left.size + (sum_by (λ n. line_width view n + view.widths n) (below view.shape.1) + line_width view view.shape.1) + margin.size.right.size
+width_of_places view margin some =
+    ap (λ b. if b then 0 else margin.size.left.size + (sum_by (λ n. line_width view n + view.widths n) (below view.shape.1) + line_width view view.shape.1) + margin.size.right.size) some
+
+module _ (es : List ConfigEvent) (how : Overflow) (before after : Table) (total : ℕ) (equal : unequal_row before ≡ None) (utf8 : (r c : ℕ) → IsUtf8 (cell (get_or before r []) c))
+    (fitted : IsFitted how (total - frame_width es before) before after) (can : CanShare how (total - frame_width es before) before) (least : least_width es before ≤ total) where
+  abbrev room : ℕ
+  room = total - frame_width es before
+
+  abbrev shape : ℕ × ℕ
+  shape = (length before, column_count before)
+
+  abbrev widths : ℕ → ℕ
+  widths = slice_index (column_widths after)
+
+  abbrev wide : Look
+  wide = look es shape widths (slice_index (row_heights after))
+
+  abbrev bare : Look
+  bare = look es shape (λ c. 2) (λ r. 1)
+
+  abbrev given : List ℕ
+  given = shares fitted.cap room before
+
+  same_width : text_width (look_of es after) (margin_set es) ≡ text_width wide (margin_set es)
+  same_width =
+      let rows = rows_stay how before after room equal utf8 fitted can in
+      let cols = columns_stay how before after room equal utf8 fitted can in
+      (λ i. text_width (look es (rows i, cols i) widths (slice_index (row_heights after))) (margin_set es))
+
+  columns_bound : sum_by (λ n. line_width wide n + widths n) (below (column_count before)) ≤ sum_by (λ n. line_width bare n + 2) (below (column_count before)) + sum given
+  columns_bound =
+      let long = counted how before after room equal utf8 fitted can in
+      subst (λ count. sum_by (λ n. line_width wide n + widths n) (below count) ≤ sum_by (λ n. line_width bare n + 2) (below count) + sum given) long
+      (sum_bound (λ n. line_width bare n + 2) (λ n. line_width wide n + widths n) 0 given (λ col inside.
+      let most = column_within how before after room equal utf8 fitted can col (omega (arith, inside, long)) in
+      let place : col ≡ 0 + col = omega arith in
+      subst (λ n. line_width wide n + widths n ≤ line_width bare n + 2 + get_or given col 0) place (omega (arith, most))))
+
+  by_places : (b : Bool) → is_empty shape ≡ b → text_width wide (margin_set es) ≤ total
+  by_places true none =
+      let nothing : text_width wide (margin_set es) ≡ 0 = ap (λ b. if b then 0 else (margin_set es).size.left.size
+      + (sum_by (λ n. line_width wide n + widths n) (below (column_count before)) + line_width wide (column_count before)) + (margin_set es).size.right.size) none in
+      omega (arith, nothing)
+  by_places false some =
+      let whole = width_of_places wide (margin_set es) some in
+      let frame = width_of_places bare (margin_set es) some in
+      let few = sum_within fitted.cap room (texts_asked before) fitted.is_cap (omega (arith, least)) in
+      omega (arith, whole, frame, columns_bound, few, least)
+
+  pub fits_total : text_width (look_of es after) (margin_set es) ≤ total
+  fits_total = let most = by_places (is_empty shape) refl in omega (arith, same_width, most)

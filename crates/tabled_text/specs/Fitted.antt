@@ -1,0 +1,39 @@
+-- Tables within a number of terminal columns.
+use Rattle.std.specs.Prelude.{◌≡◌, ℕ, ◌+◌, ◌-◌, ◌≤◌, List, [], map, length, slice_index, slice_index_or}
+use Rattle.tabled_configuration.specs.Configuration.{ConfigEvent}
+use Rattle.tabled_printing.specs.Picture.{look}
+use Rattle.tabled_printing.specs.Texts.{Table}
+use Rattle.tabled_painting.specs.Widths.{text_width}
+use Rattle.tabled_width.specs.declared.limit.Overflow.{Overflow}
+use Rattle.tabled_width.specs.Limited.{CanFit}
+use Rattle.tabled_width.specs.Shares.{used, IsCap, shared}
+use Rattle.tabled_text.specs.Sizes.{cell, column_count, column_widths}
+use Rattle.tabled_text.specs.Cells.{margin_set}
+use Rattle.tabled_text.specs.Changed.{cells_changed, texts_of_columns}
+
+-- how many terminal columns a table takes besides those of its texts: as many as where all its texts are empty
+abbrev pub frame_width : List ConfigEvent → Table → ℕ
+frame_width es table = text_width (look es (length table, column_count table) (λ c. 2) (λ r. 1)) (margin_set es)
+
+-- how many terminal columns the texts of each column ask for
+abbrev pub texts_asked : Table → List ℕ
+texts_asked table = map (λ width. width - 2) (column_widths table)
+
+-- how many each column gets of a room for the texts of all, where none gets more than the cap but what is left over
+abbrev pub shares : ℕ → ℕ → Table → List ℕ
+shares cap room table = shared cap (room - used cap (texts_asked table)) (texts_asked table)
+
+-- a table whose columns share a room, each of whose texts is kept within the share of its column
+pub record IsFitted (how : Overflow) (room : ℕ) (before after : Table) : Type 0 where
+  pub cap : ℕ
+  pub is_cap : IsCap room (texts_asked before) cap
+  pub texts : after ≡ cells_changed (texts_of_columns how (shares cap room before)) before
+
+-- each text can be kept within the share of its column, if that has any
+abbrev pub CanShare : Overflow → ℕ → Table → Type 0
+CanShare how room table =
+    (cap : ℕ) → IsCap room (texts_asked table) cap → (row col : ℕ) → 1 ≤ slice_index (shares cap room table) col → CanFit how (slice_index (shares cap room table) col) (cell (slice_index_or table row []) col)
+
+-- the least number of terminal columns that a table can be kept within: one for each column that asks for any
+abbrev pub least_width : List ConfigEvent → Table → ℕ
+least_width es table = frame_width es table + used 1 (texts_asked table)

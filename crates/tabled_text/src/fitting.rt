@@ -1,0 +1,59 @@
+//! How many terminal columns there are for the texts of a table.
+
+ghost use Rattle.std.specs.Prelude.{◌≡◌, ℕ, ◌+◌, ◌-◌, List, map, if◌then◌else◌, IfOk};
+ghost use Rattle.std.specs.List.{sum_by};
+ghost use Rattle.tabled_object.specs.Entities.{below};
+ghost use Rattle.tabled_configuration.specs.Configuration.{ConfigEvent, Shows, all_writes, characters_of};
+ghost use Rattle.tabled_grid.specs.Drawn.{drawn};
+ghost use Rattle.tabled_grid.specs.declared.place.LineOf.{LineOf as Line};
+ghost use Rattle.tabled_printing.specs.Texts.{Table};
+ghost use Rattle.tabled_text.specs.Fitted.{frame_width};
+ghost use Rattle.tabled_text.specs.Sizes.{column_count};
+
+use std::alloc::Global;
+use tabled_border::OutOfMemory;
+use tabled_configuration::SpannedConfig;
+
+/// How many columns a vertical line takes: one, if it is drawn.
+fn line_width(cfg: &SpannedConfig, line: usize, cols: usize) -> usize
+    ensures { result ≡ (if drawn (characters_of (all_writes cfg.now)) cols (Line.Vertical line) then 1 else 0) }
+{
+    if cfg.has_vertical(line, cols) { 1 } else { 0 }
+}
+
+/// What is left of a room where each column takes two for the spaces of its cells, and that of the line before it.
+fn beside_spaces(cfg: &SpannedConfig, cols: usize, room: usize) -> usize
+    ensures { result ≡ room - sum_by (λ col. (if drawn (characters_of (all_writes cfg.now)) cols (Line.Vertical col) then 1 else 0) + 2) (below cols) }
+{
+    let mut left = room;
+    for col in 0..cols {
+        left = left.saturating_sub(line_width(cfg, col, cols) + 2);
+    }
+    left
+}
+
+/// What is left for the texts of a table that takes no more than so many columns, beside its margin, its vertical lines and the spaces of its
+/// cells.
+pub(crate) fn room_for_texts(cfg: &SpannedConfig, cols: usize, total: usize) -> usize
+    ensures { (es : List ConfigEvent) (table : Table) → Shows es cfg.now → cols ≡ column_count table → result ≡ total - frame_width es table }
+{
+    if cols == 0 {
+        return total;
+    }
+    let margin = cfg.get_margin();
+    let between = total
+        .saturating_sub(margin.left.size)
+        .saturating_sub(margin.right.size);
+    beside_spaces(cfg, cols, between).saturating_sub(line_width(cfg, cols, cols))
+}
+
+/// How many columns the texts of columns of these widths ask for.
+pub(crate) fn texts_asked(alloc: Global, widths: &[usize]) -> Result<Vec<usize>, OutOfMemory>
+    ensures { IfOk result (λ asked. asked.items ≡ map (λ width. width - 2) widths.now) }
+{
+    let mut asked = Vec::with_capacity(alloc, widths.len())?;
+    for width in widths {
+        asked.push(width.saturating_sub(2))?;
+    }
+    Ok(asked)
+}
