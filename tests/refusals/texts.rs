@@ -96,7 +96,7 @@ fn changed(
 }
 
 /// The calls on a table, and what else takes memory.
-pub(crate) fn tables() -> [Named; 5] {
+pub(crate) fn tables() -> [Named; 6] {
     [
         ("shares_of", share),
         ("listed_entities", list),
@@ -105,6 +105,10 @@ pub(crate) fn tables() -> [Named; 5] {
         (
             "TextTable::limit_cells",
             |turn| changed(turn, |table| table.limit_cells(Segment::all(), Width::wrap(2)), "ab\n\u{1b}c\nd"),
+        ),
+        (
+            "TextTable::fit",
+            |turn| changed(turn, |table| table.fit(7, Overflow::Wrap), "ab\n\u{1b}c\nd"),
         ),
     ]
 }

@@ -1,6 +1,7 @@
 //! Tables of texts.
 
-ghost use Rattle.std.specs.Prelude.{◌≡◌, ◌≤◌, ◌++◌, ◌⊎◌, ℕ, List, [], true, false, None, slice_index, slice_index_or, map, length, take, string_bytes, slice_get, IfOk, IfErr, OnOk, OnErr, MatchOption, IsOkUnless};
+ghost use Rattle.std.specs.Prelude.{◌≡◌, ◌≤◌, ◌-◌, ◌++◌, ◌⊎◌, ℕ, nat_le, List, [], true, false, None, slice_index, slice_index_or, map, length, take, string_bytes, slice_get, IfOk, IfErr, OnOk, OnErr, MatchOption, IsOkUnless};
+ghost use Rattle.std.specs.List.{list_all};
 ghost use Rattle.std.specs.Io.KnownBytes.{Appends};
 ghost use Rattle.std.specs.Str.{IsUtf8};
 ghost use Rattle.tabled_configuration.specs.Colored.{Shows, Changes};
@@ -11,12 +12,13 @@ ghost use Rattle.tabled_printing.specs.Along.{is_empty};
 ghost use Rattle.tabled_printing.specs.Columns.{IsRectangle, WritesNarrow};
 ghost use Rattle.tabled_printing.specs.Refusal.{span_faults};
 ghost use Rattle.tabled_printing.specs.Picture.{printed};
-ghost use Rattle.tabled_printing.specs.Texts.{Table, pieces, texts};
+ghost use Rattle.tabled_printing.specs.Texts.{Table, pieces, texts, width_of_text};
 ghost use Rattle.tabled_painting.specs.Margin.{is_without_room};
 ghost use Rattle.tabled_painting.specs.PaintedTable.{plain_text, colored_text};
 ghost use Rattle.tabled_painting.specs.Widths.{StandsStraightIn, text_width};
 ghost use Rattle.tabled_text.specs.Cells.{cell_texts, margin_set};
 ghost use Rattle.tabled_printing.specs.declared.print_error.PrintError.{PrintError as Fault};
+ghost use Rattle.tabled_text.specs.Fitted.{CanShare, IsFitted, frame_width, least_width};
 ghost use Rattle.tabled_text.specs.Refusal.{of_printer, unequal};
 ghost use Rattle.tabled_text.specs.Sizes.{cell, column_count, column_widths, row_heights, unequal_row};
 ghost use Rattle.tabled_text.specs.TextTable.{lent_rows, look_of, shape_of, text_of, painted};
@@ -30,6 +32,7 @@ use tabled_configuration::{CellOption, ColoredConfig, TableOption};
 use tabled_object::{FixedDimension, Object, Shape};
 use tabled_printing::PrintError;
 use tabled_text::{TableError, TextTable};
+use tabled_width::Overflow;
 
 /// A table has the texts that it is given and nothing else yet; rows of unequal counts are refused with the number of the first
 /// that has more or fewer cells than row 0, and with both counts.
@@ -161,6 +164,23 @@ pub fn vertical_lines_stand_straight()
         → is_empty (look_of events table).shape ≡ false → (c : ℕ) → c ≤ column_count table → (look_of events table).vertical c ≡ true
         → StandsStraightIn (look_of events table) (margin_set events) c (pieces (text_of events table)) }
 {}
+
+/// A table that is kept within a number of columns of the terminal prints lines that take no more, with its cells, its lines and its margin:
+/// where only narrow characters were written, where the columns can have one column each, and where each text can be kept within the share
+/// of its column, as one can whose characters take one column, and one of any characters that is cut off.
+pub fn fitted_table_fits(
+    table: &mut TextTable,
+    total: usize,
+    how: Overflow<'_>,
+) -> Result<String, PrintError>
+    ensures fits { (events : List ConfigEvent) → borders.Shows events table.old.config.spanned → WritesNarrow events → CanShare how.entry (total - frame_width events table.old.texts) table.old.texts
+        → least_width events table.old.texts ≤ total → IfOk result (λ text. list_all (λ line. nat_le (width_of_text line) total) (pieces (string_bytes text)) ≡ true) }
+    ensures texts { (events : List ConfigEvent) → borders.Shows events table.old.config.spanned
+        → IfOk result (λ text. IsFitted how.entry (total - frame_width events table.old.texts) table.old.texts table.new.texts) }
+{
+    table.fit(total, how)?;
+    table.to_text()
+}
 
 /// Where the margin has no room, the text of a table is what the plain printer prints around its cells.
 pub fn text_without_margin()

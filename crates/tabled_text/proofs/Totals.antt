@@ -1,5 +1,5 @@
 -- A table whose columns share a room is no wider than it may be.
-use Rattle.std.proofs.Common.{◌≡◌, ◌⊎◌, ⊎_elim, ℕ, ◌+◌, ◌-◌, ◌<◌, ◌≤◌, zero, suc, max, fold, nat_le, sum, true, false, Bool, if◌then◌else◌, get_or, Option, Some, None, List, [], ◌∷◌, map, length, refl, sym, ap, subst, ◌∙◌, arith}
+use Rattle.std.proofs.Common.{◌≡◌, ◌⊎◌, ⊎_elim, ℕ, ◌+◌, ◌-◌, ◌<◌, ◌≤◌, zero, suc, max, fold, nat_le, sum, true, false, Bool, if◌then◌else◌, get_or, Some, None, List, [], ◌∷◌, map, length, refl, sym, ap, subst, ◌∙◌, arith}
 use Rattle.std.specs.Prelude.{slice_index, slice_get}
 use Rattle.std.specs.Str.{IsUtf8}
 use Rattle.std.specs.List.{All, sum_by}
@@ -18,14 +18,14 @@ use Rattle.tabled_printing.specs.Texts.{Table, pieces, width_of_text}
 use Rattle.tabled_painting.specs.Widths.{text_width}
 use Rattle.tabled_width.specs.declared.limit.Overflow.{Overflow}
 use Rattle.tabled_width.specs.declared.limit.Overflow.TheVariants.{Wrap, WrapWords, Truncate}
-use Rattle.tabled_width.specs.Limited.{CanFit, limited}
+use Rattle.tabled_width.specs.Limited.{limited}
 use Rattle.tabled_width.specs.Shares.{used, IsCap, shared}
 use Rattle.tabled_width.specs.Texts.{LinesFit}
 use Rattle.tabled_width.proofs.LimitedLaws.{limited_fits}
 use Rattle.tabled_width.proofs.TextLaws.{wrapped_same, words_same, truncated_same}
 use Rattle.tabled_width.proofs.Sharing.{sum_shared, length_shared, step_small, step_great}
 use Rattle.tabled_text.specs.Cells.{margin_set}
-use Rattle.tabled_text.specs.Changed.{cells_changed, row_changed, texts_of_columns, within}
+use Rattle.tabled_text.specs.Changed.{texts_of_columns, within}
 use Rattle.tabled_text.specs.Fitted.{IsFitted, CanShare, frame_width, least_width, shares, texts_asked}
 use Rattle.tabled_text.specs.Sizes.{cell, column_count, column_width, column_widths, row_heights, greatest, unequal_row, width_asked}
 use Rattle.tabled_text.specs.TextTable.{look_of}

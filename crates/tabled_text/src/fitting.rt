@@ -1,6 +1,6 @@
 //! How many terminal columns there are for the texts of a table.
 
-ghost use Rattle.std.specs.Prelude.{◌≡◌, ℕ, ◌+◌, ◌-◌, List, map, if◌then◌else◌, IfOk};
+ghost use Rattle.std.specs.Prelude.{◌≡◌, ◌+◌, ◌-◌, List, map, if◌then◌else◌, IfOk};
 ghost use Rattle.std.specs.List.{sum_by};
 ghost use Rattle.tabled_object.specs.Entities.{below};
 ghost use Rattle.tabled_configuration.specs.Configuration.{ConfigEvent, Shows, all_writes, characters_of};

@@ -22,10 +22,10 @@ impl TextTable {
     /// the line feed, a character that sets a direction of writing, and a separator of lines or paragraphs are shown in place of being
     /// obeyed. The columns and rows are measured again. Where memory is refused the table is as it was.
     ///
-    /// The cells `a`, ESC, `[31m` and `b`, before and after, where ESC shows nothing:
+    /// The cells `a`, ESC, `[31m` and `b`:
     ///
     /// ```text
-    ///  a[31m  b      a␛[31m  b
+    ///  a␛[31m  b
     /// ```
     pub fn clean(&mut self) -> Result<(), OutOfMemory>
         ensures texts { OnOk result (self.new.texts ≡ cells_changed (each_text cleaned) self.old.texts) }
@@ -65,13 +65,13 @@ impl TextTable {
         self.set_cells(cells)
     }
 
-    /// Keeps the texts of the table within so many columns of the terminal that each line of the whole table takes no more than `total`
-    /// of them, with the spaces of its cells, its vertical lines and its margin. Columns that ask for little keep their width; the others
-    /// share what is left, as `tabled_width::shares_of` says. Options that change lines, the margin or sizes come before it, a text on a
-    /// line after it. Each column of texts keeps one column of the terminal at least, so a table of many columns may stay wider. Where
-    /// memory is refused the table is as it was.
+    /// Keeps the texts of the cells so narrow that each line of the table takes no more than `total` columns of the terminal, with the
+    /// spaces of its cells, its vertical lines and its margin. Columns that ask for little keep their width; the others share what is
+    /// left, as `tabled_width::shares_of` says. An option that changes which lines are drawn, or the margin, comes before it; one that
+    /// reads how wide columns are, as a text on a line does, after it. A column that asks for any keeps one, so a table of many columns
+    /// may stay wider, and so may one with a character of two columns where there is one. Where memory is refused the table is as it was.
     ///
-    /// `table.fit(19, Overflow::WrapWords)?`:
+    /// `table.fit(19, Overflow::WrapWords)?`, where the second cell was `leaves in hot water`:
     ///
     /// ```text
     /// +-----+-----------+

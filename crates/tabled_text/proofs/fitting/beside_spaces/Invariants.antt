@@ -1,5 +1,5 @@
 -- What is left beside the columns so far.
-use Rattle.std.proofs.Common.{◌≡◌, ◌+◌, ◌-◌, ◌≤◌, if◌then◌else◌}
+use Rattle.std.proofs.Common.{◌≡◌, ◌+◌, ◌-◌, if◌then◌else◌}
 use Rattle.std.specs.List.{sum_by}
 use Rattle.tabled_object.specs.Entities.{below}
 use Rattle.tabled_configuration.specs.Configuration.{all_writes, characters_of}
