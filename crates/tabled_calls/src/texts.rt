@@ -1,6 +1,6 @@
 //! Texts by themselves and those of a table: cleaned, and kept within a number of columns or lines.
 
-ghost use Rattle.std.specs.Prelude.{◌≡◌, ◌++◌, ◌∷◌, ◌≤◌, ◌<◌, ◌-◌, ◌×◌, [], ℕ, true, false, length, sum, chars, string_bytes, if◌then◌else◌, IfOk, IfSome, OnOk, OnErr, MatchOption};
+ghost use Rattle.std.specs.Prelude.{◌≡◌, ◌++◌, ◌∷◌, ◌≤◌, ◌<◌, ◌-◌, [], ℕ, true, false, length, sum, chars, string_bytes, if◌then◌else◌, IfOk, IfSome, OnOk, OnErr, MatchOption};
 ghost use Rattle.std.specs.List.{list_all};
 ghost use Rattle.tabled_clean.specs.Steering.{steers, without_steering, cleaned, is_clean};
 ghost use Rattle.tabled_object.specs.Listing.{covered};

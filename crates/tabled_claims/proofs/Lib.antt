@@ -7,3 +7,7 @@ pub mod NarrowWrites
 pub mod ReadyNarrow
 pub mod PagesEven
 pub mod NarrowTables
+pub mod CleanCharacters
+pub mod CleanBorders
+pub mod CleanTexts
+pub mod CleanPictures

@@ -1,9 +1,10 @@
 //! Tables of texts.
 
-ghost use Rattle.std.specs.Prelude.{◌≡◌, ◌≤◌, ◌-◌, ◌++◌, ◌⊎◌, ℕ, nat_le, List, [], true, false, None, slice_index, slice_index_or, map, length, take, string_bytes, slice_get, IfOk, IfErr, OnOk, OnErr, MatchOption, IsOkUnless};
-ghost use Rattle.std.specs.List.{list_all};
+ghost use Rattle.std.specs.Prelude.{◌≡◌, ◌≤◌, ◌-◌, ◌++◌, ◌⊎◌, ◌&&◌, ◌||◌, ◌==◌, not, nat_le, ℕ, List, [], true, false, None, slice_index, slice_index_or, map, length, take, string_bytes, slice_get, IfOk, IfErr, OnOk, OnErr, MatchOption, IsOkUnless};
 ghost use Rattle.std.specs.Io.KnownBytes.{Appends};
+ghost use Rattle.std.specs.List.{All, list_all};
 ghost use Rattle.std.specs.Str.{IsUtf8};
+ghost use Rattle.tabled_clean.specs.Steering.{is_clean};
 ghost use Rattle.tabled_configuration.specs.Colored.{Shows, Changes};
 ghost use Rattle.tabled_configuration.specs.Configuration.{ConfigEvent};
 ghost use Rattle.tabled_configuration.specs.Configuration as borders;
@@ -14,6 +15,7 @@ ghost use Rattle.tabled_printing.specs.Refusal.{span_faults};
 ghost use Rattle.tabled_printing.specs.Picture.{printed};
 ghost use Rattle.tabled_printing.specs.Texts.{Table, pieces, texts, width_of_text};
 ghost use Rattle.tabled_painting.specs.Margin.{is_without_room};
+ghost use Rattle.tabled_painting.specs.Painted.{plain};
 ghost use Rattle.tabled_painting.specs.PaintedTable.{plain_text, colored_text};
 ghost use Rattle.tabled_painting.specs.Widths.{StandsStraightIn, text_width};
 ghost use Rattle.tabled_text.specs.Cells.{cell_texts, margin_set};
@@ -24,6 +26,7 @@ ghost use Rattle.tabled_text.specs.Sizes.{cell, column_count, column_widths, row
 ghost use Rattle.tabled_text.specs.TextTable.{lent_rows, look_of, shape_of, text_of, painted};
 ghost use Rattle.tabled_text.specs.declared.table_error.TableError.{TableError as Refusal};
 ghost use Rattle.std.specs.Fmt.{WritesOnOk};
+ghost use Rattle.tabled_claims.specs.Clean.{CellsAreClean, WritesClean};
 
 use std::alloc::Global;
 use std::{fmt, io, mem};
@@ -181,6 +184,17 @@ pub fn fitted_table_fits(
     table.fit(total, how)?;
     table.to_text()
 }
+
+/// Nothing in the text of a table steers a terminal, where nothing in its cells does, nor among the characters that its options write: no
+/// character of the text, none between the texts of the colors, where it is written in color, and so no byte is a control character of ASCII
+/// but the line feed. What fills a margin never steers.
+pub fn nothing_steers_the_terminal()
+    ensures plain { (events : List ConfigEvent) (table : Table) → CellsAreClean table → WritesClean events → is_clean (text_of events table) ≡ true }
+    ensures colored { (events : List ConfigEvent) (table : Table) → CellsAreClean table → WritesClean events
+        → All (λ line. is_clean (plain line) ≡ true) (painted events table) }
+    ensures bytes { (events : List ConfigEvent) (table : Table) → CellsAreClean table → WritesClean events
+        → list_all (λ byte. (nat_le 32 byte && not (byte == 127)) || (byte == 10)) (text_of events table) ≡ true }
+{}
 
 /// Where the margin has no room, the text of a table is what the plain printer prints around its cells.
 pub fn text_without_margin()

@@ -1,0 +1,203 @@
+-- Nothing in the picture of a table steers a terminal, where nothing in its cells does, nor among the characters that its options write.
+use Rattle.std.proofs.Common.{◌≡◌, ◌==◌, ℕ, ◌+◌, ◌-◌, Bool, true, false, not, ltb, ◌&&◌, if◌then◌else◌, Option, None, List, [], ◌∷◌, ◌++◌, map, length, replicate, get_or, refl, sym, subst}
+use Rattle.std.specs.Prelude.{slice_index, slice_index_or}
+use Rattle.std.specs.List.{All, flat_map}
+use Rattle.std.proofs.lemmas.Bool.{ltb-true}
+use Rattle.std.proofs.lemmas.List.Elements.{All-nil, All-cons, All-head, All-tail, All-append, All-map, All-replicate}
+use Rattle.tabled_clean.specs.Steering.{steers, is_clean}
+use Rattle.tabled_border.specs.Texts.{Texts}
+use Rattle.tabled_object.specs.Entities.{below}
+use Rattle.tabled_grid.specs.declared.place.Place.{Place}
+use Rattle.tabled_grid.specs.declared.place.LineOf.{LineOf}
+use Rattle.tabled_layout.specs.declared.margin.Margin.{Margin}
+use Rattle.tabled_configuration.specs.Configuration.{ConfigEvent}
+use Rattle.tabled_printing.specs.Along.{is_empty, along}
+use Rattle.tabled_printing.specs.Picture.{Look, character, mark_at, marks_along}
+use Rattle.tabled_printing.specs.Texts.{Table, width_of_text}
+use Rattle.tabled_cells.specs.declared.placement.Placement.{Placement}
+use Rattle.tabled_cells.specs.Placed.{times, free_above, free_before, fill_of, filled, line_parts, aligned_width}
+use Rattle.tabled_cells.specs.Placements.{placement_at}
+use Rattle.tabled_cells.specs.Trimmed.{lines_shown}
+use Rattle.tabled_painting.specs.Painted.{Painted, paint, plain}
+use Rattle.tabled_painting.specs.CellLines.{Coloring, coloring_at, painted_line, cell_line}
+use Rattle.tabled_painting.specs.Margin.{Side, side_at, is_left_out, between_sides, strip, in_margin, left_side, right_side, top_side, bottom_side}
+use Rattle.tabled_painting.specs.PaintedTable.{Cells, painted_mark, painted_marks, painted_side, painted_between, painted_if_drawn, painted_row, painted_lines, painted_table, painted_cells, plain_text}
+use Rattle.tabled_painting.proofs.PainterLemmas.{plain_paint}
+use Rattle.tabled_painting.proofs.Plain.{plain_both}
+use Rattle.tabled_text.specs.Sizes.{column_count, column_widths, row_heights}
+use Rattle.tabled_text.specs.Cells.{cells_set, margin_set, cell_colors}
+use Rattle.tabled_text.specs.TextTable.{look_of, painted, text_of}
+use Rattle.tabled_claims.specs.Clean.{IsCleanText, CellsAreClean, WritesClean}
+use Rattle.tabled_claims.proofs.CleanCharacters.{space_steers, fill_steers}
+use Rattle.tabled_claims.proofs.CleanBorders.{borders_steer}
+use Rattle.tabled_claims.proofs.CleanTexts.{Quiet, Quiet-one, Quiet-nil, Quiet-append, Quiet-text, Quiet-times, Quiet-space, Quiet-joined, quiet_clean, shown_clean}
+
+-- ---- painted lines
+
+-- a painted line of characters of which none steers
+abbrev pub QuietLine : Painted → Type 0
+QuietLine line = Quiet (plain line)
+
+both_quiet : (xs ys : Painted) → QuietLine xs → QuietLine ys → QuietLine (xs ++ ys)
+both_quiet xs ys first second = subst Quiet (sym (plain_both xs ys)) (Quiet-append (plain xs) (plain ys) first second)
+
+paint_quiet : (color : Option Texts) (text : List ℕ) → Quiet text → QuietLine (paint color text)
+paint_quiet color text quiet = subst Quiet (sym (plain_paint color text)) quiet
+
+flat_quiet : {X : Type 0} (f : X → Painted) (xs : List X) → ((x : X) → QuietLine (f x)) → QuietLine (flat_map f xs)
+flat_quiet f [] each = Quiet-nil
+flat_quiet f (x ∷ xs) each = both_quiet (f x) (flat_map f xs) (each x) (flat_quiet f xs each)
+
+All-flat : {X : Type 0} (f : X → List Painted) (xs : List X) → ((x : X) → All QuietLine (f x)) → All QuietLine (flat_map f xs)
+All-flat f [] each = All-nil QuietLine
+All-flat f (x ∷ xs) each = All-append QuietLine (f x) (flat_map f xs) (each x) (All-flat f xs each)
+
+-- ---- cells
+
+fill_quiet : (fits : Bool) (character : ℕ) → steers character ≡ false → steers (if fits then character else 32) ≡ false
+fill_quiet true character e = e
+fill_quiet false character e = space_steers
+
+line_quiet : (how : Placement) (colors : Coloring) (width aligned : ℕ) (line : List ℕ) → steers how.justification ≡ false → Quiet line → QuietLine (painted_line how colors width aligned line)
+unfolding painted_line line_parts
+line_quiet how colors width aligned line filling quiet =
+    let before : ℕ = free_before how.alignment_horizontal (width - 2 - aligned) in
+    let after : ℕ = width - 2 - before - width_of_text line in
+    let fill : ℕ = fill_of how.justification width before after line in
+    let fills : (count : ℕ) → QuietLine (paint colors.fill (times count fill)) = λ count. paint_quiet colors.fill (times count fill)
+    (Quiet-times count fill (fill_quiet (not (how.justification == 10) && (width_of_text (filled how.justification before after line) == width)) how.justification filling)) in
+    both_quiet (paint colors.padding.left (32 ∷ []) ++ paint colors.fill (times before fill) ++ paint colors.text line ++ paint colors.fill (times after fill)) (paint colors.padding.right (32 ∷ []))
+    (both_quiet (paint colors.padding.left (32 ∷ []) ++ paint colors.fill (times before fill) ++ paint colors.text line) (paint colors.fill (times after fill))
+    (both_quiet (paint colors.padding.left (32 ∷ []) ++ paint colors.fill (times before fill)) (paint colors.text line)
+    (both_quiet (paint colors.padding.left (32 ∷ [])) (paint colors.fill (times before fill)) (paint_quiet colors.padding.left (32 ∷ []) Quiet-space) (fills before))
+    (paint_quiet colors.text line quiet)) (fills after)) (paint_quiet colors.padding.right (32 ∷ []) Quiet-space)
+
+spaces_quiet : (color : Option Texts) (width : ℕ) → QuietLine (paint color (times width 32))
+spaces_quiet color width = paint_quiet color (times width 32) (Quiet-times width 32 space_steers)
+
+module _ (how : Placement) (colors : Coloring) (width height : ℕ) (lines : List (List ℕ)) (n : ℕ) where
+  abbrev above : ℕ
+  above = free_above how.alignment_vertical (height - length lines)
+
+  abbrev line : List ℕ
+  line = get_or lines (n - above) []
+
+  by_place : (first second : Bool) → ltb (n - above) (length lines) ≡ second → steers how.justification ≡ false → All IsCleanText lines
+      → QuietLine (if first then paint colors.padding.top (times width 32) else if second then painted_line how colors width (aligned_width how lines line) line else paint colors.padding.bottom (times width 32))
+  by_place true second is filling all = spaces_quiet colors.padding.top width
+  by_place false true is filling all =
+      line_quiet how colors width (aligned_width how lines line) line filling (Quiet-text line (all (n - above) [] (ltb-true (n - above) (length lines) is)))
+  by_place false false is filling all = spaces_quiet colors.padding.bottom width
+
+  cell_quiet : steers how.justification ≡ false → All IsCleanText lines → QuietLine (cell_line how colors width height lines n)
+  unfolding cell_line
+  cell_quiet filling all = by_place (ltb n above) (ltb (n - above) (length lines)) refl filling all
+
+-- ---- sides of a margin
+
+side_quiet : (side : Side) (extent n count : ℕ) → steers side.fill ≡ false → QuietLine (side_at side extent n count)
+unfolding side_at
+side_quiet side extent n count e = by_offset (is_left_out side.offset extent n)
+  where
+    by_offset : (out : Bool) → QuietLine (if out then paint None (times count 32) else paint side.color (times count side.fill))
+    by_offset true = spaces_quiet None count
+    by_offset false = paint_quiet side.color (times count side.fill) (Quiet-times count side.fill e)
+
+strips_quiet : (side : Side) (long count : ℕ) → steers side.fill ≡ false → All QuietLine (replicate count (strip side long))
+strips_quiet side long count e = All-replicate QuietLine count (strip side long) (flat_quiet (λ n. side_at side long n 1) (below long) (λ n. side_quiet side long n 1 e))
+
+between_quiet : (left right : Side) (high n : ℕ) (lines : List Painted) → steers left.fill ≡ false → steers right.fill ≡ false → All QuietLine lines → All QuietLine (between_sides left right high n lines)
+between_quiet left right high n [] first last all = all
+between_quiet left right high n (line ∷ lines) first last all =
+    let before : Painted = side_at left high n left.size in
+    let after : Painted = side_at right high n right.size in
+    All-cons QuietLine (before ++ line ++ after) (between_sides left right high (n + 1) lines)
+    (both_quiet (before ++ line) after (both_quiet before line (side_quiet left high n left.size first) (All-head QuietLine line lines all)) (side_quiet right high n right.size last))
+    (between_quiet left right high (n + 1) lines first last (All-tail QuietLine line lines all))
+
+margin_quiet : (margin : Margin) (columns : ℕ) (lines : List Painted) → All QuietLine lines → All QuietLine (in_margin margin columns lines)
+margin_quiet margin columns lines all =
+    let left : Side = left_side margin in
+    let right : Side = right_side margin in
+    let long : ℕ = left.size + columns + right.size in
+    let above : List Painted = replicate (top_side margin).size (strip (top_side margin) long) in
+    let between : List Painted = between_sides left right (length lines) 0 lines in
+    All-append QuietLine (above ++ between) (replicate (bottom_side margin).size (strip (bottom_side margin) long))
+    (All-append QuietLine above between (strips_quiet (top_side margin) long (top_side margin).size (fill_steers margin.size.top.fill))
+    (between_quiet left right (length lines) 0 lines (fill_steers margin.size.left.fill) (fill_steers margin.size.right.fill) all))
+    (strips_quiet (bottom_side margin) long (bottom_side margin).size (fill_steers margin.size.bottom.fill))
+
+-- ---- a table
+
+module _ (view : Look) (cells : Cells) (borders : (place : Place) → steers (character (view.shown place)) ≡ false) (each : (r c k : ℕ) → QuietLine (cells r c k)) where
+  mark_quiet : (place : Place) → QuietLine (painted_mark (mark_at view place))
+  mark_quiet place = paint_quiet (view.color place) _ (Quiet-one (character (view.shown place)) (borders place))
+
+  marks_quiet : (places : List Place) → QuietLine (painted_marks (map (mark_at view) places))
+  marks_quiet [] = Quiet-nil
+  marks_quiet (place ∷ places) = both_quiet (painted_mark (mark_at view place)) (painted_marks (map (mark_at view) places)) (mark_quiet place) (marks_quiet places)
+
+  if_quiet : (b : Bool) (marks : Painted) → QuietLine marks → QuietLine (if b then marks else [])
+  if_quiet true marks quiet = quiet
+  if_quiet false marks quiet = Quiet-nil
+
+  All-if : (b : Bool) (marks : Painted) → QuietLine marks → All QuietLine (if b then marks ∷ [] else [])
+  All-if true marks quiet = All-cons QuietLine marks [] quiet (All-nil QuietLine)
+  All-if false marks quiet = All-nil QuietLine
+
+  beside_quiet : (r k c : ℕ) → QuietLine (painted_side view r k c)
+  beside_quiet r k c = if_quiet (view.vertical c) (painted_mark (mark_at view (Place.Vertical r c k))) (mark_quiet (Place.Vertical r c k))
+
+  row_quiet : (r k : ℕ) → QuietLine (painted_between view r k (λ c. cells r c k))
+  row_quiet r k =
+      both_quiet (flat_map (λ c. painted_side view r k c ++ cells r c k) (below view.shape.1)) (painted_side view r k view.shape.1)
+      (flat_quiet (λ c. painted_side view r k c ++ cells r c k) (below view.shape.1) (λ c. both_quiet (painted_side view r k c) (cells r c k) (beside_quiet r k c) (each r c k)))
+      (beside_quiet r k view.shape.1)
+
+  drawn_quiet : (r : ℕ) → All QuietLine (painted_if_drawn view r)
+  drawn_quiet r =
+      All-if (view.horizontal r) (painted_marks (marks_along view (LineOf.Horizontal r)))
+      (marks_quiet (along view.horizontal view.vertical view.shape view.widths view.heights (LineOf.Horizontal r)))
+
+  lines_quiet : All QuietLine (painted_lines view cells)
+  unfolding painted_lines
+  lines_quiet =
+      All-append QuietLine (flat_map (λ r. painted_if_drawn view r ++ painted_row view cells r) (below view.shape.0)) (painted_if_drawn view view.shape.0)
+      (All-flat (λ r. painted_if_drawn view r ++ painted_row view cells r) (below view.shape.0)
+      (λ r. All-append QuietLine (painted_if_drawn view r) (painted_row view cells r) (drawn_quiet r)
+      (All-map QuietLine (λ k. painted_between view r k (λ c. cells r c k)) (below (view.heights r)) (λ n d within. row_quiet r (get_or (below (view.heights r)) n d)))))
+      (drawn_quiet view.shape.0)
+
+  table_quiet : (margin : Margin) → All QuietLine (painted_table view margin cells)
+  unfolding painted_table
+  table_quiet margin = by_shape (is_empty view.shape)
+    where
+      by_shape : (none : Bool) → All QuietLine (if none then [] else in_margin margin (length (marks_along view (LineOf.Horizontal 0))) (painted_lines view cells))
+      by_shape true = All-nil QuietLine
+      by_shape false = margin_quiet margin (length (marks_along view (LineOf.Horizontal 0))) (painted_lines view cells) lines_quiet
+
+-- ---- its text
+
+module _ (events : List ConfigEvent) (table : Table) (clean : CellsAreClean table) (writes : WritesClean events) where
+  cells_quiet : (r c k : ℕ) → QuietLine (painted_cells (cells_set events) (cell_colors events) (column_widths table) (row_heights table) table r c k)
+  unfolding placement_at
+  cells_quiet r c k =
+      let how : Placement = placement_at (cells_set events) r c in
+      let text : List ℕ = slice_index_or (slice_index_or table r []) c [] in
+      cell_quiet how (coloring_at (cells_set events) (cell_colors events) r c) (slice_index (column_widths table) c) (slice_index (row_heights table) r) (lines_shown how text) k
+      (writes.filling (record { row = r; col = c })) (shown_clean how text (clean r c))
+
+  painted_quiet : All QuietLine (painted events table)
+  unfolding painted
+  painted_quiet =
+      table_quiet (look_of events table) (painted_cells (cells_set events) (cell_colors events) (column_widths table) (row_heights table) table)
+      (borders_steer events (length table, column_count table) (slice_index (column_widths table)) (slice_index (row_heights table)) writes.borders) cells_quiet (margin_set events)
+
+  -- the characters of each painted line
+  pub lines_are_clean : All (λ line. is_clean (plain line) ≡ true) (painted events table)
+  lines_are_clean k d within = quiet_clean (plain (get_or (painted events table) k d)) (painted_quiet k d within)
+
+  -- and of the whole text
+  pub text_quiet : Quiet (text_of events table)
+  unfolding text_of plain_text
+  text_quiet = Quiet-joined (map plain (painted events table)) (All-map Quiet plain (painted events table) painted_quiet)
