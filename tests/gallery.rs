@@ -503,3 +503,38 @@ fn margin_in_color_is_drawn(rt: HostRuntime) -> Result<(), Fail> {
     assert!(rt; is_in_color(rt.alloc(), text.as_str(), picture, &colors)?);
     Ok(())
 }
+
+#[test]
+fn texts_from_outside_are_drawn(rt: HostRuntime) -> Result<(), Fail> {
+    let text = recipes::texts_from_outside(rt.alloc())?;
+    let picture = "
+╭────────┬──────╮
+│ file   │ size │
+├────────┼──────┤
+│ a␛[2Jb │ 7    │
+│ c      │ 30   │
+│ d      │      │
+╰────────┴──────╯
+";
+    assert!(rt; is_picture(text.as_str(), picture));
+    Ok(())
+}
+
+#[test]
+fn within_the_terminal_is_drawn(rt: HostRuntime) -> Result<(), Fail> {
+    let text = recipes::within_the_terminal(rt.alloc())?;
+    let picture = "
+╭────────┬───────────────╮
+│ name   │ what it is    │
+├────────┼───────────────┤
+│ tea    │ leaves in hot │
+│        │ water         │
+│ coffee │ roasted       │
+│        │ beans,        │
+│        │ ground, in    │
+│        │ hot water     │
+╰────────┴───────────────╯
+";
+    assert!(rt; is_picture(text.as_str(), picture));
+    Ok(())
+}

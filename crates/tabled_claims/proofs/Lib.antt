@@ -11,3 +11,4 @@ pub mod CleanCharacters
 pub mod CleanBorders
 pub mod CleanTexts
 pub mod CleanPictures
+pub mod Fitted

@@ -5,6 +5,7 @@ use std::alloc::Global;
 use tabled::settings::object::{Cell, Columns, Combine, Rows, Segment};
 use tabled::settings::style::{Border, BorderColor, HorizontalLine, LineText};
 use tabled::settings::{Alignment, Color, Highlight, Shadow, Style};
+use tabled::texts::Overflow;
 use tabled::{TableError, TextTable};
 
 /// The table that the recipes draw.
@@ -84,5 +85,27 @@ pub fn in_color(alloc: Global) -> Result<String, TableError> {
 pub fn shadow(alloc: Global) -> Result<String, TableError> {
     let mut table = people(alloc)?;
     table.with(Style::rounded())?.with(Shadow::new(1))?;
+    Ok(table.to_text()?)
+}
+
+/// Texts from outside, in which nothing steers the terminal.
+pub fn texts_from_outside(alloc: Global) -> Result<String, TableError> {
+    let rows: &[&[&str]] = &[&["file", "size"], &["a\u{1b}[2Jb", "7"], &["c\r\nd", "30"]];
+    let mut table = TextTable::new(alloc, rows)?;
+    table.with(Style::rounded())?;
+    table.clean()?;
+    Ok(table.to_text()?)
+}
+
+/// Long texts, within 26 columns of the terminal.
+pub fn within_the_terminal(alloc: Global) -> Result<String, TableError> {
+    let rows: &[&[&str]] = &[
+        &["name", "what it is"],
+        &["tea", "leaves in hot water"],
+        &["coffee", "roasted beans, ground, in hot water"],
+    ];
+    let mut table = TextTable::new(alloc, rows)?;
+    table.with(Style::rounded())?;
+    table.fit(26, Overflow::WrapWords)?;
     Ok(table.to_text()?)
 }

@@ -1,0 +1,19 @@
+use Rattle.std.proofs.Common.{sym, ap, subst}
+use Rattle.tabled_configuration.specs.Configuration as borders
+use Rattle.tabled_painting.specs.Widths.{text_width}
+use Rattle.tabled_printing.specs.Texts.{pieces}
+use Rattle.tabled_printing.proofs.PieceLemmas.{on_ok}
+use Rattle.tabled_text.specs.Cells.{margin_set}
+use Rattle.tabled_text.specs.TextTable.{look_of}
+use Rattle.tabled_claims.proofs.Fitted.{if_ok, lines_within}
+use Rattle.tabled_claims.proofs.tables.fitted_table_fits.Goals as goal
+
+pub returns-clause-fits : goal.returns-clause-fits
+returns-clause-fits c events shows narrow can least =
+    let shown = subst (borders.Shows events) (sym (ap (λ cfg. cfg.spanned) c.in_ok-fit.ensures.config)) shows in
+    if_ok c.to_text.result
+    (λ text. lines_within (text_width (look_of events c.fit.new.self.texts) (margin_set events)) c.args.total (pieces text.bytes) (c.in_ok-fit.ensures.fits events shows can least))
+    (c.to_text.ensures.rectangle events shown narrow)
+
+pub returns-clause-texts : goal.returns-clause-texts
+returns-clause-texts c events shows = on_ok c.to_text.result (c.in_ok-fit.ensures.texts events shows)
