@@ -15,7 +15,7 @@ const NEWS: &[&[&str]] = &[
 
 /// Whether no line of a text takes more than so many columns.
 fn is_within(text: &str, columns: usize) -> bool {
-    text.split('\n').all(|line| fits(line, columns))
+    text.split('\n').all(|line| fits(columns, line))
 }
 
 #[test]

@@ -1,4 +1,4 @@
-use Rattle.std.proofs.Common.{sym, ap, subst}
+use Rattle.std.proofs.Common.{string_bytes, sym, ap, subst}
 use Rattle.tabled_configuration.specs.Configuration as borders
 use Rattle.tabled_painting.specs.Widths.{text_width}
 use Rattle.tabled_printing.specs.Texts.{pieces}
@@ -12,7 +12,7 @@ pub returns-clause-fits : goal.returns-clause-fits
 returns-clause-fits c events shows narrow can least =
     let shown = subst (borders.Shows events) (sym (ap (λ cfg. cfg.spanned) c.in_ok-fit.ensures.config)) shows in
     if_ok c.to_text.result
-    (λ text. lines_within (text_width (look_of events c.fit.new.self.texts) (margin_set events)) c.args.total (pieces text.bytes) (c.in_ok-fit.ensures.fits events shows can least))
+    (λ text. lines_within (text_width (look_of events c.fit.new.self.texts) (margin_set events)) c.args.total (pieces (string_bytes text)) (c.in_ok-fit.ensures.fits events shows can least))
     (c.to_text.ensures.rectangle events shown narrow)
 
 pub returns-clause-texts : goal.returns-clause-texts
