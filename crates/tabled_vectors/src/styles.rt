@@ -80,10 +80,10 @@ static FRAMED_NUMBERS: &str = "┌──────────+─────
 fn a_cell_and_a_table_have_the_frame_of_another_style(rt: HostRuntime) {
     assert!(rt; cell_is_framed(rt.alloc()));
     let framed = Style::ascii().frame(Border::inherit(Style::modern()));
-    assert!(rt; prints_with(rt.alloc(), in_ascii, NUMBERS, FRAMED_NUMBERS));
+    assert!(rt; prints_with(rt.alloc(), framed, NUMBERS, FRAMED_NUMBERS));
     let corner = Border::new().bottom('b').left('l').corner_bottom_left('c');
     let framed = Style::empty().frame(corner);
-    assert!(rt; prints_with(rt.alloc(), in_ascii, ONE, "l a \ncbbb"));
+    assert!(rt; prints_with(rt.alloc(), framed, ONE, "l a \ncbbb"));
 }
 
 #[test]
