@@ -125,10 +125,10 @@ module _ (how : Overflow) (before after : Table) (room : ℕ) (equal : unequal_r
       let long : length old ≡ column_count before = all_equal (column_count before) 0 before equal row row_inside in
       let has : slice_get (shares fitted.cap room before) col ≡ Some (share col) = slice_get-get_or (shares fitted.cap room before) col 0 (omega (arith, inside, counted)) in
       let new : cell (get_or after row []) col ≡ limited how (share col) (cell old col) =
-          ap (λ table. cell (get_or table row []) col) fitted.texts
-          ∙ ap (λ cells. cell cells col) (cells_at change before row row_inside)
-          ∙ place_at (change row) old col (omega (arith, inside, long))
-          ∙ ap (λ width. within how width (cell old col)) has in
+      ap (λ table. cell (get_or table row []) col) fitted.texts
+      ∙ ap (λ cells. cell cells col) (cells_at change before row row_inside)
+      ∙ place_at (change row) old col (omega (arith, inside, long))
+      ∙ ap (λ width. within how width (cell old col)) has in
       subst (λ text. width_asked text ≤ share col + 2) (sym new) (asked_within (share col) (limited how (share col) (cell old col)) (text_fits row col row_inside inside))
 
   rows_stay : length after ≡ length before
@@ -141,10 +141,10 @@ module _ (how : Overflow) (before after : Table) (room : ℕ) (equal : unequal_r
   unfolding column_widths
   column_within col inside =
       let here : slice_index (column_widths after) col ≡ column_width after col =
-          get_or-map-range_with_len (column_width after) 0 (column_count after) col col 0 (omega (arith, inside, columns_stay)) (omega arith) in
+      get_or-map-range_with_len (column_width after) 0 (column_count after) col col 0 (omega (arith, inside, columns_stay)) (omega arith) in
       let most = greatest_most (λ row. width_asked (cell row col)) (share col + 2) after (λ row d row_inside.
-          let within : row < length before = omega (arith, row_inside, rows_stay) in
-          subst (λ cells. width_asked (cell cells col) ≤ share col + 2) (get_or_default after row [] d row_inside) (cell_within row col within inside)) in
+      let within : row < length before = omega (arith, row_inside, rows_stay) in
+      subst (λ cells. width_asked (cell cells col) ≤ share col + 2) (get_or_default after row [] d row_inside) (cell_within row col within inside)) in
       omega (arith, here, most)
 
 -- ---- the whole line
