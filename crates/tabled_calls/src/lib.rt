@@ -15,6 +15,7 @@ pub mod option_values;
 pub mod plain_reads;
 pub mod ready_styles;
 pub mod refusals;
+pub mod rows;
 pub mod setting_calls;
 pub mod store_reads;
 pub mod style_lines;
