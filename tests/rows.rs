@@ -6,7 +6,7 @@ use tabled::builder::Builder;
 use tabled::settings::Style;
 use tabled::{TableError, Tabled, TextTable};
 use tabled_border::OutOfMemory;
-use tabled_rows::row;
+use tabled_rows::{fill_rows, reserve_column, row};
 
 struct Language {
     name: &'static str,
@@ -44,6 +44,8 @@ fn values_of_a_type_are_rows(rt: HostRuntime) -> Result<(), TableError> {
 fn lent_values_are_rows_too(rt: HostRuntime) -> Result<(), TableError> {
     let table = TextTable::of(rt.alloc(), [&LANGUAGES[1]].as_slice())?;
     assert_eq!(rt; table.to_text()?.as_str(), " name  since  typed \n Lisp  1960   false ");
+    assert_eq!(rt; <&Language as Tabled>::headers(rt.alloc())?.len(), 3);
+    assert_eq!(rt; (&LANGUAGES[0]).fields(rt.alloc())?[1].as_str(), "1972");
     Ok(())
 }
 
@@ -60,6 +62,35 @@ fn no_values_have_their_headers_alone(rt: HostRuntime) -> Result<(), TableError>
     let none: &[Language] = &[];
     let table = TextTable::of(rt.alloc(), none)?;
     assert_eq!(rt; table.to_text()?.as_str(), " name  since  typed ");
+    Ok(())
+}
+
+#[test]
+fn tuples_of_each_length_are_rows(rt: HostRuntime) -> Result<(), OutOfMemory> {
+    assert_eq!(rt; <(i32,)>::headers(rt.alloc())?.len(), 1);
+    assert_eq!(rt; (1,).fields(rt.alloc())?.len(), 1);
+    assert_eq!(rt; <(i32, i32)>::headers(rt.alloc())?.len(), 2);
+    assert_eq!(rt; (1, 2).fields(rt.alloc())?.len(), 2);
+    assert_eq!(rt; <(i32, i32, i32)>::headers(rt.alloc())?.len(), 3);
+    assert_eq!(rt; (1, 2, 3).fields(rt.alloc())?.len(), 3);
+    assert_eq!(rt; <(i32, i32, i32, i32)>::headers(rt.alloc())?.len(), 4);
+    assert_eq!(rt; (1, 2, 3, 4).fields(rt.alloc())?.len(), 4);
+    assert_eq!(rt; <(i32, i32, i32, i32, i32)>::headers(rt.alloc())?.len(), 5);
+    assert_eq!(rt; (1, 2, 3, 4, 5).fields(rt.alloc())?.len(), 5);
+    assert_eq!(rt; <(i32, i32, i32, i32, i32, i32)>::headers(rt.alloc())?.len(), 6);
+    assert_eq!(rt; (1, 2, 3, 4, 5, 6).fields(rt.alloc())?.len(), 6);
+    assert_eq!(rt; <(i32, i32, i32, i32, i32, i32, i32)>::headers(rt.alloc())?.len(), 7);
+    assert_eq!(rt; (1, 2, 3, 4, 5, 6, 7).fields(rt.alloc())?.len(), 7);
+    assert_eq!(rt; <(i32, i32, i32, i32, i32, i32, i32, i32)>::headers(rt.alloc())?.len(), 8);
+    assert_eq!(rt; (1, 2, 3, 4, 5, 6, 7, 8).fields(rt.alloc())?.len(), 8);
+    assert_eq!(rt; <(i32, i32, i32, i32, i32, i32, i32, i32, i32)>::headers(rt.alloc())?.len(), 9);
+    assert_eq!(rt; (1, 2, 3, 4, 5, 6, 7, 8, 9).fields(rt.alloc())?.len(), 9);
+    assert_eq!(rt; <(i32, i32, i32, i32, i32, i32, i32, i32, i32, i32)>::headers(rt.alloc())?.len(), 10);
+    assert_eq!(rt; (1, 2, 3, 4, 5, 6, 7, 8, 9, 10).fields(rt.alloc())?.len(), 10);
+    assert_eq!(rt; <(i32, i32, i32, i32, i32, i32, i32, i32, i32, i32, i32)>::headers(rt.alloc())?.len(), 11);
+    assert_eq!(rt; (1, 2, 3, 4, 5, 6, 7, 8, 9, 10, 11).fields(rt.alloc())?.len(), 11);
+    assert_eq!(rt; <(i32, i32, i32, i32, i32, i32, i32, i32, i32, i32, i32, i32)>::headers(rt.alloc())?.len(), 12);
+    assert_eq!(rt; (1, 2, 3, 4, 5, 6, 7, 8, 9, 10, 11, 12).fields(rt.alloc())?.len(), 12);
     Ok(())
 }
 
@@ -187,5 +218,16 @@ fn records_and_columns_come_and_go(rt: HostRuntime) -> Result<(), Fail> {
     assert_eq!(rt; builder.count_columns(), 3);
     let table = builder.build()?;
     assert_eq!(rt; table.to_text()?.as_str(), " p  2  end \n r         \n s         ");
+    Ok(())
+}
+
+#[test]
+fn rows_are_filled_and_have_room(rt: HostRuntime) -> Result<(), OutOfMemory> {
+    let mut rows = Vec::new(rt.alloc());
+    rows.push(row![in rt.alloc(); "a"]?)?;
+    reserve_column(&mut rows, 5)?;
+    assert_eq!(rt; rows[0].len(), 1);
+    fill_rows(rt.alloc(), &mut rows, 3)?;
+    assert_eq!(rt; rows[0].len(), 3);
     Ok(())
 }

@@ -23,4 +23,5 @@ pub mod style_records;
 pub mod texts;
 pub mod theme_colors;
 pub mod themes;
+pub mod tuples;
 pub mod values;

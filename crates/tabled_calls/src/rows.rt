@@ -1,42 +1,21 @@
 //! Rows: of values, put into a table and taken out, and records of which one is built.
 
 ghost use Rattle.std.specs.Prelude.{◌≡◌, ◌∷◌, ◌++◌, [], true, false, Err, min, length, map, option_map, slice_get, string_bytes, IfOk, OnOk, OnErr, IsOkUnless};
-ghost use Rattle.std.specs.Fmt.{decimal};
 ghost use Rattle.std.specs.List.{AllZip, insert, remove};
 ghost use Rattle.tabled_builder.specs.Records.{columns, filled, with_column};
 ghost use Rattle.tabled_configuration.specs.Colored.{Shows};
 ghost use Rattle.tabled_printing.specs.Texts.{texts};
 ghost use Rattle.tabled_rows.specs.Rows.{HasRoom, column_put, filled_to, row_texts};
-ghost use Rattle.tabled_rows.specs.Spelled.{AreSpelled, IsRow, numbers};
+ghost use Rattle.tabled_rows.specs.Spelled.{IsRow};
 ghost use Rattle.tabled_text.specs.Edited.{goes_in};
 ghost use Rattle.tabled_text.specs.Sizes.{column_count};
 ghost use Rattle.tabled_text.specs.declared.table_error.TableError.{TableError as Refusal};
 
 use std::alloc::Global;
-use std::fmt::Display;
 use tabled_border::OutOfMemory;
 use tabled_builder::Builder;
 use tabled_rows::{Tabled, fill_rows, put_column, remove_column, reserve_column};
 use tabled_text::{TableError, TextTable};
-
-/// The texts of a pair are those of its two values, where these say what they display.
-pub fn fields_of_a_pair<A: Display, B: Display>(
-    alloc: Global,
-    pair: &(A, B),
-) -> Result<Vec<String>, OutOfMemory>
-    ensures { IfOk result (λ row. AreSpelled (A.output pair.now.0 ∷ B.output pair.now.1 ∷ []) (map string_bytes row.items)) }
-{
-    pair.fields(alloc)
-}
-
-/// Above the cells of a pair stand 0 and 1.
-pub fn headers_of_a_pair<A: Display, B: Display>(
-    alloc: Global,
-) -> Result<Vec<String>, OutOfMemory>
-    ensures { IfOk result (λ row. AreSpelled (numbers 2) (map string_bytes row.items)) }
-{
-    <(A, B)>::headers(alloc)
-}
 
 /// A table of values of any type has what their type says, row by row, below what stands above their cells.
 pub fn table_of_values<T: Tabled>(alloc: Global, values: &[T]) -> Result<TextTable, TableError>
@@ -47,11 +26,7 @@ pub fn table_of_values<T: Tabled>(alloc: Global, values: &[T]) -> Result<TextTab
 }
 
 /// A row that goes in stands at its index; any other is refused, with both counts, and changes nothing.
-pub fn row_put_in(
-    table: &mut TextTable,
-    index: usize,
-    row: Vec<String>,
-) -> Result<(), TableError>
+pub fn row_put_in(table: &mut TextTable, index: usize, row: Vec<String>) -> Result<(), TableError>
     ensures texts { OnOk result (table.new.texts ≡ insert table.old.texts index (map string_bytes row.items)) }
     ensures config { table.new.config ≡ table.old.config }
     ensures err { OnErr result (table.new.texts ≡ table.old.texts) }
@@ -207,11 +182,7 @@ pub fn column_taken_out_of_rows(rows: &mut [Vec<String>], index: usize)
 }
 
 /// Rows are filled up to a number of texts.
-pub fn rows_filled(
-    alloc: Global,
-    rows: &mut [Vec<String>],
-    width: usize,
-) -> Result<(), OutOfMemory>
+pub fn rows_filled(alloc: Global, rows: &mut [Vec<String>], width: usize) -> Result<(), OutOfMemory>
     ensures { OnOk result (row_texts rows.new ≡ map (filled_to width) (row_texts rows.old)) }
 {
     fill_rows(alloc, rows, width)
