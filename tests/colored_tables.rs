@@ -9,7 +9,7 @@ use tabled::settings::formatting::Justification;
 use tabled::settings::object::{Cell, Rows, Segment};
 use tabled::settings::style::{BorderColor, LineText};
 use tabled::settings::{Alignment, Color, Highlight, PaddingColor, Style};
-use tabled::{TableError, TextTable};
+use tabled::{InColor, TableError, TextTable};
 use tabled_grid::Position;
 
 /// One cell in a frame.
@@ -396,5 +396,15 @@ fn the_texts_are_lent_as_they_were_given(rt: HostRuntime) -> Result<(), Fail> {
     assert_eq!(rt; (rows[1][0].as_str(), rows[1][1].as_str()), ("c", "東"));
     let none = TextTable::new(rt.alloc(), &[])?;
     assert!(rt; none.texts().is_empty());
+    Ok(())
+}
+
+#[test]
+fn a_table_displays_itself_in_color(rt: HostRuntime) -> Result<(), TableError> {
+    let mut table = one(rt.alloc(), "a")?;
+    table.modify(Cell::new(0, 0), angle(rt.alloc())?)?;
+    let colored: InColor = table.in_color();
+    let shown = format!(in rt.alloc(); "{colored}")?;
+    assert_eq!(rt; shown.as_str(), "+---+\n| <a> |\n+---+");
     Ok(())
 }

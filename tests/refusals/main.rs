@@ -7,6 +7,7 @@ mod pages;
 mod painting;
 mod placing;
 mod printing;
+mod rows;
 mod sample;
 mod settings;
 mod store;
@@ -56,6 +57,8 @@ fn main(rt: HostRuntime) -> ExitCode {
             &painting::tables(),
             &texts::calls(),
             &texts::tables(),
+            &rows::values(),
+            &rows::tables(),
             &pages::calls(),
         ],
     )

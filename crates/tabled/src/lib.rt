@@ -18,9 +18,11 @@
 //! things here, as far as they are ported. Nothing is defined in this crate: it passes on what the crates below it have.
 #![tactic(auto)]
 
+pub mod builder;
 pub mod grid;
 pub mod proved;
 pub mod settings;
 pub mod texts;
 
-pub use tabled_text::{TableError, TextTable};
+pub use tabled_rows::Tabled;
+pub use tabled_text::{InColor, TableError, TextTable};

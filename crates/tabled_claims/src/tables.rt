@@ -287,3 +287,14 @@ pub fn table_displayed<W: fmt::Write>(table: &TextTable, out: &mut fmt::Formatte
 {
     fmt::Display::fmt(table, out)
 }
+
+/// A table that is lent to be displayed in color has that text, as a hole in a format displays it.
+pub fn table_displayed_in_color<W: fmt::Write>(
+    table: &TextTable,
+    out: &mut fmt::Formatter<W>,
+) -> fmt::Result
+    ensures { (es : List ConfigEvent) → Shows es table.now.config → WritesOnOk W.write_str_gives out.old result (colored_text (painted es table.now.texts)) out.new }
+{
+    let shown = table.in_color();
+    fmt::Display::fmt(&shown, out)
+}

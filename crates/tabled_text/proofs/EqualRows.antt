@@ -4,10 +4,10 @@ use Rattle.std.proofs.lemmas.Bool.Decides.{nat_tests}
 use Rattle.tabled_printing.specs.Texts.{Table}
 use Rattle.tabled_text.specs.Sizes.{first_unequal}
 
-same_count : (n m : ℕ) → (n == m) ≡ true → n ≡ m
+pub same_count : (n m : ℕ) → (n == m) ≡ true → n ≡ m
 same_count n m e = grind (arith, nat_tests)
 
-equal_by : (columns start : ℕ) (cells : List (List ℕ)) (rows : Table) (same : Bool) → (length cells == columns) ≡ same
+pub equal_by : (columns start : ℕ) (cells : List (List ℕ)) (rows : Table) (same : Bool) → (length cells == columns) ≡ same
     → first_unequal columns start (cells ∷ rows) ≡ None → (length cells ≡ columns) × (first_unequal columns (start + 1) rows ≡ None)
 equal_by columns start cells rows true e none = (same_count (length cells) columns e, sym (ap (λ b. if b then first_unequal columns (start + 1) rows else Some start) e) ∙ none)
 equal_by columns start cells rows false e none = absurd (let no = sym (ap (λ b. if b then first_unequal columns (start + 1) rows else Some start) e) ∙ none in cc)

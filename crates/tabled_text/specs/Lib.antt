@@ -4,3 +4,4 @@ pub mod Refusal
 pub mod TextTable
 pub mod Changed
 pub mod Fitted
+pub mod Edited

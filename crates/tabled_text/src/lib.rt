@@ -10,5 +10,6 @@ mod measure;
 mod table_error;
 mod text_table;
 
+pub use display::InColor;
 pub use table_error::TableError;
 pub use text_table::TextTable;

@@ -1,7 +1,9 @@
 //! How large the cells of a table are.
 
 ghost use Rattle.std.specs.Prelude.{◌≡◌, ◌+◌, ◌<◌, ℕ, true, max, map, slice_index, EachIndex, IfOk, OnOk, replicate, string_bytes};
+ghost use Rattle.tabled_object.specs.Entities.{below};
 ghost use Rattle.tabled_printing.specs.Texts.{texts, pieces, width_of_text};
+ghost use Rattle.tabled_text.specs.Edited.{widths_with};
 ghost use Rattle.tabled_text.specs.Sizes.{cell, greatest, column_count, unequal_row, width_asked, height_asked, column_widths, row_height, row_heights};
 
 use std::alloc::{AllocError, Global};
@@ -140,6 +142,36 @@ fn height_of(row: &[String], count: usize, are_lines: bool) -> usize
     } else {
         row_height(row)
     }
+}
+
+/// Widths of columns, of as many as are asked for; 0 past the last one.
+fn widths_of_columns(
+    alloc: Global,
+    widths: &[usize],
+    count: usize,
+) -> Result<Vec<usize>, OutOfMemory>
+    ensures { IfOk result (λ copies. copies.items ≡ map (slice_index widths.now) (below count)) }
+{
+    let mut copies = Vec::with_capacity(alloc, count)?;
+    for col in 0..count {
+        copies.push(widths.get(col).copied().unwrap_or(0))?;
+    }
+    Ok(copies)
+}
+
+/// How wide columns are with a row more, and how high that is.
+pub(crate) fn sizes_with(
+    alloc: Global,
+    widths: &[usize],
+    row: &[String],
+) -> Result<(Vec<usize>, usize), OutOfMemory>
+    ensures widths { IfOk result (λ sizes. sizes.0.items ≡ widths_with widths.now (map string_bytes row.now)) }
+    ensures height { IfOk result (λ sizes. sizes.1 ≡ row_height (map string_bytes row.now)) }
+{
+    let mut wider = widths_of_columns(alloc, widths, row.len())?;
+    let are_lines = widen(&mut wider, row)?;
+    let height = height_of(row, row.len(), are_lines);
+    Ok((wider, height))
 }
 
 /// How wide each column is, and how high each row.

@@ -11,6 +11,8 @@ ghost use Rattle.tabled_text.specs.Sizes.{column_widths, row_heights};
 ghost use Rattle.tabled_text.specs.TextTable.{lent_rows};
 
 mod limits;
+mod making;
+mod rows;
 
 use crate::TableError;
 use crate::measure::{column_count, sizes_of, unequal_row};

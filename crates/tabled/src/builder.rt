@@ -1,0 +1,3 @@
+//! A builder of tables.
+
+pub use tabled_builder::Builder;
