@@ -11,7 +11,7 @@ use tabled_grid::{
     SegmentAll, Shape, Union,
 };
 use tabled_options::{
-    Alignment, AlignmentStrategy, BorderCorrection, Colorization, ExactColorization, Highlight,
+    Alignment, AlignmentStrategy, BorderCorrection, CellColor, Colorization, ExactColorization, Highlight,
     Justification, LineText, MarginColor, PaddingColor, Shadow, TrimStrategy,
 };
 use tabled_style::{Border, EmptyBorder, HorizontalLine, ReadyStyle, Style};
@@ -56,7 +56,7 @@ where
 }
 
 /// The options of settings.
-pub(crate) fn settings() -> [Named; 10] {
+pub(crate) fn settings() -> [Named; 11] {
     [
         (
             "<Alignment as TableOption<R, ColoredConfig, D>>::change",
@@ -95,6 +95,10 @@ pub(crate) fn settings() -> [Named; 10] {
         (
             "<Color as TableOption<R, ColoredConfig, D>>::change",
             |turn| with(turn, color),
+        ),
+        (
+            "<CellColor as TableOption<R, ColoredConfig, D>>::change",
+            |turn| with(turn, |alloc| color(alloc).map(CellColor::new)),
         ),
         (
             "<Colorization as TableOption<R, ColoredConfig, D>>::change",

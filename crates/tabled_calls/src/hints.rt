@@ -5,7 +5,7 @@ ghost use Rattle.tabled_object.specs.declared.entity.Entity.TheVariants as cells
 
 use tabled_border::{ANSIStr, AnsiText, Border as GridBorder};
 use tabled_color::{BorderColor, Color};
-use tabled_colorization::{Colorization, ExactColorization};
+use tabled_colorization::{CellColor, Colorization, ExactColorization};
 use tabled_compact::{CompactConfig, CompactMultilineConfig};
 use tabled_configuration::{CellOption, ColoredConfig, Configured, TableOption};
 use tabled_correction::BorderCorrection;
@@ -57,6 +57,7 @@ pub fn no_sizes_after_what_stands_in_cells<O, Data, Dims>(
     strategy: &AlignmentStrategy,
     trim: &TrimStrategy,
     color: &Color,
+    ground: &CellColor,
     filling: &Justification,
     outline: &Highlight<O>,
 )
@@ -71,6 +72,8 @@ where
     ensures trim { ⟦<TrimStrategy as TableOption<Data, ColoredConfig, Dims>>⟧.hinted trim.now ≡ None }
     ensures color { ⟦<Color as TableOption<Data, ColoredConfig, Dims>>⟧.hinted color.now ≡ None }
     ensures color_on_cells { ⟦<Color as CellOption<Data, ColoredConfig>>⟧.hinted color.now ≡ None }
+    ensures ground { ⟦<CellColor as TableOption<Data, ColoredConfig, Dims>>⟧.hinted ground.now ≡ None }
+    ensures ground_on_cells { ⟦<CellColor as CellOption<Data, ColoredConfig>>⟧.hinted ground.now ≡ None }
     ensures filling { ⟦<Justification as TableOption<Data, ColoredConfig, Dims>>⟧.hinted filling.now ≡ None }
     ensures filling_on_cells { ⟦<Justification as CellOption<Data, ColoredConfig>>⟧.hinted filling.now ≡ None }
     ensures outline { ⟦<Highlight<O> as TableOption<Data, ColoredConfig, Dims>>⟧.hinted outline.now ≡ None }

@@ -18,7 +18,7 @@ ghost use Rattle.tabled_settings.specs.declared.sides.Sides.{Sides as Four};
 use std::alloc::Global;
 use tabled_border::{ANSIStr, Keep, OutOfMemory};
 use tabled_color::{BorderColor, Color};
-use tabled_colorization::{Colorization, ExactColorization};
+use tabled_colorization::{CellColor, Colorization, ExactColorization};
 use tabled_formatting::{Alignment, Justification, MarginColor, PaddingColor, Shadow};
 use tabled_grid::Offset;
 use tabled_highlight::Highlight;
@@ -342,6 +342,13 @@ pub fn colors_by_pattern(
         Colorization::by_row(by_row),
         Colorization::by_column(by_column),
     ]
+}
+
+/// One color for whole cells.
+pub fn color_for_cells(color: Color) -> CellColor
+    ensures { result ≡ color }
+{
+    CellColor::new(color)
 }
 
 /// Colors for what an object lists, in turn.

@@ -1,6 +1,6 @@
 //! How any option changes a configuration, and what each option of this library makes.
 
-ghost use Rattle.std.specs.Prelude.{◌≡◌, ◌++◌, ℕ, List, [], map, take, IsOk, OnOk, OnErr};
+ghost use Rattle.std.specs.Prelude.{◌≡◌, ◌∷◌, ◌++◌, ℕ, List, [], map, take, IsOk, OnOk, OnErr};
 ghost use Rattle.tabled_object.specs.declared.entity.Entity.TheVariants as cells;
 ghost use Rattle.tabled_settings.specs.Setting.{write_of};
 ghost use Rattle.tabled_configuration.specs.Colored.{Shows, Changes, by_cell_color};
@@ -25,7 +25,7 @@ ghost use Rattle.tabled_object.specs.Entities.{cells_of, is_inside};
 use std::alloc::Global;
 use tabled_border::{Border as GridBorder, OutOfMemory};
 use tabled_color::{BorderColor, Color};
-use tabled_colorization::{Colorization, ExactColorization};
+use tabled_colorization::{CellColor, Colorization, ExactColorization};
 use tabled_configuration::{CellOption, ColoredConfig, TableOption, modify};
 use tabled_correction::BorderCorrection;
 use tabled_grid::Borders;
@@ -445,6 +445,30 @@ pub fn color_on_cells<R>(
     ensures { OnOk result (Changes (by_cell_color (write_of entity (texts_of option.now))) cfg.old cfg.new) }
 {
     option.change(records, cfg, entity)
+}
+
+/// One color for the cells of an entity, with their fillings and their padding.
+pub fn color_of_whole_cells<R>(
+    option: &CellColor,
+    records: &mut R,
+    cfg: &mut ColoredConfig,
+    entity: Entity,
+) -> Result<(), OutOfMemory>
+    ensures { OnOk result (Changes (entities_colored ((entity, texts_of option.now) ∷ [])) cfg.old cfg.new) }
+{
+    option.change(records, cfg, entity)
+}
+
+/// And for all cells.
+pub fn color_of_all_cells<R, D>(
+    option: CellColor,
+    records: &mut R,
+    cfg: &mut ColoredConfig,
+    dims: &mut D,
+) -> Result<(), OutOfMemory>
+    ensures { OnOk result (Changes (entities_colored ((cells.Global, texts_of option) ∷ [])) cfg.old cfg.new) }
+{
+    option.change(records, cfg, dims)
 }
 
 /// Colors for the cells of a table in turn, with those of their fillings and of their padding.

@@ -3,10 +3,12 @@
 //! `docs/DEFINITIONS.md` explains the words of the contracts.
 #![tactic(auto)]
 
+mod cell_color;
 mod colorization;
 mod exact;
 mod pattern;
 mod turns;
 
+pub use cell_color::CellColor;
 pub use colorization::Colorization;
 pub use exact::ExactColorization;
