@@ -2,7 +2,7 @@
 
 use crate::common::printing::{is_in_color, is_picture};
 use std::test::Fail;
-use tabled_uses::{options, own_option, recipes};
+use tabled_uses::{options, own_option, recipes, values};
 
 #[test]
 fn first_table_is_drawn(rt: HostRuntime) -> Result<(), Fail> {
@@ -536,5 +536,60 @@ fn within_the_terminal_is_drawn(rt: HostRuntime) -> Result<(), Fail> {
 ╰────────┴───────────────╯
 ";
     assert!(rt; is_picture(text.as_str(), picture));
+    Ok(())
+}
+
+#[test]
+fn values_of_ones_own_are_drawn(rt: HostRuntime) -> Result<(), Fail> {
+    let text = values::values_of_ones_own(rt.alloc())?;
+    let picture = "
+ name | since 
+------+-------
+ C    | 1972  
+ Lisp | 1960  
+";
+    assert!(rt; is_picture(text.as_str(), picture));
+    Ok(())
+}
+
+#[test]
+fn built_of_records_is_drawn(rt: HostRuntime) -> Result<(), Fail> {
+    let text = values::built_of_records(rt.alloc())?;
+    let picture = "
+╭───┬────────┬────┬───╮
+│ 1 │ tea    │ 95 │ s │
+├───┼────────┼────┼───┤
+│ 2 │ coffee │    │   │
+╰───┴────────┴────┴───╯
+";
+    assert!(rt; is_picture(text.as_str(), picture));
+    Ok(())
+}
+
+#[test]
+fn row_put_in_is_drawn(rt: HostRuntime) -> Result<(), Fail> {
+    let text = values::row_put_in(rt.alloc())?;
+    let picture = "
+ name  | age 
+-------+-----
+ Alice | 30  
+ Bob   | 7   
+";
+    assert!(rt; is_picture(text.as_str(), picture));
+    Ok(())
+}
+
+#[test]
+fn first_row_on_a_ground_is_drawn(rt: HostRuntime) -> Result<(), Fail> {
+    let text = values::first_row_on_a_ground(rt.alloc())?;
+    let picture = "
+╭──────┬─────╮     ╭──────┬─────╮
+│ name │ age │     │bbbbbb│bbbbb│
+├──────┼─────┤     ├──────┼─────┤
+│ Bob  │ 7   │     │ Bob  │ 7   │
+╰──────┴─────╯     ╰──────┴─────╯
+";
+    let colors = [("[44", 'b')];
+    assert!(rt; is_in_color(rt.alloc(), text.as_str(), picture, &colors)?);
     Ok(())
 }

@@ -9,6 +9,7 @@ pub mod options;
 pub mod own_option;
 pub mod recipes;
 pub mod styles;
+pub mod values;
 
 pub use examples::{drawn_lines, lines_of_their_own, places_along_lines, places_and_levels};
 pub use lettered::{
