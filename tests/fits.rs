@@ -89,6 +89,60 @@ fn tables_without_cells_stay(rt: HostRuntime) -> Result<(), TableError> {
     Ok(())
 }
 
+#[test]
+fn columns_keep_their_least_share(rt: HostRuntime) -> Result<(), TableError> {
+    let mut table = TextTable::new(rt.alloc(), &[&["green tea", "leaves in hot water"]])?;
+    table.with(Style::ascii())?;
+    table.fit_with(15, 6, Overflow::WrapWords)?;
+    let expected = "+-------+--------+\n\
+                    | green | leaves |\n\
+                    | tea   | in hot |\n\
+                    |       | water  |\n\
+                    +-------+--------+";
+    assert_eq!(rt; table.to_text()?.as_str(), expected);
+    Ok(())
+}
+
+#[test]
+fn columns_that_ask_for_less_than_the_least_share_keep_that(rt: HostRuntime) -> Result<(), TableError> {
+    let mut table = TextTable::new(rt.alloc(), &[&["abcdefgh", "ijklmnop", "q"]])?;
+    table.with(Style::ascii())?;
+    table.fit_with(12, 4, Overflow::Truncate("~"))?;
+    assert_eq!(rt; table.to_text()?.as_str(), "+------+------+---+\n| abc~ | ijk~ | q |\n+------+------+---+");
+    Ok(())
+}
+
+#[test]
+fn a_least_share_of_nothing_is_one_column(rt: HostRuntime) -> Result<(), TableError> {
+    let mut table = TextTable::new(rt.alloc(), &[&["ab", "c"]])?;
+    table.fit_with(0, 0, Overflow::Wrap)?;
+    assert_eq!(rt; table.to_text()?.as_str(), " a  c \n b    ");
+    table.fit_with(0, usize::MAX, Overflow::Wrap)?;
+    assert_eq!(rt; table.to_text()?.as_str(), " a  c \n b    ");
+    assert_eq!(rt; table.least_width(0), 6);
+    Ok(())
+}
+
+#[test]
+fn the_least_width_is_told(rt: HostRuntime) -> Result<(), TableError> {
+    let mut table = TextTable::new(rt.alloc(), &[&["abc", "d", ""], &["e", "f", ""]])?;
+    assert_eq!(rt; table.least_width(1), 8);
+    table.with(Style::ascii())?;
+    assert_eq!(rt; table.least_width(0), 12);
+    assert_eq!(rt; table.least_width(1), 12);
+    assert_eq!(rt; table.least_width(2), 13);
+    assert_eq!(rt; table.least_width(usize::MAX), 14);
+    table.with(Shadow::new(3))?;
+    assert_eq!(rt; table.least_width(1), 15);
+    table.fit(15, Overflow::Wrap)?;
+    let text = table.to_text()?;
+    assert!(rt; is_within(text.as_str(), 15) && !is_within(text.as_str(), 14));
+    table.with(Shadow::new(usize::MAX))?;
+    assert_eq!(rt; table.least_width(1), usize::MAX);
+    assert_eq!(rt; TextTable::new(rt.alloc(), &[])?.least_width(7), 0);
+    Ok(())
+}
+
 /// A text of so many words, each of a letter and its number.
 fn words(alloc: Global, letter: char, count: usize) -> Result<String, OutOfMemory> {
     let mut text = String::new(alloc);

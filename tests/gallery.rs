@@ -521,6 +521,21 @@ fn texts_from_outside_are_drawn(rt: HostRuntime) -> Result<(), Fail> {
 }
 
 #[test]
+fn tabs_as_spaces_are_drawn(rt: HostRuntime) -> Result<(), Fail> {
+    let text = recipes::tabs_as_spaces(rt.alloc())?;
+    let picture = "
+╭────────────┬───────╮
+│ call       │ cost  │
+├────────────┼───────┤
+│ read    1  │ a   b │
+│ send    20 │       │
+╰────────────┴───────╯
+";
+    assert!(rt; is_picture(text.as_str(), picture));
+    Ok(())
+}
+
+#[test]
 fn within_the_terminal_is_drawn(rt: HostRuntime) -> Result<(), Fail> {
     let text = recipes::within_the_terminal(rt.alloc())?;
     let picture = "

@@ -87,3 +87,23 @@ fn a_width_of_zero_leaves_a_character_a_line(rt: HostRuntime) -> Result<(), Fail
     assert_eq!(rt; table.to_text()?.as_str(), " a \n b \n c ");
     Ok(())
 }
+
+#[test]
+fn odd_texts_and_limits_keep_their_width(rt: HostRuntime) -> Result<(), TableError> {
+    let mut table = TextTable::new(rt.alloc(), &[&["abcdef", "\u{301}\u{302}", "a\tb"]])?;
+    table.limit_cells(Columns::one(0), Width::truncate(2).suffix("...."))?;
+    table.limit_cells(Columns::one(1), Width::truncate(0).suffix("…"))?;
+    table.limit_cells(Columns::one(2), Width::wrap(2))?;
+    assert_eq!(rt; table.to_text()?.as_str(), " ..  \u{301}\u{302}  a\t \n       b  ");
+    Ok(())
+}
+
+#[test]
+fn heights_of_zero_and_without_end(rt: HostRuntime) -> Result<(), TableError> {
+    let mut table = TextTable::new(rt.alloc(), &[&["a\nb", "c"]])?;
+    table.limit_cells(Segment::all(), Height::limit(usize::MAX).suffix("…"))?;
+    assert_eq!(rt; table.to_text()?.as_str(), " a  c \n b    ");
+    table.limit_cells(Columns::one(0), Height::limit(0).suffix("…"))?;
+    assert_eq!(rt; table.to_text()?.as_str(), "   c ");
+    Ok(())
+}

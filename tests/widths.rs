@@ -320,9 +320,28 @@ fn columns_share_a_room(rt: HostRuntime) -> Result<(), Fail> {
         ([usize::MAX, 5, 0], usize::MAX, [usize::MAX - 5, 5, 0]),
     ];
     for (asked, room, expected) in shares {
-        let found = shares_of(alloc, asked.as_slice(), room)?;
+        let found = shares_of(alloc, asked.as_slice(), room, 1)?;
         assert_eq!(rt; found.as_slice(), expected.as_slice());
     }
-    assert!(rt; shares_of(alloc, &[], 10)?.is_empty());
+    assert!(rt; shares_of(alloc, &[], 10, 1)?.is_empty());
+    Ok(())
+}
+
+#[test]
+fn each_column_has_its_least_share(rt: HostRuntime) -> Result<(), Fail> {
+    let alloc = rt.alloc();
+    let shares = [
+        ([3, 10, 20], 9, 4, [3, 4, 4]),
+        ([3, 10, 20], 20, 4, [3, 9, 8]),
+        ([3, 10, 20], 20, 9, [3, 9, 9]),
+        ([3, 10, 20], 0, usize::MAX, [3, 10, 20]),
+        ([5, 5, 5], 2, 0, [1, 1, 0]),
+        ([5, 0, 5], 0, 0, [0, 0, 0]),
+        ([usize::MAX, 2, 1], 10, 7, [7, 2, 1]),
+    ];
+    for (asked, room, least, expected) in shares {
+        let found = shares_of(alloc, asked.as_slice(), room, least)?;
+        assert_eq!(rt; found.as_slice(), expected.as_slice());
+    }
     Ok(())
 }

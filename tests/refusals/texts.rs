@@ -1,11 +1,12 @@
-//! Texts by themselves, and those of a table: cleaned, and kept within a number of columns or lines.
+//! Texts by themselves, and those of a table: cleaned, with spaces in the place of tabs, and kept within a number of columns or lines.
 
 use crate::turn::{Named, Outcome, Turn};
 use std::alloc::Global;
 use tabled::settings::object::{Rows, Segment};
 use tabled::settings::style::LineText;
 use tabled::texts::{
-    Height, Overflow, TextLimit, Width, cleaned, shortened, truncated, wrapped, wrapped_words,
+    Height, Overflow, TextLimit, Width, cleaned, shortened, tabs_expanded, truncated, wrapped,
+    wrapped_words,
 };
 use tabled::{TableError, TextTable};
 use tabled_grid::{OutOfMemory, Shape};
@@ -25,6 +26,7 @@ pub(crate) fn calls() -> [Named; 9] {
     [
         ("cleaned", |turn| made(turn, |alloc| cleaned(alloc, "a\u{1b}b\r\nc"))),
         ("wrapped", |turn| made(turn, |alloc| wrapped(alloc, TEXT, 4))),
+        ("tabs_expanded", |turn| made(turn, |alloc| tabs_expanded(alloc, "ab\tcd", 8))),
         ("wrapped_words", |turn| made(turn, |alloc| wrapped_words(alloc, TEXT, 4))),
         ("truncated", |turn| made(turn, |alloc| truncated(alloc, TEXT, 4, "…"))),
         ("shortened", |turn| made(turn, |alloc| shortened(alloc, "a\nb\nc", 2, "…"))),
@@ -50,7 +52,7 @@ pub(crate) fn calls() -> [Named; 9] {
 /// What becomes of the shares of columns.
 fn share(turn: &mut Turn) -> Result<Outcome, OutOfMemory> {
     turn.spend();
-    Ok(Outcome::of_value(shares_of(turn.alloc(), &[3, 10, 20], 20).map(|shares| shares.len() == 3)))
+    Ok(Outcome::of_value(shares_of(turn.alloc(), &[3, 10, 20], 20, 1).map(|shares| shares.len() == 3)))
 }
 
 /// What becomes of the entities of an object.
@@ -68,9 +70,9 @@ fn clean_title(turn: &mut Turn) -> Result<Outcome, OutOfMemory> {
     Ok(Outcome::of_value(title.clean(turn.alloc()).map(|_title| true)))
 }
 
-/// A table whose first text is not clean, and longer than three columns.
+/// A table whose first text has a tab, is not clean, and is longer than three columns.
 fn table(alloc: Global) -> Result<TextTable, OutOfMemory> {
-    let made: Result<TextTable, TableError> = TextTable::new(alloc, &[&["ab\u{1b}cd", "e"]]);
+    let made: Result<TextTable, TableError> = TextTable::new(alloc, &[&["ab\tcd", "e"]]);
     made.map_err(|_refused| OutOfMemory)
 }
 
@@ -92,23 +94,28 @@ fn changed(
     turn.spend();
     let returned = change(&mut table);
     let text = first_text(&table);
-    Ok(Outcome::of(returned, text == after, text == "ab\u{1b}cd"))
+    Ok(Outcome::of(returned, text == after, text == "ab\tcd"))
 }
 
 /// The calls on a table, and what else takes memory.
-pub(crate) fn tables() -> [Named; 6] {
+pub(crate) fn tables() -> [Named; 8] {
     [
         ("shares_of", share),
         ("listed_entities", list),
         ("LineText<Line>::clean", clean_title),
-        ("TextTable::clean", |turn| changed(turn, |table| table.clean(), "ab␛cd")),
+        ("TextTable::clean", |turn| changed(turn, |table| table.clean(), "ab␉cd")),
         (
             "TextTable::limit_cells",
-            |turn| changed(turn, |table| table.limit_cells(Segment::all(), Width::wrap(2)), "ab\n\u{1b}c\nd"),
+            |turn| changed(turn, |table| table.limit_cells(Segment::all(), Width::wrap(2)), "ab\n\tc\nd"),
+        ),
+        ("TextTable::expand_tabs", |turn| changed(turn, |table| table.expand_tabs(4), "ab  cd")),
+        (
+            "TextTable::fit_with",
+            |turn| changed(turn, |table| table.fit_with(7, 3, Overflow::Wrap), "ab\t\ncd"),
         ),
         (
             "TextTable::fit",
-            |turn| changed(turn, |table| table.fit(7, Overflow::Wrap), "ab\n\u{1b}c\nd"),
+            |turn| changed(turn, |table| table.fit(7, Overflow::Wrap), "ab\n\tc\nd"),
         ),
     ]
 }

@@ -1,17 +1,18 @@
-//! Texts by themselves and those of a table: cleaned, and kept within a number of columns or lines.
+//! Texts by themselves and those of a table: cleaned, with spaces in the place of tabs, and kept within a number of columns or lines.
 
-ghost use Rattle.std.specs.Prelude.{◌≡◌, ◌++◌, ◌∷◌, ◌≤◌, ◌<◌, ◌-◌, [], ℕ, true, false, length, sum, chars, string_bytes, if◌then◌else◌, IfOk, IfSome, OnOk, OnErr, MatchOption};
+ghost use Rattle.std.specs.Prelude.{◌≡◌, ◌++◌, ◌∷◌, ◌≤◌, ◌<◌, ◌-◌, [], ℕ, true, false, min, length, sum, slice_index, chars, string_bytes, if◌then◌else◌, IfOk, IfSome, OnOk, OnErr, MatchOption};
 ghost use Rattle.std.specs.List.{list_all};
 ghost use Rattle.tabled_clean.specs.Steering.{steers, without_steering, cleaned, is_clean};
 ghost use Rattle.tabled_object.specs.Listing.{covered};
 ghost use Rattle.tabled_object.specs.declared.position.Position.{Position as At};
-ghost use Rattle.tabled_text.specs.Changed.{cells_changed, each_text, texts_of_cells};
+ghost use Rattle.tabled_text.specs.Changed.{CellsAreClean, cells_changed, each_text, texts_of_cells};
 ghost use Rattle.tabled_text.specs.Sizes.{column_count};
 ghost use Rattle.tabled_width.specs.Clusters.{clusters};
 ghost use Rattle.tabled_width.specs.CutOff.{shortened, truncated};
 ghost use Rattle.tabled_width.specs.Limited.{limited, overflow_of};
 ghost use Rattle.tabled_width.specs.Rows.{wrapped, wrapped_words};
 ghost use Rattle.tabled_width.specs.Shares.{used, IsCap, shared};
+ghost use Rattle.tabled_width.specs.Tabs.{tabs_expanded};
 ghost use Rattle.tabled_width.specs.Texts.{fits, width_of_text, is_printable};
 
 use std::alloc::Global;
@@ -56,10 +57,27 @@ pub fn title_cleaned<Line: Drop>(
 /// All texts of a table without them; its configuration stays, and a refusal changes nothing.
 pub fn table_cleaned(table: &mut TextTable) -> Result<(), OutOfMemory>
     ensures texts { OnOk result (table.new.texts ≡ cells_changed (each_text cleaned) table.old.texts) }
+    ensures clean { OnOk result (CellsAreClean table.new.texts) }
     ensures config { table.new.config ≡ table.old.config }
     ensures err { OnErr result (table.new ≡ table.old) }
 {
     table.clean()
+}
+
+/// A text with spaces in the place of its tabs.
+pub fn text_with_spaces(alloc: Global, text: &str, every: usize) -> Result<String, OutOfMemory>
+    ensures { IfOk result (λ found. string_bytes found ≡ tabs_expanded every text.now) }
+{
+    tabled_width::tabs_expanded(alloc, text, every)
+}
+
+/// All texts of a table with such spaces; its configuration stays, and a refusal changes nothing.
+pub fn table_with_spaces(table: &mut TextTable, every: usize) -> Result<(), OutOfMemory>
+    ensures texts { OnOk result (table.new.texts ≡ cells_changed (each_text (tabs_expanded every)) table.old.texts) }
+    ensures config { table.new.config ≡ table.old.config }
+    ensures err { OnErr result (table.new ≡ table.old) }
+{
+    table.expand_tabs(every)
 }
 
 /// The texts of the cells of an object, within a limit of any type; the configuration stays, and a refusal changes nothing.
@@ -245,10 +263,16 @@ pub fn measured(width: usize, line: &str) -> (usize, bool, bool)
     )
 }
 
-/// What columns get of a room.
-pub fn room_shared(alloc: Global, asked: &[usize], room: usize) -> Result<Vec<usize>, OutOfMemory>
-    ensures shares { IfOk result (λ shares. (cap : ℕ) × IsCap room asked.now cap × (shares.items ≡ shared cap (room - used cap asked.now) asked.now)) }
-    ensures fits { IfOk result (λ shares. length asked.now ≤ room → sum shares.items ≤ room) }
+/// What columns get of a room, where each has a least share.
+pub fn room_shared(
+    alloc: Global,
+    asked: &[usize],
+    room: usize,
+    least: usize,
+) -> Result<Vec<usize>, OutOfMemory>
+    ensures shares { IfOk result (λ shares. (cap : ℕ) × IsCap least room asked.now cap × (shares.items ≡ shared cap (room - used cap asked.now) asked.now)) }
+    ensures at_least { IfOk result (λ shares. (col : ℕ) → min least (slice_index asked.now col) ≤ slice_index shares.items col) }
+    ensures fits { IfOk result (λ shares. used least asked.now ≤ room → sum shares.items ≤ room) }
 {
-    tabled_width::shares_of(alloc, asked, room)
+    tabled_width::shares_of(alloc, asked, room, least)
 }

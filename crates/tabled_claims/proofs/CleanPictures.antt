@@ -4,7 +4,7 @@ use Rattle.std.specs.Prelude.{slice_index, slice_index_or}
 use Rattle.std.specs.List.{All, flat_map}
 use Rattle.std.proofs.lemmas.Bool.{ltb-true}
 use Rattle.std.proofs.lemmas.List.Elements.{All-nil, All-cons, All-head, All-tail, All-append, All-map, All-replicate}
-use Rattle.tabled_clean.specs.Steering.{steers, is_clean}
+use Rattle.tabled_clean.specs.Steering.{IsCleanText, steers, is_clean}
 use Rattle.tabled_border.specs.Texts.{Texts}
 use Rattle.tabled_object.specs.Entities.{below}
 use Rattle.tabled_grid.specs.declared.place.Place.{Place}
@@ -27,7 +27,8 @@ use Rattle.tabled_painting.proofs.Plain.{plain_both}
 use Rattle.tabled_text.specs.Sizes.{column_count, column_widths, row_heights}
 use Rattle.tabled_text.specs.Cells.{cells_set, margin_set, cell_colors}
 use Rattle.tabled_text.specs.TextTable.{look_of, painted, text_of}
-use Rattle.tabled_claims.specs.Clean.{IsCleanText, CellsAreClean, WritesClean}
+use Rattle.tabled_text.specs.Changed.{CellsAreClean}
+use Rattle.tabled_claims.specs.Clean.{WritesClean}
 use Rattle.tabled_claims.proofs.CleanCharacters.{space_steers, fill_steers}
 use Rattle.tabled_claims.proofs.CleanBorders.{borders_steer}
 use Rattle.tabled_claims.proofs.CleanTexts.{Quiet, Quiet-one, Quiet-nil, Quiet-append, Quiet-text, Quiet-times, Quiet-space, Quiet-joined, quiet_clean, shown_clean}

@@ -9,13 +9,12 @@ use Rattle.std.proofs.lemmas.List.Folds.{list_all-append}
 use Rattle.std.proofs.lemmas.List.Splits.{join_with_byte-slice_split}
 use Rattle.std.proofs.lemmas.Str.{chars-append, encodes-append, encodes-chars, encodes-IsAscii, IsUtf8-take, IsUtf8-drop, IsUtf8-from_ascii, IsCharBoundary-before_ascii, IsCharBoundary-after_ascii}
 use Rattle.std.proofs.lemmas.Str.Ascii.{IsAscii-nil, IsAscii-cons}
-use Rattle.tabled_clean.specs.Steering.{steers, is_clean}
+use Rattle.tabled_clean.specs.Steering.{IsCleanText, steers, is_clean}
 use Rattle.tabled_width.proofs.PieceFacts.{all_texts}
 use Rattle.tabled_printing.specs.Texts.{pieces, times}
 use Rattle.tabled_printing.proofs.Tiles.{chars_of}
 use Rattle.tabled_cells.specs.declared.placement.Placement.{Placement}
 use Rattle.tabled_cells.specs.Trimmed.{without_first, without_ends, is_space, is_blank, line_shown, lines_shown}
-use Rattle.tabled_claims.specs.Clean.{IsCleanText}
 use Rattle.tabled_claims.proofs.CleanCharacters.{space_steers, feed_steers, is_plain_byte, bytes_plain}
 
 abbrev none_steers : List ℕ → Bool

@@ -25,7 +25,7 @@ use Rattle.tabled_pages.specs.Page.{framed_page, page}
 use Rattle.tabled_pages.specs.Style.{styled}
 use Rattle.tabled_pages.proofs.Lines.{lines_of-nil}
 use Rattle.tabled_pages.proofs.OneLine.{is_printable, are_printable, are_printable-rows, list_all-get_or}
-use Rattle.tabled_claims.proofs.ReadyNarrow.{ready_narrow}
+use Rattle.tabled_claims.proofs.ReadyPlain.{ready_narrow}
 
 -- ---- the lines of a text that a line feed ends
 

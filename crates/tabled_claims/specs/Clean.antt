@@ -1,33 +1,55 @@
--- Tables of which nothing steers a terminal: neither what their cells say, nor the characters that their options write.
-use Rattle.std.specs.Prelude.{◌≡◌, ℕ, Bool, true, false, not, List, [], slice_index_or}
-use Rattle.std.specs.List.{list_all}
-use Rattle.std.specs.Str.{IsUtf8}
-use Rattle.tabled_clean.specs.Steering.{steers, is_clean}
+-- Options that write nothing that steers a terminal.
+use Rattle.std.specs.Prelude.{◌≡◌, ℕ, Bool, true, false, not, Option, List}
+use Rattle.std.specs.List.{filter_map, list_all}
+use Rattle.tabled_clean.specs.Steering.{steers}
+use Rattle.tabled_border.specs.declared.border.Border.{Border}
 use Rattle.tabled_object.specs.declared.position.Position.{Position}
+use Rattle.tabled_settings.specs.CellSettings.{justification_event}
 use Rattle.tabled_settings.specs.Live.{value_at}
+use Rattle.tabled_settings.specs.Setting.{EntityEvent}
+use Rattle.tabled_layout.specs.TableSettings.{cell_event}
+use Rattle.tabled_grid.specs.declared.borders.Borders.{Borders}
 use Rattle.tabled_grid.specs.declared.event.Event.{Event}
-use Rattle.tabled_grid.specs.declared.event.Event.TheVariants.{Write as write, Erase as erase}
-use Rattle.tabled_grid.specs.declared.event.Written.TheVariants.{Sign as sign, Standing as standing}
-use Rattle.tabled_configuration.specs.Configuration.{ConfigEvent, characters_of}
-use Rattle.tabled_printing.specs.Texts.{Table}
-use Rattle.tabled_text.specs.Sizes.{cell}
+use Rattle.tabled_grid.specs.declared.lines.HorizontalLine.{HorizontalLine}
+use Rattle.tabled_grid.specs.declared.lines.VerticalLine.{VerticalLine}
+use Rattle.tabled_configuration.specs.Configuration.{Configuration, ConfigEvent, Shows, characters_of, settings_of}
+use Rattle.tabled_printing.specs.Columns.{WritesNarrow}
 use Rattle.tabled_text.specs.Cells.{cells_set}
+use Rattle.tabled_claims.specs.Characters.{is_passing_write, passes_if_given, passes_border, passes_record, passes_horizontal, passes_vertical}
 
--- a text of characters of which none steers
-abbrev pub IsCleanText : List ℕ → Type 0
-IsCleanText text = IsUtf8 text × (is_clean text ≡ true)
-
--- what each cell says is such a text
-abbrev pub CellsAreClean : Table → Type 0
-CellsAreClean table = (row col : ℕ) → IsCleanText (cell (slice_index_or table row []) col)
+-- whether a character does not steer
+abbrev pub is_quiet : ℕ → Bool
+is_quiet character = not (steers character)
 
 -- whether an event writes no character that steers
 abbrev pub is_clean_write : Event ℕ → Bool
-is_clean_write (write site (sign character)) = not (steers character)
-is_clean_write (write site standing) = true
-is_clean_write (erase region) = true
+is_clean_write = is_passing_write is_quiet
+
+-- whether a character that may be given does not steer where it is; nor what a border gives, what a class record has, or a custom line
+abbrev pub is_clean_if_given : Option ℕ → Bool
+is_clean_if_given = passes_if_given is_quiet
+
+abbrev pub is_clean_border : Border ℕ → Bool
+is_clean_border = passes_border is_quiet
+
+abbrev pub is_clean_record : Borders ℕ → Bool
+is_clean_record = passes_record is_quiet
+
+abbrev pub is_clean_horizontal : HorizontalLine ℕ → Bool
+is_clean_horizontal = passes_horizontal is_quiet
+
+abbrev pub is_clean_vertical : VerticalLine ℕ → Bool
+is_clean_vertical = passes_vertical is_quiet
+
+-- the events of what fills the lines of cells
+abbrev pub fills_of : List ConfigEvent → List (EntityEvent ℕ)
+fills_of events = filter_map justification_event (filter_map cell_event (settings_of events))
 
 -- events write no such character: neither around cells, nor to fill the lines of a cell
 pub record WritesClean (events : List ConfigEvent) : Type 0 where
   pub borders : list_all is_clean_write (characters_of events) ≡ true
   pub filling : (position : Position) → steers (value_at (cells_set events).justification position) ≡ false
+
+-- a configuration shows events that write narrow characters alone, none of which steers
+abbrev pub ShowsPlainly : Configuration → Type 0
+ShowsPlainly cfg = (events : List ConfigEvent) × Shows events cfg × WritesNarrow events × WritesClean events

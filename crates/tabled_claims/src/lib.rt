@@ -22,6 +22,7 @@ pub mod printing;
 pub mod program;
 pub mod settings;
 pub mod spans;
+pub mod steering;
 pub mod store;
 pub mod styles;
 pub mod tables;

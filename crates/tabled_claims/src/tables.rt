@@ -1,6 +1,6 @@
 //! Tables of texts.
 
-ghost use Rattle.std.specs.Prelude.{◌≡◌, ◌≤◌, ◌-◌, ◌++◌, ◌⊎◌, ◌&&◌, ◌||◌, ◌==◌, not, nat_le, ℕ, List, [], true, false, None, slice_index, slice_index_or, map, length, take, string_bytes, slice_get, IfOk, IfErr, OnOk, OnErr, MatchOption, IsOkUnless};
+ghost use Rattle.std.specs.Prelude.{◌≡◌, ◌≤◌, ◌-◌, ◌++◌, ◌⊎◌, ◌&&◌, ◌||◌, ◌==◌, not, nat_le, max, min, ℕ, List, [], true, false, None, slice_index, slice_index_or, map, length, take, string_bytes, slice_get, IfOk, IfErr, OnOk, OnErr, MatchOption, IsOkUnless};
 ghost use Rattle.std.specs.Io.KnownBytes.{Appends};
 ghost use Rattle.std.specs.List.{All, list_all};
 ghost use Rattle.std.specs.Str.{IsUtf8};
@@ -15,10 +15,11 @@ ghost use Rattle.tabled_printing.specs.Refusal.{span_faults};
 ghost use Rattle.tabled_printing.specs.Picture.{printed};
 ghost use Rattle.tabled_printing.specs.Texts.{Table, pieces, texts, width_of_text};
 ghost use Rattle.tabled_painting.specs.Margin.{is_without_room};
-ghost use Rattle.tabled_painting.specs.Painted.{plain};
+ghost use Rattle.tabled_painting.specs.Painted.{Painted, plain};
 ghost use Rattle.tabled_painting.specs.PaintedTable.{plain_text, colored_text};
 ghost use Rattle.tabled_painting.specs.Widths.{StandsStraightIn, text_width};
 ghost use Rattle.tabled_text.specs.Cells.{cell_texts, margin_set};
+ghost use Rattle.tabled_text.specs.Changed.{CellsAreClean, CellsArePrintable};
 ghost use Rattle.tabled_printing.specs.declared.print_error.PrintError.{PrintError as Fault};
 ghost use Rattle.tabled_text.specs.Fitted.{CanShare, IsFitted, frame_width, least_width};
 ghost use Rattle.tabled_text.specs.Refusal.{of_printer, unequal};
@@ -26,7 +27,8 @@ ghost use Rattle.tabled_text.specs.Sizes.{cell, column_count, column_widths, row
 ghost use Rattle.tabled_text.specs.TextTable.{lent_rows, look_of, shape_of, text_of, painted};
 ghost use Rattle.tabled_text.specs.declared.table_error.TableError.{TableError as Refusal};
 ghost use Rattle.std.specs.Fmt.{WritesOnOk};
-ghost use Rattle.tabled_claims.specs.Clean.{CellsAreClean, WritesClean};
+ghost use Rattle.tabled_width.specs.Limited.{ends_printable};
+ghost use Rattle.tabled_claims.specs.Clean.{WritesClean};
 
 use std::alloc::Global;
 use std::{fmt, io, mem};
@@ -176,13 +178,42 @@ pub fn fitted_table_fits(
     total: usize,
     how: Overflow<'_>,
 ) -> Result<String, PrintError>
-    ensures fits { (events : List ConfigEvent) → borders.Shows events table.old.config.spanned → WritesNarrow events → CanShare how.entry (total - frame_width events table.old.texts) table.old.texts
-        → least_width events table.old.texts ≤ total → IfOk result (λ text. list_all (λ line. nat_le (width_of_text line) total) (pieces (string_bytes text)) ≡ true) }
+    ensures fits { (events : List ConfigEvent) → borders.Shows events table.old.config.spanned → WritesNarrow events → CanShare how.entry 1 (total - frame_width events table.old.texts) table.old.texts
+        → least_width 1 events table.old.texts ≤ total → IfOk result (λ text. list_all (λ line. nat_le (width_of_text line) total) (pieces (string_bytes text)) ≡ true) }
     ensures texts { (events : List ConfigEvent) → borders.Shows events table.old.config.spanned
-        → IfOk result (λ text. IsFitted how.entry (total - frame_width events table.old.texts) table.old.texts table.new.texts) }
+        → IfOk result (λ text. IsFitted how.entry 1 (total - frame_width events table.old.texts) table.old.texts table.new.texts) }
+    ensures printable { (events : List ConfigEvent) → borders.Shows events table.old.config.spanned → WritesNarrow events → ends_printable how.entry ≡ true → CellsArePrintable table.old.texts
+        → least_width 1 events table.old.texts ≤ total → IfOk result (λ text. list_all (λ line. nat_le (width_of_text line) total) (pieces (string_bytes text)) ≡ true) }
 {
     table.fit(total, how)?;
     table.to_text()
+}
+
+/// The same, where no column has less than a least share, if it asks for that: the table is then no wider than it may be where its columns can
+/// have that share each. Of texts of printable ASCII nothing more is asked than that [printable].
+pub fn fitted_with_least_shares(
+    table: &mut TextTable,
+    total: usize,
+    least: usize,
+    how: Overflow<'_>,
+) -> Result<String, PrintError>
+    ensures fits { (events : List ConfigEvent) → borders.Shows events table.old.config.spanned → WritesNarrow events
+        → CanShare how.entry (max least 1) (total - frame_width events table.old.texts) table.old.texts → least_width (max least 1) events table.old.texts ≤ total
+        → IfOk result (λ text. list_all (λ line. nat_le (width_of_text line) total) (pieces (string_bytes text)) ≡ true) }
+    ensures texts { (events : List ConfigEvent) → borders.Shows events table.old.config.spanned
+        → IfOk result (λ text. IsFitted how.entry (max least 1) (total - frame_width events table.old.texts) table.old.texts table.new.texts) }
+    ensures printable { (events : List ConfigEvent) → borders.Shows events table.old.config.spanned → WritesNarrow events → ends_printable how.entry ≡ true → CellsArePrintable table.old.texts
+        → least_width (max least 1) events table.old.texts ≤ total → IfOk result (λ text. list_all (λ line. nat_le (width_of_text line) total) (pieces (string_bytes text)) ≡ true) }
+{
+    table.fit_with(total, least, how)?;
+    table.to_text()
+}
+
+/// The least width that a table can be kept within, by the columns of its frame and the least share of each column; as far as it can be counted.
+pub fn least_width_of_a_table(table: &TextTable, least: usize) -> usize
+    ensures { (events : List ConfigEvent) → borders.Shows events table.now.config.spanned → result ≡ min (least_width (max least 1) events table.now.texts) usize.MAX }
+{
+    table.least_width(least)
 }
 
 /// Nothing in the text of a table steers a terminal, where nothing in its cells does, nor among the characters that its options write: no
@@ -195,6 +226,26 @@ pub fn nothing_steers_the_terminal()
     ensures bytes { (events : List ConfigEvent) (table : Table) → CellsAreClean table → WritesClean events
         → list_all (λ byte. (nat_le 32 byte && not (byte == 127)) || (byte == 10)) (text_of events table) ≡ true }
 {}
+
+/// Nothing in the text of a table that was cleaned steers a terminal, whatever its cells said, where its options write nothing that does.
+pub fn cleaned_table_steers_nothing(table: &mut TextTable) -> Result<String, PrintError>
+    ensures plain { (events : List ConfigEvent) → borders.Shows events table.old.config.spanned → WritesClean events → IfOk result (λ text. is_clean (string_bytes text) ≡ true) }
+    ensures bytes { (events : List ConfigEvent) → borders.Shows events table.old.config.spanned → WritesClean events
+        → IfOk result (λ text. list_all (λ byte. (nat_le 32 byte && not (byte == 127)) || (byte == 10)) (string_bytes text) ≡ true) }
+{
+    table.clean()?;
+    table.to_text()
+}
+
+/// The same in color: the text is that of painted lines, and none of their characters steers, so what stands between the texts of the colors does
+/// not.
+pub fn cleaned_table_in_color(table: &mut TextTable) -> Result<String, PrintError>
+    ensures { (events : List ConfigEvent) → Shows events table.old.config → WritesClean events
+        → IfOk result (λ text. (lines : List Painted) × (string_bytes text ≡ colored_text lines) × All (λ line. is_clean (plain line) ≡ true) lines) }
+{
+    table.clean()?;
+    table.to_ansi()
+}
 
 /// Where the margin has no room, the text of a table is what the plain printer prints around its cells.
 pub fn text_without_margin()

@@ -1,15 +1,16 @@
-//! Texts by themselves: cleaned, and within a number of columns or lines. Each function is a law.
+//! Texts by themselves: cleaned, with spaces in the place of tabs, and within a number of columns or lines. Each function is a law.
 
-ghost use Rattle.std.specs.Prelude.{◌≡◌, ◌⊎◌, ◌==◌, ◌&&◌, ◌||◌, ℕ, ◌<◌, ◌≤◌, nat_le, not, List, [], ◌∷◌, true, length, All, Contains};
+ghost use Rattle.std.specs.Prelude.{◌≡◌, ◌⊎◌, ◌==◌, ◌&&◌, ◌||◌, ℕ, ◌+◌, ◌%◌, ◌++◌, ◌<◌, ◌≤◌, nat_le, not, List, [], ◌∷◌, true, false, length, All, Contains};
 ghost use Rattle.std.specs.List.{concat, list_all};
 ghost use Rattle.std.specs.Str.{IsUtf8};
 ghost use Rattle.tabled_clean.specs.Steering.{cleaned, is_clean};
 ghost use Rattle.tabled_width.specs.Clusters.{clusters};
 ghost use Rattle.tabled_width.specs.CutOff.{cut_off, shortened, suffix_shown, truncated};
-ghost use Rattle.tabled_width.specs.Limited.{CanFit, limited};
+ghost use Rattle.tabled_width.specs.Limited.{CanFit, IsPrintableText, ends_printable, limited};
 ghost use Rattle.tabled_width.specs.declared.limit.Overflow.{Overflow as How};
 ghost use Rattle.tabled_width.specs.Rows.{AreFull, ClustersFit, IsSpacedOut, WordsFit, line_rows, word_rows, wrapped, wrapped_words};
-ghost use Rattle.tabled_width.specs.Texts.{LinesFit, fits, is_printable, pieces};
+ghost use Rattle.tabled_width.specs.Tabs.{tabs_expanded, up_to_stop};
+ghost use Rattle.tabled_width.specs.Texts.{LinesFit, fits, is_printable, pieces, width_of_text};
 
 /// No character of a cleaned text steers a terminal.
 pub fn nothing_steers_in_cleaned_texts()
@@ -108,4 +109,23 @@ pub fn limited_twice_is_once()
 /// Each line of a text that was limited fits, whatever is done with those that are too wide, where what this asks for is so.
 pub fn limited_lines_fit()
     ensures { (how : How) (width : ℕ) (text : List ℕ) → IsUtf8 text → CanFit how width text → LinesFit width (limited how width text) }
+{}
+
+/// Of a text each of whose lines is of printable ASCII nothing more is asked, where there is a column; nor of a suffix of printable ASCII.
+pub fn printable_texts_can_fit()
+    ensures { (how : How) (width : ℕ) (text : List ℕ) → 1 ≤ width → ends_printable how ≡ true → IsPrintableText text → CanFit how width text }
+{}
+
+/// No tab is left in a text whose tabs became spaces, and a text without tabs is as it was.
+pub fn no_tab_is_left()
+    ensures none { (every : ℕ) (text : List ℕ) → All (λ byte. (byte == 9) ≡ false) (tabs_expanded every text) }
+    ensures same { (every : ℕ) (text : List ℕ) → All (λ byte. (byte == 9) ≡ false) text → tabs_expanded every text ≡ text }
+{}
+
+/// What follows a tab begins at a stop: a text with the spaces up to its next stop takes a multiple of the columns from stop to stop, and what
+/// follows these spaces adds its own columns to that.
+pub fn tabs_end_at_stops()
+    ensures stop { (every : ℕ) (text : List ℕ) → 1 ≤ every → IsUtf8 text → width_of_text (up_to_stop every text) % every ≡ 0 }
+    ensures adds { (every : ℕ) (text more : List ℕ) → 1 ≤ every → IsUtf8 text
+        → width_of_text (up_to_stop every text ++ more) ≡ width_of_text (up_to_stop every text) + width_of_text more }
 {}

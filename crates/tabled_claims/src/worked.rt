@@ -1,17 +1,19 @@
-//! The promises at work: what two options show where four cells meet, and a table that is a rectangle.
+//! The promises at work: what two options show where four cells meet, a table that is a rectangle, and one of texts from outside.
 
-ghost use Rattle.std.specs.Prelude.{◌≡◌, ℕ, List, [], ◌∷◌, ◌++◌, Some, None, IfOk, OnOk, string_bytes};
+ghost use Rattle.std.specs.Prelude.{◌≡◌, ℕ, List, [], ◌∷◌, ◌++◌, Some, None, true, IfOk, OnOk, string_bytes};
+ghost use Rattle.tabled_clean.specs.Steering.{is_clean};
 ghost use Rattle.tabled_border.specs.declared.border.Border.{Border as Around};
 ghost use Rattle.tabled_object.specs.declared.entity.Entity.TheVariants.{Cell};
 ghost use Rattle.tabled_grid.specs.declared.place.Place.TheVariants.{Cross};
 ghost use Rattle.tabled_grid.specs.Event.{replay};
 ghost use Rattle.tabled_grid.specs.Value.{value};
 ghost use Rattle.tabled_configuration.specs.Colored.{Colored, Changes};
-ghost use Rattle.tabled_configuration.specs.Configuration.{ConfigEvent, Shows, borders_replaced, characters_of};
-ghost use Rattle.tabled_printing.specs.Columns.{IsRectangle, WritesNarrow};
+ghost use Rattle.tabled_configuration.specs.Configuration.{ConfigEvent, borders_replaced, characters_of};
+ghost use Rattle.tabled_printing.specs.Columns.{IsRectangle};
 ghost use Rattle.tabled_printing.specs.Headline.{HaveMade};
 ghost use Rattle.tabled_configuration.specs.Options.{MakesInTurn, entity_bordered};
 ghost use Rattle.tabled_style.specs.Ready.{ascii};
+ghost use Rattle.tabled_claims.specs.Clean.{ShowsPlainly};
 
 use crate::lists::headline;
 use std::alloc::Global;
@@ -93,9 +95,30 @@ pub fn framed_with_a_title(alloc: Global, rows: Vec<Vec<String>>) -> Result<Stri
     Ok(text)
 }
 
+/// Rows of texts from outside, cleaned, in a rounded frame with a title on its first line: whatever the texts say, each line of the printed text
+/// takes as many columns of the terminal as the others, and nothing in it steers the terminal.
+///
+/// ```text
+/// Prices──╮
+/// │ a │ b │
+/// ├───┼───┤
+/// │ c │ d │
+/// ╰───┴───╯
+/// ```
+pub fn texts_from_outside(alloc: Global, rows: Vec<Vec<String>>) -> Result<String, TableError>
+    ensures rectangle { IfOk result (λ text. (width : ℕ) × IsRectangle width (string_bytes text)) }
+    ensures clean { IfOk result (λ text. is_clean (string_bytes text) ≡ true) }
+{
+    let mut table = in_a_rounded_frame(alloc, rows)?;
+    table.clean()?;
+    entitled(alloc, &mut table)?;
+    let text = table.to_text()?;
+    Ok(text)
+}
+
 /// A table of these rows in a rounded frame.
 fn in_a_rounded_frame(alloc: Global, rows: Vec<Vec<String>>) -> Result<TextTable, TableError>
-    ensures { IfOk result (λ table. (events : List ConfigEvent) × Shows events table.config.spanned × WritesNarrow events) }
+    ensures { IfOk result (λ table. ShowsPlainly table.config.spanned) }
 {
     let mut table = TextTable::from_rows(alloc, rows)?;
     table.apply(Style::rounded())?;
@@ -104,16 +127,17 @@ fn in_a_rounded_frame(alloc: Global, rows: Vec<Vec<String>>) -> Result<TextTable
 
 /// Outlines the first row of a table.
 fn outlined(table: &mut TextTable) -> Result<(), OutOfMemory>
-    requires { (events : List ConfigEvent) × Shows events table.old.config.spanned × WritesNarrow events }
-    ensures { OnOk result ((events : List ConfigEvent) × Shows events table.new.config.spanned × WritesNarrow events) }
+    requires { ShowsPlainly table.old.config.spanned }
+    ensures { OnOk result (ShowsPlainly table.new.config.spanned) }
 {
     table.apply(Highlight::outline(FirstRow, '#'))
 }
 
 /// Writes a title on the first line of a table.
 fn entitled(alloc: Global, table: &mut TextTable) -> Result<(), OutOfMemory>
-    requires { (events : List ConfigEvent) × Shows events table.old.config.spanned × WritesNarrow events }
-    ensures { OnOk result ((events : List ConfigEvent) × Shows events table.new.config.spanned × WritesNarrow events) }
+    requires { ShowsPlainly table.old.config.spanned }
+    ensures shown { OnOk result (ShowsPlainly table.new.config.spanned) }
+    ensures texts { table.new.texts ≡ table.old.texts }
 {
     let title = LineText::new(alloc, "Prices", FirstRow)?;
     table.apply(title)

@@ -2,7 +2,7 @@
 use Rattle.std.proofs.Common.{◌≡◌, ◌==◌, ℕ, ◌+◌, ◌<◌, ◌≤◌, Bool, true, false, not, ◌&&◌, ◌||◌, nat_lt, nat_le, if◌then◌else◌, cond, ◌/◌, ◌%◌, List, [], ◌∷◌, ◌++◌, chars, encode_utf8, encode_utf8_all, lit≤, append_assoc, append-nil, refl, sym, ap, subst, ◌∙◌, arith}
 use Rattle.std.specs.List.{list_all}
 use Rattle.std.specs.Str.{IsUtf8}
-use Rattle.std.proofs.lemmas.Str.{chars-encodes, scalars-chars, encodes-chars}
+use Rattle.std.proofs.lemmas.Str.{chars-encodes, chars-nil, scalars-chars, encodes-chars}
 use Rattle.std.proofs.lemmas.List.Folds.{list_all-append}
 use lib.Utf8.{scalar, scalars, low_scalar, encode}
 use Rattle.std.proofs.lemmas.Bool.Decides.{nat_tests}
@@ -156,6 +156,9 @@ characters_of_cleaned text u = chars-encodes (without_steering (chars text)) (sc
 
 pub cleaned_is_clean : (text : List ℕ) → IsUtf8 text → is_clean (cleaned text) ≡ true
 cleaned_is_clean text u = ap (list_all (λ c. not (steers c))) (characters_of_cleaned text u) ∙ none_steers (chars text)
+
+pub empty_is_clean : is_clean [] ≡ true
+empty_is_clean = ap (list_all (λ c. not (steers c))) chars-nil
 
 pub clean_stays : (text : List ℕ) → IsUtf8 text → is_clean text ≡ true → cleaned text ≡ text
 unfolding cleaned

@@ -1,6 +1,7 @@
 -- Characters that steer a terminal, and texts without them.
-use Rattle.std.specs.Prelude.{ℕ, ◌+◌, Bool, false, not, ◌&&◌, ◌||◌, ◌==◌, nat_lt, nat_le, if◌then◌else◌, List, [], ◌∷◌, ◌++◌, chars, encode_utf8_all}
+use Rattle.std.specs.Prelude.{◌≡◌, ℕ, ◌+◌, Bool, true, false, not, ◌&&◌, ◌||◌, ◌==◌, nat_lt, nat_le, if◌then◌else◌, List, [], ◌∷◌, ◌++◌, chars, encode_utf8_all}
 use Rattle.std.specs.List.{list_all}
+use Rattle.std.specs.Str.{IsUtf8}
 
 abbrev pub is_between : ℕ → ℕ → ℕ → Bool
 is_between first last c = nat_le first c && nat_le c last
@@ -46,6 +47,10 @@ cleaned text = encode_utf8_all (without_steering (chars text))
 -- whether no character of a text steers
 abbrev pub is_clean : List ℕ → Bool
 is_clean text = list_all (λ c. not (steers c)) (chars text)
+
+-- a text of characters of which none steers
+abbrev pub IsCleanText : List ℕ → Type 0
+IsCleanText text = IsUtf8 text × (is_clean text ≡ true)
 
 -- what is written, and then what further characters give, before which a carriage return may have been held back
 abbrev pub going_on : List ℕ → Bool → List ℕ → List ℕ

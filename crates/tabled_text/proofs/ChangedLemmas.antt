@@ -1,6 +1,7 @@
 -- Rows of other texts, as many in each.
-use Rattle.std.proofs.Common.{◌≡◌, ◌==◌, ℕ, ◌+◌, ◌<◌, get_or, arith, Option, Some, None, List, [], ◌∷◌, map, length, if◌then◌else◌, refl, sym, ap, ◌∙◌}
-use Rattle.std.proofs.lemmas.List.{length-map, get_or-map}
+use Rattle.std.proofs.Common.{◌≡◌, ◌==◌, ℕ, ◌+◌, ◌<◌, ◌≤◌, get_or, ⊎_elim, subst, arith, Option, Some, None, List, [], ◌∷◌, map, length, if◌then◌else◌, refl, sym, ap, ◌∙◌}
+use Rattle.std.proofs.lemmas.Bool.{cases_lt}
+use Rattle.std.proofs.lemmas.List.{length-map, get_or-map, get_or_past}
 use Rattle.std.proofs.lemmas.List.FromFn.{get_or-map-range_with_len, length-range_with_len, fill_by_all}
 use Rattle.tabled_object.specs.Entities.{below}
 use Rattle.tabled_object.specs.declared.records.Shape.{Shape}
@@ -26,6 +27,24 @@ length_cells change table = length-map (below (length table)) _ ∙ length-range
 pub cells_at : (change : ℕ → ℕ → List ℕ → List ℕ) (table : Table) (row : ℕ) → row < length table → get_or (cells_changed change table) row [] ≡ row_changed (change row) (get_or table row [])
 unfolding cells_changed
 cells_at change table row inside = get_or-map-range_with_len (λ r. row_changed (change r) (get_or table r [])) 0 (length table) row row [] inside (omega arith)
+
+-- what is made of each cell, and holds of the empty text, holds of what each cell says then
+module _ (P : List ℕ → Type 0) (nothing : P []) where
+  in_row : (change : ℕ → List ℕ → List ℕ) (row : List (List ℕ)) (col : ℕ) → P (change col (get_or row col [])) → P (get_or (row_changed change row) col [])
+  in_row change row col made =
+      ⊎_elim
+      (λ (inside : col < length row). subst P (sym (place_at change row col inside)) made)
+      (λ (past : length row ≤ col). subst P (sym (get_or_past (row_changed change row) col [] (omega (arith, past, length_row change row)))) nothing)
+      (cases_lt col (length row))
+
+  pub in_cells : (change : ℕ → ℕ → List ℕ → List ℕ) (table : Table) (row col : ℕ) → P (change row col (get_or (get_or table row []) col [])) → P (get_or (get_or (cells_changed change table) row []) col [])
+  in_cells change table row col made =
+      ⊎_elim
+      (λ (inside : row < length table). subst (λ cells. P (get_or cells col [])) (sym (cells_at change table row inside)) (in_row (change row) (get_or table row []) col made))
+      (λ (past : length table ≤ row).
+      subst (λ cells. P (get_or cells col [])) (sym (get_or_past (cells_changed change table) row [] (omega (arith, past, length_cells change table))))
+      (subst P (sym (get_or_past [] col [] (omega arith))) nothing))
+      (cases_lt row (length table))
 
 -- ---- as many cells as before
 

@@ -1,5 +1,6 @@
 -- What a table takes besides its texts, by what its configuration keeps.
-use Rattle.std.proofs.Common.{◌≡◌, ℕ, ◌+◌, ◌-◌, ◌<◌, false, if◌then◌else◌, List, [], ◌∷◌, length, sym, ap, subst, ◌∙◌, arith}
+use Rattle.std.proofs.Common.{◌≡◌, ℕ, ◌+◌, ◌-◌, ◌<◌, min, false, if◌then◌else◌, get_or, List, [], ◌∷◌, ◌++◌, map, length, take, sym, ap, subst, ◌∙◌, arith}
+use Rattle.std.proofs.lemmas.List.{map-append, take_more}
 use Rattle.std.specs.List.{sum_by}
 use Rattle.std.proofs.lemmas.Bool.Decides.{nat_tests}
 use Rattle.tabled_object.specs.Entities.{below}
@@ -14,6 +15,7 @@ use Rattle.tabled_painting.specs.Widths.{text_width}
 use Rattle.tabled_text.specs.Cells.{margin_set}
 use Rattle.tabled_width.specs.declared.limit.Overflow.{Overflow}
 use Rattle.tabled_width.specs.Shares.{used, IsCap, shared}
+use Rattle.tabled_width.proofs.Sharing.{used-append}
 use Rattle.tabled_text.specs.Changed.{cells_changed, texts_of_columns}
 use Rattle.tabled_text.specs.Fitted.{IsFitted, frame_width, texts_asked}
 use Rattle.tabled_text.specs.Sizes.{column_count}
@@ -41,13 +43,23 @@ frame_kept cfg es table shows some =
     + cfg.settings.margin.size.right.size) (not_empty table some)
 
 -- a table that was changed by shares of what its columns ask for
-pub fitted_by : (how : Overflow) (room left : ℕ) (before after : Table) (asked widths : List ℕ) (cap : ℕ) → asked ≡ texts_asked before → room ≡ left → IsCap room asked cap
-    → widths ≡ shared cap (room - used cap asked) asked → after ≡ cells_changed (texts_of_columns how widths) before → IsFitted how left before after
-fitted_by how room left before after asked widths cap asked_is room_is is given changed = record {
+pub fitted_by : (how : Overflow) (least room left : ℕ) (before after : Table) (asked widths : List ℕ) (cap : ℕ) → asked ≡ texts_asked before → room ≡ left → IsCap least room asked cap
+    → widths ≡ shared cap (room - used cap asked) asked → after ≡ cells_changed (texts_of_columns how widths) before → IsFitted how least left before after
+fitted_by how least room left before after asked widths cap asked_is room_is is given changed = record {
   cap = cap;
-  is_cap = subst (λ r. IsCap r (texts_asked before) cap) room_is (subst (λ a. IsCap room a cap) asked_is is);
+  is_cap = subst (λ r. IsCap least r (texts_asked before) cap) room_is (subst (λ a. IsCap least room a cap) asked_is is);
   texts = changed ∙ ap (λ w. cells_changed (texts_of_columns how w) before) (given ∙ (λ i. shared cap (room_is i - used cap (asked_is i)) (asked_is i)));
 }
+
+-- what the least shares of one column more take, as far as it can be counted
+pub least_more : (least : ℕ) (widths : List ℕ) (i taken next : ℕ) → taken ≡ min (used least (map (λ width. width - 2) (take i widths))) 18446744073709551615 → i < length widths
+    → next ≡ min (taken + min least (get_or widths i 0 - 2)) 18446744073709551615 → next ≡ min (used least (map (λ width. width - 2) (take (i + 1) widths))) 18446744073709551615
+least_more least widths i taken next so_far inside one =
+    let asked : ℕ → ℕ = λ width. width - 2 in
+    let more : used least (map asked (take (i + 1) widths)) ≡ used least (map asked (take i widths)) + used least (asked (get_or widths i 0) ∷ []) =
+    ap (λ ws. used least (map asked ws)) (take_more widths i 0 inside) ∙ ap (used least) (map-append asked (take i widths) (get_or widths i 0 ∷ []))
+    ∙ used-append least (map asked (take i widths)) (asked (get_or widths i 0) ∷ []) in
+    omega (arith, so_far, one, more)
 
 -- what is left after one more
 pub left_after : (taken : ℕ → ℕ) (room left next col : ℕ) → left ≡ room - sum_by taken (below col) → next ≡ left - taken col → next ≡ room - sum_by taken (below (col + 1))

@@ -4,6 +4,7 @@ pub mod EqualRows
 pub mod Painting
 pub mod Even
 pub mod ChangedLemmas
+pub mod Cleaned
 pub mod ShareSums
 pub mod Frames
 pub mod Totals

@@ -18,14 +18,14 @@ use Rattle.tabled_printing.specs.Texts.{Table, pieces, width_of_text}
 use Rattle.tabled_painting.specs.Widths.{text_width}
 use Rattle.tabled_width.specs.declared.limit.Overflow.{Overflow}
 use Rattle.tabled_width.specs.declared.limit.Overflow.TheVariants.{Wrap, WrapWords, Truncate}
-use Rattle.tabled_width.specs.Limited.{limited}
+use Rattle.tabled_width.specs.Limited.{ends_printable, limited}
 use Rattle.tabled_width.specs.Shares.{used, IsCap, shared}
 use Rattle.tabled_width.specs.Texts.{LinesFit}
-use Rattle.tabled_width.proofs.LimitedLaws.{limited_fits}
+use Rattle.tabled_width.proofs.LimitedLaws.{limited_fits, printable_can_fit}
 use Rattle.tabled_width.proofs.TextLaws.{wrapped_same, words_same, truncated_same}
-use Rattle.tabled_width.proofs.Sharing.{sum_shared, length_shared, step_small, step_great}
+use Rattle.tabled_width.proofs.Sharing.{shares_fit, length_shared, step_small, step_great}
 use Rattle.tabled_text.specs.Cells.{margin_set}
-use Rattle.tabled_text.specs.Changed.{texts_of_columns, within}
+use Rattle.tabled_text.specs.Changed.{CellsArePrintable, texts_of_columns, within}
 use Rattle.tabled_text.specs.Fitted.{IsFitted, CanShare, frame_width, least_width, shares, texts_asked}
 use Rattle.tabled_text.specs.Sizes.{cell, column_count, column_width, column_widths, row_heights, greatest, unequal_row, width_asked}
 use Rattle.tabled_text.specs.TextTable.{look_of}
@@ -57,12 +57,6 @@ asked_within width text fit =
     let most = greatest_most width_of_text width (pieces text) (λ k d inside. at_most _ width (fit k d inside)) in
     omega (arith, most)
 
-sum_within : (cap room : ℕ) (asked : List ℕ) → IsCap room asked cap → used 1 asked ≤ room → sum (shared cap (room - used cap asked) asked) ≤ room
-sum_within cap room asked is few =
-    let most = sum_shared cap (room - used cap asked) asked in
-    let fit : used cap asked ≤ room = ⊎_elim (λ (one : cap ≡ 1). omega (arith, ap (λ c. used c asked) one, few)) (λ (le : used cap asked ≤ room). le) is.fits in
-    omega (arith, most, fit)
-
 -- only a column that asks for nothing has no share
 no_share : (cap left : ℕ) (asked : List ℕ) (col : ℕ) → 1 ≤ cap → col < length asked → get_or (shared cap left asked) col 0 ≡ 0 → get_or asked col 0 ≡ 0
 no_share cap left [] col some inside none = absurd (omega (arith, inside))
@@ -89,8 +83,8 @@ empty_fits text few k d inside =
     let most = greatest_bound width_of_text 0 (pieces text) k d inside in
     le-leb (width_of_text (get_or (pieces text) k d)) 0 (omega (arith, most, few))
 
-module _ (how : Overflow) (before after : Table) (room : ℕ) (equal : unequal_row before ≡ None) (utf8 : (r c : ℕ) → IsUtf8 (cell (get_or before r []) c))
-    (fitted : IsFitted how room before after) (can : CanShare how room before) where
+module _ (how : Overflow) (least : ℕ) (before after : Table) (room : ℕ) (some_least : 1 ≤ least) (equal : unequal_row before ≡ None) (utf8 : (r c : ℕ) → IsUtf8 (cell (get_or before r []) c))
+    (fitted : IsFitted how least room before after) (can : CanShare how least room before) where
   abbrev share : ℕ → ℕ
   share col = get_or (shares fitted.cap room before) col 0
 
@@ -110,7 +104,7 @@ module _ (how : Overflow) (before after : Table) (room : ℕ) (equal : unequal_r
       (λ (some : 0 < share col). limited_fits how (share col) (cell (get_or before row []) col) (utf8 row col) (can fitted.cap fitted.is_cap row col (omega (arith, some))))
       (λ (none : share col ≤ 0).
       let no : share col ≡ 0 = omega (arith, none) in
-      let unasked = no_share fitted.cap _ (texts_asked before) col fitted.is_cap.some (omega (arith, inside, counted, length_shared fitted.cap (room - used fitted.cap (texts_asked before)) (texts_asked before))) no in
+      let unasked = no_share fitted.cap _ (texts_asked before) col (let most = fitted.is_cap.some in omega (arith, most, some_least)) (omega (arith, inside, counted, length_shared fitted.cap (room - used fitted.cap (texts_asked before)) (texts_asked before))) no in
       let wide = column_room before row col row_inside inside in
       let fit = empty_fits (cell (get_or before row []) col) (omega (arith, wide, unasked, asked_at col inside)) in
       let at_share : LinesFit (share col) (cell (get_or before row []) col) = subst (λ n. LinesFit n (cell (get_or before row []) col)) (sym no) fit in
@@ -155,8 +149,8 @@ width_of_places : (view : Look) (margin : Margin) → is_empty view.shape ≡ fa
 width_of_places view margin some =
     ap (λ b. if b then 0 else margin.size.left.size + (sum_by (λ n. line_width view n + view.widths n) (below view.shape.1) + line_width view view.shape.1) + margin.size.right.size) some
 
-module _ (es : List ConfigEvent) (how : Overflow) (before after : Table) (total : ℕ) (equal : unequal_row before ≡ None) (utf8 : (r c : ℕ) → IsUtf8 (cell (get_or before r []) c))
-    (fitted : IsFitted how (total - frame_width es before) before after) (can : CanShare how (total - frame_width es before) before) (least : least_width es before ≤ total) where
+module _ (es : List ConfigEvent) (how : Overflow) (least : ℕ) (before after : Table) (total : ℕ) (some_least : 1 ≤ least) (equal : unequal_row before ≡ None) (utf8 : (r c : ℕ) → IsUtf8 (cell (get_or before r []) c))
+    (fitted : IsFitted how least (total - frame_width es before) before after) (can : CanShare how least (total - frame_width es before) before) (few : least_width least es before ≤ total) where
   abbrev room : ℕ
   room = total - frame_width es before
 
@@ -177,16 +171,16 @@ module _ (es : List ConfigEvent) (how : Overflow) (before after : Table) (total 
 
   same_width : text_width (look_of es after) (margin_set es) ≡ text_width wide (margin_set es)
   same_width =
-      let rows = rows_stay how before after room equal utf8 fitted can in
-      let cols = columns_stay how before after room equal utf8 fitted can in
+      let rows = rows_stay how least before after room some_least equal utf8 fitted can in
+      let cols = columns_stay how least before after room some_least equal utf8 fitted can in
       (λ i. text_width (look es (rows i, cols i) widths (slice_index (row_heights after))) (margin_set es))
 
   columns_bound : sum_by (λ n. line_width wide n + widths n) (below (column_count before)) ≤ sum_by (λ n. line_width bare n + 2) (below (column_count before)) + sum given
   columns_bound =
-      let long = counted how before after room equal utf8 fitted can in
+      let long = counted how least before after room some_least equal utf8 fitted can in
       subst (λ count. sum_by (λ n. line_width wide n + widths n) (below count) ≤ sum_by (λ n. line_width bare n + 2) (below count) + sum given) long
       (sum_bound (λ n. line_width bare n + 2) (λ n. line_width wide n + widths n) 0 given (λ col inside.
-      let most = column_within how before after room equal utf8 fitted can col (omega (arith, inside, long)) in
+      let most = column_within how least before after room some_least equal utf8 fitted can col (omega (arith, inside, long)) in
       let place : col ≡ 0 + col = omega arith in
       subst (λ n. line_width wide n + widths n ≤ line_width bare n + 2 + get_or given col 0) place (omega (arith, most))))
 
@@ -198,8 +192,14 @@ module _ (es : List ConfigEvent) (how : Overflow) (before after : Table) (total 
   by_places false some =
       let whole = width_of_places wide (margin_set es) some in
       let frame = width_of_places bare (margin_set es) some in
-      let few = sum_within fitted.cap room (texts_asked before) fitted.is_cap (omega (arith, least)) in
-      omega (arith, whole, frame, columns_bound, few, least)
+      let most = shares_fit least room fitted.cap (texts_asked before) fitted.is_cap (omega (arith, few)) in
+      omega (arith, whole, frame, columns_bound, most, few)
 
   pub fits_total : text_width (look_of es after) (margin_set es) ≤ total
   fits_total = let most = by_places (is_empty shape) refl in omega (arith, same_width, most)
+
+-- ---- texts of printable ASCII
+
+pub printable_can_share : (how : Overflow) (least room : ℕ) (table : Table) → ends_printable how ≡ true → CellsArePrintable table → CanShare how least room table
+printable_can_share how least room table ends printable cap is row col some =
+    printable_can_fit how (slice_index (shares cap room table) col) (cell (get_or table row []) col) some ends (printable row col)

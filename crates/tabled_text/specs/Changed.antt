@@ -5,7 +5,9 @@ use Rattle.tabled_object.specs.Entities.{below, position}
 use Rattle.tabled_object.specs.Listing.{covered}
 use Rattle.tabled_printing.specs.Texts.{Table}
 use Rattle.tabled_width.specs.declared.limit.Overflow.{Overflow}
-use Rattle.tabled_width.specs.Limited.{limited}
+use Rattle.tabled_clean.specs.Steering.{IsCleanText}
+use Rattle.tabled_width.specs.Limited.{IsPrintableText, limited}
+use Rattle.tabled_text.specs.Sizes.{cell}
 
 -- the cells of a row, each changed by its column
 unfoldable pub row_changed : (ℕ → List ℕ → List ℕ) → List (List ℕ) → List (List ℕ)
@@ -31,3 +33,11 @@ within how (Some width) text = limited how width text
 -- the texts of each column may take so many columns of the terminal
 abbrev pub texts_of_columns : Overflow → List ℕ → ℕ → ℕ → List ℕ → List ℕ
 texts_of_columns how widths row col text = within how (slice_get widths col) text
+
+-- nothing in what a cell says steers a terminal
+abbrev pub CellsAreClean : Table → Type 0
+CellsAreClean table = (row col : ℕ) → IsCleanText (cell (slice_index_or table row []) col)
+
+-- each line that a cell says is of printable ASCII alone
+abbrev pub CellsArePrintable : Table → Type 0
+CellsArePrintable table = (row col : ℕ) → IsPrintableText (cell (slice_index_or table row []) col)

@@ -23,17 +23,19 @@ texts_asked table = map (λ width. width - 2) (column_widths table)
 abbrev pub shares : ℕ → ℕ → Table → List ℕ
 shares cap room table = shared cap (room - used cap (texts_asked table)) (texts_asked table)
 
--- a table whose columns share a room, each of whose texts is kept within the share of its column
-pub record IsFitted (how : Overflow) (room : ℕ) (before after : Table) : Type 0 where
+-- a table whose columns share a room, in which none gets less than the least share if it asks for that, and each of whose texts is kept within
+-- the share of its column
+pub record IsFitted (how : Overflow) (least room : ℕ) (before after : Table) : Type 0 where
   pub cap : ℕ
-  pub is_cap : IsCap room (texts_asked before) cap
+  pub is_cap : IsCap least room (texts_asked before) cap
   pub texts : after ≡ cells_changed (texts_of_columns how (shares cap room before)) before
 
 -- each text can be kept within the share of its column, if that has any
-abbrev pub CanShare : Overflow → ℕ → Table → Type 0
-CanShare how room table =
-    (cap : ℕ) → IsCap room (texts_asked table) cap → (row col : ℕ) → 1 ≤ slice_index (shares cap room table) col → CanFit how (slice_index (shares cap room table) col) (cell (slice_index_or table row []) col)
+abbrev pub CanShare : Overflow → ℕ → ℕ → Table → Type 0
+CanShare how least room table =
+    (cap : ℕ) → IsCap least room (texts_asked table) cap → (row col : ℕ) → 1 ≤ slice_index (shares cap room table) col
+    → CanFit how (slice_index (shares cap room table) col) (cell (slice_index_or table row []) col)
 
--- the least number of terminal columns that a table can be kept within: one for each column that asks for any
-abbrev pub least_width : List ConfigEvent → Table → ℕ
-least_width es table = frame_width es table + used 1 (texts_asked table)
+-- the least number of terminal columns that a table can be kept within, where each of its columns gets what it asks for up to the least share
+abbrev pub least_width : ℕ → List ConfigEvent → Table → ℕ
+least_width least es table = frame_width es table + used least (texts_asked table)

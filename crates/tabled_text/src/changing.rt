@@ -3,6 +3,7 @@
 ghost use Rattle.std.specs.Prelude.{◌≡◌, ℕ, List, map, string_bytes, IfOk};
 ghost use Rattle.tabled_clean.specs.Steering.{cleaned};
 ghost use Rattle.tabled_printing.specs.Texts.{texts};
+ghost use Rattle.tabled_width.specs.Tabs.{tabs_expanded};
 ghost use Rattle.tabled_text.specs.Changed.{row_changed, cells_changed, each_text, texts_of_cells, within, texts_of_columns};
 
 use std::alloc::Global;
@@ -10,7 +11,7 @@ use std::collections::BTreeSet;
 use tabled_border::OutOfMemory;
 use tabled_clean::cleaned;
 use tabled_object::{Entity, Position, is_covered};
-use tabled_width::{Overflow, TextLimit};
+use tabled_width::{Overflow, TextLimit, tabs_expanded};
 
 /// What is made of the text of each cell.
 pub(crate) trait Change {
@@ -43,6 +44,26 @@ impl Change for Cleaning {
         text: &str,
     ) -> Result<String, OutOfMemory> {
         cleaned(alloc, text)
+    }
+}
+
+/// Spaces stand in the place of tabs.
+#[derive(Drop)]
+pub(crate) struct ExpandedTabs {
+    pub(crate) every: usize,
+}
+
+impl Change for ExpandedTabs {
+    ghost change = { λ tabs. each_text (tabs_expanded tabs.every) };
+
+    fn changed(
+        &self,
+        alloc: Global,
+        _row: usize,
+        _col: usize,
+        text: &str,
+    ) -> Result<String, OutOfMemory> {
+        tabs_expanded(alloc, text, self.every)
     }
 }
 

@@ -1,12 +1,13 @@
 //! How many terminal columns there are for the texts of a table.
 
-ghost use Rattle.std.specs.Prelude.{◌≡◌, ◌+◌, ◌-◌, List, map, if◌then◌else◌, IfOk};
+ghost use Rattle.std.specs.Prelude.{◌≡◌, ◌+◌, ◌-◌, List, map, min, if◌then◌else◌, IfOk};
 ghost use Rattle.std.specs.List.{sum_by};
 ghost use Rattle.tabled_object.specs.Entities.{below};
 ghost use Rattle.tabled_configuration.specs.Configuration.{ConfigEvent, Shows, all_writes, characters_of};
 ghost use Rattle.tabled_grid.specs.Drawn.{drawn};
 ghost use Rattle.tabled_grid.specs.declared.place.LineOf.{LineOf as Line};
 ghost use Rattle.tabled_printing.specs.Texts.{Table};
+ghost use Rattle.tabled_width.specs.Shares.{used};
 ghost use Rattle.tabled_text.specs.Fitted.{frame_width};
 ghost use Rattle.tabled_text.specs.Sizes.{column_count};
 
@@ -45,6 +46,25 @@ pub(crate) fn room_for_texts(cfg: &SpannedConfig, cols: usize, total: usize) -> 
         .saturating_sub(margin.left.size)
         .saturating_sub(margin.right.size);
     beside_spaces(cfg, cols, between).saturating_sub(line_width(cfg, cols, cols))
+}
+
+/// How many columns a table takes beside its texts, as far as they can be counted.
+pub(crate) fn frame_width(cfg: &SpannedConfig, cols: usize) -> usize
+    ensures { (es : List ConfigEvent) (table : Table) → Shows es cfg.now → cols ≡ column_count table → result ≡ min (frame_width es table) usize.MAX }
+{
+    usize::MAX.saturating_sub(room_for_texts(cfg, cols, usize::MAX))
+}
+
+/// How many columns the texts of columns of these widths take where each gets what it asks for up to the least share, as far as they can be
+/// counted.
+pub(crate) fn least_for_texts(widths: &[usize], least: usize) -> usize
+    ensures { result ≡ min (used least (map (λ width. width - 2) widths.now)) usize.MAX }
+{
+    let mut taken: usize = 0;
+    for width in widths {
+        taken = taken.saturating_add(least.min(width.saturating_sub(2)));
+    }
+    taken
 }
 
 /// How many columns the texts of columns of these widths ask for.

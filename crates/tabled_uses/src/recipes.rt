@@ -97,6 +97,15 @@ pub fn texts_from_outside(alloc: Global) -> Result<String, TableError> {
     Ok(table.to_text()?)
 }
 
+/// Tabs as spaces, up to a stop each 4 columns.
+pub fn tabs_as_spaces(alloc: Global) -> Result<String, TableError> {
+    let rows: &[&[&str]] = &[&["call", "cost"], &["read\t1\nsend\t20", "a\tb"]];
+    let mut table = TextTable::new(alloc, rows)?;
+    table.with(Style::rounded())?;
+    table.expand_tabs(4)?;
+    Ok(table.to_text()?)
+}
+
 /// Long texts, within 26 columns of the terminal.
 pub fn within_the_terminal(alloc: Global) -> Result<String, TableError> {
     let rows: &[&[&str]] = &[

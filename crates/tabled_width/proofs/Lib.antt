@@ -11,5 +11,6 @@ pub mod FullRows
 pub mod WordLaws
 pub mod Spaces
 pub mod TextLaws
+pub mod TabLemmas
 pub mod LimitedLaws
 pub mod Sharing

@@ -43,10 +43,15 @@ some_cond : (t : Bool) (xs ys : List (List ℕ)) → ((first : List ℕ) × (mor
 some_cond true xs ys some = ([], xs, refl)
 some_cond false xs ys some = some
 
--- there is a piece
+-- there is a piece, whatever parts them
+pub some_parts : (c : ℕ) (text : List ℕ) → (first : List ℕ) × (more : List (List ℕ)) × (slice_split (λ byte. byte == c) text ≡ first ∷ more)
+some_parts c [] = ([], [], refl)
+some_parts c (b ∷ bs) =
+    let parts : List (List ℕ) = slice_split (λ byte. byte == c) bs in
+    some_cond (b == c) parts (onto_first b parts) (some_onto b parts)
+
 pub some_pieces : (text : List ℕ) → (first : List ℕ) × (more : List (List ℕ)) × (pieces text ≡ first ∷ more)
-some_pieces [] = ([], [], refl)
-some_pieces (b ∷ bs) = some_cond (b == 10) (pieces bs) (onto_first b (pieces bs)) (some_onto b (pieces bs))
+some_pieces text = some_parts 10 text
 
 module _ (change : List ℕ → List ℕ) where
   pub lines_more : (written row fed goal rest line more : List ℕ) → written ++ join_with_byte 10 (map change (pieces rest)) ≡ goal → pieces rest ≡ line ∷ pieces more

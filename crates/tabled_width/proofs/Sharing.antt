@@ -49,16 +49,12 @@ sum_shared cap left (n ∷ ns) =
     (λ (le : n ≤ cap). let e = ap sum (step_small cap left n ns le) ∙ sum_by-cons (λ x. x) n (shared cap left ns) in omega (arith, e, few))
     (cases_lt cap n)
 
-used-one : (ns : List ℕ) → used 1 ns ≤ length ns
-used-one [] = omega arith
-used-one (n ∷ ns) = let rest = used-one ns in omega arith
-
--- where there is a column of room for each, the shares fit
-pub shares_fit : (room cap : ℕ) (ns : List ℕ) → IsCap room ns cap → length ns ≤ room → sum (shared cap (room - used cap ns) ns) ≤ room
-shares_fit room cap ns is few =
+-- where there is room for the least share of each, the shares fit
+pub shares_fit : (least room cap : ℕ) (ns : List ℕ) → IsCap least room ns cap → used least ns ≤ room → sum (shared cap (room - used cap ns) ns) ≤ room
+shares_fit least room cap ns is few =
     let most = sum_shared cap (room - used cap ns) ns in
-    let fit : used cap ns ≤ room = ⊎_elim (λ (one : cap ≡ 1). omega (arith, ap (λ c. used c ns) one, used-one ns)) (λ (le : used cap ns ≤ room). le) is.fits in
-    omega arith
+    let fit : used cap ns ≤ room = ⊎_elim (λ (one : cap ≡ least). omega (arith, ap (λ c. used c ns) one, few)) (λ (le : used cap ns ≤ room). le) is.fits in
+    omega (arith, most, fit)
 
 -- ---- what is left
 
@@ -80,16 +76,16 @@ some_fits n room r is some =
     ⊎_elim (λ (lt : room < n). absurd (let no = sym some ∙ ap is_some (is ∙ ap (λ b. if b then Some (room - n) else None) (lt-leb n room lt)) in cc)) (λ (le : n ≤ room). le) (cases_lt room n)
 
 -- a cap at which the next does not fit
-pub cap_below : (room cap next : ℕ) (xs : List ℕ) → 1 ≤ cap → (cap ≡ 1) ⊎ (used cap xs ≤ room) → next ≤ cap + 1 → room < used next xs → IsCap room xs cap
-cap_below room cap next xs some fit close over = record {
+pub cap_below : (least room cap next : ℕ) (xs : List ℕ) → least ≤ cap → (cap ≡ least) ⊎ (used cap xs ≤ room) → next ≤ cap + 1 → room < used next xs → IsCap least room xs cap
+cap_below least room cap next xs some fit close over = record {
   some = some;
   fits = fit;
   most = λ more lt le. absurd (let grows = used-grows next more xs (omega (arith, lt, close)) in omega (arith, grows, le, over));
 }
 
 -- a cap above all that is asked for
-pub cap_above : (room cap : ℕ) (xs : List ℕ) → 1 ≤ cap → used cap xs ≤ room → ((i : ℕ) → i < length xs → get_or xs i 0 ≤ cap) → IsCap room xs cap
-cap_above room cap xs some fit each = record {
+pub cap_above : (least room cap : ℕ) (xs : List ℕ) → least ≤ cap → used cap xs ≤ room → ((i : ℕ) → i < length xs → get_or xs i 0 ≤ cap) → IsCap least room xs cap
+cap_above least room cap xs some fit each = record {
   some = some;
   fits = inr fit;
   most = λ more lt le. used-all cap more xs each (omega (arith, lt));
@@ -114,4 +110,21 @@ shared_asked cap left (n ∷ ns) =
     ⊎_elim
     (λ (lt : cap < n). let e = ap sum (step_great cap left n ns lt) ∙ sum_by-cons (λ x. x) (cap + min left 1) (shared cap (left - 1) ns) in omega (arith, e, one, all))
     (λ (le : n ≤ cap). let e = ap sum (step_small cap left n ns le) ∙ sum_by-cons (λ x. x) n (shared cap left ns) in omega (arith, e, few, all))
+    (cases_lt cap n)
+
+-- and none less than the least, where it asks for that
+pub least_shared : (least cap left : ℕ) (ns : List ℕ) (i : ℕ) → least ≤ cap → min least (get_or ns i 0) ≤ get_or (shared cap left ns) i 0
+least_shared least cap left [] zero some = omega arith
+least_shared least cap left [] (suc i) some = omega arith
+least_shared least cap left (n ∷ ns) zero some =
+    ⊎_elim
+    (λ (lt : cap < n). let e = ap (λ xs. get_or xs 0 0) (step_great cap left n ns lt) in omega (arith, e, some))
+    (λ (le : n ≤ cap). let e = ap (λ xs. get_or xs 0 0) (step_small cap left n ns le) in omega (arith, e))
+    (cases_lt cap n)
+least_shared least cap left (n ∷ ns) (suc i) some =
+    let great = least_shared least cap (left - 1) ns i some in
+    let small = least_shared least cap left ns i some in
+    ⊎_elim
+    (λ (lt : cap < n). let e = ap (λ xs. get_or xs (suc i) 0) (step_great cap left n ns lt) in omega (arith, e, great))
+    (λ (le : n ≤ cap). let e = ap (λ xs. get_or xs (suc i) 0) (step_small cap left n ns le) in omega (arith, e, small))
     (cases_lt cap n)

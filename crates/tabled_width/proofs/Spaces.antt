@@ -151,11 +151,11 @@ line_spaced width line text = by (fits width line) refl
 
 -- ---- rows of a line have none of the bytes that the line does not have
 
-front_lacks : (separator : ℕ) (xs ys : List ℕ) → Lacks separator (xs ++ ys) → Lacks separator xs
+pub front_lacks : (separator : ℕ) (xs ys : List ℕ) → Lacks separator (xs ++ ys) → Lacks separator xs
 front_lacks separator xs ys lack k d within =
     ap (λ b. b == separator) (sym (get_or_append_left xs ys d k within)) ∙ lack k d (omega (arith, within, length-append xs ys))
 
-back_lacks : (separator : ℕ) (xs ys : List ℕ) → Lacks separator (xs ++ ys) → Lacks separator ys
+pub back_lacks : (separator : ℕ) (xs ys : List ℕ) → Lacks separator (xs ++ ys) → Lacks separator ys
 back_lacks separator xs ys lack k d within =
     ap (λ b. b == separator) (sym (get_or-append-add xs ys k d)) ∙ lack (length xs + k) d (omega (arith, within, length-append xs ys))
 

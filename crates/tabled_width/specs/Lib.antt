@@ -2,5 +2,6 @@ pub mod Texts
 pub mod Clusters
 pub mod Rows
 pub mod CutOff
+pub mod Tabs
 pub mod Shares
 pub mod Limited

@@ -6,10 +6,11 @@ abbrev pub used : ℕ → List ℕ → ℕ
 used cap [] = 0
 used cap (asked ∷ more) = min cap asked + used cap more
 
--- the greatest cap with which the columns fit: a greater one does not fit, or gives nothing more; it is 1 where not even that fits
-pub record IsCap (room : ℕ) (asked : List ℕ) (cap : ℕ) : Type 0 where
-  pub some : 1 ≤ cap
-  pub fits : (cap ≡ 1) ⊎ (used cap asked ≤ room)
+-- the greatest cap from `least` on with which the columns fit: a greater one does not fit, or gives nothing more; it is `least` where not even
+-- that fits
+pub record IsCap (least room : ℕ) (asked : List ℕ) (cap : ℕ) : Type 0 where
+  pub some : least ≤ cap
+  pub fits : (cap ≡ least) ⊎ (used cap asked ≤ room)
   pub most : (more : ℕ) → cap < more → used more asked ≤ room → used more asked ≡ used cap asked
 
 -- what each column gets: what it asks for up to the cap, and of what is left over the first ones that ask for more get one each

@@ -12,6 +12,7 @@ mod lines;
 mod measure;
 mod rows;
 mod shares;
+mod tabs;
 mod text_limit;
 
 pub use builders::{Height, HeightLimit, Truncate, Width, Wrap};
@@ -22,4 +23,5 @@ pub use limit::Overflow;
 pub use measure::{fits, is_printable, width_of};
 pub use rows::{wrapped, wrapped_words};
 pub use shares::shares_of;
+pub use tabs::tabs_expanded;
 pub use text_limit::TextLimit;

@@ -13,10 +13,11 @@ use crate::measure::{fits, is_printable};
 use std::alloc::Global;
 use tabled_border::OutOfMemory;
 
-/// Writes so many spaces.
-fn push_spaces(row: &mut String, count: usize) -> Result<(), OutOfMemory>
+/// Writes so many spaces, for which memory is asked at once.
+pub(crate) fn push_spaces(row: &mut String, count: usize) -> Result<(), OutOfMemory>
     ensures { OnOk result (string_bytes row.new ≡ string_bytes row.old ++ replicate count 32) }
 {
+    row.reserve(count)?;
     for _ in 0..count {
         row.push(' ')?;
     }

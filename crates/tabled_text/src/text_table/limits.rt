@@ -1,18 +1,19 @@
-//! Texts of a table that are cleaned, or kept within a number of columns or lines.
+//! Texts of a table that are cleaned, whose tabs become spaces, or that are kept within a number of columns or lines.
 
-ghost use Rattle.std.specs.Prelude.{◌≡◌, ◌≤◌, ◌-◌, List, length, OnOk, OnErr};
+ghost use Rattle.std.specs.Prelude.{◌≡◌, ◌≤◌, ◌-◌, List, length, max, min, OnOk, OnErr};
 ghost use Rattle.tabled_configuration.specs.Configuration.{ConfigEvent, Shows};
 ghost use Rattle.tabled_clean.specs.Steering.{cleaned};
 ghost use Rattle.tabled_painting.specs.Widths.{text_width};
+ghost use Rattle.tabled_width.specs.Tabs.{tabs_expanded};
 ghost use Rattle.tabled_text.specs.Cells.{margin_set};
-ghost use Rattle.tabled_text.specs.Changed.{cells_changed, each_text, texts_of_cells};
+ghost use Rattle.tabled_text.specs.Changed.{CellsAreClean, cells_changed, each_text, texts_of_cells};
 ghost use Rattle.tabled_text.specs.Fitted.{CanShare, IsFitted, frame_width, least_width};
 ghost use Rattle.tabled_text.specs.Sizes.{column_count};
 ghost use Rattle.tabled_text.specs.TextTable.{look_of};
 
 use super::TextTable;
-use crate::changing::{Cleaning, LimitedCells, LimitedColumns, changed_rows};
-use crate::fitting::{room_for_texts, texts_asked};
+use crate::changing::{Cleaning, ExpandedTabs, LimitedCells, LimitedColumns, changed_rows};
+use crate::fitting::{frame_width, least_for_texts, room_for_texts, texts_asked};
 use tabled_border::OutOfMemory;
 use tabled_object::{Object, Shape, listed_entities};
 use tabled_width::{Overflow, TextLimit, shares_of};
@@ -29,11 +30,33 @@ impl TextTable {
     /// ```
     pub fn clean(&mut self) -> Result<(), OutOfMemory>
         ensures texts { OnOk result (self.new.texts ≡ cells_changed (each_text cleaned) self.old.texts) }
+        ensures clean { OnOk result (CellsAreClean self.new.texts) }
         ensures config { self.new.config ≡ self.old.config }
         ensures err { OnErr result (self.new ≡ self.old) }
     {
         let alloc = self.config().config().allocator();
         let cells = changed_rows(alloc, &Cleaning, &self.cells)?;
+        self.set_cells(cells)
+    }
+
+    /// Puts spaces in the place of each tab of the texts: as many as there are columns of the terminal up to the next stop of its line,
+    /// where a stop stands each `every` columns, as `tabled_width::tabs_expanded` says. At least one space stands for each tab; where
+    /// `every` is 0, tabs are left out. A text is to be expanded before it is cleaned, since a cleaned one shows its tabs as `␉`. The
+    /// columns are measured again. Where memory is refused the table is as it was.
+    ///
+    /// `table.expand_tabs(4)?`, where the first cell was `a`, a tab and `b`, and a second line `abc`, a tab and `d`:
+    ///
+    /// ```text
+    ///  a   b  e
+    ///  abc d
+    /// ```
+    pub fn expand_tabs(&mut self, every: usize) -> Result<(), OutOfMemory>
+        ensures texts { OnOk result (self.new.texts ≡ cells_changed (each_text (tabs_expanded every)) self.old.texts) }
+        ensures config { self.new.config ≡ self.old.config }
+        ensures err { OnErr result (self.new ≡ self.old) }
+    {
+        let alloc = self.config().config().allocator();
+        let cells = changed_rows(alloc, &ExpandedTabs { every }, &self.cells)?;
         self.set_cells(cells)
     }
 
@@ -69,7 +92,8 @@ impl TextTable {
     /// spaces of its cells, its vertical lines and its margin. Columns that ask for little keep their width; the others share what is
     /// left, as `tabled_width::shares_of` says. An option that changes which lines are drawn, or the margin, comes before it; one that
     /// reads how wide columns are, as a text on a line does, after it. A column that asks for any keeps one, so a table of many columns
-    /// may stay wider, and so may one with a character of two columns where there is one. Where memory is refused the table is as it was.
+    /// may stay wider (`least_width(1)` tells), and so may one with a character of two columns where there is one: a total of 0 leaves
+    /// each column one. Where memory is refused the table is as it was.
     ///
     /// `table.fit(19, Overflow::WrapWords)?`, where the second cell was `leaves in hot water`:
     ///
@@ -80,9 +104,37 @@ impl TextTable {
     /// +-----+-----------+
     /// ```
     pub fn fit(&mut self, total: usize, how: Overflow<'_>) -> Result<(), OutOfMemory>
-        ensures texts { (es : List ConfigEvent) → Shows es self.old.config.spanned → OnOk result (IsFitted how.entry (total - frame_width es self.old.texts) self.old.texts self.new.texts) }
-        ensures fits { (es : List ConfigEvent) → Shows es self.old.config.spanned → CanShare how.entry (total - frame_width es self.old.texts) self.old.texts → least_width es self.old.texts ≤ total
+        ensures texts { (es : List ConfigEvent) → Shows es self.old.config.spanned → OnOk result (IsFitted how.entry 1 (total - frame_width es self.old.texts) self.old.texts self.new.texts) }
+        ensures fits { (es : List ConfigEvent) → Shows es self.old.config.spanned → CanShare how.entry 1 (total - frame_width es self.old.texts) self.old.texts → least_width 1 es self.old.texts ≤ total
             → OnOk result (text_width (look_of es self.new.texts) (margin_set es) ≤ total) }
+        ensures config { self.new.config ≡ self.old.config }
+        ensures err { OnErr result (self.new ≡ self.old) }
+    {
+        self.fit_with(total, 1, how)
+    }
+
+    /// The same as `fit`, where each column keeps at least `least` columns of the terminal for its texts, or what these ask for, if that is
+    /// less; so the others share what is left of it. `least_width(least)` tells the least total
+    /// that the table is then kept within. A `least` of 0 is one of 1.
+    ///
+    /// `table.fit_with(15, 6, Overflow::WrapWords)?`, where the cells were `green tea` and `leaves in hot water`:
+    ///
+    /// ```text
+    /// +-------+--------+
+    /// | green | leaves |
+    /// | tea   | in hot |
+    /// |       | water  |
+    /// +-------+--------+
+    /// ```
+    pub fn fit_with(
+        &mut self,
+        total: usize,
+        least: usize,
+        how: Overflow<'_>,
+    ) -> Result<(), OutOfMemory>
+        ensures texts { (es : List ConfigEvent) → Shows es self.old.config.spanned → OnOk result (IsFitted how.entry (max least 1) (total - frame_width es self.old.texts) self.old.texts self.new.texts) }
+        ensures fits { (es : List ConfigEvent) → Shows es self.old.config.spanned → CanShare how.entry (max least 1) (total - frame_width es self.old.texts) self.old.texts
+            → least_width (max least 1) es self.old.texts ≤ total → OnOk result (text_width (look_of es self.new.texts) (margin_set es) ≤ total) }
         ensures config { self.new.config ≡ self.old.config }
         ensures err { OnErr result (self.new ≡ self.old) }
     {
@@ -90,12 +142,22 @@ impl TextTable {
         let alloc = config.allocator();
         let room = room_for_texts(config, self.shape.cols, total);
         let asked = texts_asked(alloc, &self.sizes.widths)?;
-        let widths = shares_of(alloc, &asked, room)?;
+        let widths = shares_of(alloc, &asked, room, least.max(1))?;
         let change = LimitedColumns {
             widths: &widths,
             how,
         };
         let cells = changed_rows(alloc, &change, &self.cells)?;
         self.set_cells(cells)
+    }
+
+    /// The least total that `fit_with` keeps the table within, with this least width of a column, where each character takes one column of
+    /// the terminal: what its spaces, its vertical lines and its margin take, and for each column `least`, or what its texts ask for, if
+    /// that is less. For `fit` that is `least_width(1)`. Where it can't be counted it is `usize::MAX`.
+    pub fn least_width(&self, least: usize) -> usize
+        ensures { (es : List ConfigEvent) → Shows es self.now.config.spanned → result ≡ min (least_width (max least 1) es self.now.texts) usize.MAX }
+    {
+        let frame = frame_width(self.config().config(), self.shape.cols);
+        frame.saturating_add(least_for_texts(&self.sizes.widths, least.max(1)))
     }
 }

@@ -1,5 +1,6 @@
-use Rattle.tabled_claims.proofs.NarrowWrites.{highlight_narrow}
+use Rattle.tabled_printing.specs.Columns.{is_narrow}
+use Rattle.tabled_claims.proofs.Characters.{outline_writes}
 use Rattle.tabled_claims.proofs.columns.outline_writes_narrow.Goals as goal
 
 pub returns : goal.returns
-returns c = λ shape entities border diagonal color first second. highlight_narrow shape entities border diagonal color first second
+returns c = λ shape entities border diagonal color first second. (outline_writes is_narrow shape entities border diagonal color first second).borders

@@ -1,4 +1,4 @@
-use Rattle.tabled_claims.proofs.ReadyNarrow.{ready_narrow}
+use Rattle.tabled_claims.proofs.ReadyPlain.{ready_narrow}
 use Rattle.tabled_claims.proofs.columns.ready_style_writes_narrow.Goals as goal
 
 pub returns : goal.returns

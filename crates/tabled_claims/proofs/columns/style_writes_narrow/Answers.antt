@@ -1,5 +1,6 @@
-use Rattle.tabled_claims.proofs.NarrowWrites.{style_narrow}
+use Rattle.tabled_printing.specs.Columns.{is_narrow}
+use Rattle.tabled_claims.proofs.Characters.{style_writes}
 use Rattle.tabled_claims.proofs.columns.style_writes_narrow.Goals as goal
 
 pub returns : goal.returns
-returns c = λ style borders horizontals verticals. style_narrow style borders horizontals verticals
+returns c = λ style borders horizontals verticals. (style_writes is_narrow style borders horizontals verticals).borders

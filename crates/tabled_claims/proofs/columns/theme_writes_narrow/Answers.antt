@@ -1,5 +1,6 @@
-use Rattle.tabled_claims.proofs.NarrowWrites.{theme_narrow}
+use Rattle.tabled_printing.specs.Columns.{is_narrow}
+use Rattle.tabled_claims.proofs.Characters.{theme_writes}
 use Rattle.tabled_claims.proofs.columns.theme_writes_narrow.Goals as goal
 
 pub returns : goal.returns
-returns c = λ theme borders horizontals verticals. theme_narrow theme borders horizontals verticals
+returns c = λ theme borders horizontals verticals. (theme_writes is_narrow theme borders horizontals verticals).borders

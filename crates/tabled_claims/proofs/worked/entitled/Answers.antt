@@ -1,15 +1,18 @@
--- The title has narrow characters alone.
+-- The title has narrow characters alone, and none that steers.
 use Rattle.std.proofs.Common.{◌≡◌, true, sym, subst}
 use Rattle.std.specs.List.{list_all}
 use Rattle.tabled_grid.proofs.Seen.{on_ok}
 use Rattle.tabled_printing.specs.Columns.{is_narrow}
-use Rattle.tabled_claims.proofs.NarrowTables.{narrow_after, title_narrow}
-use Rattle.tabled_claims.proofs.NarrowWrites.{text_narrow}
+use Rattle.tabled_claims.specs.Clean.{is_quiet}
+use Rattle.tabled_claims.proofs.PlainTables.{plainly_after, title_narrow, title_quiet}
+use Rattle.tabled_claims.proofs.Characters.{text_writes}
+use Rattle.tabled_claims.proofs.CleanWrites.{clean_only}
 use Rattle.tabled_claims.proofs.worked.entitled.Goals as goal
 
-pub returns : goal.returns
-returns c =
+pub returns-clause-shown : goal.returns-clause-shown
+returns-clause-shown c =
     on_ok c.apply.result
-    (λ changed. narrow_after _ c.args.table.now.config c.apply.new.self.config changed
-    (text_narrow c.in_ok-title.title _ _ (subst (λ given. list_all is_narrow given.text ≡ true) (sym c.in_ok-title.ensures) title_narrow)) c.requires)
+    (λ changed. plainly_after _ c.args.table.now.config c.apply.new.self.config changed
+    (text_writes is_narrow c.in_ok-title.title _ _ (subst (λ given. list_all is_narrow given.text ≡ true) (sym c.in_ok-title.ensures) title_narrow)).borders
+    (clean_only _ (text_writes is_quiet c.in_ok-title.title _ _ (subst (λ given. list_all is_quiet given.text ≡ true) (sym c.in_ok-title.ensures) title_quiet))) c.requires)
     c.apply.ensures.config

@@ -5,9 +5,9 @@ use Rattle.tabled_width.proofs.shares.cap_of.Given as goal
 
 abbrev pub invariant-loop-too_great : goal.invariant-loop-too_great
 invariant-loop-too_great l = record {
-  some : 1 ≤ l.cap;
-  below : l.cap < l.too_great;
-  fits : (l.cap ≡ 1) ⊎ (used l.cap l.asked ≤ l.room);
+  some : l.least ≤ l.cap;
+  below : l.cap ≤ l.too_great;
+  fits : (l.cap ≡ l.least) ⊎ (used l.cap l.asked ≤ l.room);
   over : l.room < used l.too_great l.asked;
 }
 

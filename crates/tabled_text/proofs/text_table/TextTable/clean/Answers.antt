@@ -1,12 +1,26 @@
--- There are as many cells in each row.
-use Rattle.std.proofs.Common.{map, length, ap, ◌∙◌}
-use Rattle.tabled_clean.specs.Steering.{cleaned}
-use Rattle.tabled_printing.specs.Texts.{texts}
-use Rattle.tabled_text.specs.Changed.{cells_changed, each_text}
+-- There are as many cells in each row, and each is cleaned.
+use Rattle.std.proofs.Common.{◌≡◌, [], true, map, length, get_or, subst, sym, ap, ◌∙◌}
+use Rattle.tabled_clean.specs.Steering.{cleaned, is_clean}
+use Rattle.tabled_printing.specs.Texts.{Table, texts}
+use Rattle.tabled_grid.proofs.Seen.{on_ok}
+use Rattle.tabled_text.specs.Changed.{CellsAreClean, cells_changed, each_text}
+use Rattle.tabled_text.specs.Sizes.{cell}
 use Rattle.tabled_text.proofs.ChangedLemmas.{counts_stay}
+use Rattle.tabled_text.proofs.Cleaned.{cells_cleaned}
+use Rattle.tabled_text.proofs.Even.{utf8_cells}
 use Rattle.tabled_text.proofs.text_table.TextTable.clean.Goals as goal
 
 pub set_cells-requires : goal.set_cells-requires
 set_cells-requires c =
     ap (map length) (c.in_ok-cells.ensures ∙ ap (λ items. cells_changed (each_text cleaned) (texts items)) c.deref.ensures.value)
     ∙ counts_stay (each_text cleaned) (texts c.self.inside.cells.items) ∙ ap (λ table. map length table.texts) c.self.view_is
+
+pub returns-clause-clean : goal.returns-clause-clean
+returns-clause-clean c =
+    let rows = c.self.inside.cells.items in
+    let made = c.in_ok-cells.ensures ∙ ap (λ items. cells_changed (each_text cleaned) (texts items)) c.deref.ensures.value in
+    let all : CellsAreClean (texts c.in_ok-cells.cells.items) = λ row col. (
+      utf8_cells c.in_ok-cells.cells.items row col,
+      subst (λ (table : Table). is_clean (cell (get_or table row []) col) ≡ true) (sym made) (cells_cleaned (texts rows) (utf8_cells rows) row col),
+    ) in
+    on_ok c.set_cells.result (λ same. subst CellsAreClean (sym same) all) c.set_cells.ensures.texts

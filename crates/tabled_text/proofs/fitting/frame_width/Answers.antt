@@ -1,0 +1,6 @@
+-- What is not left of all that can be counted.
+use Rattle.std.proofs.Common.{arith}
+use Rattle.tabled_text.proofs.fitting.frame_width.Goals as goal
+
+pub returns : goal.returns
+returns c es table shows cols = let left = c.room_for_texts.ensures es table shows cols in omega (arith, left, c.saturating_sub.ensures)
