@@ -63,21 +63,21 @@ impl Builder {
     ///  tea     95
     ///  coffee
     /// ```
-    pub fn push_record(&mut self, record: Vec<String>) -> Result<(), OutOfMemory>
-        ensures pushed { OnOk result (self.new ≡ self.old ++ map string_bytes record.items ∷ []) }
+    pub fn push_record(&mut self, row: Vec<String>) -> Result<(), OutOfMemory>
+        ensures pushed { OnOk result (self.new ≡ self.old ++ map string_bytes row.items ∷ []) }
         ensures err { OnErr result (self.new ≡ self.old) }
     {
-        self.records.push(record)?;
+        self.records.push(row)?;
         Ok(())
     }
 
     /// Puts a record at an index, before the one that stood there; at the end, where none did.
-    pub fn insert_record(&mut self, index: usize, record: Vec<String>) -> Result<(), OutOfMemory>
-        ensures inserted { OnOk result (self.new ≡ insert self.old index (map string_bytes record.items)) }
+    pub fn insert_record(&mut self, index: usize, row: Vec<String>) -> Result<(), OutOfMemory>
+        ensures inserted { OnOk result (self.new ≡ insert self.old index (map string_bytes row.items)) }
         ensures err { OnErr result (self.new ≡ self.old) }
     {
         let at = index.min(self.records.len());
-        self.records.insert(at, record)?;
+        self.records.insert(at, row)?;
         Ok(())
     }
 

@@ -85,20 +85,20 @@ pub fn records_pushed(
 pub fn record_put_in(
     builder: &mut Builder,
     index: usize,
-    record: Vec<String>,
+    row: Vec<String>,
 ) -> Result<(), OutOfMemory>
-    ensures inserted { OnOk result (builder.new ≡ insert builder.old index (map string_bytes record.items)) }
+    ensures inserted { OnOk result (builder.new ≡ insert builder.old index (map string_bytes row.items)) }
     ensures err { OnErr result (builder.new ≡ builder.old) }
 {
-    builder.insert_record(index, record)
+    builder.insert_record(index, row)
 }
 
 /// One that is pushed stands at the end, and so does a column.
-pub fn record_pushed(builder: &mut Builder, record: Vec<String>) -> Result<(), OutOfMemory>
-    ensures pushed { OnOk result (builder.new ≡ builder.old ++ map string_bytes record.items ∷ []) }
+pub fn record_pushed(builder: &mut Builder, row: Vec<String>) -> Result<(), OutOfMemory>
+    ensures pushed { OnOk result (builder.new ≡ builder.old ++ map string_bytes row.items ∷ []) }
     ensures err { OnErr result (builder.new ≡ builder.old) }
 {
-    builder.push_record(record)
+    builder.push_record(row)
 }
 
 /// A record that is taken out is given, if it stood there.

@@ -10,7 +10,7 @@ pub returns-clause-inserted : goal.returns-clause-inserted
 returns-clause-inserted c =
     let old = c.self.inside.records.items in
     ap texts (c.in_ok-insert.ensures.items
-    ∙ ap (λ (at : ℕ). insert old at c.args.record) c.min-at.ensures
-    ∙ insert-min old c.args.index c.len.result c.args.record (omega (arith, c.len.ensures)))
-    ∙ insert-map (λ (row : Vec (String Global) Global). map string_bytes row.items) old c.args.index c.args.record
-    ∙ ap (λ (table : Table). insert table c.args.index (map string_bytes c.args.record.items)) c.self.view_is
+    ∙ ap (λ (at : ℕ). insert old at c.args.row) c.min-at.ensures
+    ∙ insert-min old c.args.index c.len.result c.args.row (omega (arith, c.len.ensures)))
+    ∙ insert-map (λ (row : Vec (String Global) Global). map string_bytes row.items) old c.args.index c.args.row
+    ∙ ap (λ (table : Table). insert table c.args.index (map string_bytes c.args.row.items)) c.self.view_is
