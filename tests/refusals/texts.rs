@@ -22,7 +22,7 @@ fn made(turn: &mut Turn, make: fn(Global) -> Result<String, OutOfMemory>) -> Res
 }
 
 /// The calls that make a text of another one.
-pub(crate) fn calls() -> [Named; 9] {
+pub(crate) fn calls() -> [Named; 10] {
     [
         ("cleaned", |turn| made(turn, |alloc| cleaned(alloc, "a\u{1b}b\r\nc"))),
         ("wrapped", |turn| made(turn, |alloc| wrapped(alloc, TEXT, 4))),

@@ -1,12 +1,12 @@
 -- Characters that steer, and texts without them.
-use Rattle.std.proofs.Common.{◌≡◌, ◌==◌, ℕ, ◌+◌, ◌<◌, ◌≤◌, Bool, true, false, not, ◌&&◌, ◌||◌, nat_lt, nat_le, if◌then◌else◌, cond, ◌/◌, ◌%◌, List, [], ◌∷◌, ◌++◌, chars, encode_utf8, encode_utf8_all, lit≤, append_assoc, append-nil, refl, sym, ap, subst, ◌∙◌, arith}
+use Rattle.std.proofs.Common.{◌≡◌, ◌==◌, ℕ, ◌+◌, ◌<◌, ◌≤◌, Bool, true, false, not, ◌&&◌, ◌||◌, nat_lt, nat_le, if◌then◌else◌, cond, ◌/◌, ◌%◌, List, [], ◌∷◌, ◌++◌, chars, encode_utf8, encode_utf8_all, lit≤, append_assoc, append-nil, refl, sym, ap, ◌∙◌, arith}
 use Rattle.std.specs.List.{list_all}
 use Rattle.std.specs.Str.{IsUtf8}
 use Rattle.std.proofs.lemmas.Str.{chars-encodes, chars-nil, scalars-chars, encodes-chars}
 use Rattle.std.proofs.lemmas.List.Folds.{list_all-append}
 use lib.Utf8.{scalar, scalars, low_scalar, encode}
 use Rattle.std.proofs.lemmas.Bool.Decides.{nat_tests}
-use Rattle.tabled_clean.specs.Steering.{is_between, is_control, is_direction, is_separator, steers, picture, shown_for, begins_with_line_feed, without_steering, cleaned, is_clean, going_on}
+use Rattle.tabled_clean.specs.Steering.{steers, picture, shown_for, begins_with_line_feed, without_steering, cleaned, is_clean, going_on}
 
 -- characters above all that steer
 pub above : (c : ℕ) → 0x2400 ≤ c → steers c ≡ false

@@ -52,7 +52,7 @@ impl Shadow {
         }
     }
 
-    /// The shadow with this character.
+    /// The shadow with this character. One that does not draw plainly (`draws_plainly`) is a space when a table is printed.
     pub fn set_fill(mut self, fill: char) -> Self
         ensures { result ≡ record self { fill = fill } }
     {

@@ -10,8 +10,7 @@ use Rattle.std.proofs.lemmas.List.Sums.{AllPass-from_list_all}
 use Rattle.std.proofs.lemmas.Str.{IsUtf8-from_ascii}
 use Rattle.tabled_width.specs.declared.limit.Overflow.{Overflow}
 use Rattle.tabled_width.specs.declared.limit.Overflow.TheVariants.{Wrap, WrapWords, Truncate}
-use Rattle.tabled_width.specs.Clusters.{clusters}
-use Rattle.tabled_width.specs.Texts.{LinesFit, fits, is_printable, pieces}
+use Rattle.tabled_width.specs.Texts.{LinesFit, is_printable, pieces}
 use Rattle.tabled_width.specs.Limited.{CanFit, IsPrintableText, ends_printable, limited}
 use Rattle.tabled_width.specs.Rows.{Part, WordsFit, words, words_from}
 use Rattle.tabled_width.proofs.Printing.{printable_ascii}
