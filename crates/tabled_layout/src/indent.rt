@@ -7,7 +7,7 @@ ghost use Rattle.std.specs.Prelude.{◌≡◌};
 pub struct Indent {
     /// How many columns or lines.
     pub size: usize,
-    /// The character that fills them. One that does not draw plainly (`draws_plainly`) is a space when a table is printed.
+    /// The character that fills them.
     pub fill: char,
 }
 
