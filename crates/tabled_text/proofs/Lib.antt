@@ -7,3 +7,4 @@ pub mod ChangedLemmas
 pub mod ShareSums
 pub mod Frames
 pub mod Totals
+pub mod SpanLemmas
