@@ -21,14 +21,11 @@ use tabled_object::{Entity, ExactRecords, Position, Records};
 /// ```text
 /// before         after
 /// +---+---+---+  +-----------+
-/// |  June     |  |  June     |
+/// | June      |  | June      |
 /// +---+---+---+  +---+---+---+
 /// | 9 | 1 | 7 |  | 9 | 1 | 7 |
 /// +---+---+---+  +---+---+---+
 /// ```
-///
-/// The plain printer refuses tables with spans; whoever prints them by other means finds the characters with
-/// `SpannedConfig::char_at`.
 #[derive(Debug, Drop)]
 pub struct BorderCorrection {}
 
