@@ -7,7 +7,8 @@ pub mod themes;
 
 pub use tabled_color::Color;
 pub use tabled_config::{CellOption, TableOption, modify};
-pub use tabled_formatting::{Alignment, Justification, MarginColor, PaddingColor, Shadow};
+pub use tabled_correction::Span;
+pub use tabled_formatting::{Alignment, Justification, Margin, MarginColor, PaddingColor, Shadow};
 pub use tabled_highlight::Highlight;
 pub use tabled_style::{Border, Style};
 pub use tabled_theme::Theme;

@@ -1,6 +1,6 @@
 //! The promises at work: what two options show where four cells meet, and a table that is a rectangle.
 
-ghost use Rattle.std.specs.Prelude.{◌≡◌, ℕ, List, [], ◌∷◌, ◌++◌, Some, None, IfOk, OnOk, string_bytes};
+ghost use Rattle.std.specs.Prelude.{◌≡◌, ℕ, List, [], ◌∷◌, ◌++◌, true, Some, None, IfOk, OnOk, string_bytes};
 ghost use Rattle.tabled_border.specs.declared.border.Border.{Border as Around};
 ghost use Rattle.tabled_object.specs.declared.entity.Entity.TheVariants.{Cell};
 ghost use Rattle.tabled_grid.specs.declared.place.Place.TheVariants.{Cross};
@@ -12,6 +12,7 @@ ghost use Rattle.tabled_printing.specs.Columns.{IsRectangle, WritesNarrow};
 ghost use Rattle.tabled_printing.specs.Headline.{HaveMade};
 ghost use Rattle.tabled_configuration.specs.Options.{MakesInTurn, entity_bordered};
 ghost use Rattle.tabled_style.specs.Ready.{ascii};
+ghost use Rattle.tabled_text.specs.Cells.{sets_no_spans};
 
 use crate::lists::headline;
 use std::alloc::Global;
@@ -95,7 +96,7 @@ pub fn framed_with_a_title(alloc: Global, rows: Vec<Vec<String>>) -> Result<Stri
 
 /// A table of these rows in a rounded frame.
 fn in_a_rounded_frame(alloc: Global, rows: Vec<Vec<String>>) -> Result<TextTable, TableError>
-    ensures { IfOk result (λ table. (events : List ConfigEvent) × Shows events table.config.spanned × WritesNarrow events) }
+    ensures { IfOk result (λ table. (events : List ConfigEvent) × Shows events table.config.spanned × WritesNarrow events × (sets_no_spans events ≡ true)) }
 {
     let mut table = TextTable::from_rows(alloc, rows)?;
     table.apply(Style::rounded())?;
@@ -104,16 +105,16 @@ fn in_a_rounded_frame(alloc: Global, rows: Vec<Vec<String>>) -> Result<TextTable
 
 /// Outlines the first row of a table.
 fn outlined(table: &mut TextTable) -> Result<(), OutOfMemory>
-    requires { (events : List ConfigEvent) × Shows events table.old.config.spanned × WritesNarrow events }
-    ensures { OnOk result ((events : List ConfigEvent) × Shows events table.new.config.spanned × WritesNarrow events) }
+    requires { (events : List ConfigEvent) × Shows events table.old.config.spanned × WritesNarrow events × (sets_no_spans events ≡ true) }
+    ensures { OnOk result ((events : List ConfigEvent) × Shows events table.new.config.spanned × WritesNarrow events × (sets_no_spans events ≡ true)) }
 {
     table.apply(Highlight::outline(FirstRow, '#'))
 }
 
 /// Writes a title on the first line of a table.
 fn entitled(alloc: Global, table: &mut TextTable) -> Result<(), OutOfMemory>
-    requires { (events : List ConfigEvent) × Shows events table.old.config.spanned × WritesNarrow events }
-    ensures { OnOk result ((events : List ConfigEvent) × Shows events table.new.config.spanned × WritesNarrow events) }
+    requires { (events : List ConfigEvent) × Shows events table.old.config.spanned × WritesNarrow events × (sets_no_spans events ≡ true) }
+    ensures { OnOk result ((events : List ConfigEvent) × Shows events table.new.config.spanned × WritesNarrow events × (sets_no_spans events ≡ true)) }
 {
     let title = LineText::new(alloc, "Prices", FirstRow)?;
     table.apply(title)

@@ -16,10 +16,9 @@ use tabled_object::{Entity, ExactRecords, Position, Records};
 /// Corrects the crossings on the borders of cells that span several columns or several rows: each becomes the character
 /// of the lines that still meet there.
 ///
-/// In a table of three columns whose first cell spans all of them:
+/// In a table of three columns whose first cell spans all of them, before and after:
 ///
 /// ```text
-/// before         after
 /// +---+---+---+  +-----------+
 /// | June      |  | June      |
 /// +---+---+---+  +---+---+---+
