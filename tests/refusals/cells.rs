@@ -7,7 +7,9 @@ use std::alloc::Global;
 use tabled_color::BorderColor;
 use tabled_config::{CellOption, ColoredConfig, modify};
 use tabled_grid::{Entity, Offset, OutOfMemory, Shape};
-use tabled_options::{Alignment, AlignmentStrategy, CellColor, Justification, LineChar, TrimStrategy};
+use tabled_options::{
+    Alignment, AlignmentStrategy, CellColor, Justification, LineChar, Span, TrimStrategy,
+};
 use tabled_style::{Border, EmptyBorder};
 
 /// What makes an option.
@@ -54,7 +56,7 @@ fn filling(alloc: Global) -> Result<Justification, OutOfMemory> {
 }
 
 /// The options of settings.
-pub(crate) fn settings() -> [Named; 9] {
+pub(crate) fn settings() -> [Named; 10] {
     [
         (
             "<Alignment as CellOption<R, ColoredConfig>>::change",
@@ -91,6 +93,10 @@ pub(crate) fn settings() -> [Named; 9] {
         (
             "<CellColor as CellOption<R, ColoredConfig>>::change",
             |turn| on_a_row(turn, |alloc| color(alloc).map(CellColor::new)),
+        ),
+        (
+            "<Span as CellOption<R, ColoredConfig>>::change",
+            |turn| { on_a_bare_row(turn, |_| Ok(Span::column(2))) },
         ),
     ]
 }

@@ -11,8 +11,8 @@ use tabled_grid::{
     SegmentAll, Shape, Union,
 };
 use tabled_options::{
-    Alignment, AlignmentStrategy, BorderCorrection, CellColor, Colorization, ExactColorization, Highlight,
-    Justification, LineText, MarginColor, PaddingColor, Shadow, TrimStrategy,
+    Alignment, AlignmentStrategy, BorderCorrection, CellColor, Colorization, ExactColorization,
+    Highlight, Justification, LineText, Margin, MarginColor, PaddingColor, Shadow, TrimStrategy,
 };
 use tabled_style::{Border, EmptyBorder, HorizontalLine, ReadyStyle, Style};
 use tabled_theme::Theme;
@@ -84,6 +84,10 @@ pub(crate) fn settings() -> [Named; 11] {
         (
             "<MarginColor<C> as TableOption<R, ColoredConfig, D>>::change",
             |turn| with(turn, margin),
+        ),
+        (
+            "<Margin as TableOption<R, ColoredConfig, D>>::change",
+            |turn| with(turn, |_| Ok(Margin::new(2, 0, 1, 0).fill('<', ' ', '^', ' '))),
         ),
         (
             "<Shadow as TableOption<R, ColoredConfig, D>>::change",

@@ -8,9 +8,10 @@ use tabled_color::{BorderColor, Color};
 use tabled_colorization::{CellColor, Colorization, ExactColorization};
 use tabled_compact::{CompactConfig, CompactMultilineConfig};
 use tabled_configuration::{CellOption, ColoredConfig, Configured, TableOption};
-use tabled_correction::BorderCorrection;
+use tabled_correction::{BorderCorrection, Span};
 use tabled_formatting::{
-    Alignment, AlignmentStrategy, Justification, MarginColor, PaddingColor, Shadow, TrimStrategy,
+    Alignment, AlignmentStrategy, Justification, Margin, MarginColor, PaddingColor, Shadow,
+    TrimStrategy,
 };
 use tabled_grid::Borders;
 use tabled_highlight::Highlight;
@@ -133,6 +134,14 @@ where
     ensures in_turn { ⟦<Colorization as TableOption<Data, ColoredConfig, Dims>>⟧.hinted in_turn.now ≡ Some cells.Global }
     ensures exact { ⟦<ExactColorization<O> as TableOption<Data, ColoredConfig, Dims>>⟧.hinted exact.now ≡ Some cells.Global }
     ensures shadow { ⟦<Shadow as TableOption<Data, ColoredConfig, Dims>>⟧.hinted shadow.now ≡ Some cells.Global }
+{}
+
+/// So may room of the margin, and cells that span.
+pub fn all_sizes_after_room<Data, Dims>(margin: &Margin, span: &Span)
+where
+    Data: Records + ExactRecords,
+    ensures margin { ⟦<Margin as TableOption<Data, ColoredConfig, Dims>>⟧.hinted margin.now ≡ Some cells.Global }
+    ensures span { ⟦<Span as CellOption<Data, ColoredConfig>>⟧.hinted span.now ≡ Some cells.Global }
 {}
 
 /// So may colors of the padding and of the margin on compact configurations.

@@ -6,6 +6,7 @@ ghost use Rattle.tabled_colorization.specs.declared.pattern.Pattern.TheVariants 
 ghost use Rattle.tabled_configuration.specs.CellColors.{no_color};
 ghost use Rattle.tabled_formatting.specs.Alignment.{horizontal_of, vertical_of};
 ghost use Rattle.tabled_formatting.specs.Formatting.{Justifying};
+ghost use Rattle.tabled_formatting.specs.Margins.{spaces, with_fills};
 ghost use Rattle.tabled_formatting.specs.declared.alignment.Alignment.{Alignment as Between};
 ghost use Rattle.tabled_formatting.specs.declared.alignment.Alignment.TheVariants as between;
 ghost use Rattle.tabled_grid.specs.declared.offset.Offset.TheVariants as places;
@@ -19,7 +20,8 @@ use std::alloc::Global;
 use tabled_border::{ANSIStr, Keep, OutOfMemory};
 use tabled_color::{BorderColor, Color};
 use tabled_colorization::{CellColor, Colorization, ExactColorization};
-use tabled_formatting::{Alignment, Justification, MarginColor, PaddingColor, Shadow};
+use tabled_correction::Span;
+use tabled_formatting::{Alignment, Justification, Margin, MarginColor, PaddingColor, Shadow};
 use tabled_grid::Offset;
 use tabled_highlight::Highlight;
 use tabled_options::{LineChar, LineText};
@@ -134,6 +136,37 @@ pub fn padding_colors_converted<C>()
     ensures from_sides { (sides given : Four C) → ⟦<PaddingColor<C> as From<Sides<C>>>⟧.from_gives sides given → given ≡ sides }
     ensures to_sides { (given sides : Four C) → ⟦<Sides<C> as From<PaddingColor<C>>>⟧.from_gives given sides → sides ≡ given }
 {}
+
+/// A new margin has so much room on each side, filled with spaces.
+pub fn new_margin(left: usize, right: usize, top: usize, bottom: usize) -> Margin
+    ensures { result ≡ record { left = spaces left; right = spaces right; top = spaces top; bottom = spaces bottom } }
+{
+    Margin::new(left, right, top, bottom)
+}
+
+/// A margin filled with these characters, the last ones of two fillings in a row: its room is as before.
+pub fn margin_filled(
+    margin: Margin,
+    first: char,
+    left: char,
+    right: char,
+    top: char,
+    bottom: char,
+) -> Margin
+    ensures { result ≡ with_fills margin left right top bottom }
+{
+    margin
+        .fill(first, first, first, first)
+        .fill(left, right, top, bottom)
+}
+
+/// Spans over columns and over rows are apart.
+pub fn new_spans(count: usize) -> (Span, Span)
+    ensures columns { result.0 ≡ record { is_columns = true; count = count } }
+    ensures rows { result.1 ≡ record { is_columns = false; count = count } }
+{
+    (Span::column(count), Span::row(count))
+}
 
 /// A new shadow of a size falls at the right and below; it is filled with `▒`, begins one place along and has no color.
 pub fn new_shadow(size: usize) -> Shadow

@@ -11,7 +11,7 @@ use Rattle.tabled_grid.specs.declared.place.Place.{Place}
 use Rattle.tabled_grid.specs.declared.place.LineOf.{LineOf}
 use Rattle.tabled_layout.specs.declared.margin.Margin.{Margin}
 use Rattle.tabled_configuration.specs.Configuration.{ConfigEvent}
-use Rattle.tabled_printing.specs.Along.{is_empty, along}
+use Rattle.tabled_printing.specs.Along.{is_empty, along, crossing_at}
 use Rattle.tabled_printing.specs.Picture.{Look, character, mark_at, marks_along}
 use Rattle.tabled_printing.specs.Texts.{Table, width_of_text}
 use Rattle.tabled_cells.specs.declared.placement.Placement.{Placement}
@@ -21,14 +21,16 @@ use Rattle.tabled_cells.specs.Trimmed.{lines_shown}
 use Rattle.tabled_painting.specs.Painted.{Painted, paint, plain}
 use Rattle.tabled_painting.specs.CellLines.{Coloring, coloring_at, painted_line, cell_line}
 use Rattle.tabled_painting.specs.Margin.{Side, side_at, is_left_out, between_sides, strip, in_margin, left_side, right_side, top_side, bottom_side}
-use Rattle.tabled_painting.specs.PaintedTable.{Cells, painted_mark, painted_marks, painted_side, painted_between, painted_if_drawn, painted_row, painted_lines, painted_table, painted_cells, plain_text}
+use Rattle.tabled_painting.specs.PaintedTable.{Cells, painted_mark, painted_marks, painted_side, painted_between, painted_if_drawn, painted_row, painted_lines, painted_table, painted_cell, painted_cells, plain_text}
+use Rattle.tabled_painting.specs.PaintedSpans.{columns_spanned, rows_spanned, painted_crossing, painted_edge, lines_above, room_wide, room_high, room_line, spanned_piece, spanned_between, crossed_piece, spanned_across, spanned_if_drawn, spanned_row, spanned_lines, spanned_table, spanned_cells}
+use Rattle.tabled_rooms.specs.Hosts.{Cell, Counts, host}
 use Rattle.tabled_painting.proofs.PainterLemmas.{plain_paint}
 use Rattle.tabled_painting.proofs.Plain.{plain_both}
 use Rattle.tabled_text.specs.Sizes.{column_count, column_widths, row_heights}
-use Rattle.tabled_text.specs.Cells.{cells_set, margin_set, cell_colors}
-use Rattle.tabled_text.specs.TextTable.{look_of, painted, text_of}
-use Rattle.tabled_text.specs.Changed.{CellsAreClean}
+use Rattle.tabled_text.specs.Cells.{cells_set, margin_set, cell_colors, settings_set, sets_no_spans}
+use Rattle.tabled_text.specs.TextTable.{look_of, look_with_spans, painted, painted_alone, painted_with_spans, text_of, widths_with_spans, heights_with_spans}
 use Rattle.tabled_claims.specs.Clean.{WritesClean}
+use Rattle.tabled_text.specs.Changed.{CellsAreClean}
 use Rattle.tabled_claims.proofs.CleanCharacters.{space_steers, fill_steers}
 use Rattle.tabled_claims.proofs.CleanBorders.{borders_steer}
 use Rattle.tabled_claims.proofs.CleanTexts.{Quiet, Quiet-one, Quiet-nil, Quiet-append, Quiet-text, Quiet-times, Quiet-space, Quiet-joined, quiet_clean, shown_clean}
@@ -177,6 +179,59 @@ module _ (view : Look) (cells : Cells) (borders : (place : Place) → steers (ch
       by_shape true = All-nil QuietLine
       by_shape false = margin_quiet margin (length (marks_along view (LineOf.Horizontal 0))) (painted_lines view cells) lines_quiet
 
+  -- ---- the same where cells span
+
+  module _ (columns rows : Counts) where
+    crossing_quiet : (r c : ℕ) → QuietLine (painted_crossing view r c)
+    crossing_quiet r c = marks_quiet (crossing_at view.vertical (Place.Cross r) c)
+
+    edge_quiet : (r c : ℕ) → QuietLine (painted_edge view r c)
+    edge_quiet r c = marks_quiet (map (Place.Horizontal r c) (below (view.widths c)))
+
+    room_quiet : (cell : Cell) (n : ℕ) → QuietLine (room_line view columns rows cells cell n)
+    room_quiet cell n = each cell.0 cell.1 (n - lines_above view columns rows cell.0)
+
+    spanned_quiet : (r k c : ℕ) → QuietLine (spanned_piece view columns rows cells r k c)
+    spanned_quiet r k c =
+        if_quiet ((host columns rows r c).1 == c) (painted_side view r k c ++ room_line view columns rows cells (host columns rows r c) (lines_above view columns rows r + k))
+        (both_quiet (painted_side view r k c) (room_line view columns rows cells (host columns rows r c) (lines_above view columns rows r + k)) (beside_quiet r k c) (room_quiet (host columns rows r c) (lines_above view columns rows r + k)))
+
+    crossed_quiet : (r c : ℕ) → QuietLine (crossed_piece view columns rows cells r c)
+    crossed_quiet r c = by_case ((host columns rows r c).0 == r)
+      where
+        over : Painted
+        over = painted_crossing view r c ++ room_line view columns rows cells (host columns rows r c) (lines_above view columns rows r - 1)
+
+        by_case : (own : Bool) → QuietLine (if own then painted_crossing view r c ++ painted_edge view r c else
+            if (host columns rows r c).1 == c then painted_crossing view r c ++ room_line view columns rows cells (host columns rows r c) (lines_above view columns rows r - 1) else [])
+        by_case true = both_quiet (painted_crossing view r c) (painted_edge view r c) (crossing_quiet r c) (edge_quiet r c)
+        by_case false =
+            if_quiet ((host columns rows r c).1 == c) (painted_crossing view r c ++ room_line view columns rows cells (host columns rows r c) (lines_above view columns rows r - 1))
+            (both_quiet (painted_crossing view r c) (room_line view columns rows cells (host columns rows r c) (lines_above view columns rows r - 1)) (crossing_quiet r c) (room_quiet (host columns rows r c) (lines_above view columns rows r - 1)))
+
+    spanned_lines_quiet : All QuietLine (spanned_lines view columns rows cells)
+    unfolding spanned_lines
+    spanned_lines_quiet =
+        All-append QuietLine (flat_map (λ r. spanned_if_drawn view columns rows cells r ++ spanned_row view columns rows cells r) (below view.shape.0)) (painted_if_drawn view view.shape.0)
+        (All-flat (λ r. spanned_if_drawn view columns rows cells r ++ spanned_row view columns rows cells r) (below view.shape.0)
+        (λ r. All-append QuietLine (spanned_if_drawn view columns rows cells r) (spanned_row view columns rows cells r)
+        (All-if (view.horizontal r) (spanned_across view columns rows cells r)
+        (both_quiet (flat_map (crossed_piece view columns rows cells r) (below view.shape.1)) (painted_crossing view r view.shape.1)
+        (flat_quiet (crossed_piece view columns rows cells r) (below view.shape.1) (crossed_quiet r)) (crossing_quiet r view.shape.1)))
+        (All-map QuietLine (spanned_between view columns rows cells r) (below (view.heights r)) (λ n d within.
+        both_quiet (flat_map (spanned_piece view columns rows cells r (get_or (below (view.heights r)) n d)) (below view.shape.1)) (painted_side view r (get_or (below (view.heights r)) n d) view.shape.1)
+        (flat_quiet (spanned_piece view columns rows cells r (get_or (below (view.heights r)) n d)) (below view.shape.1) (spanned_quiet r (get_or (below (view.heights r)) n d)))
+        (beside_quiet r (get_or (below (view.heights r)) n d) view.shape.1)))))
+        (drawn_quiet view.shape.0)
+
+    spanned_table_quiet : (margin : Margin) → All QuietLine (spanned_table view columns rows cells margin)
+    unfolding spanned_table
+    spanned_table_quiet margin = by_shape (is_empty view.shape)
+      where
+        by_shape : (none : Bool) → All QuietLine (if none then [] else in_margin margin (length (marks_along view (LineOf.Horizontal 0))) (spanned_lines view columns rows cells))
+        by_shape true = All-nil QuietLine
+        by_shape false = margin_quiet margin (length (marks_along view (LineOf.Horizontal 0))) (spanned_lines view columns rows cells) spanned_lines_quiet
+
 -- ---- its text
 
 module _ (events : List ConfigEvent) (table : Table) (clean : CellsAreClean table) (writes : WritesClean events) where
@@ -188,11 +243,38 @@ module _ (events : List ConfigEvent) (table : Table) (clean : CellsAreClean tabl
       cell_quiet how (coloring_at (cells_set events) (cell_colors events) r c) (slice_index (column_widths table) c) (slice_index (row_heights table) r) (lines_shown how text) k
       (writes.filling (record { row = r; col = c })) (shown_clean how text (clean r c))
 
-  painted_quiet : All QuietLine (painted events table)
-  unfolding painted
-  painted_quiet =
+  alone_quiet : All QuietLine (painted_alone events table)
+  unfolding painted_alone
+  alone_quiet =
       table_quiet (look_of events table) (painted_cells (cells_set events) (cell_colors events) (column_widths table) (row_heights table) table)
       (borders_steer events (length table, column_count table) (slice_index (column_widths table)) (slice_index (row_heights table)) writes.borders) cells_quiet (margin_set events)
+
+  rooms_quiet : (wide high : ℕ → ℕ → ℕ) (r c k : ℕ) → QuietLine (painted_cell (cells_set events) (cell_colors events) (wide r c) (high r c) (slice_index_or (slice_index_or table r []) c []) r c k)
+  unfolding placement_at
+  rooms_quiet wide high r c k =
+      let how : Placement = placement_at (cells_set events) r c in
+      let text : List ℕ = slice_index_or (slice_index_or table r []) c [] in
+      cell_quiet how (coloring_at (cells_set events) (cell_colors events) r c) (wide r c) (high r c) (lines_shown how text) k
+      (writes.filling (record { row = r; col = c })) (shown_clean how text (clean r c))
+
+  with_spans_quiet : All QuietLine (painted_with_spans events table)
+  unfolding painted_with_spans
+  with_spans_quiet =
+      let settings = settings_set events in
+      let view : Look = look_with_spans events table in
+      let columns : Counts = columns_spanned settings in
+      let rows : Counts = rows_spanned settings in
+      spanned_table_quiet view (spanned_cells view columns rows settings.cells (cell_colors events) table)
+      (borders_steer events (length table, column_count table) (slice_index (widths_with_spans settings events table)) (slice_index (heights_with_spans settings events table)) writes.borders)
+      (rooms_quiet (room_wide view columns rows) (room_high view columns rows)) columns rows settings.margin
+
+  painted_quiet : All QuietLine (painted events table)
+  unfolding painted
+  painted_quiet = by_case (sets_no_spans events)
+    where
+      by_case : (none : Bool) → All QuietLine (if none then painted_alone events table else painted_with_spans events table)
+      by_case true = alone_quiet
+      by_case false = with_spans_quiet
 
   -- the characters of each painted line
   pub lines_are_clean : All (λ line. is_clean (plain line) ≡ true) (painted events table)

@@ -25,6 +25,7 @@ use Rattle.tabled_pages.specs.Page.{framed_page, page}
 use Rattle.tabled_pages.specs.Style.{styled}
 use Rattle.tabled_pages.proofs.Lines.{lines_of-nil}
 use Rattle.tabled_pages.proofs.OneLine.{is_printable, are_printable, are_printable-rows, list_all-get_or}
+use Rattle.tabled_pages.proofs.NoSpans.{no_spans}
 use Rattle.tabled_claims.proofs.ReadyPlain.{ready_narrow}
 
 -- ---- the lines of a text that a line feed ends
@@ -88,7 +89,7 @@ framed_even : (style : ReadyStyle) (rows : Table) → have_equal_counts rows ≡
 framed_even style [] equal printable = ap (list_all (λ line. width_of_text line == text_width (look_of (styled style) []) (margin_set (styled style)))) lines_of-nil
 framed_even style (row ∷ rows) equal printable =
     ap (list_all (λ line. width_of_text line == text_width (look_of (styled style) (row ∷ rows)) (margin_set (styled style)))) (lines_ended (text_of (styled style) (row ∷ rows)))
-    ∙ text_even (styled style) (row ∷ rows) (counts_equal (row ∷ rows) equal) (cells_utf8 (row ∷ rows) printable) (ready_narrow style)
+    ∙ text_even (styled style) (row ∷ rows) (counts_equal (row ∷ rows) equal) (cells_utf8 (row ∷ rows) printable) (ready_narrow style) (no_spans style)
 
 pub page_even : (style : ReadyStyle) (input : List ℕ) → fault_of input ≡ None
     → list_all (λ line. width_of_text line == text_width (look_of (styled style) (rows_of input)) (margin_set (styled style))) (lines_of (page style input)) ≡ true

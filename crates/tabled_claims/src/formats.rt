@@ -4,13 +4,14 @@ ghost use Rattle.std.specs.Prelude.{IsOk, OnOk};
 ghost use Rattle.tabled_object.specs.declared.entity.Entity.TheVariants as cells;
 ghost use Rattle.tabled_configuration.specs.Colored.{Changes};
 ghost use Rattle.tabled_formatting.specs.Formatting.{alignment_set, justification_set, padding_set, strategy_set, trim_set};
-ghost use Rattle.tabled_formatting.specs.Margins.{margin_colored, shadow_set};
+ghost use Rattle.tabled_formatting.specs.Margins.{margin_colored, margin_given, shadow_set};
 
 use std::alloc::Global;
 use tabled_border::{AnsiText, OutOfMemory};
 use tabled_configuration::{CellOption, ColoredConfig, TableOption};
 use tabled_formatting::{
-    Alignment, AlignmentStrategy, Justification, MarginColor, PaddingColor, Shadow, TrimStrategy,
+    Alignment, AlignmentStrategy, Justification, Margin, MarginColor, PaddingColor, Shadow,
+    TrimStrategy,
 };
 use tabled_object::Entity;
 
@@ -40,6 +41,18 @@ where
     ensures { OnOk result (Changes (padding_set C.prefix_text C.suffix_text option.now entity) cfg.old cfg.new) }
 {
     option.change(records, cfg, entity)
+}
+
+/// The room of the margin, and what fills it: its offsets and its colors stay.
+pub fn margin_on_a_table<R, D>(
+    option: Margin,
+    records: &mut R,
+    cfg: &mut ColoredConfig,
+    dims: &mut D,
+) -> Result<(), OutOfMemory>
+    ensures { OnOk result (Changes (margin_given option) cfg.old cfg.new) }
+{
+    option.change(records, cfg, dims)
 }
 
 /// The colors of the margin.

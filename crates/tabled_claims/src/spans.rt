@@ -1,6 +1,6 @@
-//! The margin, spans, and the correction of borders beside them.
+//! The margin, spans, what is shown where cells span, and the correction of borders beside them.
 
-ghost use Rattle.std.specs.Prelude.{◌≡◌, ◌++◌, List, None, unwrap_or, ℕ, map, true};
+ghost use Rattle.std.specs.Prelude.{◌≡◌, ◌≤◌, ◌++◌, List, None, unwrap_or, ℕ, map, true, OnOk, OnErr};
 ghost use Rattle.std.specs.List.{filter_map, last_or};
 ghost use Rattle.tabled_object.specs.declared.position.Position.{Position as At};
 ghost use Rattle.tabled_layout.specs.declared.table_settings.TableSettings.{TableSettings};
@@ -13,7 +13,15 @@ ghost use Rattle.tabled_grid.specs.Event.{replay};
 ghost use Rattle.tabled_grid.specs.Value.{has_spot, plain_value};
 ghost use Rattle.tabled_configuration.specs.Configuration.{Configuration, Changes};
 ghost use Rattle.tabled_correction.specs.Correction.{Write, written_over, spanned, columns_corrected, rows_corrected, inner_corrected, crossing_written, crossings_written, correction_events};
+ghost use Rattle.tabled_configuration.specs.Colored as colored;
+ghost use Rattle.tabled_correction.specs.Span.{span_events};
+ghost use Rattle.tabled_rooms.specs.Hosts.{Cell as Shown, Counts, IsAlone, Takes, host};
 ghost use Rattle.std.specs.FinMap as map;
+
+use tabled_border::OutOfMemory;
+use tabled_configuration::{CellOption, ColoredConfig};
+use tabled_correction::Span;
+use tabled_object::{Entity, ExactRecords, Records};
 
 /// After any list of calls the span at a position is what the last call for that position left.
 pub fn span_is_as_last_set()
@@ -58,4 +66,34 @@ pub fn each_step_reads_what_stands()
         → Changes (crossings_written (rows_corrected (spanned shape between))) between after
         → correction_events shape old ≡ crossings_written (columns_corrected (spanned shape old))
         ++ (crossings_written (rows_corrected (spanned shape between)) ++ crossings_written (inner_corrected (spanned shape after))) }
+{}
+
+/// The option lets each cell of an entity inside the table span so many columns, or rows, in row order, and does nothing else.
+pub fn span_on_cells<R: Records + ExactRecords>(
+    option: &Span,
+    records: &mut R,
+    cfg: &mut ColoredConfig,
+    entity: Entity,
+) -> Result<(), OutOfMemory>
+    ensures made { OnOk result (colored.Changes (span_events option.now (R.row_count records.old, R.column_count records.old) entity) cfg.old cfg.new) }
+    ensures unchanged { OnErr result (cfg.new ≡ cfg.old) }
+{
+    CellOption::change(option, records, cfg, entity)
+}
+
+/// Where no cell spans, each is shown at its own place.
+pub fn cells_alone()
+    ensures { (columns rows : Counts) → ((r c : ℕ) → columns r c ≤ 1) → ((r c : ℕ) → rows r c ≤ 1) → (r c : ℕ) → host columns rows r c ≡ (r, c) }
+{}
+
+/// What is shown at a place takes it, and is shown at its own place.
+pub fn hosts_stand()
+    ensures takes { (columns rows : Counts) → ((r c : ℕ) → 1 ≤ columns r c) → ((r c : ℕ) → 1 ≤ rows r c) → (r c : ℕ) → Takes columns rows (host columns rows r c) r c }
+    ensures at_home { (columns rows : Counts) → (r c : ℕ) → host columns rows (host columns rows r c).0 (host columns rows r c).1 ≡ host columns rows r c }
+{}
+
+/// A cell is shown wherever it spans, if no other cell spans over any of these places.
+pub fn shown_where_it_spans()
+    ensures { (columns rows : Counts) → ((r c : ℕ) → 1 ≤ columns r c) → ((r c : ℕ) → 1 ≤ rows r c) → (cell : Shown) → IsAlone columns rows cell
+        → (r c : ℕ) → Takes columns rows cell r c → host columns rows r c ≡ cell }
 {}

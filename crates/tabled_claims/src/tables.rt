@@ -11,20 +11,20 @@ ghost use Rattle.tabled_configuration.specs.Configuration as borders;
 ghost use Rattle.tabled_configuration.specs.Options.{MakesInTurn};
 ghost use Rattle.tabled_printing.specs.Along.{is_empty};
 ghost use Rattle.tabled_printing.specs.Columns.{IsRectangle, WritesNarrow};
-ghost use Rattle.tabled_printing.specs.Refusal.{span_faults};
 ghost use Rattle.tabled_printing.specs.Picture.{printed};
 ghost use Rattle.tabled_printing.specs.Texts.{Table, pieces, texts, width_of_text};
 ghost use Rattle.tabled_painting.specs.Margin.{is_without_room};
 ghost use Rattle.tabled_painting.specs.Painted.{Painted, plain};
 ghost use Rattle.tabled_painting.specs.PaintedTable.{plain_text, colored_text};
 ghost use Rattle.tabled_painting.specs.Widths.{StandsStraightIn, text_width};
-ghost use Rattle.tabled_text.specs.Cells.{cell_texts, margin_set};
+ghost use Rattle.tabled_text.specs.Cells.{cell_texts, margin_set, sets_no_spans};
 ghost use Rattle.tabled_text.specs.Changed.{CellsAreClean, CellsArePrintable};
 ghost use Rattle.tabled_printing.specs.declared.print_error.PrintError.{PrintError as Fault};
 ghost use Rattle.tabled_text.specs.Fitted.{CanShare, IsFitted, frame_width, least_width};
-ghost use Rattle.tabled_text.specs.Refusal.{of_printer, unequal};
+ghost use Rattle.tabled_text.specs.Refusal.{unequal};
 ghost use Rattle.tabled_text.specs.Sizes.{cell, column_count, column_widths, row_heights, unequal_row};
-ghost use Rattle.tabled_text.specs.TextTable.{lent_rows, look_of, shape_of, text_of, painted};
+ghost use Rattle.tabled_text.specs.TextTable.{AreRead, heights_read, lent_rows, look_of, painted, painted_alone, painted_with_spans, shape_of, text_of, widths_read};
+ghost use Rattle.tabled_object.specs.declared.dimension.FixedDimension.{FixedDimension};
 ghost use Rattle.tabled_text.specs.declared.table_error.TableError.{TableError as Refusal};
 ghost use Rattle.std.specs.Fmt.{WritesOnOk};
 ghost use Rattle.tabled_width.specs.Limited.{ends_printable};
@@ -58,7 +58,7 @@ pub fn table_of_rows(alloc: Global, rows: Vec<Vec<String>>) -> Result<TextTable,
     TextTable::from_rows(alloc, rows)
 }
 
-/// Columns are as wide, and rows as high, as their cells ask.
+/// Columns are as wide, and rows as high, as their cells ask where none spans.
 pub fn as_large_as_its_cells(table: &TextTable) -> &FixedDimension
     ensures widths { result.now.widths.items ≡ column_widths table.now.texts }
     ensures heights { result.now.heights.items ≡ row_heights table.now.texts }
@@ -69,8 +69,8 @@ pub fn as_large_as_its_cells(table: &TextTable) -> &FixedDimension
 /// An option changes a table by the option's events and by nothing else; where memory is refused it changes nothing.
 pub fn option_on_a_table<P>(table: &mut TextTable, option: P) -> Result<(), OutOfMemory>
 where
-    P: TableOption<Shape, ColoredConfig, FixedDimension>,
-    ensures config { OnOk result (Changes (P.makes option (shape_of table.old.texts) table.old.sizes table.old.config) table.old.config table.new.config) }
+    P: TableOption<Shape, ColoredConfig, FixedDimension> + Drop,
+    ensures config { OnOk result ((read : FixedDimension) × AreRead table.old read × Changes (P.makes option (shape_of table.old.texts) read table.old.config) table.old.config table.new.config) }
     ensures texts { table.new.texts ≡ table.old.texts }
     ensures sizes { table.new.sizes ≡ table.old.sizes }
     ensures unchanged { OnErr result (table.new ≡ table.old) }
@@ -101,8 +101,8 @@ where
 /// The same as `option_on_a_table`, in a chain of calls.
 pub fn option_in_a_chain<P>(table: &mut TextTable, option: P) -> Result<&mut TextTable, OutOfMemory>
 where
-    P: TableOption<Shape, ColoredConfig, FixedDimension>,
-    ensures config { IfOk result (λ lent. Changes (P.makes option (shape_of table.old.texts) table.old.sizes table.old.config) table.old.config lent.now.config) }
+    P: TableOption<Shape, ColoredConfig, FixedDimension> + Drop,
+    ensures config { IfOk result (λ lent. (read : FixedDimension) × AreRead table.old read × Changes (P.makes option (shape_of table.old.texts) read table.old.config) table.old.config lent.now.config) }
     ensures texts { IfOk result (λ lent. lent.now.texts ≡ table.old.texts) }
     ensures sizes { IfOk result (λ lent. lent.now.sizes ≡ table.old.sizes) }
     ensures same_table { IfOk result (λ lent. lent.ghost_name ≡ table.entry.ghost_name) }
@@ -129,19 +129,43 @@ where
 }
 
 /// The text of a table is what its options make of its cells, which stand as they are set, draw around them, and leave as a margin
-/// around all; where no cell spans others it is refused for memory alone.
+/// around all; a cell that spans others is shown in the room of all of them. It is refused for memory alone.
 pub fn text_of_a_table(table: &TextTable) -> Result<String, PrintError>
     ensures text { (events : List ConfigEvent) → borders.Shows events table.now.config.spanned → IfOk result (λ text. string_bytes text ≡ text_of events table.now.texts) }
-    ensures refusal { MatchOption (slice_get (span_faults table.now.config.spanned) 0) (IsOkUnless result Fault.OutOfMemory) (λ fault. result ≡ Err fault) }
+    ensures refusal { IsOkUnless result Fault.OutOfMemory }
 {
     table.to_text()
+}
+
+/// Where cells span, the text is that of the cells that are shown, each in the room of all columns and rows that it takes, around which all
+/// places are as they are drawn; and where none does, that of all cells, each at its place.
+pub fn text_with_spans(table: &TextTable) -> Result<String, PrintError>
+    ensures spanned { (events : List ConfigEvent) → borders.Shows events table.now.config.spanned → sets_no_spans events ≡ false
+        → IfOk result (λ text. string_bytes text ≡ plain_text (painted_with_spans events table.now.texts)) }
+    ensures alone { (events : List ConfigEvent) → borders.Shows events table.now.config.spanned → sets_no_spans events ≡ true
+        → IfOk result (λ text. string_bytes text ≡ plain_text (painted_alone events table.now.texts)) }
+    ensures memory_alone { IsOkUnless result Fault.OutOfMemory }
+{
+    table.to_text()
+}
+
+/// What an option reads of a table's sizes is what is set when it is applied: where no cell spans the sizes that the texts ask for, and else
+/// those of columns and rows in which each cell that is shown has room, by the lines that are drawn then.
+pub fn sizes_by_what_is_set<P>(table: &mut TextTable, option: P) -> Result<(), OutOfMemory>
+where
+    P: TableOption<Shape, ColoredConfig, FixedDimension> + Drop,
+    ensures read { OnOk result ((read : FixedDimension) × (read.widths.items ≡ widths_read table.old.config.spanned table.old.texts) × (read.heights.items ≡ heights_read table.old.config.spanned table.old.texts)
+        × Changes (P.makes option (shape_of table.old.texts) read table.old.config) table.old.config table.new.config) }
+    ensures unchanged { OnErr result (table.new ≡ table.old) }
+{
+    table.apply(option)
 }
 
 /// The same text after another one, which a refusal leaves as it was.
 pub fn text_appended(table: &TextTable, out: &mut String) -> Result<(), PrintError>
     ensures text { (events : List ConfigEvent) → borders.Shows events table.now.config.spanned → OnOk result (string_bytes out.new ≡ string_bytes out.old ++ text_of events table.now.texts) }
     ensures unchanged { OnErr result (string_bytes out.new ≡ string_bytes out.old) }
-    ensures refusal { MatchOption (slice_get (span_faults table.now.config.spanned) 0) (IsOkUnless result Fault.OutOfMemory) (λ fault. result ≡ Err fault) }
+    ensures refusal { IsOkUnless result Fault.OutOfMemory }
 {
     table.append_to(out)
 }
@@ -149,40 +173,40 @@ pub fn text_appended(table: &TextTable, out: &mut String) -> Result<(), PrintErr
 /// The same text to a writer: only the writer's own fault can leave something written.
 pub fn text_written<W: fmt::Write>(table: &TextTable, out: &mut W) -> Result<(), TableError>
     ensures text { (events : List ConfigEvent) → borders.Shows events table.now.config.spanned → OnOk result (W.write_str_gives out.old (text_of events table.now.texts) out.new) }
-    ensures refusal { MatchOption (slice_get (span_faults table.now.config.spanned) 0) (IfErr result (λ e. (e ≡ Refusal.OutOfMemory) ⊎ (e ≡ Refusal.Write))) (λ fault. result ≡ Err (of_printer fault)) }
+    ensures refusal { IfErr result (λ e. (e ≡ Refusal.OutOfMemory) ⊎ (e ≡ Refusal.Write)) }
     ensures unwritten { IfErr result (λ e. (e ≡ Refusal.Write) ⊎ (out.new ≡ out.old)) }
 {
     table.write_to(out)
 }
 
-/// Where only narrow characters were written, the text of a table of equal rows is a rectangle, whatever its cells say and however they
-/// stand, and with any margin: each of its lines takes as many columns of the terminal as the others.
+/// Where only narrow characters were written and no cell spans, the text of a table of equal rows is a rectangle, whatever its cells say and
+/// however they stand, and with any margin: each of its lines takes as many columns of the terminal as the others.
 pub fn text_is_a_rectangle()
-    ensures { (events : List ConfigEvent) (table : Table) → unequal_row table ≡ None → ((r c : ℕ) → IsUtf8 (cell (slice_index_or table r []) c)) → WritesNarrow events
+    ensures { (events : List ConfigEvent) (table : Table) → unequal_row table ≡ None → ((r c : ℕ) → IsUtf8 (cell (slice_index_or table r []) c)) → WritesNarrow events → sets_no_spans events ≡ true
         → IsRectangle (text_width (look_of events table) (margin_set events)) (text_of events table) }
 {}
 
 /// And each vertical line that is drawn stands straight: reading the text's lines in the column that follows the left side of the margin and
 /// the columns before the line gives, from top to bottom, what the places along it show.
 pub fn vertical_lines_stand_straight()
-    ensures { (events : List ConfigEvent) (table : Table) → unequal_row table ≡ None → ((r c : ℕ) → IsUtf8 (cell (slice_index_or table r []) c)) → WritesNarrow events
+    ensures { (events : List ConfigEvent) (table : Table) → unequal_row table ≡ None → ((r c : ℕ) → IsUtf8 (cell (slice_index_or table r []) c)) → WritesNarrow events → sets_no_spans events ≡ true
         → is_empty (look_of events table).shape ≡ false → (c : ℕ) → c ≤ column_count table → (look_of events table).vertical c ≡ true
         → StandsStraightIn (look_of events table) (margin_set events) c (pieces (text_of events table)) }
 {}
 
 /// A table that is kept within a number of columns of the terminal prints lines that take no more, with its cells, its lines and its margin:
-/// where only narrow characters were written, where the columns can have one column each, and where each text can be kept within the share
+/// where only narrow characters were written, where no cell spans, where the columns can have one column each, and where each text can be kept within the share
 /// of its column, as one can whose characters take one column, and one of any characters that is cut off.
 pub fn fitted_table_fits(
     table: &mut TextTable,
     total: usize,
     how: Overflow<'_>,
 ) -> Result<String, PrintError>
-    ensures fits { (events : List ConfigEvent) → borders.Shows events table.old.config.spanned → WritesNarrow events → CanShare how.entry 1 (total - frame_width events table.old.texts) table.old.texts
+    ensures fits { (events : List ConfigEvent) → borders.Shows events table.old.config.spanned → WritesNarrow events → sets_no_spans events ≡ true → CanShare how.entry 1 (total - frame_width events table.old.texts) table.old.texts
         → least_width 1 events table.old.texts ≤ total → IfOk result (λ text. list_all (λ line. nat_le (width_of_text line) total) (pieces (string_bytes text)) ≡ true) }
     ensures texts { (events : List ConfigEvent) → borders.Shows events table.old.config.spanned
         → IfOk result (λ text. IsFitted how.entry 1 (total - frame_width events table.old.texts) table.old.texts table.new.texts) }
-    ensures printable { (events : List ConfigEvent) → borders.Shows events table.old.config.spanned → WritesNarrow events → ends_printable how.entry ≡ true → CellsArePrintable table.old.texts
+    ensures printable { (events : List ConfigEvent) → borders.Shows events table.old.config.spanned → WritesNarrow events → sets_no_spans events ≡ true → ends_printable how.entry ≡ true → CellsArePrintable table.old.texts
         → least_width 1 events table.old.texts ≤ total → IfOk result (λ text. list_all (λ line. nat_le (width_of_text line) total) (pieces (string_bytes text)) ≡ true) }
 {
     table.fit(total, how)?;
@@ -198,11 +222,11 @@ pub fn fitted_with_least_shares(
     how: Overflow<'_>,
 ) -> Result<String, PrintError>
     ensures fits { (events : List ConfigEvent) → borders.Shows events table.old.config.spanned → WritesNarrow events
-        → CanShare how.entry (max least 1) (total - frame_width events table.old.texts) table.old.texts → least_width (max least 1) events table.old.texts ≤ total
+        → sets_no_spans events ≡ true → CanShare how.entry (max least 1) (total - frame_width events table.old.texts) table.old.texts → least_width (max least 1) events table.old.texts ≤ total
         → IfOk result (λ text. list_all (λ line. nat_le (width_of_text line) total) (pieces (string_bytes text)) ≡ true) }
     ensures texts { (events : List ConfigEvent) → borders.Shows events table.old.config.spanned
         → IfOk result (λ text. IsFitted how.entry (max least 1) (total - frame_width events table.old.texts) table.old.texts table.new.texts) }
-    ensures printable { (events : List ConfigEvent) → borders.Shows events table.old.config.spanned → WritesNarrow events → ends_printable how.entry ≡ true → CellsArePrintable table.old.texts
+    ensures printable { (events : List ConfigEvent) → borders.Shows events table.old.config.spanned → WritesNarrow events → sets_no_spans events ≡ true → ends_printable how.entry ≡ true → CellsArePrintable table.old.texts
         → least_width (max least 1) events table.old.texts ≤ total → IfOk result (λ text. list_all (λ line. nat_le (width_of_text line) total) (pieces (string_bytes text)) ≡ true) }
 {
     table.fit_with(total, least, how)?;
@@ -247,9 +271,9 @@ pub fn cleaned_table_in_color(table: &mut TextTable) -> Result<String, PrintErro
     table.to_ansi()
 }
 
-/// Where the margin has no room, the text of a table is what the plain printer prints around its cells.
+/// Where the margin has no room and no cell spans, the text of a table is what the plain printer prints around its cells.
 pub fn text_without_margin()
-    ensures { (events : List ConfigEvent) (table : Table) → is_without_room (margin_set events) ≡ true
+    ensures { (events : List ConfigEvent) (table : Table) → is_without_room (margin_set events) ≡ true → sets_no_spans events ≡ true
         → text_of events table ≡ printed events (length table, column_count table) (slice_index (column_widths table)) (slice_index (row_heights table))
         (cell_texts events table) }
 {}
@@ -259,7 +283,7 @@ pub fn text_without_margin()
 pub fn text_in_color(table: &TextTable) -> Result<String, PrintError>
     ensures text { (events : List ConfigEvent) → Shows events table.now.config → IfOk result (λ text. string_bytes text ≡ colored_text (painted events table.now.texts)) }
     ensures characters { IfOk result (λ _. (events : List ConfigEvent) → text_of events table.now.texts ≡ plain_text (painted events table.now.texts)) }
-    ensures refusal { MatchOption (slice_get (span_faults table.now.config.spanned) 0) (IsOkUnless result Fault.OutOfMemory) (λ fault. result ≡ Err fault) }
+    ensures refusal { IsOkUnless result Fault.OutOfMemory }
 {
     table.to_ansi()
 }
@@ -268,7 +292,7 @@ pub fn text_in_color(table: &TextTable) -> Result<String, PrintError>
 pub fn text_in_color_appended(table: &TextTable, out: &mut String) -> Result<(), PrintError>
     ensures text { (events : List ConfigEvent) → Shows events table.now.config → OnOk result (string_bytes out.new ≡ string_bytes out.old ++ colored_text (painted events table.now.texts)) }
     ensures unchanged { OnErr result (string_bytes out.new ≡ string_bytes out.old) }
-    ensures refusal { MatchOption (slice_get (span_faults table.now.config.spanned) 0) (IsOkUnless result Fault.OutOfMemory) (λ fault. result ≡ Err fault) }
+    ensures refusal { IsOkUnless result Fault.OutOfMemory }
 {
     table.append_ansi_to(out)
 }
@@ -279,7 +303,7 @@ pub fn text_in_color_written<W: fmt::Write>(
     out: &mut W,
 ) -> Result<(), TableError>
     ensures text { (events : List ConfigEvent) → Shows events table.now.config → OnOk result (W.write_str_gives out.old (colored_text (painted events table.now.texts)) out.new) }
-    ensures refusal { MatchOption (slice_get (span_faults table.now.config.spanned) 0) (IfErr result (λ e. (e ≡ Refusal.OutOfMemory) ⊎ (e ≡ Refusal.Write))) (λ fault. result ≡ Err (of_printer fault)) }
+    ensures refusal { IfErr result (λ e. (e ≡ Refusal.OutOfMemory) ⊎ (e ≡ Refusal.Write)) }
     ensures unwritten { IfErr result (λ e. (e ≡ Refusal.Write) ⊎ (out.new ≡ out.old)) }
 {
     table.write_ansi_to(out)
@@ -288,7 +312,7 @@ pub fn text_in_color_written<W: fmt::Write>(
 /// The text to a stream of bytes, such as standard output: only the stream's own fault can leave something written.
 pub fn text_printed<W: io::Write>(table: &TextTable, out: &mut W) -> Result<(), TableError>
     ensures text { (events : List ConfigEvent) → borders.Shows events table.now.config.spanned → OnOk result (Appends (W.contents out.old) (W.contents out.new) (text_of events table.now.texts)) }
-    ensures refusal { MatchOption (slice_get (span_faults table.now.config.spanned) 0) (IfErr result (λ e. (e ≡ Refusal.OutOfMemory) ⊎ (e ≡ Refusal.Write))) (λ fault. result ≡ Err (of_printer fault)) }
+    ensures refusal { IfErr result (λ e. (e ≡ Refusal.OutOfMemory) ⊎ (e ≡ Refusal.Write)) }
     ensures unwritten { IfErr result (λ e. (e ≡ Refusal.Write) ⊎ (out.new ≡ out.old)) }
 {
     table.print_to(out)
@@ -297,7 +321,7 @@ pub fn text_printed<W: io::Write>(table: &TextTable, out: &mut W) -> Result<(), 
 /// The same in color.
 pub fn text_in_color_printed<W: io::Write>(table: &TextTable, out: &mut W) -> Result<(), TableError>
     ensures text { (events : List ConfigEvent) → Shows events table.now.config → OnOk result (Appends (W.contents out.old) (W.contents out.new) (colored_text (painted events table.now.texts))) }
-    ensures refusal { MatchOption (slice_get (span_faults table.now.config.spanned) 0) (IfErr result (λ e. (e ≡ Refusal.OutOfMemory) ⊎ (e ≡ Refusal.Write))) (λ fault. result ≡ Err (of_printer fault)) }
+    ensures refusal { IfErr result (λ e. (e ≡ Refusal.OutOfMemory) ⊎ (e ≡ Refusal.Write)) }
     ensures unwritten { IfErr result (λ e. (e ≡ Refusal.Write) ⊎ (out.new ≡ out.old)) }
 {
     table.print_ansi_to(out)

@@ -3,3 +3,4 @@ pub mod CoveredLemmas
 pub mod InOrder
 pub mod Pictures
 pub mod Standing
+pub mod SpanEvents

@@ -16,19 +16,15 @@ use tabled_object::{Entity, ExactRecords, Position, Records};
 /// Corrects the crossings on the borders of cells that span several columns or several rows: each becomes the character
 /// of the lines that still meet there.
 ///
-/// In a table of three columns whose first cell spans all of them:
+/// In a table of three columns whose first cell spans all of them, before and after:
 ///
 /// ```text
-/// before         after
 /// +---+---+---+  +-----------+
-/// |  June     |  |  June     |
+/// | June      |  | June      |
 /// +---+---+---+  +---+---+---+
 /// | 9 | 1 | 7 |  | 9 | 1 | 7 |
 /// +---+---+---+  +---+---+---+
 /// ```
-///
-/// The plain printer refuses tables with spans; whoever prints them by other means finds the characters with
-/// `SpannedConfig::char_at`.
 #[derive(Debug, Drop)]
 pub struct BorderCorrection {}
 

@@ -7,6 +7,8 @@ mod border_correction;
 mod covered;
 mod interval;
 mod picture;
+mod span;
 mod steps;
 
 pub use border_correction::BorderCorrection;
+pub use span::Span;

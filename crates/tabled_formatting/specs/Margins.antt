@@ -11,6 +11,23 @@ use Rattle.tabled_color.specs.Shade.{Shade, texts_of}
 use Rattle.tabled_formatting.specs.SideTexts.{side_texts}
 use Rattle.tabled_formatting.specs.declared.shadow.Shadow.{Shadow}
 
+-- so much room on a side, filled with spaces
+abbrev pub spaces : ℕ → Indent
+spaces size = record { size = size; fill = 32 }
+
+-- the same room on each side, filled with other characters
+abbrev pub with_fills : Sides Indent → ℕ → ℕ → ℕ → ℕ → Sides Indent
+with_fills sizes left right top bottom = record {
+  left = record { size = sizes.left.size; fill = left };
+  right = record { size = sizes.right.size; fill = right };
+  top = record { size = sizes.top.size; fill = top };
+  bottom = record { size = sizes.bottom.size; fill = bottom };
+}
+
+-- room on each side of the margin
+abbrev pub margin_given : Sides Indent → List ConfigEvent
+margin_given sizes = by_margin (of_size sizes)
+
 -- a color for each side of the margin
 abbrev pub margin_colored : {C : Type 0} → (C → List ℕ) → (C → List ℕ) → Sides C → List ConfigEvent
 margin_colored prefix suffix colors = by_margin (of_color (side_texts prefix suffix colors))

@@ -1,5 +1,5 @@
 //! Options that set how the texts of cells stand in them, what fills the cells beside these, and the margin around a table: its
-//! color, and a shadow that falls there.
+//! room, its color, and a shadow that falls there.
 //!
 //! `docs/DEFINITIONS.md` explains the words of the contracts.
 #![tactic(auto)]
@@ -8,6 +8,7 @@ mod alignment;
 mod alignment_strategy;
 mod compact_options;
 mod justification;
+mod margin;
 mod margin_color;
 mod padding_color;
 mod shadow;
@@ -17,6 +18,7 @@ mod trim_strategy;
 pub use alignment::Alignment;
 pub use alignment_strategy::AlignmentStrategy;
 pub use justification::Justification;
+pub use margin::Margin;
 pub use margin_color::MarginColor;
 pub use padding_color::PaddingColor;
 pub use shadow::Shadow;

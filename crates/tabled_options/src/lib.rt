@@ -1,6 +1,6 @@
 //! Options that write on the lines of a table: single characters, and texts.
 //!
-//! The outline around cells is written in `tabled_highlight`, the correction of borders of cells that span in
+//! The outline around cells is written in `tabled_highlight`, cells that span and the correction of their borders in
 //! `tabled_correction`, colors in turn in `tabled_colorization`, what is set for texts and of the margin in `tabled_formatting`;
 //! all are passed on here.
 //!
@@ -18,8 +18,9 @@ mod written;
 pub use line_char::LineChar;
 pub use line_text::LineText;
 pub use tabled_colorization::{CellColor, Colorization, ExactColorization};
-pub use tabled_correction::BorderCorrection;
+pub use tabled_correction::{BorderCorrection, Span};
 pub use tabled_formatting::{
-    Alignment, AlignmentStrategy, Justification, MarginColor, PaddingColor, Shadow, TrimStrategy,
+    Alignment, AlignmentStrategy, Justification, Margin, MarginColor, PaddingColor, Shadow,
+    TrimStrategy,
 };
 pub use tabled_highlight::Highlight;

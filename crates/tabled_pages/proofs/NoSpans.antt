@@ -7,8 +7,8 @@ use Rattle.tabled_grid.specs.declared.event.Event.TheVariants.{Erase as erase}
 use Rattle.tabled_grid.specs.declared.event.Region.TheVariants.{All as every_site}
 use Rattle.tabled_grid.specs.State.{class_record_set}
 use Rattle.tabled_layout.specs.TableSettings.{settings_after, first_settings}
-use Rattle.tabled_configuration.specs.Configuration.{Configuration, Shows, settings_of, by_characters, by_colors, borders_replaced, horizontal_lines_put, vertical_lines_put}
-use Rattle.tabled_printing.specs.Refusal.{has_no_spans}
+use Rattle.tabled_configuration.specs.Configuration.{settings_of, by_characters, by_colors, borders_replaced, horizontal_lines_put, vertical_lines_put}
+use Rattle.tabled_text.specs.Cells.{settings_set, sets_no_spans}
 use Rattle.tabled_style.specs.declared.ready_style.ReadyStyle.{ReadyStyle}
 use Rattle.tabled_style.specs.Named.{shown}
 use Rattle.tabled_pages.specs.Style.{styled}
@@ -17,19 +17,18 @@ no_settings_of_colors : (fs : List (Event Texts)) → settings_of (by_colors fs)
 no_settings_of_colors [] = refl
 no_settings_of_colors (f ∷ fs) = no_settings_of_colors fs
 
-no_settings : (es : List (Event ℕ)) (fs : List (Event Texts)) → settings_of (by_characters es ++ by_colors fs) ≡ []
+pub no_settings : (es : List (Event ℕ)) (fs : List (Event Texts)) → settings_of (by_characters es ++ by_colors fs) ≡ []
 no_settings [] fs = no_settings_of_colors fs
 no_settings (e ∷ es) fs = no_settings es fs
 
-no_settings_of_style : (style : ReadyStyle) → settings_of (styled style) ≡ []
+pub no_settings_of_style : (style : ReadyStyle) → settings_of (styled style) ≡ []
 unfolding borders_replaced
 no_settings_of_style style =
     no_settings (erase every_site ∷ horizontal_lines_put (shown style).horizontals ++ vertical_lines_put (shown style).verticals ++ class_record_set (shown style).borders)
     (erase every_site ∷ [])
 
-pub no_spans : (style : ReadyStyle) (cfg : Configuration) → Shows (styled style) cfg → has_no_spans cfg ≡ true
-no_spans style cfg shows =
-    let same = shows.settings_shown ∙ ap (settings_after first_settings) (no_settings_of_style style) in
-    let cols : len cfg.settings.column_spans ≡ 0 = ap (λ settings. len settings.column_spans) same ∙ len-empty _ _ in
-    let rows : len cfg.settings.row_spans ≡ 0 = ap (λ settings. len settings.row_spans) same ∙ len-empty _ _ in
-    ap (λ n. (n == 0) && (len cfg.settings.row_spans == 0)) cols ∙ ap (λ n. n == 0) rows
+pub no_spans : (style : ReadyStyle) → sets_no_spans (styled style) ≡ true
+no_spans style =
+    let none : len (settings_set (styled style)).column_spans ≡ 0 = ap (λ es. len (settings_after first_settings es).column_spans) (no_settings_of_style style) ∙ len-empty _ _ in
+    let others : len (settings_set (styled style)).row_spans ≡ 0 = ap (λ es. len (settings_after first_settings es).row_spans) (no_settings_of_style style) ∙ len-empty _ _ in
+    λ i. (none i == 0) && (others i == 0)

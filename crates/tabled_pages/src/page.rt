@@ -2,7 +2,6 @@
 
 ghost use Rattle.std.specs.Prelude.{◌≡◌, ◌≤◌, ◌⊎◌, List, ◌++◌, ◌∷◌, [], Some, None, true, false, length, string_bytes, IfOk, IfErr, OnOk};
 ghost use Rattle.tabled_configuration.specs.Configuration.{ConfigEvent, Shows};
-ghost use Rattle.tabled_printing.specs.Refusal.{has_no_spans};
 ghost use Rattle.tabled_printing.specs.Texts.{texts};
 ghost use Rattle.tabled_text.specs.TextTable.{text_of};
 ghost use Rattle.tabled_pages.specs.Input.{fault_of, have_equal_counts, rows_of};
@@ -42,7 +41,6 @@ fn styled_table(
 ) -> Result<TextTable, ShowError>
     ensures texts { IfOk result (λ table. table.texts ≡ texts rows.items) }
     ensures config { IfOk result (λ table. Shows (styled style) table.config.spanned) }
-    ensures spans { IfOk result (λ table. has_no_spans table.config.spanned ≡ true) }
     ensures equal { OnOk result (have_equal_counts (texts rows.items) ≡ true) }
     ensures refused { IfErr result (λ e. (e ≡ ShowError.OutOfMemory) ⊎ ((e ≡ ShowError.UnequalRows) × (have_equal_counts (texts rows.items) ≡ false))) }
 {
@@ -51,9 +49,8 @@ fn styled_table(
     Ok(table)
 }
 
-/// The text of a table without spans, with a line feed after it.
+/// The text of a table, with a line feed after it.
 fn text_of(table: &TextTable) -> Result<String, ShowError>
-    requires { has_no_spans table.now.config.spanned ≡ true }
     ensures text { (es : List ConfigEvent) → Shows es table.now.config.spanned → IfOk result (λ text. string_bytes text ≡ text_of es table.now.texts ++ LINE_FEED ∷ []) }
     ensures refused { IfErr result (λ e. e ≡ ShowError.OutOfMemory) }
 {
@@ -63,7 +60,7 @@ fn text_of(table: &TextTable) -> Result<String, ShowError>
             Ok(text)
         }
         Err(PrintError::OutOfMemory) => Err(ShowError::OutOfMemory),
-        Err(_) => unreachable!("no span is set"),
+        Err(_) => unreachable!("memory alone is refused"),
     }
 }
 

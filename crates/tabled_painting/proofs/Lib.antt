@@ -9,3 +9,6 @@ pub mod AlikeLemmas
 pub mod BareLemmas
 pub mod MarginWidths
 pub mod Even
+pub mod SpannedPlain
+pub mod SpannedLemmas
+pub mod DrawnLemmas

@@ -19,7 +19,7 @@ use Rattle.tabled_painting.specs.InColor.{in_color}
 use Rattle.tabled_painting.specs.Pages.{PaintsLines, PaintsWhole, Strips, written, text_of_lines}
 use Rattle.tabled_painting.proofs.PageLemmas.{whole_both}
 use Rattle.tabled_painting.specs.Margin.{Side, side_of, side_at, is_left_out, between_sides, strip, in_margin, left_side, right_side, top_side, bottom_side}
-use Rattle.tabled_painting.specs.PaintedTable.{Cells, painted_marks, painted_between, painted_if_drawn, painted_row, painted_lines, painted_table}
+use Rattle.tabled_painting.specs.PaintedTable.{Cells, painted_marks, painted_between, painted_if_drawn, painted_row, painted_lines, with_margin}
 
 -- what holds of a value that is returned, by what else holds of it
 pub on_value : {T E : Type 0} (r : Result T E) (P Q : T → Type 0) → IfOk r P → ((x : T) → P x → Q x) → IfOk r Q
@@ -48,11 +48,11 @@ between_none left right high n (line ∷ lines) no_left no_right =
 
 -- ---- how many lines a table has
 
-same_lengths : {A B : Type 0} (f : ℕ → List A) (g : ℕ → List B) (ns : List ℕ) → ((n : ℕ) → length (f n) ≡ length (g n)) → length (flat_map f ns) ≡ length (flat_map g ns)
+pub same_lengths : {A B : Type 0} (f : ℕ → List A) (g : ℕ → List B) (ns : List ℕ) → ((n : ℕ) → length (f n) ≡ length (g n)) → length (flat_map f ns) ≡ length (flat_map g ns)
 same_lengths f g [] same = refl
 same_lengths f g (n ∷ ns) same = length-append (f n) (flat_map f ns) ∙ (λ i. same n i + same_lengths f g ns same i) ∙ sym (length-append (g n) (flat_map g ns))
 
-one_or_none : {A B : Type 0} (b : Bool) (x : A) (y : B) → length (if b then x ∷ [] else []) ≡ length (if b then y ∷ [] else [])
+pub one_or_none : {A B : Type 0} (b : Bool) (x : A) (y : B) → length (if b then x ∷ [] else []) ≡ length (if b then y ∷ [] else [])
 one_or_none true x y = refl
 one_or_none false x y = refl
 
@@ -80,25 +80,22 @@ module _ (view : Look) (cells : Cells) where
 pub lines_whole : (lines : List Painted) (old new : Page) → PaintsLines lines old new → PaintsWhole (between_sides (side_of old.left) (side_of old.right) old.high old.number lines) old.painter new.painter
 lines_whole lines old new p = record { text = p.text; ended = p.ended; same_colors = p.same_colors }
 
-module _ (view : Look) (margin : MarginSides) (kept : Margin) (cells : Cells) (high long : ℕ)
+module _ (view : Look) (margin : MarginSides) (kept : Margin) (lines : List Painted) (high long : ℕ)
     (left : side_of margin.left ≡ left_side kept) (right : side_of margin.right ≡ right_side kept) (top : side_of margin.top ≡ top_side kept) (bottom : side_of margin.bottom ≡ bottom_side kept) where
-  lines : List Painted
-  lines = painted_lines view cells
-
   parts : Side → Side → Side → Side → List Painted
   parts l r t b =
       replicate t.size (strip t (l.size + length (marks_along view (LineOf.Horizontal 0)) + r.size)) ++ between_sides l r (length lines) 0 lines
       ++ replicate b.size (strip b (l.size + length (marks_along view (LineOf.Horizontal 0)) + r.size))
 
   pub in_its_margin : is_empty view.shape ≡ false → Strips view margin long
-      → between_sides (side_of margin.left) (side_of margin.right) high 0 (painted_lines view cells) ≡ between_sides (side_of margin.left) (side_of margin.right) (length (painted_lines view cells)) 0 (painted_lines view cells)
-      → replicate margin.top.size (strip (side_of margin.top) long) ++ between_sides (side_of margin.left) (side_of margin.right) high 0 (painted_lines view cells)
-      ++ replicate margin.bottom.size (strip (side_of margin.bottom) long) ≡ painted_table view kept cells
-  unfolding painted_table lines parts
+      → between_sides (side_of margin.left) (side_of margin.right) high 0 lines ≡ between_sides (side_of margin.left) (side_of margin.right) (length lines) 0 lines
+      → replicate margin.top.size (strip (side_of margin.top) long) ++ between_sides (side_of margin.left) (side_of margin.right) high 0 lines
+      ++ replicate margin.bottom.size (strip (side_of margin.bottom) long) ≡ with_margin view kept lines
+  unfolding parts
   in_its_margin any strips highs =
       (λ i. strips.top i ++ highs i ++ strips.bottom i)
       ∙ (λ i. parts (left i) (right i) (top i) (bottom i))
-      ∙ sym (ap (λ b. if b then [] else in_margin kept (length (marks_along view (LineOf.Horizontal 0))) (painted_lines view cells)) any)
+      ∙ sym (ap (λ b. if b then [] else in_margin kept (length (marks_along view (LineOf.Horizontal 0))) lines) any)
 
 pub painted_in_margin : (old first second new : Painter) (xs ys zs whole : List Painted) → xs ++ ys ++ zs ≡ whole → PaintsWhole xs old first → PaintsWhole ys first second → PaintsWhole zs second new → PaintsWhole whole old new
 painted_in_margin old first second new xs ys zs whole is p q r =
@@ -115,10 +112,10 @@ pub lines_written : (wanted with_colors : Bool) (lines : List Painted) (first te
 lines_written wanted with_colors lines first text none same wrote =
     wrote ∙ ap (λ bs. bs ++ flat_map (written with_colors) lines) none ∙ ap (λ w. flat_map (written w) lines) same ∙ written_ended wanted lines
 
-pub no_places : (view : Look) (margin : Margin) (cells : Cells) (with_colors : Bool) → is_empty view.shape ≡ true → text_of_lines with_colors (painted_table view margin cells) ≡ []
-unfolding painted_table text_of_lines
-no_places view margin cells with_colors empty =
-    ap (λ b. join_with_byte 10 (map (λ line. in_color (colored_if with_colors line)) (if b then [] else in_margin margin (length (marks_along view (LineOf.Horizontal 0))) (painted_lines view cells)))) empty
+pub no_places : (view : Look) (margin : Margin) (lines : List Painted) (with_colors : Bool) → is_empty view.shape ≡ true → text_of_lines with_colors (with_margin view margin lines) ≡ []
+unfolding text_of_lines
+no_places view margin lines with_colors empty =
+    ap (λ b. join_with_byte 10 (map (λ line. in_color (colored_if with_colors line)) (if b then [] else in_margin margin (length (marks_along view (LineOf.Horizontal 0))) lines))) empty
 
 pub no_rows : (rows cols : ℕ) → rows ≡ 0 → is_empty (rows, cols) ≡ true
 no_rows rows cols none = ap (λ n. (n == 0) || (cols == 0)) none

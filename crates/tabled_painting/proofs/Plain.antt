@@ -54,7 +54,7 @@ plain_if true mark = plain_paint mark.1 (text_shown (mark.0 ∷ []))
 plain_if false mark = refl
 
 module _ (view : Look) where
-  plain_side : (r k c : ℕ) → plain (painted_side view r k c) ≡ text_shown (side_shown view r k c)
+  pub plain_side : (r k c : ℕ) → plain (painted_side view r k c) ≡ text_shown (side_shown view r k c)
   plain_side r k c = plain_if (view.vertical c) (mark_at view (Place.Vertical r c k))
 
   plain_between : (r k : ℕ) (cell : ℕ → Painted) (piece : ℕ → List ℕ) → ((c : ℕ) → c < view.shape.1 → plain (cell c) ≡ piece c) → plain (painted_between view r k cell) ≡ line_of_pieces view r k piece
@@ -165,7 +165,7 @@ between_same left right high n (line ∷ lines) (other ∷ others) same =
     λ i. (plain_three before line after ∙ ap (λ bs. plain before ++ bs ++ plain after) first ∙ sym (plain_three before other after)) i ∷ between_same left right high (n + 1) lines others more i
 
 -- the characters of a margin around lines are those of one around other lines with the same characters
-margin_same : (margin : Margin) (columns other : ℕ) (lines others : List Painted) → columns ≡ other → map plain lines ≡ map plain others → map plain (in_margin margin columns lines) ≡ map plain (in_margin margin other others)
+pub margin_same : (margin : Margin) (columns other : ℕ) (lines others : List Painted) → columns ≡ other → map plain lines ≡ map plain others → map plain (in_margin margin columns lines) ≡ map plain (in_margin margin other others)
 margin_same margin columns other lines others long same =
     let left = left_side margin in
     let right = right_side margin in

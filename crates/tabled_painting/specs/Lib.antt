@@ -11,3 +11,5 @@ pub mod Rows
 pub mod Stretches
 pub mod BareCells
 pub mod Widths
+pub mod PaintedSpans
+pub mod RoomLines

@@ -49,7 +49,7 @@ pub(crate) struct TableLines<'a, 'b> {
 
 impl<'a, 'b> TableLines<'a, 'b> {
     ghost use Rattle.tabled_painting.specs.Rows.{line_of};
-    ghost use Rattle.tabled_painting.specs.PaintedTable.{painted_between, painted_if_drawn, painted_lines};
+    ghost use Rattle.tabled_painting.specs.PaintedTable.{painted_between, painted_cell, painted_if_drawn, painted_lines};
     ghost use Rattle.tabled_painting.specs.Rows.{cells_of, row_cell, row_painted};
     ghost use Rattle.tabled_painting.specs.Viewed.{viewed};
 
@@ -93,7 +93,7 @@ impl<'a, 'b> TableLines<'a, 'b> {
     }
 
     /// Paints a horizontal line, which is not past the last one, if the line is drawn.
-    fn paint_line(&self, page: &mut Page<'a>, row: usize) -> Result<(), OutOfMemory>
+    pub(crate) fn paint_line(&self, page: &mut Page<'a>, row: usize) -> Result<(), OutOfMemory>
         requires within { row ≤ self.now.frame.shape.0 }
         requires ended { option_copied page.old.painter.color ≡ None }
         requires colors { page.old.painter.with_colors ≡ self.now.frame.with_colors }
@@ -112,6 +112,23 @@ impl<'a, 'b> TableLines<'a, 'b> {
         Ok(())
     }
 
+    /// A cell with the lines of a text, by what is set for its place and by the colors there, in a room of that width and height.
+    pub(crate) fn cell_of(
+        &self,
+        position: Position,
+        size: (usize, usize),
+        text: &'a str,
+        room: Vec<&'a str>,
+    ) -> Result<CellLines<'a>, OutOfMemory>
+        ensures { IfOk result (λ cell. (at : ℕ) → line_of at cell ≡ painted_cell self.now.frame.cfg.now.settings.cells self.now.colors.now size.0 size.1 text.now position.row position.col at) }
+    {
+        let alloc = self.frame.cfg.allocator();
+        let how = Placement::of(self.frame.cfg, position);
+        let colors = CellColors::of(self.frame.cfg, self.colors, position);
+        let cell = CellLines::of(alloc, how, colors, size, text, room)?;
+        Ok(cell)
+    }
+
     /// Paints the first line of a cell, and then a side, if there is one. The cell goes behind the other ones, whose room it may
     /// take where its row is one line high.
     fn paint_set(
@@ -127,14 +144,12 @@ impl<'a, 'b> TableLines<'a, 'b> {
     {
         let alloc = self.frame.cfg.allocator();
         let room = room_of(alloc, cells, is_low);
-        let how = Placement::of(self.frame.cfg, position);
-        let colors = CellColors::of(self.frame.cfg, self.colors, position);
         let sizes = self.frame.dims;
         let size = (
             sizes.get_width(position.col),
             sizes.get_height(position.row),
         );
-        let cell = CellLines::of(alloc, how, colors, size, text, room)?;
+        let cell = self.cell_of(position, size, text, room)?;
         cell.paint_line(painter, 0)?;
         cells.push(cell)?;
         Ok(())

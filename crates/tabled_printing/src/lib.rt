@@ -6,6 +6,7 @@
 mod alike;
 mod columns;
 mod frame;
+mod line_parts;
 mod line_pieces;
 mod mark;
 mod marks;

@@ -55,7 +55,7 @@ impl<'a, D: Dimension> Walk<'a, '_, '_, D> {
     }
 
     /// Whether a place of an edge may show something else than its edge: at most two readings.
-    fn has_offsets(&self, probes: &mut Probes) -> bool
+    pub(crate) fn has_offsets(&self, probes: &mut Probes) -> bool
         ensures characters { IsFalse result → HasNoOffsets (direction_of self.now.line) self.now.cfg.now.characters }
         ensures colors { IsFalse result → self.now.with_colors ≡ true → HasNoOffsets (direction_of self.now.line) self.now.cfg.now.colors }
         ensures probes { IsRaised 2 probes.old probes.new }
@@ -65,7 +65,7 @@ impl<'a, D: Dimension> Walk<'a, '_, '_, D> {
     }
 
     /// Puts the mark of a crossing, if the other line is drawn.
-    fn put_crossing<S: Sink<'a>>(
+    pub(crate) fn put_crossing<S: Sink<'a>>(
         &self,
         sink: &mut S,
         n: usize,
@@ -152,7 +152,7 @@ impl<'a, D: Dimension> Walk<'a, '_, '_, D> {
     }
 
     /// Puts the marks of a crossing and of the edge after it.
-    fn put_piece<S: Sink<'a>>(
+    pub(crate) fn put_piece<S: Sink<'a>>(
         &self,
         sink: &mut S,
         n: usize,

@@ -1,5 +1,5 @@
 -- The lines of a table's text are as wide as each other, and its vertical lines stand straight.
-use Rattle.std.proofs.Common.{◌≡◌, ◌==◌, ℕ, ◌<◌, ◌≤◌, zero, suc, true, false, ◌||◌, eqb, List, [], ◌∷◌, map, length, get_or, sym, subst, arith, String, string_bytes, Vec}
+use Rattle.std.proofs.Common.{◌≡◌, ◌==◌, ℕ, ◌<◌, ◌≤◌, zero, suc, true, false, ◌||◌, eqb, List, [], ◌∷◌, map, length, get_or, sym, ap, subst, ◌∙◌, arith, String, string_bytes, Vec}
 use Rattle.std.specs.Prelude.{slice_index}
 use Rattle.std.specs.Str.{IsUtf8}
 use Rattle.std.specs.List.{list_all}
@@ -20,13 +20,14 @@ use Rattle.tabled_cells.specs.Trimmed.{lines_shown}
 use Rattle.tabled_cells.proofs.Fits.{greatest_bound, placed_at_tile}
 use Rattle.tabled_painting.specs.Painted.{plain}
 use Rattle.tabled_painting.specs.CellLines.{coloring_at}
-use Rattle.tabled_painting.specs.PaintedTable.{Cells, painted_cells}
+use Rattle.tabled_painting.specs.PaintedTable.{Cells, painted_cells, painted_table, plain_text}
 use Rattle.tabled_painting.specs.Widths.{text_width, StandsStraightIn}
 use Rattle.tabled_painting.proofs.Even.{table_even, table_straight}
 use Rattle.tabled_painting.proofs.Plain.{plain_cell}
 use Rattle.tabled_text.specs.Sizes.{cell, column_count, column_width, column_widths, row_height, row_heights, width_asked, height_asked}
-use Rattle.tabled_text.specs.Cells.{cells_set, margin_set, cell_colors}
-use Rattle.tabled_text.specs.TextTable.{look_of, painted, text_of}
+use Rattle.tabled_text.specs.Cells.{cells_set, margin_set, cell_colors, sets_no_spans}
+use Rattle.tabled_text.specs.TextTable.{look_of, painted_alone, text_of}
+use Rattle.tabled_text.proofs.SpanLemmas.{text_without}
 
 -- ---- what cells say is text
 
@@ -57,7 +58,7 @@ row_room table r c within inside =
 -- ---- the text
 
 module _ (es : List ConfigEvent) (table : Table) (equal : (r : ℕ) → r < length table → length (get_or table r []) ≡ column_count table) (utf8 : (r c : ℕ) → IsUtf8 (cell (get_or table r []) c))
-    (all : list_all is_narrow_write (characters_of es) ≡ true) where
+    (all : list_all is_narrow_write (characters_of es) ≡ true) (none : sets_no_spans es ≡ true) where
   abbrev view : Look
   view = look_of es table
 
@@ -87,11 +88,14 @@ module _ (es : List ConfigEvent) (table : Table) (equal : (r : ℕ) → r < leng
       not_zero : (n m : ℕ) → (eqb n 0 || eqb m 0) ≡ false → (0 < n) × (0 < m)
       not_zero n m e = (grind (arith, nat_tests), grind (arith, nat_tests))
 
+  text_is : text_of es table ≡ plain_text (painted_table view (margin_set es) cells)
+  unfolding painted_alone
+  text_is = text_without es table none
+
   -- each line is as wide as the others
   pub text_even : list_all (λ line. width_of_text line == text_width view (margin_set es)) (pieces (text_of es table)) ≡ true
-  unfolding text_of painted
-  text_even = table_even view (margin_set es) cells narrow cells_tiles first_high
+  text_even = ap (λ text. list_all (λ line. width_of_text line == text_width view (margin_set es)) (pieces text)) text_is ∙ table_even view (margin_set es) cells narrow cells_tiles first_high
 
   pub text_straight : is_empty view.shape ≡ false → (c : ℕ) → c ≤ column_count table → view.vertical c ≡ true → StandsStraightIn view (margin_set es) c (pieces (text_of es table))
-  unfolding text_of painted
-  text_straight some c inside drawn = table_straight view (margin_set es) cells narrow cells_tiles some (first_high some) c inside drawn
+  text_straight some c inside drawn =
+      subst (λ text. StandsStraightIn view (margin_set es) c (pieces text)) (sym text_is) (table_straight view (margin_set es) cells narrow cells_tiles some (first_high some) c inside drawn)

@@ -9,3 +9,4 @@ pub mod ShareSums
 pub mod Frames
 pub mod Totals
 pub mod EditedLemmas
+pub mod SpanLemmas

@@ -21,7 +21,7 @@ use Rattle.tabled_painting.specs.PaintedTable.{painted_cells, painted_table, pai
 use Rattle.tabled_painting.proofs.Plain.{plain_cell, table_same}
 use Rattle.tabled_text.specs.Sizes.{column_count, column_widths, row_heights}
 use Rattle.tabled_text.specs.Cells.{cells_set, margin_set, cell_colors}
-use Rattle.tabled_text.specs.TextTable.{shape_of, look_of, painted, text_of}
+use Rattle.tabled_text.specs.TextTable.{shape_of, look_of, painted_alone}
 
 -- the characters of cells do not depend on their colors
 same_cells : (settings : CellSettings) (colors others : Option (Live Texts)) (widths heights : List ℕ) (table : Table) (r c k : ℕ)
@@ -45,8 +45,8 @@ module _ (cfg : Configuration) (table : Table) (shape : Shape) (widths heights :
       ∙ (λ i. painted_table (look es ((shaped i).rows, (shaped i).cols) (slice_index (wide i)) (slice_index (high i))) (margin_set es) (painted_cells (cells_set es) colors (wide i) (high i) table))
 
   -- the plain text, whatever colors the cells have
-  pub is_plain_text : plain_text (painted_by (record { spanned = cfg; cell_colors = colors }) (shape.rows, shape.cols) widths heights table) ≡ text_of es table
-  unfolding text_of painted plain_text
+  pub is_plain_text : plain_text (painted_by (record { spanned = cfg; cell_colors = colors }) (shape.rows, shape.cols) widths heights table) ≡ plain_text (painted_alone es table)
+  unfolding painted_alone plain_text
   is_plain_text =
       ap plain_text by_events
       ∙ ap (join_with_byte 10)
@@ -55,8 +55,8 @@ module _ (cfg : Configuration) (table : Table) (shape : Shape) (widths heights :
 
 -- the text in color is that of the painted lines
 pub is_colored_text : (cfg : Colored) (table : Table) (shape : Shape) (widths heights : List ℕ) → shape ≡ shape_of table → widths ≡ column_widths table → heights ≡ row_heights table → (es : List ConfigEvent) → Shows es cfg
-    → painted_by cfg (shape.rows, shape.cols) widths heights table ≡ painted es table
-unfolding painted
+    → painted_by cfg (shape.rows, shape.cols) widths heights table ≡ painted_alone es table
+unfolding painted_alone
 is_colored_text cfg table shape widths heights shaped wide high es shows =
     by_events cfg.spanned table shape widths heights shaped wide high cfg.cell_colors es shows.spanned_shown
     ∙ ap (λ colors. painted_table (look_of es table) (margin_set es) (painted_cells (cells_set es) colors (column_widths table) (row_heights table) table)) shows.cell_colors_shown

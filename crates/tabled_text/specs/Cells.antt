@@ -1,9 +1,11 @@
 -- What is set for a table after a list of events, besides its borders.
-use Rattle.std.specs.Prelude.{Option, None, List, map, length, slice_index}
+use Rattle.std.specs.Prelude.{Bool, ◌==◌, ◌&&◌, Option, None, List, map, length, slice_index}
+use Rattle.std.specs.FinMap.{len}
 use Rattle.std.specs.List.{join_with_byte}
 use Rattle.tabled_object.specs.Entities.{below}
 use Rattle.tabled_settings.specs.declared.cell_settings.CellSettings.{CellSettings}
 use Rattle.tabled_layout.specs.TableSettings.{settings_after, first_settings}
+use Rattle.tabled_layout.specs.declared.table_settings.TableSettings.{TableSettings}
 use Rattle.tabled_configuration.specs.Configuration.{ConfigEvent, settings_of, cell_colors_of}
 use Rattle.tabled_configuration.specs.CellColors.{colors_after}
 use Rattle.tabled_border.specs.Texts.{Texts}
@@ -14,18 +16,24 @@ use Rattle.tabled_painting.specs.Painted.{plain}
 use Rattle.tabled_painting.specs.PaintedTable.{painted_cells}
 use Rattle.tabled_text.specs.Sizes.{column_count, column_widths, row_heights}
 
--- what is set for cells after a list of events
-abbrev pub cells_set : List ConfigEvent → CellSettings
-cells_set es = (settings_after first_settings (settings_of es)).cells
+-- all of it after a list of events; what is set for cells; and the margin and the colors of cells
+abbrev pub settings_set : List ConfigEvent → TableSettings
+settings_set es = settings_after first_settings (settings_of es)
 
--- the margin and the colors of cells after a list of events
+abbrev pub cells_set : List ConfigEvent → CellSettings
+cells_set es = (settings_set es).cells
+
 abbrev pub margin_set : List ConfigEvent → Margin
-margin_set es = (settings_after first_settings (settings_of es)).margin
+margin_set es = (settings_set es).margin
 
 abbrev pub cell_colors : List ConfigEvent → Option (Live Texts)
 cell_colors es = colors_after None (cell_colors_of es)
 
--- the text of each cell as it is shown: its lines, joined by line feeds
+-- whether no cell spans several columns or several rows after a list of events
+abbrev pub sets_no_spans : List ConfigEvent → Bool
+sets_no_spans es = (len (settings_set es).column_spans == 0) && (len (settings_set es).row_spans == 0)
+
+-- the text of each cell as it is shown where none spans: its lines, joined by line feeds
 unfoldable pub cell_texts : List ConfigEvent → Table → Table
 cell_texts es table =
     let lines = painted_cells (cells_set es) (cell_colors es) (column_widths table) (row_heights table) table in

@@ -1,19 +1,24 @@
 -- A table of texts with its configuration, and the text that it prints.
-use Rattle.std.specs.Prelude.{ℕ, List, length, map, slice_index}
+use Rattle.std.specs.Prelude.{◌≡◌, ℕ, true, if◌then◌else◌, List, [], length, map, slice_index, slice_index_or}
 use Rattle.std.specs.Coded.{Coded, codes}
 use Rattle.std.specs.FinMap as finmap
 use Rattle.tabled_object.specs.declared.dimension.FixedDimension.{FixedDimension}
 use Rattle.tabled_object.specs.declared.records.Shape.{Shape}
 use Rattle.tabled_configuration.specs.Colored.{Colored}
-use Rattle.tabled_configuration.specs.Configuration.{ConfigEvent}
+use Rattle.tabled_configuration.specs.Configuration.{Configuration, ConfigEvent, all_writes, characters_of, has_no_spans}
+use Rattle.tabled_grid.specs.Drawn.{drawn}
+use Rattle.tabled_grid.specs.declared.place.LineOf.{LineOf}
+use Rattle.tabled_layout.specs.declared.table_settings.TableSettings.{TableSettings}
+use Rattle.tabled_rooms.specs.Sizes.{spanned_widths, spanned_heights}
 use Rattle.tabled_printing.specs.Picture.{Look, look}
 use Rattle.tabled_painting.specs.Painted.{Painted}
 use Rattle.tabled_painting.specs.PaintedTable.{painted_table, painted_cells, plain_text}
+use Rattle.tabled_painting.specs.PaintedSpans.{columns_spanned, rows_spanned, spanned_as_set}
 use Rattle.tabled_printing.specs.Texts.{Table}
 use Rattle.tabled_printing.specs.Pieces.{lent}
 use denote.Ref.{Bor}
-use Rattle.tabled_text.specs.Sizes.{column_count, column_widths, row_heights}
-use Rattle.tabled_text.specs.Cells.{cells_set, margin_set, cell_colors}
+use Rattle.tabled_text.specs.Sizes.{cell, column_count, column_widths, row_heights, width_asked, height_asked}
+use Rattle.tabled_text.specs.Cells.{cells_set, margin_set, cell_colors, settings_set, sets_no_spans}
 
 -- the text of each cell, the sizes, and the configuration
 pub record Drawing : Type 0 where
@@ -29,14 +34,37 @@ drawing_code = Prim.hlevel (codes, finmap.code)
 abbrev pub shape_of : Table → Shape
 shape_of table = record { rows = length table; cols = column_count table }
 
--- how a table looks after a list of events
+-- how a table looks after a list of events, where no cell spans
 abbrev pub look_of : List ConfigEvent → Table → Look
 look_of es table = look es (length table, column_count table) (slice_index (column_widths table)) (slice_index (row_heights table))
 
--- its lines after a list of events, each character with its color: its cells as the events set and color them, what the events draw
--- around them, and the margin around all
+-- its lines then, each character with its color: its cells as the events set and color them, what the events draw around them, and
+-- the margin around all
+unfoldable pub painted_alone : List ConfigEvent → Table → List Painted
+painted_alone es table = painted_table (look_of es table) (margin_set es) (painted_cells (cells_set es) (cell_colors es) (column_widths table) (row_heights table) table)
+
+-- where cells span: how wide each column is, and how high each row, by what is set and by which lines are drawn
+unfoldable pub widths_with_spans : TableSettings → List ConfigEvent → Table → List ℕ
+widths_with_spans settings es table =
+    spanned_widths (columns_spanned settings) (rows_spanned settings) (length table, column_count table) (λ r c. width_asked (cell (slice_index_or table r []) c))
+    (λ n. drawn (characters_of es) (column_count table) (LineOf.Vertical n))
+
+unfoldable pub heights_with_spans : TableSettings → List ConfigEvent → Table → List ℕ
+heights_with_spans settings es table =
+    spanned_heights (columns_spanned settings) (rows_spanned settings) (length table, column_count table) (λ r c. height_asked (cell (slice_index_or table r []) c))
+    (λ n. drawn (characters_of es) (length table) (LineOf.Horizontal n))
+
+-- how the table looks then, and its lines: each cell that is shown in the room of all columns and rows that it takes
+abbrev pub look_with_spans : List ConfigEvent → Table → Look
+look_with_spans es table =
+    look es (length table, column_count table) (slice_index (widths_with_spans (settings_set es) es table)) (slice_index (heights_with_spans (settings_set es) es table))
+
+unfoldable pub painted_with_spans : List ConfigEvent → Table → List Painted
+painted_with_spans es table = spanned_as_set (look_with_spans es table) (settings_set es) (cell_colors es) table
+
+-- its lines after a list of events: those of the one or of the other
 unfoldable pub painted : List ConfigEvent → Table → List Painted
-painted es table = painted_table (look_of es table) (margin_set es) (painted_cells (cells_set es) (cell_colors es) (column_widths table) (row_heights table) table)
+painted es table = if sets_no_spans es then painted_alone es table else painted_with_spans es table
 
 -- its text after a list of events: the characters of these lines
 unfoldable pub text_of : List ConfigEvent → Table → List ℕ
@@ -45,3 +73,15 @@ text_of es table = plain_text (painted es table)
 -- the texts of rows that are lent
 abbrev pub lent_rows : List (Bor (List (Bor (List ℕ)))) → Table
 lent_rows rows = map (λ row. lent row.now) rows
+
+-- the sizes that an option reads: those that are kept, where no cell spans; and else those with spans, by what stands before the option
+abbrev pub widths_read : Configuration → Table → List ℕ
+widths_read cfg table = if has_no_spans cfg then column_widths table else widths_with_spans cfg.settings (all_writes cfg) table
+
+abbrev pub heights_read : Configuration → Table → List ℕ
+heights_read cfg table = if has_no_spans cfg then row_heights table else heights_with_spans cfg.settings (all_writes cfg) table
+
+pub record AreRead (drawing : Drawing) (sizes : FixedDimension) : Type 0 where
+  pub widths : sizes.widths.items ≡ widths_read drawing.config.spanned drawing.texts
+  pub heights : sizes.heights.items ≡ heights_read drawing.config.spanned drawing.texts
+  pub kept : has_no_spans drawing.config.spanned ≡ true → sizes ≡ drawing.sizes

@@ -73,6 +73,14 @@ fn measure(text: &str) -> Result<CellSize, OutOfMemory>
     })
 }
 
+/// How wide a text is with the spaces around it. Refused where no number says it.
+pub(crate) fn width_asked(text: &str) -> Result<usize, OutOfMemory>
+    ensures { IfOk result (λ width. width ≡ width_asked text.now) }
+{
+    let found = measure(text)?;
+    Ok(found.width)
+}
+
 /// Measures the cell of a row in a column.
 fn measure_at(row: &[String], col: usize) -> Result<CellSize, OutOfMemory>
     ensures width { IfOk result (λ found. found.width ≡ width_asked (cell (map string_bytes row.now) col)) }
@@ -111,7 +119,7 @@ fn no_widths(alloc: Global, rows: &[Vec<String>]) -> Result<Vec<usize>, AllocErr
 }
 
 /// How many lines a text asks for.
-fn height_asked(text: &str) -> usize
+pub(crate) fn height_asked(text: &str) -> usize
     ensures { result ≡ height_asked text.now }
 {
     text.as_bytes()

@@ -13,6 +13,7 @@ ghost use Rattle.tabled_text.specs.TextTable.{lent_rows};
 mod limits;
 mod making;
 mod rows;
+mod spans;
 
 use crate::TableError;
 use crate::measure::{column_count, sizes_of, unequal_row};
@@ -22,13 +23,13 @@ use std::{fmt, io, mem};
 use tabled_border::OutOfMemory;
 use tabled_configuration::{CellOption, ColoredConfig, SpannedConfig, TableOption, modify};
 use tabled_object::{FixedDimension, Object, Shape};
-use tabled_painting::{colored_text, plain_text};
 use tabled_printing::PrintError;
 
 /// A table of texts with its sizes and its configuration: options draw its borders, and it prints itself.
 ///
 /// Each column is as wide as its widest cell and two more columns of the terminal, for a space on each side of a cell; each
-/// row is as high as its highest cell has lines. Indices are counted from 0.
+/// row is as high as its highest cell has lines. Where cells span, the columns and rows of each have room for it together. Indices are
+/// counted from 0.
 ///
 /// Two rows of two cells after `with(Style::rounded())`, and after a further `modify(Cell::new(1, 0), Border::filled('#'))`:
 ///
@@ -87,19 +88,19 @@ impl TextTable {
     ghost use Rattle.tabled_configuration.specs.Colored.{Shows, Changes};
     ghost use Rattle.tabled_configuration.specs.Configuration.{ConfigEvent};
     ghost use Rattle.tabled_configuration.specs.Configuration as borders;
+    ghost use Rattle.tabled_object.specs.declared.dimension.FixedDimension.{FixedDimension};
     ghost use Rattle.tabled_configuration.specs.Options.{MakesInTurn};
     ghost use Rattle.tabled_printing.specs.Along.{is_empty};
     ghost use Rattle.tabled_printing.specs.Columns.{IsRectangle, WritesNarrow};
     ghost use Rattle.tabled_printing.specs.Pieces.{lent};
-    ghost use Rattle.tabled_printing.specs.Refusal.{span_faults};
     ghost use Rattle.tabled_printing.specs.Texts.{pieces, texts};
     ghost use Rattle.tabled_printing.specs.declared.print_error.PrintError.{PrintError as Fault};
-    ghost use Rattle.tabled_text.specs.Refusal.{of_printer, unequal};
+    ghost use Rattle.tabled_text.specs.Refusal.{unequal};
     ghost use Rattle.tabled_text.specs.Sizes.{column_count, column_widths, row_heights, unequal_row};
     ghost use Rattle.tabled_painting.specs.PaintedTable.{plain_text, colored_text};
     ghost use Rattle.tabled_painting.specs.Widths.{StandsStraightIn, text_width};
-    ghost use Rattle.tabled_text.specs.Cells.{margin_set};
-    ghost use Rattle.tabled_text.specs.TextTable.{lent_rows, look_of, shape_of, text_of, painted};
+    ghost use Rattle.tabled_text.specs.Cells.{margin_set, sets_no_spans};
+    ghost use Rattle.tabled_text.specs.TextTable.{AreRead, lent_rows, look_of, painted, shape_of, text_of};
     ghost use Rattle.tabled_text.specs.contracts.text_table.TextTable.{the_row};
     ghost use Rattle.tabled_configuration.specs.contracts.colored_config.ColoredConfig.{the_row as config_row};
 
@@ -182,8 +183,8 @@ impl TextTable {
     /// ```
     pub fn with<P>(&mut self, option: P) -> Result<&mut Self, OutOfMemory>
     where
-        P: TableOption<Shape, ColoredConfig, FixedDimension>,
-        ensures config { IfOk result (λ table. Changes (P.makes option (shape_of self.old.texts) self.old.sizes self.old.config) self.old.config table.now.config) }
+        P: TableOption<Shape, ColoredConfig, FixedDimension> + Drop,
+        ensures config { IfOk result (λ table. (read : FixedDimension) × AreRead self.old read × Changes (P.makes option (shape_of self.old.texts) read self.old.config) self.old.config table.now.config) }
         ensures texts { IfOk result (λ table. table.now.texts ≡ self.old.texts) }
         ensures sizes { IfOk result (λ table. table.now.sizes ≡ self.old.sizes) }
         ensures same_reference { IfOk result (λ table. table.ghost_name ≡ self.entry.ghost_name) }
@@ -218,17 +219,20 @@ impl TextTable {
         Ok(self)
     }
 
-    /// Applies an option to the whole table: its configuration changes by the option's events and by nothing else. Where memory
-    /// is refused the table is as it was.
+    /// Applies an option to the whole table: its configuration changes by the option's events and by nothing else. An option that reads
+    /// sizes, as a text on a line does, reads those with which the table would be printed now. Where memory is refused the table is as it was.
     pub fn apply<P>(&mut self, option: P) -> Result<(), OutOfMemory>
     where
-        P: TableOption<Shape, ColoredConfig, FixedDimension>,
-        ensures config { OnOk result (Changes (P.makes option (shape_of self.old.texts) self.old.sizes self.old.config) self.old.config self.new.config) }
+        P: TableOption<Shape, ColoredConfig, FixedDimension> + Drop,
+        ensures config { OnOk result ((read : FixedDimension) × AreRead self.old read × Changes (P.makes option (shape_of self.old.texts) read self.old.config) self.old.config self.new.config) }
         ensures texts { self.new.texts ≡ self.old.texts }
         ensures sizes { self.new.sizes ≡ self.old.sizes }
         ensures err { OnErr result (self.new ≡ self.old) }
     {
-        option.change(&mut self.shape, &mut *self.config, &mut self.sizes)
+        if self.config().config().has_spans() {
+            return self.apply_with_spans(option);
+        }
+        self.apply_alone(option)
     }
 
     /// Applies an option to the cells of each entity that an object lists, in turn. Where memory is refused the option may have
@@ -270,7 +274,7 @@ impl TextTable {
         self.shape
     }
 
-    /// How wide the columns are and how high the rows, with the spaces around cells.
+    /// How wide the columns are and how high the rows, with the spaces around cells, where no cell spans.
     pub fn sizes(&self) -> &FixedDimension
         ensures value { result.now ≡ self.now.sizes }
         ensures widths { result.now.widths.items ≡ column_widths self.now.texts }
@@ -279,32 +283,33 @@ impl TextTable {
         &self.sizes
     }
 
-    /// The text of the table without colors: its cells as they are set for each, its borders, and its margin around them. Where a
-    /// cell spans several columns or rows it is refused for that; else where memory is refused, and for nothing else.
+    /// The text of the table without colors: its cells as they are set for each, its borders, and its margin around them. A cell that spans
+    /// several columns or rows is shown in the room of all of them. Only memory can be refused.
     ///
-    /// Where only narrow characters were written, the text is a rectangle: each of its lines takes as many columns of a terminal as the
-    /// others; and each vertical line stands in one column.
+    /// Where only narrow characters were written and no cell spans, the text is a rectangle: each of its lines takes as many columns of a
+    /// terminal as the others; and each vertical line stands in one column.
     pub fn to_text(&self) -> Result<String, PrintError>
         ensures text { (es : List ConfigEvent) → borders.Shows es self.now.config.spanned → IfOk result (λ text. string_bytes text ≡ text_of es self.now.texts) }
-        ensures rectangle { (es : List ConfigEvent) → borders.Shows es self.now.config.spanned → WritesNarrow es
+        ensures rectangle { (es : List ConfigEvent) → borders.Shows es self.now.config.spanned → WritesNarrow es → sets_no_spans es ≡ true
             → IfOk result (λ text. IsRectangle (text_width (look_of es self.now.texts) (margin_set es)) (string_bytes text)) }
-        ensures straight { (es : List ConfigEvent) → borders.Shows es self.now.config.spanned → WritesNarrow es → is_empty (look_of es self.now.texts).shape ≡ false
+        ensures straight { (es : List ConfigEvent) → borders.Shows es self.now.config.spanned → WritesNarrow es → sets_no_spans es ≡ true → is_empty (look_of es self.now.texts).shape ≡ false
             → (c : ℕ) → c ≤ column_count self.now.texts → (look_of es self.now.texts).vertical c ≡ true
             → IfOk result (λ text. StandsStraightIn (look_of es self.now.texts) (margin_set es) c (pieces (string_bytes text))) }
-        ensures refusal { MatchOption (slice_get (span_faults self.now.config.spanned) 0) (IsOkUnless result Fault.OutOfMemory) (λ e. result ≡ Err e) }
+        ensures refusal { IsOkUnless result Fault.OutOfMemory }
     {
         if self.config().config().has_spans() {
-            return Err(PrintError::Spans);
+            let spanned = self.text_with_spans()?;
+            return Ok(spanned);
         }
-        let shape = (self.shape.rows, self.shape.cols);
-        Ok(plain_text(self.config(), &self.sizes, shape, &self.cells)?)
+        let text = self.text_alone()?;
+        Ok(text)
     }
 
     /// Writes the text of the table to a writer, in one call of it. Where it is refused by `to_text` nothing is written; where
     /// the writer fails some of the text may be.
     pub fn write_to<W: fmt::Write>(&self, out: &mut W) -> Result<(), TableError>
         ensures text { (es : List ConfigEvent) → borders.Shows es self.now.config.spanned → OnOk result (W.write_str_gives out.old (text_of es self.now.texts) out.new) }
-        ensures refusal { MatchOption (slice_get (span_faults self.now.config.spanned) 0) (IfErr result (λ e. (e ≡ Refusal.OutOfMemory) ⊎ (e ≡ Refusal.Write))) (λ e. result ≡ Err (of_printer e)) }
+        ensures refusal { IfErr result (λ e. (e ≡ Refusal.OutOfMemory) ⊎ (e ≡ Refusal.Write)) }
         ensures unwritten { IfErr result (λ e. (e ≡ Refusal.Write) ⊎ (out.new ≡ out.old)) }
     {
         let text = self.to_text()?;
@@ -316,7 +321,7 @@ impl TextTable {
     /// written; where the stream fails some of the text may be.
     pub fn print_to<W: io::Write>(&self, out: &mut W) -> Result<(), TableError>
         ensures text { (es : List ConfigEvent) → borders.Shows es self.now.config.spanned → OnOk result (Appends (W.contents out.old) (W.contents out.new) (text_of es self.now.texts)) }
-        ensures refusal { MatchOption (slice_get (span_faults self.now.config.spanned) 0) (IfErr result (λ e. (e ≡ Refusal.OutOfMemory) ⊎ (e ≡ Refusal.Write))) (λ e. result ≡ Err (of_printer e)) }
+        ensures refusal { IfErr result (λ e. (e ≡ Refusal.OutOfMemory) ⊎ (e ≡ Refusal.Write)) }
         ensures unwritten { IfErr result (λ e. (e ≡ Refusal.Write) ⊎ (out.new ≡ out.old)) }
     {
         let text = self.to_text()?;
@@ -327,7 +332,7 @@ impl TextTable {
     pub fn append_to(&self, out: &mut String) -> Result<(), PrintError>
         ensures text { (es : List ConfigEvent) → borders.Shows es self.now.config.spanned → OnOk result (string_bytes out.new ≡ string_bytes out.old ++ text_of es self.now.texts) }
         ensures unchanged { OnErr result (string_bytes out.new ≡ string_bytes out.old) }
-        ensures refusal { MatchOption (slice_get (span_faults self.now.config.spanned) 0) (IsOkUnless result Fault.OutOfMemory) (λ e. result ≡ Err e) }
+        ensures refusal { IsOkUnless result Fault.OutOfMemory }
     {
         let text = self.to_text()?;
         out.push_str(text.as_str())?;
@@ -341,20 +346,21 @@ impl TextTable {
     pub fn to_ansi(&self) -> Result<String, PrintError>
         ensures text { (es : List ConfigEvent) → Shows es self.now.config → IfOk result (λ text. string_bytes text ≡ colored_text (painted es self.now.texts)) }
         ensures characters { IfOk result (λ _. (es : List ConfigEvent) → text_of es self.now.texts ≡ plain_text (painted es self.now.texts)) }
-        ensures refusal { MatchOption (slice_get (span_faults self.now.config.spanned) 0) (IsOkUnless result Fault.OutOfMemory) (λ e. result ≡ Err e) }
+        ensures refusal { IsOkUnless result Fault.OutOfMemory }
     {
         if self.config().config().has_spans() {
-            return Err(PrintError::Spans);
+            let spanned = self.ansi_with_spans()?;
+            return Ok(spanned);
         }
-        let shape = (self.shape.rows, self.shape.cols);
-        Ok(colored_text(self.config(), &self.sizes, shape, &self.cells)?)
+        let text = self.ansi_alone()?;
+        Ok(text)
     }
 
     /// Writes the text of the table in color after what `out` has. Where it is refused, as by `to_ansi`, `out` is as before.
     pub fn append_ansi_to(&self, out: &mut String) -> Result<(), PrintError>
         ensures text { (es : List ConfigEvent) → Shows es self.now.config → OnOk result (string_bytes out.new ≡ string_bytes out.old ++ colored_text (painted es self.now.texts)) }
         ensures unchanged { OnErr result (string_bytes out.new ≡ string_bytes out.old) }
-        ensures refusal { MatchOption (slice_get (span_faults self.now.config.spanned) 0) (IsOkUnless result Fault.OutOfMemory) (λ e. result ≡ Err e) }
+        ensures refusal { IsOkUnless result Fault.OutOfMemory }
     {
         let text = self.to_ansi()?;
         out.push_str(text.as_str())?;
@@ -365,7 +371,7 @@ impl TextTable {
     /// where the writer fails some of the text may be.
     pub fn write_ansi_to<W: fmt::Write>(&self, out: &mut W) -> Result<(), TableError>
         ensures text { (es : List ConfigEvent) → Shows es self.now.config → OnOk result (W.write_str_gives out.old (colored_text (painted es self.now.texts)) out.new) }
-        ensures refusal { MatchOption (slice_get (span_faults self.now.config.spanned) 0) (IfErr result (λ e. (e ≡ Refusal.OutOfMemory) ⊎ (e ≡ Refusal.Write))) (λ e. result ≡ Err (of_printer e)) }
+        ensures refusal { IfErr result (λ e. (e ≡ Refusal.OutOfMemory) ⊎ (e ≡ Refusal.Write)) }
         ensures unwritten { IfErr result (λ e. (e ≡ Refusal.Write) ⊎ (out.new ≡ out.old)) }
     {
         let text = self.to_ansi()?;
@@ -377,7 +383,7 @@ impl TextTable {
     /// nothing is written; where the stream fails some of the text may be.
     pub fn print_ansi_to<W: io::Write>(&self, out: &mut W) -> Result<(), TableError>
         ensures text { (es : List ConfigEvent) → Shows es self.now.config → OnOk result (Appends (W.contents out.old) (W.contents out.new) (colored_text (painted es self.now.texts))) }
-        ensures refusal { MatchOption (slice_get (span_faults self.now.config.spanned) 0) (IfErr result (λ e. (e ≡ Refusal.OutOfMemory) ⊎ (e ≡ Refusal.Write))) (λ e. result ≡ Err (of_printer e)) }
+        ensures refusal { IfErr result (λ e. (e ≡ Refusal.OutOfMemory) ⊎ (e ≡ Refusal.Write)) }
         ensures unwritten { IfErr result (λ e. (e ≡ Refusal.Write) ⊎ (out.new ≡ out.old)) }
     {
         let text = self.to_ansi()?;

@@ -4,4 +4,4 @@ use Rattle.tabled_text.proofs.Even.{text_even}
 use Rattle.tabled_claims.proofs.tables.text_is_a_rectangle.Goals as goal
 
 pub returns : goal.returns
-returns c = λ events table equal utf8 narrow. text_even events table (all_equal (column_count table) 0 table equal) utf8 narrow
+returns c = λ events table equal utf8 narrow none. text_even events table (all_equal (column_count table) 0 table equal) utf8 narrow none

@@ -12,7 +12,8 @@ use Rattle.tabled_claims.proofs.worked.entitled.Goals as goal
 pub returns-clause-shown : goal.returns-clause-shown
 returns-clause-shown c =
     on_ok c.apply.result
-    (λ changed. plainly_after _ c.args.table.now.config c.apply.new.self.config changed
+    (λ changed. plainly_after _ c.args.table.now.config c.apply.new.self.config changed.2
     (text_writes is_narrow c.in_ok-title.title _ _ (subst (λ given. list_all is_narrow given.text ≡ true) (sym c.in_ok-title.ensures) title_narrow)).borders
-    (clean_only _ (text_writes is_quiet c.in_ok-title.title _ _ (subst (λ given. list_all is_quiet given.text ≡ true) (sym c.in_ok-title.ensures) title_quiet))) c.requires)
+    (clean_only _ (text_writes is_quiet c.in_ok-title.title _ _ (subst (λ given. list_all is_quiet given.text ≡ true) (sym c.in_ok-title.ensures) title_quiet)))
+    (text_writes is_quiet c.in_ok-title.title _ _ (subst (λ given. list_all is_quiet given.text ≡ true) (sym c.in_ok-title.ensures) title_quiet)).settings c.requires)
     c.apply.ensures.config

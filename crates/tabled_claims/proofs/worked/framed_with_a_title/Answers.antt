@@ -2,4 +2,4 @@
 use Rattle.tabled_claims.proofs.worked.framed_with_a_title.Goals as goal
 
 pub returns : goal.returns
-returns c = let shown = c.in_ok-entitled.ensures.shown in (_, c.in_ok-text.ensures.rectangle shown.0 shown.1 shown.2)
+returns c = let shown = c.in_ok-entitled.ensures.shown in (_, c.in_ok-text.ensures.rectangle shown.0 shown.1 shown.2 shown.4)

@@ -15,11 +15,14 @@ pub returns : goal.returns
 unfolding steers
 returns c =
     on_ok c.apply.result
-    (λ changed. plainly_after _ c.args.table.now.config c.apply.new.self.config changed
+    (λ changed. plainly_after _ c.args.table.now.config c.apply.new.self.config changed.2
     (outline_writes is_narrow _ _ _ _ _
     (subst (λ given. IfSome given.border (λ border. passes_border is_narrow border ≡ true)) (sym c.outline.ensures) refl)
     (subst (λ given. passes_if_given is_narrow given.diagonal ≡ true) (sym c.outline.ensures) refl)).borders
     (clean_only _ (outline_writes is_quiet _ _ _ _ _
     (subst (λ given. IfSome given.border (λ border. passes_border is_quiet border ≡ true)) (sym c.outline.ensures) refl)
-    (subst (λ given. passes_if_given is_quiet given.diagonal ≡ true) (sym c.outline.ensures) refl))) c.requires)
+    (subst (λ given. passes_if_given is_quiet given.diagonal ≡ true) (sym c.outline.ensures) refl)))
+    (outline_writes is_quiet _ _ _ _ _
+    (subst (λ given. IfSome given.border (λ border. passes_border is_quiet border ≡ true)) (sym c.outline.ensures) refl)
+    (subst (λ given. passes_if_given is_quiet given.diagonal ≡ true) (sym c.outline.ensures) refl)).settings c.requires)
     c.apply.ensures.config

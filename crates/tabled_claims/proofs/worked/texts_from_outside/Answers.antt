@@ -7,7 +7,7 @@ use Rattle.tabled_claims.proofs.CleanPictures.{text_quiet}
 use Rattle.tabled_claims.proofs.worked.texts_from_outside.Goals as goal
 
 pub returns-clause-rectangle : goal.returns-clause-rectangle
-returns-clause-rectangle c = let shown = c.in_ok-entitled.ensures.shown in (_, c.in_ok-text.ensures.rectangle shown.0 shown.1 shown.2)
+returns-clause-rectangle c = let shown = c.in_ok-entitled.ensures.shown in (_, c.in_ok-text.ensures.rectangle shown.0 shown.1 shown.2 shown.4)
 
 pub returns-clause-clean : goal.returns-clause-clean
 returns-clause-clean c =

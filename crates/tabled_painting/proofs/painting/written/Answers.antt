@@ -3,20 +3,24 @@ use Rattle.std.proofs.Common.{[], ap, refl, sym, ◌∙◌, slice_index, string_
 use Rattle.tabled_printing.specs.Texts.{texts}
 use Rattle.tabled_painting.specs.Pages.{text_of_lines}
 use Rattle.tabled_configuration.specs.Configuration.{all_writes}
-use Rattle.tabled_printing.specs.Picture.{look}
+use Rattle.tabled_printing.specs.Picture.{Look, look}
 use Rattle.tabled_printing.specs.Viewed.{with_colors_if}
 use Rattle.tabled_object.specs.declared.dimension.FixedDimension.{FixedDimension}
 use Rattle.tabled_configuration.specs.Colored.{Colored}
-use Rattle.tabled_painting.specs.PaintedTable.{Cells, painted_table, painted_cells}
+use Rattle.tabled_painting.specs.PaintedTable.{Cells, painted_table, painted_lines, painted_cells}
 use Rattle.tabled_painting.proofs.Plain.{written_if}
 use Rattle.tabled_painting.proofs.MarginLemmas.{lines_written, no_places, no_rows, no_columns}
 use Rattle.tabled_painting.proofs.painting.written.Goals as goal
 use Rattle.tabled_painting.proofs.painting.written.Goals.{then-shape-eq0-via-then-shape-eq0, then-shape-eq0-via-else-shape-eq0+then-shape-eq0-2}
 
 pub returns-then-shape-eq0 : goal.returns-then-shape-eq0
+unfolding painted_table
 returns-then-shape-eq0 c =
+    let cfg = c.args.cfg.now in
+    let view : Look = look (all_writes cfg.spanned) c.args.shape (slice_index c.args.sizes.now.widths.items) (slice_index c.args.sizes.now.heights.items) in
+    let cells : Cells = painted_cells cfg.spanned.settings.cells cfg.cell_colors c.args.sizes.now.widths.items c.args.sizes.now.heights.items (texts c.args.rows.now) in
     c.new.ensures.bytes
-    ∙ sym (no_places _ _ _ c.args.with_colors
+    ∙ sym (no_places view cfg.spanned.settings.margin (painted_lines view cells) c.args.with_colors
     (elim c.then-shape-eq0.branch [
       | then-shape-eq0-via-then-shape-eq0 w ↦ no_rows c.args.shape.0 c.args.shape.1 w.if-shape-eq0.true
       | then-shape-eq0-via-else-shape-eq0+then-shape-eq0-2 w ↦ no_columns c.args.shape.0 c.args.shape.1 w.if-shape-eq0-2.true

@@ -1,28 +1,28 @@
--- The painted table, in color.
-use Rattle.std.proofs.Common.{refl, ap, sym, subst, ◌∙◌}
-use Rattle.tabled_printing.specs.Texts.{texts}
-use Rattle.tabled_configuration.specs.Colored.{Shows}
-use Rattle.tabled_painting.specs.PaintedTable.{painted_by, colored_text}
-use Rattle.tabled_text.specs.Sizes.{column_count}
-use Rattle.tabled_text.specs.TextTable.{text_of, painted}
-use Rattle.tabled_text.proofs.EqualRows.{all_equal}
-use Rattle.tabled_text.proofs.Painting.{is_colored_text, rows_equal}
+-- The painted table, in color, with spans or without any.
+use Rattle.std.proofs.Common.{not, refl, ap, sym, ◌∙◌}
+use Rattle.tabled_configuration.specs.Configuration.{has_no_spans}
+use Rattle.tabled_painting.specs.PaintedTable.{colored_text}
+use Rattle.tabled_text.specs.TextTable.{text_of}
+use Rattle.tabled_text.proofs.SpanLemmas.{none_set, painted_spanned, painted_without, some_set}
 use Rattle.tabled_text.proofs.text_table.TextTable.to_ansi.Goals as goal
 
-pub colored_text-requires-clause-cols : goal.colored_text-requires-clause-cols
-colored_text-requires-clause-cols c =
-    let rows = c.self.inside.cells.items in
-    rows_equal (texts rows) _ c.self.inside.shape (ap texts c.deref.ensures.value) c.self.invariant.1 (all_equal (column_count (texts rows)) 0 (texts rows) c.self.invariant.0)
+pub returns-then-has_spans-clause-text : goal.returns-then-has_spans-clause-text
+returns-then-has_spans-clause-text c es shows =
+    let drawing = c.args.self.now in
+    let is = c.has_spans.ensures ∙ ap (λ cfg. not (has_no_spans cfg)) (c.config-2.ensures ∙ ap (λ cfg. cfg.spanned) c.config.ensures) in
+    c.in_ok-spanned.ensures es shows
+    ∙ sym (ap colored_text (painted_spanned es drawing.texts (some_set es drawing.config.spanned c.has_spans.result shows.spanned_shown is c.if-has_spans.true)))
 
 pub returns-clause-text : goal.returns-clause-text
 returns-clause-text c es shows =
-    let rows = c.self.inside.cells.items in
-    let cfg = c.config-3.result.now in
-    let shown : Shows es cfg = subst (Shows es) (sym c.config-3.ensures) shows in
-    c.in_ok-colored_text.ensures
-    ∙ ap (λ items. colored_text (painted_by cfg (c.self.inside.shape.rows, c.self.inside.shape.cols) c.self.inside.sizes.widths.items c.self.inside.sizes.heights.items (texts items))) c.deref.ensures.value
-    ∙ ap colored_text (is_colored_text cfg (texts rows) c.self.inside.shape c.self.inside.sizes.widths.items c.self.inside.sizes.heights.items c.self.invariant.1 c.self.invariant.2 c.self.invariant.3 es shown)
-    ∙ ap (λ table. colored_text (painted es table.texts)) c.self.view_is
+    let drawing = c.args.self.now in
+    let is = c.has_spans.ensures ∙ ap (λ cfg. not (has_no_spans cfg)) (c.config-2.ensures ∙ ap (λ cfg. cfg.spanned) c.config.ensures) in
+    c.in_ok-text.ensures es shows
+    ∙ sym (ap colored_text (painted_without es drawing.texts (none_set es drawing.config.spanned c.has_spans.result shows.spanned_shown is c.if-has_spans.false)))
+
+pub returns-then-has_spans-clause-characters : goal.returns-then-has_spans-clause-characters
+unfolding text_of
+returns-then-has_spans-clause-characters c es = refl
 
 pub returns-clause-characters : goal.returns-clause-characters
 unfolding text_of

@@ -1,49 +1,38 @@
--- The characters of the painted table.
-use Rattle.std.proofs.Common.{◌≡◌, ◌≤◌, true, false, ap, sym, subst, ◌∙◌}
-use Rattle.tabled_printing.specs.Along.{is_empty}
-use Rattle.tabled_printing.specs.Columns.{IsRectangle}
-use Rattle.tabled_printing.specs.Texts.{texts, pieces}
-use Rattle.tabled_configuration.specs.Configuration as borders
-use Rattle.tabled_painting.specs.PaintedTable.{painted_by, plain_text}
-use Rattle.tabled_painting.specs.Widths.{text_width, StandsStraightIn}
-use Rattle.tabled_text.specs.Cells.{margin_set}
-use Rattle.tabled_text.specs.Sizes.{column_count}
-use Rattle.tabled_text.specs.TextTable.{Drawing, look_of, text_of}
-use Rattle.tabled_text.proofs.EqualRows.{all_equal}
-use Rattle.tabled_text.proofs.Even.{utf8_cells, text_even, text_straight}
-use Rattle.tabled_text.proofs.Painting.{is_plain_text, rows_equal}
+-- The characters of the painted table, with spans or without any.
+use Rattle.std.proofs.Common.{◌≡◌, true, false, not, ap, sym, ◌∙◌}
+use Rattle.tabled_configuration.specs.Configuration.{has_no_spans}
+use Rattle.tabled_text.specs.Cells.{sets_no_spans}
+use Rattle.tabled_text.proofs.SpanLemmas.{none_set, some_set, text_spanned, text_without}
 use Rattle.tabled_text.proofs.text_table.TextTable.to_text.Goals as goal
 
-pub plain_text-requires-clause-cols : goal.plain_text-requires-clause-cols
-plain_text-requires-clause-cols c =
-    let rows = c.self.inside.cells.items in
-    rows_equal (texts rows) _ c.self.inside.shape (ap texts c.deref.ensures.value) c.self.invariant.1 (all_equal (column_count (texts rows)) 0 (texts rows) c.self.invariant.0)
+pub returns-then-has_spans-clause-text : goal.returns-then-has_spans-clause-text
+returns-then-has_spans-clause-text c es shows =
+    let drawing = c.args.self.now in
+    let is = c.has_spans.ensures ∙ ap (λ cfg. not (has_no_spans cfg)) (c.config-2.ensures ∙ ap (λ cfg. cfg.spanned) c.config.ensures) in
+    c.in_ok-spanned.ensures es shows ∙ sym (text_spanned es drawing.texts (some_set es drawing.config.spanned c.has_spans.result shows is c.if-has_spans.true))
+
+pub returns-then-has_spans-clause-rectangle : goal.returns-then-has_spans-clause-rectangle
+returns-then-has_spans-clause-rectangle c es shows narrow none =
+    let drawing = c.args.self.now in
+    let is = c.has_spans.ensures ∙ ap (λ cfg. not (has_no_spans cfg)) (c.config-2.ensures ∙ ap (λ cfg. cfg.spanned) c.config.ensures) in
+    let some : sets_no_spans es ≡ false = some_set es drawing.config.spanned c.has_spans.result shows is c.if-has_spans.true in
+    let no : true ≡ false = sym none ∙ some in absurd cc
+
+pub returns-then-has_spans-clause-straight : goal.returns-then-has_spans-clause-straight
+returns-then-has_spans-clause-straight c es shows narrow none any col inside drawn =
+    let drawing = c.args.self.now in
+    let is = c.has_spans.ensures ∙ ap (λ cfg. not (has_no_spans cfg)) (c.config-2.ensures ∙ ap (λ cfg. cfg.spanned) c.config.ensures) in
+    let some : sets_no_spans es ≡ false = some_set es drawing.config.spanned c.has_spans.result shows is c.if-has_spans.true in
+    let no : true ≡ false = sym none ∙ some in absurd cc
 
 pub returns-clause-text : goal.returns-clause-text
 returns-clause-text c es shows =
-    let rows = c.self.inside.cells.items in
-    let cfg = c.config-3.result.now in
-    let shown : borders.Shows es cfg.spanned = subst (λ cfg. borders.Shows es cfg.spanned) (sym c.config-3.ensures) shows in
-    c.in_ok-plain_text.ensures
-    ∙ ap (λ items. plain_text (painted_by cfg (c.self.inside.shape.rows, c.self.inside.shape.cols) c.self.inside.sizes.widths.items c.self.inside.sizes.heights.items (texts items))) c.deref.ensures.value
-    ∙ is_plain_text cfg.spanned (texts rows) c.self.inside.shape c.self.inside.sizes.widths.items c.self.inside.sizes.heights.items c.self.invariant.1 c.self.invariant.2 c.self.invariant.3 cfg.cell_colors es shown
-    ∙ ap (λ table. text_of es table.texts) c.self.view_is
+    let drawing = c.args.self.now in
+    let is = c.has_spans.ensures ∙ ap (λ cfg. not (has_no_spans cfg)) (c.config-2.ensures ∙ ap (λ cfg. cfg.spanned) c.config.ensures) in
+    c.in_ok-text.ensures.text es shows ∙ sym (text_without es drawing.texts (none_set es drawing.config.spanned c.has_spans.result shows is c.if-has_spans.false))
 
 pub returns-clause-rectangle : goal.returns-clause-rectangle
-returns-clause-rectangle c es shows narrow =
-    let rows = c.self.inside.cells.items in
-    let table = texts rows in
-    let of_view : Drawing → Type 0 = λ drawing. IsRectangle (text_width (look_of es drawing.texts) (margin_set es)) (text_of es drawing.texts) in
-    let own = subst of_view c.self.view_is (text_even es table (all_equal (column_count table) 0 table c.self.invariant.0) (utf8_cells rows) narrow) in
-    subst (IsRectangle (text_width (look_of es c.args.self.now.texts) (margin_set es))) (sym (returns-clause-text c es shows)) own
+returns-clause-rectangle c = c.in_ok-text.ensures.rectangle
 
 pub returns-clause-straight : goal.returns-clause-straight
-returns-clause-straight c es shows narrow some col inside drawn =
-    let rows = c.self.inside.cells.items in
-    let table = texts rows in
-    let of_view : Drawing → Type 0 = λ drawing. is_empty (look_of es drawing.texts).shape ≡ false → col ≤ column_count drawing.texts → (look_of es drawing.texts).vertical col ≡ true
-    → StandsStraightIn (look_of es drawing.texts) (margin_set es) col (pieces (text_of es drawing.texts)) in
-    let of_rows : of_view (record { texts = table; sizes = c.self.inside.sizes; config = c.self.inside.config.value }) = λ some inside drawn.
-    text_straight es table (all_equal (column_count table) 0 table c.self.invariant.0) (utf8_cells rows) narrow some col inside drawn in
-    let own = subst of_view c.self.view_is of_rows some inside drawn in
-    subst (λ text. StandsStraightIn (look_of es c.args.self.now.texts) (margin_set es) col (pieces text)) (sym (returns-clause-text c es shows)) own
+returns-clause-straight c = c.in_ok-text.ensures.straight

@@ -1,0 +1,70 @@
+-- A column more: a room begins there, or none does.
+use Rattle.std.proofs.Common.{◌≡◌, ◌==◌, ◌&&◌, ◌+◌, ◌<◌, ◌≤◌, Bool, true, false, [], length, map, slice_index_or, string_bytes, refl, sym, ap, ◌∙◌, arith, min}
+use Rattle.std.specs.Prelude.{slice_index}
+use Rattle.tabled_rooms.specs.Hosts.{host}
+use Rattle.tabled_rooms.specs.Holding.{held}
+use Rattle.tabled_rooms.specs.declared.host.Host.{Host}
+use Rattle.tabled_rooms.proofs.OpenLemmas.{begins_by}
+use Rattle.tabled_painting.specs.RoomLines.{columns_of, room_cells, rows_of}
+use Rattle.tabled_painting.specs.Viewed.{viewed}
+use Rattle.tabled_painting.proofs.FrameLemmas.{shown_at}
+use Rattle.tabled_painting.proofs.SpannedLemmas.{begun_all, begun_more, begun_none, room_is, wide_is}
+use Rattle.tabled_painting.proofs.spanned_lines.SpannedLines.begin_rooms.Goals as goal
+
+pub loop-col-init : goal.loop-col-init
+loop-col-init c =
+    let lines = c.args.self.now.lines.now in
+    record {
+      count = refl;
+      begun = λ table there opened. begun_none (viewed lines.frame) (columns_of lines) (rows_of lines) (room_cells lines table) c.args.row c.args.rooms.now opened;
+    }
+
+pub begin_room-requires-clause-row : goal.begin_room-requires-clause-row
+begin_room-requires-clause-row c =
+    let lines = c.args.self.now.lines.now in
+    let n = c.loop-col.col in
+    let inside : n < length c.args.hosts.now = omega (arith, c.requires.hosts, c.requires.texts, c.loop-col-test.true) in
+    let least = begins_by (columns_of lines) (rows_of lines) c.args.row n in
+    let is = ap (λ (h : Host). h.row) (c.requires.are n (record { row = 0; col = 0; bottom = 0; right = 0 }) inside) in
+    omega (arith, is, least, c.requires.row)
+
+pub begin_room-requires-clause-bottom : goal.begin_room-requires-clause-bottom
+begin_room-requires-clause-bottom c =
+    let n = c.loop-col.col in
+    let inside : n < length c.args.hosts.now = omega (arith, c.requires.hosts, c.requires.texts, c.loop-col-test.true) in
+    let is = ap (λ (h : Host). h.bottom) (c.requires.are n (record { row = 0; col = 0; bottom = 0; right = 0 }) inside) in
+    omega (arith, is)
+
+pub loop-col-preserved : goal.loop-col-preserved
+loop-col-preserved c =
+    let lines = c.args.self.now.lines.now in
+    let view = viewed lines.frame in
+    let columns = columns_of lines in
+    let rows = rows_of lines in
+    let r = c.args.row in
+    let n = c.loop-col.col in
+    let hosts = c.args.hosts.now in
+    let kept = slice_index_or hosts n (record { row = 0; col = 0; bottom = 0; right = 0 }) in
+    let inside : n < length hosts = omega (arith, c.requires.hosts, c.requires.texts, c.loop-col-test.true) in
+    let in_rooms : n < length c.loop-col.rooms = omega (arith, c.requires.rooms, c.requires.texts, c.loop-col-test.true, c.loop-col.invariant.count) in
+    let in_wides : n < length c.args.wides.now = omega (arith, c.requires.wides, c.requires.texts, c.loop-col-test.true) in
+    let is : kept ≡ held columns rows lines.frame.shape (host columns rows r n) = c.requires.are n (record { row = 0; col = 0; bottom = 0; right = 0 }) inside in
+    let wide = wide_is view columns rows lines.frame.shape r n (slice_index c.room_widths.new.wides n) hosts (record { row = 0; col = 0; bottom = 0; right = 0 }) (slice_index c.as_slice-widths.result.now) (λ k. slice_index_or c.deref.result.now k false)
+    (c.in_ok-room_widths.ensures n (record { row = 0; col = 0; bottom = 0; right = 0 }) in_wides) c.requires.hosts c.requires.are (ap slice_index c.as_slice-widths.ensures.value)
+    (λ k. ap (λ xs. slice_index_or xs k false) c.deref.ensures.value ∙ c.args.self.now.are_sides k) in
+    record {
+      count = omega (arith, c.loop-col.invariant.count);
+      begun = λ table there opened.
+          let said = c.as_str.ensures.value ∙ shown_at string_bytes c.args.texts.now n c.index-texts-col.result [] c.loop-col-test.true c.index-texts-col.is ∙ ap (λ row. slice_index_or row n []) (sym there) in
+          begun_more view columns rows (room_cells lines table) r n c.loop-col.rooms c.begin_room.new.rooms (omega arith) in_rooms
+          (λ own first room line. c.in_ok-begin_room.ensures.begun ((λ i. ((is i).row == r) && ((is i).col == n)) ∙ (λ i. own i && first i)) room line
+          ∙ room_is view columns rows lines.frame.cfg.now.settings.cells lines.colors.now table r n (slice_index c.room_widths.new.wides n) line c.as_str.result.now kept is own first wide said)
+          (λ k room apart. c.in_ok-begin_room.ensures.others k room ((λ i. ((is i).row == r) && ((is i).col == n) && (k == n)) ∙ apart))
+          (c.loop-col.invariant.begun table there opened);
+    }
+
+pub returns : goal.returns
+returns c = λ table there opened.
+    let lines = c.args.self.now.lines.now in
+    begun_all (viewed lines.frame) (columns_of lines) (rows_of lines) (room_cells lines table) c.args.row c.loop-col.col c.loop-col.rooms
+    (omega (arith, c.requires.rooms, c.requires.texts, c.loop-col-test.false, c.loop-col.invariant.count)) (c.loop-col.invariant.begun table there opened)

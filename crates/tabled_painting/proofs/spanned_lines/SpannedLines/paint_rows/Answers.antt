@@ -1,0 +1,73 @@
+-- A row more: the line above it and its own lines.
+use Rattle.std.proofs.Common.{◌≡◌, ◌++◌, [], length, refl, ap, sym, subst, ◌∙◌, arith, string_bytes, map}
+use Rattle.std.specs.List.{flat_map}
+use Rattle.std.proofs.lemmas.List.{length-map}
+use Rattle.tabled_object.specs.Entities.{below}
+use Rattle.tabled_printing.specs.Texts.{texts}
+use Rattle.tabled_rooms.proofs.HostLemmas.{hosts_above}
+use Rattle.tabled_painting.specs.Pages.{PaintsLines}
+use Rattle.tabled_painting.specs.PaintedSpans.{spanned_if_drawn, spanned_row}
+use Rattle.tabled_painting.specs.RoomLines.{columns_of, room_cells, rows_of}
+use Rattle.tabled_painting.specs.Viewed.{viewed}
+use Rattle.tabled_painting.proofs.FrameLemmas.{row_texts}
+use Rattle.tabled_painting.proofs.PageLemmas.{row_more, no_lines}
+use Rattle.tabled_painting.proofs.SpannedLemmas.{none_open, still_open}
+use Rattle.tabled_painting.proofs.spanned_lines.SpannedLines.paint_rows.Goals as goal
+
+pub loop-row-init : goal.loop-row-init
+loop-row-init c =
+    let lines = c.args.self.now.lines.now in
+    record {
+      ended = c.requires.ended;
+      colors = c.requires.colors;
+      hosts_count = c.requires.hosts;
+      wides_count = c.requires.wides;
+      rooms_count = c.requires.rooms;
+      above = c.requires.above;
+      opened = none_open (viewed lines.frame) (columns_of lines) (rows_of lines) (room_cells lines (texts c.args.rows.now)) c.args.rooms.now;
+      painted = no_lines c.args.page.now c.requires.ended;
+    }
+
+pub begin_rooms-requires-clause-texts : goal.begin_rooms-requires-clause-texts
+begin_rooms-requires-clause-texts c =
+    let rows = c.args.rows.now in
+    let there = row_texts rows c.loop-row.row c.index-rows-row.result c.deref.result.now c.loop-row-test.true c.index-rows-row.is c.deref.ensures.value in
+    sym (length-map c.deref.result.now string_bytes) ∙ ap length there
+    ∙ c.requires.cols c.loop-row.row [] (omega (arith, c.loop-row-test.true, length-map rows (λ row. map string_bytes row.items)))
+
+pub paint_row-requires-clause-ended : goal.paint_row-requires-clause-ended
+paint_row-requires-clause-ended c =
+    let lines = c.args.self.now.lines.now in
+    (c.in_ok-paint_line.ensures (room_cells lines (texts c.args.rows.now)) c.loop-row.invariant.opened).ended
+
+pub loop-row-preserved : goal.loop-row-preserved
+loop-row-preserved c =
+    let lines = c.args.self.now.lines.now in
+    let view = viewed lines.frame in
+    let rows = c.args.rows.now in
+    let r = c.loop-row.row in
+    let cells = room_cells lines (texts rows) in
+    let there = row_texts rows r c.index-rows-row.result c.deref.result.now c.loop-row-test.true c.index-rows-row.is c.deref.ensures.value in
+    let are = c.in_ok-begin_rooms.ensures (texts rows) (sym there) c.loop-row.invariant.opened in
+    let lines_above = c.in_ok-paint_line.ensures cells c.loop-row.invariant.opened in
+    let own = c.in_ok-paint_row.ensures cells are in
+    record {
+      ended = own.ended;
+      colors = own.same_colors ∙ lines_above.same_colors ∙ c.loop-row.invariant.colors;
+      hosts_count = omega (arith, c.loop-row.invariant.hosts_count);
+      wides_count = omega (arith, c.loop-row.invariant.wides_count);
+      rooms_count = omega (arith, c.loop-row.invariant.rooms_count);
+      above = hosts_above (columns_of lines) (rows_of lines) lines.frame.shape r c.next_hosts.new.hosts c.next_hosts.ensures.hosts;
+      opened = still_open view (columns_of lines) (rows_of lines) cells r c.begin_rooms.new.rooms are;
+      painted =
+          row_more (spanned_if_drawn view (columns_of lines) (rows_of lines) cells) (spanned_row view (columns_of lines) (rows_of lines) cells) r _ _ _ _ _ refl
+          c.loop-row.invariant.painted lines_above own;
+    }
+
+pub returns-clause-painted : goal.returns-clause-painted
+returns-clause-painted c =
+    let lines = c.args.self.now.lines.now in
+    let view = viewed lines.frame in
+    let cells = room_cells lines (texts c.args.rows.now) in
+    let all : c.loop-row.row ≡ view.shape.0 = (let rows_are = c.requires.rows in omega (arith, c.loop-row-test.false, c.loop-row.auto.row-end, rows_are)) in
+    subst (λ n. PaintsLines (flat_map (λ r. spanned_if_drawn view (columns_of lines) (rows_of lines) cells r ++ spanned_row view (columns_of lines) (rows_of lines) cells r) (below n)) c.args.page.now c.loop-row.page) all c.loop-row.invariant.painted

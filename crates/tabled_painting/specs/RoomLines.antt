@@ -1,0 +1,56 @@
+-- The rooms of cells as the code keeps them. Private functions alone cite this.
+use Rattle.std.specs.Prelude.{◌≡◌, ℕ, ◌-◌, ◌<◌, ◌≤◌, ◌==◌, true, false, Bool, if◌then◌else◌, Option, Some, None, List, [], ◌++◌, length, slice_index_or}
+use Rattle.tabled_printing.specs.Picture.{Look}
+use Rattle.tabled_printing.specs.Texts.{Table}
+use Rattle.tabled_rooms.specs.Hosts.{Counts, host}
+use Rattle.tabled_rooms.specs.declared.host.Host.{Host}
+use Rattle.tabled_painting.specs.declared.room.Room.{Room}
+use Rattle.tabled_painting.specs.declared.table_lines.TableLines.{TableLines}
+use Rattle.tabled_painting.specs.Painted.{Painted}
+use Rattle.tabled_painting.specs.PaintedTable.{Cells, painted_side}
+use Rattle.tabled_painting.specs.PaintedSpans.{columns_spanned, rows_spanned, painted_crossing, painted_edge, room_line, spanned_cells}
+use Rattle.tabled_painting.specs.Rows.{line_of}
+use Rattle.tabled_painting.specs.Viewed.{viewed}
+
+-- what a room shows in a line of the table, where these are counted from the first line of text of row 0
+abbrev pub room_shown : Option Room → ℕ → Painted
+room_shown None line = []
+room_shown (Some room) line = line_of (line - room.first) room.cell
+
+-- one line of text of a row at a column, by the host there and the room that begins in that column
+abbrev pub begun_piece : Look → ℕ → ℕ → ℕ → ℕ → Host → Option Room → Painted
+begun_piece view r k line c kept room = if kept.col == c then painted_side view r k c ++ room_shown room line else []
+
+-- the line above a row at a column, by the same
+abbrev pub crossed_by : Look → ℕ → ℕ → ℕ → Host → Option Room → Painted
+crossed_by view r line c kept room =
+    if kept.row == r then painted_crossing view r c ++ painted_edge view r c else
+    if kept.col == c then painted_crossing view r c ++ room_shown room line else []
+
+-- over how many columns and rows the cells of a table span, and its cells in their rooms
+abbrev pub columns_of : TableLines → Counts
+columns_of lines = columns_spanned lines.frame.cfg.now.settings
+
+abbrev pub rows_of : TableLines → Counts
+rows_of lines = rows_spanned lines.frame.cfg.now.settings
+
+abbrev pub room_cells : TableLines → Table → Cells
+room_cells lines table = spanned_cells (viewed lines.frame) (columns_of lines) (rows_of lines) lines.frame.cfg.now.settings.cells lines.colors.now table
+
+module _ (view : Look) (columns rows : Counts) (cells : Cells) where
+  -- in a column a room is that of the cell of row r that begins there
+  abbrev pub IsRoomAt : ℕ → ℕ → Option Room → Type 0
+  IsRoomAt r c room = (line : ℕ) → room_shown room line ≡ room_line view columns rows cells (host columns rows r c) line
+
+  -- so are the rooms of all cells that are shown in row r; and of those alone that are shown above it too
+  abbrev pub AreRooms : ℕ → List (Option Room) → Type 0
+  AreRooms r kept = (c : ℕ) (none : Option Room) → c < length kept → ((host columns rows r c).1 == c) ≡ true → IsRoomAt r c (slice_index_or kept c none)
+
+  abbrev pub AreOpen : ℕ → List (Option Room) → Type 0
+  AreOpen r kept =
+      (c : ℕ) (none : Option Room) → c < length kept → ((host columns rows r c).0 == r) ≡ false → ((host columns rows r c).1 == c) ≡ true → IsRoomAt r c (slice_index_or kept c none)
+
+  -- in the columns below n the rooms of all cells, in the others of those that are shown above
+  abbrev pub AreBegun : ℕ → ℕ → List (Option Room) → Type 0
+  AreBegun r n kept =
+      (c : ℕ) (none : Option Room) → c < length kept → ((host columns rows r c).1 == c) ≡ true → (n ≤ c → ((host columns rows r c).0 == r) ≡ false) → IsRoomAt r c (slice_index_or kept c none)

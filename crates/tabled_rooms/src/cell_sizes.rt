@@ -1,0 +1,21 @@
+//! How much room cells ask for.
+
+ghost use Rattle.std.specs.Prelude.{◌≡◌, ℕ, IfOk};
+
+use std::alloc::AllocError;
+
+/// How much room each cell of a table asks for.
+pub trait CellSizes {
+    /// How wide, by row and column.
+    ghost width_at: { Self → ℕ → ℕ → ℕ };
+    /// How high, by row and column.
+    ghost height_at: { Self → ℕ → ℕ → ℕ };
+
+    /// How wide a cell asks to be. Refused where no number says it.
+    fn width(&self, row: usize, col: usize) -> Result<usize, AllocError>
+        ensures { IfOk result (λ width. width ≡ width_at self.now row col) };
+
+    /// How high a cell asks to be.
+    fn height(&self, row: usize, col: usize) -> usize
+        ensures { result ≡ height_at self.now row col };
+}
