@@ -4,7 +4,8 @@
 use std::alloc::Global;
 use tabled::settings::object::{Cell, Columns, Combine, Rows, Segment};
 use tabled::settings::style::{Border, BorderColor, HorizontalLine, LineText};
-use tabled::settings::{Alignment, Color, Highlight, Shadow, Style};
+use tabled::settings::themes::BorderCorrection;
+use tabled::settings::{Alignment, Color, Highlight, Margin, Shadow, Span, Style};
 use tabled::texts::Overflow;
 use tabled::{TableError, TextTable};
 
@@ -85,6 +86,47 @@ pub fn in_color(alloc: Global) -> Result<String, TableError> {
 pub fn shadow(alloc: Global) -> Result<String, TableError> {
     let mut table = people(alloc)?;
     table.with(Style::rounded())?.with(Shadow::new(1))?;
+    Ok(table.to_text()?)
+}
+
+/// A margin, filled on each side.
+pub fn margin(alloc: Global) -> Result<String, TableError> {
+    let mut table = people(alloc)?;
+    let margin = Margin::new(2, 2, 1, 1).fill('<', '>', 'v', '^');
+    table.with(Style::rounded())?.with(margin)?;
+    Ok(table.to_text()?)
+}
+
+/// A heading over two columns, beside one over two rows.
+pub fn headings(alloc: Global) -> Result<String, TableError> {
+    let rows: &[&[&str]] = &[
+        &["city", "weather", ""],
+        &["", "Jan", "Jul"],
+        &["Oslo", "-4", "17"],
+        &["Rome", "8", "26"],
+    ];
+    let mut table = TextTable::new(alloc, rows)?;
+    table.with(Style::modern_rounded())?;
+    table.modify(Cell::new(0, 0), Span::row(2))?;
+    table.modify(Cell::new(0, 0), Alignment::center_vertical())?;
+    table.modify(Cell::new(0, 1), Span::column(2))?;
+    table.modify(Cell::new(0, 1), Alignment::center())?;
+    table.with(BorderCorrection::span())?;
+    Ok(table.to_text()?)
+}
+
+/// A cell over two rows.
+pub fn cell_over_two_rows(alloc: Global) -> Result<String, TableError> {
+    let rows: &[&[&str]] = &[
+        &["day", "train", "to"],
+        &["Mon", "5:10", "Oslo"],
+        &["", "9:40", "Rome"],
+        &["Tue", "7:00", "Oslo"],
+    ];
+    let mut table = TextTable::new(alloc, rows)?;
+    table.with(Style::modern())?;
+    table.modify(Cell::new(1, 0), Span::row(2))?;
+    table.with(BorderCorrection::span())?;
     Ok(table.to_text()?)
 }
 
