@@ -1,7 +1,6 @@
 -- An option of every kind, and what each makes of what stands before it.
 use Rattle.std.specs.Prelude.{ℕ, List, [], ◌∷◌, ◌++◌, length, slice_index}
 use Rattle.tabled_border.specs.declared.border.Border.{Border}
-use Rattle.tabled_object.specs.declared.dimension.FixedDimension.{FixedDimension}
 use Rattle.tabled_object.specs.declared.entity.Entity.TheVariants.{Global, Row, Column, Cell}
 use Rattle.tabled_settings.specs.Setting.{write_of}
 use Rattle.tabled_configuration.specs.Configuration.{ConfigEvent, borders_replaced, all_writes}
@@ -29,6 +28,7 @@ use Rattle.tabled_options.specs.LineChar.{line_char_events}
 use Rattle.tabled_options.specs.LineText.{text_events}
 use Rattle.tabled_options.specs.NamedLine.{row_line}
 use Rattle.tabled_text.specs.Sizes.{column_count}
+use Rattle.tabled_text.specs.TextTable.{widths_read, heights_read}
 use Rattle.tabled_kinds.specs.declared.kinds.BorderKinds.{BorderKinds}
 use Rattle.tabled_kinds.specs.declared.kinds.LineKinds.{LineKinds}
 use Rattle.tabled_kinds.specs.declared.kinds.ColorKinds.{ColorKinds}
@@ -65,11 +65,12 @@ abbrev pub border_options : BorderKinds → ℕ × ℕ → List Step
 border_options kinds shape =
     style_options kinds.theme kinds.style kinds.ready kinds.characters ++ edge_options kinds.frame kinds.around kinds.colors shape
 
--- options for single lines, of which a text reads the sizes too
-abbrev pub line_options : LineKinds → ℕ × ℕ → FixedDimension → List Step
-line_options kinds shape sizes =
+-- options for single lines, of which a text reads the sizes too, by what stands before it
+abbrev pub line_options : LineKinds → Table → List Step
+line_options kinds texts =
+    let shape : ℕ × ℕ = (length texts, column_count texts) in
     (λ before. highlight_events shape (Row kinds.outline.target.index ∷ []) kinds.outline.border kinds.outline.diagonal kinds.outline.color)
-    ∷ (λ before. text_events kinds.title (look (all_writes before.spanned) shape (slice_index sizes.widths.items) (slice_index sizes.heights.items)) (row_line 0))
+    ∷ (λ before. text_events kinds.title (look (all_writes before.spanned) shape (slice_index (widths_read before.spanned texts)) (slice_index (heights_read before.spanned texts))) (row_line 0))
     ∷ (λ before. line_char_events kinds.mark shape (Cell 1 0))
     ∷ []
 
@@ -118,12 +119,12 @@ other_settings kinds =
     ∷ (λ before. trim_set kinds.trim Global)
     ∷ []
 
--- one of each kind, on a table of these texts and sizes
-abbrev pub first_targets : Kinds → Table → FixedDimension → List Step
-first_targets kinds texts sizes =
+-- one of each kind, on a table of these texts
+abbrev pub first_targets : Kinds → Table → List Step
+first_targets kinds texts =
     let shape : ℕ × ℕ = (length texts, column_count texts) in
     border_options kinds.borders shape
-    ++ (line_options kinds.lines shape sizes
+    ++ (line_options kinds.lines texts
     ++ (color_options kinds.colors shape
     ++ text_options kinds.texts))
 
@@ -132,10 +133,10 @@ abbrev pub other_targets : OtherTargets → ℕ × ℕ → List Step
 other_targets others shape = other_borders others.borders shape ++ other_settings others.settings
 
 -- all of them, and at last a correction for the spans that are set
-abbrev pub options : Kinds → OtherTargets → Table → FixedDimension → List Step
-options kinds others texts sizes =
+abbrev pub options : Kinds → OtherTargets → Table → List Step
+options kinds others texts =
     let shape : ℕ × ℕ = (length texts, column_count texts) in
-    first_targets kinds texts sizes
+    first_targets kinds texts
     ++ (other_targets others shape
     ++ (λ before. correction_events shape before.spanned) ∷ [])
 

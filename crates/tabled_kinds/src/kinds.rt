@@ -128,13 +128,13 @@ pub struct OtherTargets {
 
 /// Applies them all, at each of their targets, and then a correction for the spans that are set. By its contract the configuration
 /// changes by the events of each, in this order, and by nothing else, whatever stood there before; so `headline` says of every place
-/// what it shows then, and as the texts and sizes stay, `TextTable::to_text` prints that around the same cells.
+/// what it shows then, and as the texts stay, `TextTable::to_text` prints that around the same cells.
 pub fn every_kind(
     table: &mut TextTable,
     kinds: Kinds,
     others: OtherTargets,
 ) -> Result<(), OutOfMemory>
-    ensures steps { OnOk result (InTurn (options kinds others table.old.texts table.old.sizes) table.old.config table.new.config) }
+    ensures steps { OnOk result (InTurn (options kinds others table.old.texts) table.old.config table.new.config) }
     ensures texts { table.new.texts ≡ table.old.texts }
     ensures sizes { table.new.sizes ≡ table.old.sizes }
 {
@@ -145,7 +145,7 @@ pub fn every_kind(
 
 /// Applies an option of each kind.
 pub fn every_first_target(table: &mut TextTable, kinds: Kinds) -> Result<(), OutOfMemory>
-    ensures steps { OnOk result (InTurn (first_targets kinds table.old.texts table.old.sizes) table.old.config table.new.config) }
+    ensures steps { OnOk result (InTurn (first_targets kinds table.old.texts) table.old.config table.new.config) }
     ensures texts { table.new.texts ≡ table.old.texts }
     ensures sizes { table.new.sizes ≡ table.old.sizes }
 {
@@ -228,7 +228,7 @@ fn every_edge(
 
 /// Applies options for single lines.
 pub fn every_line(table: &mut TextTable, kinds: LineKinds) -> Result<(), OutOfMemory>
-    ensures steps { OnOk result (InTurn (line_options kinds (length table.old.texts, column_count table.old.texts) table.old.sizes) table.old.config table.new.config) }
+    ensures steps { OnOk result (InTurn (line_options kinds table.old.texts) table.old.config table.new.config) }
     ensures texts { table.new.texts ≡ table.old.texts }
     ensures sizes { table.new.sizes ≡ table.old.sizes }
 {

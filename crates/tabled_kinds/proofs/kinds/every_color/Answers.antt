@@ -40,8 +40,8 @@ returns-clause-steps c =
     (then_those (λ t s. (λ before. by_cell_color (write_of (Row 0) (texts_of kinds.row))) ∷ []) _ texts _ sizes _ start.config _ _ refl refl
     (nothing_yet start.config)
     c.in_ok-apply_to.ensures.config)
-    c.in_ok-apply.ensures.config)
-    c.in_ok-apply-2.ensures.config)
-    c.in_ok-apply-3.ensures.config)
-    c.in_ok-apply-4.ensures.config)
-    last) c.apply-5.ensures.config
+    c.in_ok-apply.ensures.config.2)
+    c.in_ok-apply-2.ensures.config.2)
+    c.in_ok-apply-3.ensures.config.2)
+    c.in_ok-apply-4.ensures.config.2)
+    last.2) c.apply-5.ensures.config

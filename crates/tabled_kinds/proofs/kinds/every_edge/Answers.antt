@@ -28,7 +28,7 @@ returns-clause-steps c =
     (then_those (λ t s. (λ before. entity_bordered c.args.around.now (length t, column_count t) (Column 0)) ∷ []) _ texts _ sizes _ start.config _ _ texts_2 sizes_2
     (then_one (λ t s before. table_bordered c.args.frame before.spanned.characters.class_record) _ texts _ sizes _ start.config _ _ refl refl
     (nothing_yet start.config)
-    c.in_ok-apply.ensures.config)
+    c.in_ok-apply.ensures.config.2)
     c.in_ok-apply_to.ensures.config)
     c.in_ok-apply_to-2.ensures.config)
     last) c.apply_to-3.ensures.config

@@ -23,7 +23,7 @@ returns-clause-steps c =
     on_ok c.every_text.result (λ last.
     then_those (λ t s. text_options kinds.texts) _ texts _ sizes _ start.config _ _ texts_4 sizes_4
     (then_those (λ t s. color_options kinds.colors (length t, column_count t)) _ texts _ sizes _ start.config _ _ texts_3 sizes_3
-    (then_those (λ t s. line_options kinds.lines (length t, column_count t) s) _ texts _ sizes _ start.config _ _ texts_2 sizes_2
+    (then_those (λ t s. line_options kinds.lines t) _ texts _ sizes _ start.config _ _ texts_2 sizes_2
     (then_those (λ t s. border_options kinds.borders (length t, column_count t)) _ texts _ sizes _ start.config _ _ refl refl (nothing_yet start.config) c.in_ok-every_border.ensures.steps)
     c.in_ok-every_line.ensures.steps) c.in_ok-every_color.ensures.steps)
     last) c.every_text.ensures.steps

@@ -23,6 +23,6 @@ returns-clause-steps c =
     on_ok c.apply.result (λ corrected.
     then_one (λ t s before. correction_events (length t, column_count t) before.spanned) _ texts _ sizes _ start.config _ _ texts_3 sizes_3
     (then_those (λ t s. other_targets others (length t, column_count t)) _ texts _ sizes _ start.config _ _ texts_2 sizes_2
-    (then_those (λ t s. first_targets kinds t s) _ texts _ sizes _ start.config _ _ refl refl (nothing_yet start.config) c.in_ok-every_first_target.ensures.steps)
+    (then_those (λ t s. first_targets kinds t) _ texts _ sizes _ start.config _ _ refl refl (nothing_yet start.config) c.in_ok-every_first_target.ensures.steps)
     c.in_ok-every_other_target.ensures.steps)
-    corrected) c.apply.ensures.config
+    corrected.2) c.apply.ensures.config

@@ -29,7 +29,7 @@ returns-clause-steps c =
     (then_one (λ t s before. table_bordered kinds.frame before.spanned.characters.class_record) _ texts _ sizes _ start.config _ _ texts_2 sizes_2
     (then_one (λ t s before. table_colored (border_texts kinds.colors) (length t, column_count t)) _ texts _ sizes _ start.config _ _ refl refl
     (nothing_yet start.config)
-    c.in_ok-apply.ensures.config)
-    c.in_ok-apply-2.ensures.config)
+    c.in_ok-apply.ensures.config.2)
+    c.in_ok-apply-2.ensures.config.2)
     c.in_ok-apply_to.ensures.config)
-    last) c.apply-3.ensures.config
+    last.2) c.apply-3.ensures.config

@@ -26,5 +26,5 @@ returns-clause-steps c =
     (then_those (λ t s. (λ before. padding_set (λ (color : Shade). color.prefix) (λ (color : Shade). color.suffix) c.args.padding (Row 0)) ∷ []) _ texts _ sizes _ start.config _ _ refl refl
     (nothing_yet start.config)
     c.in_ok-apply_to.ensures.config)
-    c.in_ok-apply.ensures.config)
-    last) c.apply-2.ensures.config
+    c.in_ok-apply.ensures.config.2)
+    last.2) c.apply-2.ensures.config

@@ -29,5 +29,5 @@ returns-clause-steps c =
     (nothing_yet start.config)
     c.in_ok-every_other_color.ensures.steps)
     c.in_ok-apply_to.ensures.config)
-    c.in_ok-apply.ensures.config)
-    last) c.apply-2.ensures.config
+    c.in_ok-apply.ensures.config.2)
+    last.2) c.apply-2.ensures.config

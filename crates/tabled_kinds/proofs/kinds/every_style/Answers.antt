@@ -26,7 +26,7 @@ returns-clause-steps c =
     (then_one (λ t s before. borders_replaced c.args.style.borders c.args.style.horizontals c.args.style.verticals) _ texts _ sizes _ start.config _ _ texts_2 sizes_2
     (then_one (λ t s before. theme_applied c.args.theme) _ texts _ sizes _ start.config _ _ refl refl
     (nothing_yet start.config)
-    c.in_ok-apply.ensures.config)
-    c.in_ok-apply-2.ensures.config)
-    c.in_ok-apply-3.ensures.config)
-    last) c.apply-4.ensures.config
+    c.in_ok-apply.ensures.config.2)
+    c.in_ok-apply-2.ensures.config.2)
+    c.in_ok-apply-3.ensures.config.2)
+    last.2) c.apply-4.ensures.config
