@@ -4,7 +4,6 @@ use crate::common::printing::is_picture;
 use std::alloc::Global;
 use std::fmt;
 use std::test::Fail;
-use tabled::grid::config::PrintError;
 use tabled::settings::formatting::Justification;
 use tabled::settings::object::{Cell, Rows, Segment};
 use tabled::settings::style::{BorderColor, LineText};
@@ -370,19 +369,17 @@ fn a_text_in_color_is_written_in_one_call(rt: HostRuntime) -> Result<(), Fail> {
 }
 
 #[test]
-fn a_span_is_told_and_no_color_is_written(rt: HostRuntime) -> Result<(), Fail> {
+fn a_table_with_a_span_is_written_in_color(rt: HostRuntime) -> Result<(), Fail> {
     let mut table = colored(rt.alloc())?;
     let config = table.config_mut().config_mut();
     config.set_column_span(Position::new(0, 0), 2)?;
+    let text = table.to_ansi()?;
     let mut out = writer(rt.alloc(), true);
-    let refused = Err(TableError::Print(PrintError::Spans));
-    assert!(rt; table.write_ansi_to(&mut out) == refused);
-    assert_eq!(rt; out.calls, 0);
-    let mut text = String::from_str(rt.alloc(), "before:")?;
-    assert!(rt; table.append_ansi_to(&mut text) == Err(PrintError::Spans));
-    assert_eq!(rt; text.as_str(), "before:");
-    assert!(rt; table.to_ansi().err() == Some(PrintError::Spans));
-    assert!(rt; table.to_text().err() == Some(PrintError::Spans));
+    table.write_ansi_to(&mut out)?;
+    assert_eq!(rt; out.text.as_str(), text.as_str());
+    let mut appended = String::from_str(rt.alloc(), "before:")?;
+    table.append_ansi_to(&mut appended)?;
+    assert_eq!(rt; appended.as_str().strip_prefix("before:"), Some(text.as_str()));
     Ok(())
 }
 

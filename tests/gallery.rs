@@ -505,6 +505,59 @@ fn margin_in_color_is_drawn(rt: HostRuntime) -> Result<(), Fail> {
 }
 
 #[test]
+fn margin_is_drawn(rt: HostRuntime) -> Result<(), Fail> {
+    let text = recipes::margin(rt.alloc())?;
+    let picture = "
+vvvvvvvvvvvvvvvvvvv
+<<╭───────┬─────╮>>
+<<│ name  │ age │>>
+<<├───────┼─────┤>>
+<<│ Alice │ 30  │>>
+<<│ Bob   │ 7   │>>
+<<╰───────┴─────╯>>
+^^^^^^^^^^^^^^^^^^^
+";
+    assert!(rt; is_picture(text.as_str(), picture));
+    Ok(())
+}
+
+#[test]
+fn headings_are_drawn(rt: HostRuntime) -> Result<(), Fail> {
+    let text = recipes::headings(rt.alloc())?;
+    let picture = "
+╭──────┬───────────╮
+│      │  weather  │
+│ city ├─────┬─────┤
+│      │ Jan │ Jul │
+├──────┼─────┼─────┤
+│ Oslo │ -4  │ 17  │
+├──────┼─────┼─────┤
+│ Rome │ 8   │ 26  │
+╰──────┴─────┴─────╯
+";
+    assert!(rt; is_picture(text.as_str(), picture));
+    Ok(())
+}
+
+#[test]
+fn cell_over_two_rows_is_drawn(rt: HostRuntime) -> Result<(), Fail> {
+    let text = recipes::cell_over_two_rows(rt.alloc())?;
+    let picture = "
+┌─────┬───────┬──────┐
+│ day │ train │ to   │
+├─────┼───────┼──────┤
+│ Mon │ 5:10  │ Oslo │
+│     ├───────┼──────┤
+│     │ 9:40  │ Rome │
+├─────┼───────┼──────┤
+│ Tue │ 7:00  │ Oslo │
+└─────┴───────┴──────┘
+";
+    assert!(rt; is_picture(text.as_str(), picture));
+    Ok(())
+}
+
+#[test]
 fn texts_from_outside_are_drawn(rt: HostRuntime) -> Result<(), Fail> {
     let text = recipes::texts_from_outside(rt.alloc())?;
     let picture = "

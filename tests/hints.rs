@@ -10,7 +10,7 @@ use tabled_grid::{ANSIStr, Borders, Entity, FixedDimension, Offset, OutOfMemory,
 use tabled_object::FirstRow;
 use tabled_options::{
     Alignment, AlignmentStrategy, BorderCorrection, Colorization, Highlight, Justification,
-    LineChar, LineText, MarginColor, PaddingColor, Shadow, TrimStrategy,
+    LineChar, LineText, Margin, MarginColor, PaddingColor, Shadow, Span, TrimStrategy,
 };
 use tabled_style::{Border, EmptyBorder, ReadyStyle, Style};
 use tabled_theme::Theme;
@@ -54,6 +54,11 @@ fn settings_of_cells_change_the_sizes(rt: HostRuntime) {
     assert!(rt; of_cells(&AlignmentStrategy::PerLine) == ALL);
     assert!(rt; of_cells(&TrimStrategy::Both) == ALL);
     assert!(rt; of_cells(&Justification::new('#')) == None);
+}
+
+#[test]
+fn spans_change_the_sizes(rt: HostRuntime) {
+    assert!(rt; of_cells(&Span::column(2)) == ALL && of_cells(&Span::row(2)) == ALL);
 }
 
 #[test]
@@ -107,6 +112,7 @@ fn texts_corrections_and_margins_change_the_sizes(rt: HostRuntime) -> Result<(),
     assert!(rt; of_table(&title(rt.alloc())?) == ALL);
     assert!(rt; of_table(&BorderCorrection::span()) == ALL);
     assert!(rt; of_table(&Shadow::new(1)) == ALL);
+    assert!(rt; of_table(&Margin::new(1, 0, 0, 0)) == ALL);
     assert!(rt; of_table(&margin) == ALL);
     Ok(())
 }

@@ -11,7 +11,7 @@ use tabled_grid::{
 };
 use tabled_options::{
     Alignment, AlignmentStrategy, BorderCorrection, Colorization, Highlight, Justification,
-    LineChar, LineText, MarginColor, PaddingColor, Shadow, TrimStrategy,
+    LineChar, LineText, Margin, MarginColor, PaddingColor, Shadow, Span, TrimStrategy,
 };
 use tabled_style::{Border, EmptyBorder, HorizontalLine, ReadyStyle, Style, VerticalLine};
 use tabled_theme::Theme;
@@ -229,8 +229,10 @@ fn patterns_are_made(alloc: Global, shape: (usize, usize)) -> Result<bool, OutOf
 /// Whether all other settings are made.
 fn settings_are_made(alloc: Global, shape: (usize, usize)) -> Result<bool, OutOfMemory> {
     let shadow = Shadow::new(usize::MAX).set_offset(usize::MAX);
+    let margin = Margin::new(usize::MAX, 1, 0, usize::MAX).fill('<', '>', '^', 'v');
     Ok(
-        with(alloc, shape, Alignment::right())?
+        with(alloc, shape, margin)?
+            && with(alloc, shape, Alignment::right())?
             && with(alloc, shape, AlignmentStrategy::PerLine)?
             && with(alloc, shape, TrimStrategy::Both)?
             && with(alloc, shape, Justification::colored('#', Color::FG_RED))?
@@ -288,6 +290,8 @@ fn cell_settings_are_made(alloc: Global, shape: (usize, usize)) -> Result<bool, 
             && modify(alloc, shape, &AlignmentStrategy::PerLine)?
             && modify(alloc, shape, &TrimStrategy::Both)?
             && modify(alloc, shape, &Justification::new('#'))?
+            && modify(alloc, shape, &Span::column(usize::MAX))?
+            && modify(alloc, shape, &Span::row(usize::MAX))?
             && modify(alloc, shape, &PaddingColor::filled(alloc, Color::FG_RED)?)?
             && modify(alloc, shape, &Color::FG_RED)?,
     )

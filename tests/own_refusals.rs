@@ -11,7 +11,7 @@ use tabled::settings::object::{Cell, Columns, Combine, Entity, Object, Rows, Seg
 use tabled::settings::style::{BorderColor, Offset};
 use tabled::settings::{Alignment, Color, Shadow, Style};
 use tabled::{TableError, TextTable};
-use tabled_config::{CellOption, ColoredConfig, PrintError, SpannedConfig, TableOption};
+use tabled_config::{CellOption, ColoredConfig, SpannedConfig, TableOption};
 use tabled_grid::{
     Border, ExactRecords, FixedDimension, Keep, OutOfMemory, Place, Position, Probes, Records,
     Shape,
@@ -199,7 +199,7 @@ fn an_option_that_is_refused_leaves_the_table(rt: HostRuntime) -> Result<(), Fai
     assert_eq!(rt; sample(alloc)?.to_text()?.as_str(), SAMPLE);
     assert!(rt; leaves(alloc, || Refused, sample)?);
     assert!(rt; leaves(alloc, || TakesBack, sample)?);
-    assert!(rt; spanned(alloc)?.to_text() == Err(PrintError::Spans));
+    assert!(rt; spanned(alloc)?.config().config().has_spans());
     assert!(rt; leaves(alloc, || Refused, spanned)?);
     assert!(rt; leaves(alloc, || TakesBack, spanned)?);
     Ok(())

@@ -7,7 +7,6 @@ use tabled::settings::Style;
 use tabled::settings::object::{Columns, Rows};
 use tabled::settings::style::Border;
 use tabled::{TableError, TextTable};
-use tabled_config::PrintError;
 use tabled_grid::Position;
 use tabled_options::BorderCorrection;
 
@@ -60,15 +59,18 @@ fn a_fault_of_a_writer_is_told(rt: HostRuntime) -> Result<(), Fail> {
 }
 
 #[test]
-fn a_span_is_told_and_nothing_is_written(rt: HostRuntime) -> Result<(), Fail> {
+fn a_table_with_a_span_is_written_as_it_is_printed(rt: HostRuntime) -> Result<(), Fail> {
     let mut table = framed(rt.alloc())?;
     let config = table.config_mut().config_mut();
     config.set_column_span(Position::new(0, 0), 2)?;
-    let mut text = String::from_str(rt.alloc(), "before:")?;
-    let refused = Err(TableError::Print(PrintError::Spans));
-    assert!(rt; table.write_to(&mut text) == refused);
-    assert!(rt; table.append_to(&mut text) == Err(PrintError::Spans));
-    assert_eq!(rt; text.as_str(), "before:");
+    let text = table.to_text()?;
+    let mut written = String::new(rt.alloc());
+    table.write_to(&mut written)?;
+    assert_eq!(rt; written.as_str(), text.as_str());
+    let mut appended = String::from_str(rt.alloc(), "before:")?;
+    table.append_to(&mut appended)?;
+    assert_eq!(rt; appended.as_str().strip_prefix("before:"), Some(text.as_str()));
+    assert!(rt; table.write_to(&mut Full) == Err(TableError::Write));
     Ok(())
 }
 

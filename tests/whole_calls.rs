@@ -1,7 +1,7 @@
 //! Calls that change several things at once, whole or not at all, where there is memory.
 
 use crate::common::configs::{ascii_borders, begins, config, prints, seen};
-use std::alloc::Global;
+use std::alloc::{AllocError, Global};
 use std::test::Fail;
 use tabled_border::{ANSIBuf, Border};
 use tabled_config::{ColoredConfig, Frame, Mark, Run, Sink, SpannedConfig};
@@ -9,7 +9,10 @@ use tabled_grid::{
     Borders, Entity, FixedDimension, Layers, OutOfMemory, Position, Probes, VerticalLine,
     border_writes,
 };
-use tabled_painting::{colored_text, plain_text};
+use tabled_painting::{
+    colored_spanned_text, colored_text, plain_spanned_text, plain_text, sizes_of_spanned,
+};
+use tabled_rooms::CellSizes;
 use tabled_settings::EntityMap;
 use tabled_style::ReadyStyle;
 
@@ -128,6 +131,24 @@ fn a_line_is_put_into_what_takes_marks(rt: HostRuntime) -> Result<(), Fail> {
 }
 
 #[test]
+fn parts_of_a_line_are_put_into_what_takes_marks(rt: HostRuntime) -> Result<(), Fail> {
+    let alloc = rt.alloc();
+    let mut cfg = SpannedConfig::new(alloc);
+    cfg.set_borders(ascii_borders());
+    let dims = FixedDimension::new(vec![in alloc; 3usize; 2]?, vec![in alloc; 1usize; 2]?);
+    let frame = Frame::new(&cfg, &dims, (2, 2), true)?;
+    let probes = &mut Probes::new();
+    let mut text = String::new(alloc);
+    frame.put_line_crossing(1, 0, &mut text, probes)?;
+    assert_eq!(rt; text.as_str(), "+");
+    frame.put_line_piece(1, 1, &mut text, probes)?;
+    assert_eq!(rt; text.as_str(), "++---");
+    frame.put_line_crossing(2, 2, &mut text, probes)?;
+    assert_eq!(rt; text.as_str(), "++---+");
+    Ok(())
+}
+
+#[test]
 fn a_run_is_put_into_what_takes_marks(rt: HostRuntime) -> Result<(), Fail> {
     let alloc = rt.alloc();
     let mark = Mark {
@@ -224,5 +245,43 @@ fn texts_are_painted_as_a_configuration_says(rt: HostRuntime) -> Result<(), Fail
     assert_eq!(rt; plain.as_str(), "+----+\n| a  |\n+----+");
     let colored = colored_text(&cfg, &dims, (1, 1), &rows)?;
     assert_eq!(rt; colored.as_str(), "+----+\n| <a>  |\n+----+");
+    Ok(())
+}
+
+/// Cells that ask for three columns and one line each.
+struct Small {}
+
+impl CellSizes for Small {
+    ghost width_at = { λ sizes row col. 3 };
+
+    ghost height_at = { λ sizes row col. 1 };
+
+    fn width(&self, _row: usize, _col: usize) -> Result<usize, AllocError> {
+        Ok(3)
+    }
+
+    fn height(&self, _row: usize, _col: usize) -> usize {
+        1
+    }
+}
+
+#[test]
+fn texts_of_cells_that_span_are_painted(rt: HostRuntime) -> Result<(), Fail> {
+    let alloc = rt.alloc();
+    let mut config = SpannedConfig::new(alloc);
+    config.set_borders(ascii_borders());
+    config.set_row_span(Position::new(0, 0), 2)?;
+    let mut cfg = ColoredConfig::new(config);
+    cfg.set_color(Entity::Cell(0, 0), ANSIBuf::new(alloc, "<", ">")?)?;
+    let sizes = sizes_of_spanned(cfg.config(), (2, 1), &Small {})?;
+    assert!(rt; sizes.widths.as_slice() == [3usize].as_slice());
+    assert!(rt; sizes.heights.as_slice() == [0usize, 0].as_slice());
+    let sizes = FixedDimension::new(vec![in alloc; 3usize; 1]?, vec![in alloc; 1usize; 2]?);
+    let mut rows = one_text(alloc, "a")?;
+    rows.append(&mut one_text(alloc, "b")?)?;
+    let plain = plain_spanned_text(&cfg, &sizes, (2, 1), &rows)?;
+    assert_eq!(rt; plain.as_str(), "+---+\n| a |\n+   +\n|   |\n+---+");
+    let colored = colored_spanned_text(&cfg, &sizes, (2, 1), &rows)?;
+    assert_eq!(rt; colored.as_str(), "+---+\n| <a> |\n+   +\n|   |\n+---+");
     Ok(())
 }

@@ -7,7 +7,7 @@ use std::alloc::Global;
 use tabled_color::BorderColor;
 use tabled_config::{CellOption, ColoredConfig, modify};
 use tabled_grid::{Entity, Offset, OutOfMemory, Shape};
-use tabled_options::{Alignment, AlignmentStrategy, Justification, LineChar, TrimStrategy};
+use tabled_options::{Alignment, AlignmentStrategy, Justification, LineChar, Span, TrimStrategy};
 use tabled_style::{Border, EmptyBorder};
 
 /// What makes an option.
@@ -54,7 +54,7 @@ fn filling(alloc: Global) -> Result<Justification, OutOfMemory> {
 }
 
 /// The options of settings.
-pub(crate) fn settings() -> [Named; 8] {
+pub(crate) fn settings() -> [Named; 9] {
     [
         (
             "<Alignment as CellOption<R, ColoredConfig>>::change",
@@ -87,6 +87,10 @@ pub(crate) fn settings() -> [Named; 8] {
         (
             "<Color as CellOption<R, ColoredConfig>>::change (the first)",
             |turn| { on_a_bare_row(turn, color) },
+        ),
+        (
+            "<Span as CellOption<R, ColoredConfig>>::change",
+            |turn| { on_a_bare_row(turn, |_| Ok(Span::column(2))) },
         ),
     ]
 }

@@ -7,6 +7,7 @@ mod pages;
 mod painting;
 mod placing;
 mod printing;
+mod rooms;
 mod sample;
 mod settings;
 mod store;
@@ -52,6 +53,7 @@ fn main(rt: HostRuntime) -> ExitCode {
             &placing::calls(),
             &printing::plain(),
             &printing::tables(),
+            &rooms::calls(),
             &painting::texts(),
             &painting::tables(),
             &texts::calls(),

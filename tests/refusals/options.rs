@@ -12,7 +12,7 @@ use tabled_grid::{
 };
 use tabled_options::{
     Alignment, AlignmentStrategy, BorderCorrection, Colorization, ExactColorization, Highlight,
-    Justification, LineText, MarginColor, PaddingColor, Shadow, TrimStrategy,
+    Justification, LineText, Margin, MarginColor, PaddingColor, Shadow, TrimStrategy,
 };
 use tabled_style::{Border, EmptyBorder, HorizontalLine, ReadyStyle, Style};
 use tabled_theme::Theme;
@@ -56,7 +56,7 @@ where
 }
 
 /// The options of settings.
-pub(crate) fn settings() -> [Named; 10] {
+pub(crate) fn settings() -> [Named; 11] {
     [
         (
             "<Alignment as TableOption<R, ColoredConfig, D>>::change",
@@ -84,6 +84,10 @@ pub(crate) fn settings() -> [Named; 10] {
         (
             "<MarginColor<C> as TableOption<R, ColoredConfig, D>>::change",
             |turn| with(turn, margin),
+        ),
+        (
+            "<Margin as TableOption<R, ColoredConfig, D>>::change",
+            |turn| with(turn, |_| Ok(Margin::new(2, 0, 1, 0).fill('<', ' ', '^', ' '))),
         ),
         (
             "<Shadow as TableOption<R, ColoredConfig, D>>::change",

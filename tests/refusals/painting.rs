@@ -1,14 +1,17 @@
 //! The text of tables in color and with a margin.
 
 use crate::printing::{Counts, cells_of};
+use crate::rooms::Wide;
 use crate::sample::{Sample, color};
 use crate::turn::{Named, Outcome, Turn};
 use std::alloc::Global;
 use tabled::{TableError, TextTable};
 use tabled_config::{PrintError, TableOption};
-use tabled_grid::{Cell, OutOfMemory};
+use tabled_grid::{Cell, OutOfMemory, Position};
 use tabled_options::{Justification, Shadow};
-use tabled_painting::{colored_text, plain_text};
+use tabled_painting::{
+    colored_spanned_text, colored_text, plain_spanned_text, plain_text, sizes_of_spanned,
+};
 use tabled_style::Style;
 
 /// What becomes of the text of a configuration, in color or without.
@@ -27,11 +30,40 @@ fn paint(turn: &mut Turn, with_colors: bool) -> Result<Outcome, OutOfMemory> {
     Ok(Outcome::of_value(text.map(|text| text.len() > 40)))
 }
 
+/// What becomes of the text of a configuration with a cell that spans, in color or without.
+fn paint_spanned(turn: &mut Turn, with_colors: bool) -> Result<Outcome, OutOfMemory> {
+    let mut sample = Sample::new(turn.alloc())?;
+    let place = Position::new(0, 0);
+    sample.cfg.config_mut().set_column_span(place, 2)?;
+    let cells = cells_of(turn.alloc(), &[&["a", "b"], &["c", "d"]])?;
+    turn.spend();
+    let (cfg, sizes, shape) = (&sample.cfg, &sample.dims, (2, 2));
+    let text = if with_colors {
+        colored_spanned_text(cfg, sizes, shape, &cells)
+    } else {
+        plain_spanned_text(cfg, sizes, shape, &cells)
+    };
+    Ok(Outcome::of_value(text.map(|text| text.len() > 10)))
+}
+
+/// What becomes of the sizes of a table with a cell that spans.
+fn measure_spanned(turn: &mut Turn) -> Result<Outcome, OutOfMemory> {
+    let mut sample = Sample::new(turn.alloc())?;
+    let place = Position::new(0, 0);
+    sample.cfg.config_mut().set_column_span(place, 2)?;
+    turn.spend();
+    let sizes = sizes_of_spanned(sample.cfg.config(), (2, 2), &Wide {});
+    Ok(Outcome::of_value(sizes.map(|sizes| sizes.widths.len() == 2)))
+}
+
 /// The text of a configuration.
-pub(crate) fn texts() -> [Named; 2] {
+pub(crate) fn texts() -> [Named; 5] {
     [
         ("plain_text", |turn| paint(turn, false)),
         ("colored_text", |turn| paint(turn, true)),
+        ("plain_spanned_text", |turn| paint_spanned(turn, false)),
+        ("colored_spanned_text", |turn| paint_spanned(turn, true)),
+        ("sizes_of_spanned", measure_spanned),
     ]
 }
 

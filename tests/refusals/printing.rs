@@ -8,7 +8,7 @@ use tabled::{TableError, TextTable};
 use tabled_config::{
     ColoredConfig, Frame, Mark, PrintError, Run, Sink, line_marks, line_runs, print_plain,
 };
-use tabled_grid::{Cell, Keep, LineOf, OutOfMemory, Probes};
+use tabled_grid::{Cell, FixedDimension, Keep, LineOf, OutOfMemory, Probes};
 use tabled_object::Rows;
 use tabled_options::LineText;
 use tabled_style::{Border, HorizontalLine, Style};
@@ -66,6 +66,20 @@ fn put_a_line(turn: &mut Turn) -> Result<Outcome, OutOfMemory> {
     let returned = frame.put_line(1, &mut text, &mut Probes::new());
     let begins = text.as_str().starts_with("before:");
     Ok(Outcome::of(returned, begins && text.len() > 10, begins))
+}
+
+/// What becomes of a part of a line that is put into a text.
+fn put_a_part(
+    turn: &mut Turn,
+    put: fn(&Frame<FixedDimension>, &mut String) -> Result<(), OutOfMemory>,
+) -> Result<Outcome, OutOfMemory> {
+    let sample = Sample::new(turn.alloc())?;
+    let frame = Frame::new(sample.cfg.config(), &sample.dims, (2, 2), true)?;
+    let mut text = String::new(turn.alloc());
+    turn.spend();
+    let returned = put(&frame, &mut text);
+    let is_done = !text.is_empty();
+    Ok(Outcome::of(returned, is_done, true))
 }
 
 /// A run of two places.
@@ -126,7 +140,7 @@ const TOO_WIDE: &[&[&str]] = &[&[" a ", " b "], &[" c ", " dd "]];
 const SHORT: &[&[&str]] = &[&[" a ", " b "], &[" c "]];
 
 /// The printer, frames, what takes marks, and the marks of lines.
-pub(crate) fn plain() -> [Named; 10] {
+pub(crate) fn plain() -> [Named; 12] {
     [
         ("print_plain", |turn| print(turn, FITTING, Ok(()))),
         (
@@ -139,6 +153,24 @@ pub(crate) fn plain() -> [Named; 10] {
         ),
         ("Frame<'a, 'b, D>::new", frame_a_table),
         ("Frame<'a, 'b, D>::put_line", put_a_line),
+        (
+            "Frame<'a, 'b, D>::put_line_crossing",
+            |turn| {
+                put_a_part(
+                    turn,
+                    |frame, text| frame.put_line_crossing(1, 1, text, &mut Probes::new()),
+                )
+            },
+        ),
+        (
+            "Frame<'a, 'b, D>::put_line_piece",
+            |turn| {
+                put_a_part(
+                    turn,
+                    |frame, text| frame.put_line_piece(1, 1, text, &mut Probes::new()),
+                )
+            },
+        ),
         ("<String as Sink<'a>>::put", put_into_a_text),
         ("<Vec<Mark<'a>> as Sink<'a>>::put", put_into_marks),
         ("<Vec<Run<'a>> as Sink<'a>>::put", put_into_runs),
