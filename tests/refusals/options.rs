@@ -56,7 +56,7 @@ where
 }
 
 /// The options of settings.
-pub(crate) fn settings() -> [Named; 11] {
+pub(crate) fn settings() -> [Named; 12] {
     [
         (
             "<Alignment as TableOption<R, ColoredConfig, D>>::change",

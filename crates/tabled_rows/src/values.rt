@@ -8,7 +8,7 @@ use tabled_border::OutOfMemory;
 
 /// A value that is a row of a table: it has a text for each cell, and its type has the texts that stand above them, as many.
 ///
-/// A type of one's own has it in some lines. With `use tabled::row;`:
+/// A type of one's own has it in some lines. With `use tabled_rows::row;`:
 ///
 /// ```text
 /// impl Tabled for Language {
