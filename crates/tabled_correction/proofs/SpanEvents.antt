@@ -1,22 +1,11 @@
 -- Cells that span, one after another.
-use Rattle.std.proofs.Common.{◌≡◌, ℕ, Bool, true, false, cond, List, [], ◌∷◌, ◌++◌, take, filter, flat_map, length, refl, sym, ap, subst, ◌∙◌, append-nil, append_assoc, arith, if◌then◌else◌, filter_map}
-use Rattle.std.specs.Prelude.{slice_index_or}
+use Rattle.std.proofs.Common.{◌≡◌, ℕ, Bool, true, false, cond, List, [], ◌∷◌, ◌++◌, filter, flat_map, refl, sym, ap, ◌∙◌, append_assoc}
 use Rattle.std.proofs.lemmas.List.Elements.{filter_map-append}
-use Rattle.std.proofs.lemmas.List.Concat.{flat_map-append}
 use Rattle.tabled_object.specs.declared.entity.Entity.{Entity}
 use Rattle.tabled_object.specs.declared.position.Position.{Position}
 use Rattle.tabled_object.specs.Entities.{cells_of, is_inside}
-use Rattle.tabled_grid.specs.Event as grid
-use Rattle.tabled_grid.specs.State.{state_at}
-use Rattle.tabled_grid.proofs.Replay.{Changes-append, Changes-nil}
-use Rattle.tabled_layout.specs.TableSettings.{settings_after}
-use Rattle.tabled_layout.proofs.LayoutLemmas.{settings_after-append}
-use Rattle.tabled_configuration.specs.Configuration.{by_column_span, by_row_span, cell_colors_of, cell_color_event}
+use Rattle.tabled_configuration.specs.Configuration.{cell_colors_of, cell_color_event}
 use Rattle.tabled_correction.specs.Span.{Reach, cell_spanned, span_events}
-
--- the events of cells that span over columns, or over rows
-pub spanned_over : (reach : Reach) (columns : Bool) (cells : List Position) → reach.is_columns ≡ columns → flat_map (cell_spanned reach) cells ≡ flat_map (λ cell. if columns then by_column_span (cell, reach.count) else by_row_span (cell, reach.count)) cells
-spanned_over reach columns cells is = ap (λ b. flat_map (λ cell. if b then by_column_span (cell, reach.count) else by_row_span (cell, reach.count)) cells) is
 
 -- none of the events is one of the colors of cells
 none_of_cell : (reach : Reach) (cell : Position) → cell_colors_of (cell_spanned reach cell) ≡ []
