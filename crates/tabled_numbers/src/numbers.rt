@@ -123,14 +123,11 @@ fn is_scaled(text: &[u8]) -> bool
     }
 }
 
-/// Whether a text is a number as cells have them: a sign; digits, with one comma or low line between two of them, a point and digits, or
-/// only these; an exponent after `e` or `E`, with a sign of its own; a percent sign. Of the whole, the digits before the point or those
-/// after it must be there.
+/// Whether a text is a number, as cells have them: a sign; digits, with one comma or low line between two of them, or a point and digits,
+/// or both; an exponent after `e` or `E`, with a sign of its own; a percent sign. Sign, exponent and percent sign may be absent, and no
+/// space stands anywhere.
 ///
-/// ```text
-/// 7    -1,024.50    .5    1e-9    30%       are numbers
-/// 1.   1,,0    e9    0x1F    7 kg           are none
-/// ```
+/// So `7`, `-1,024.50`, `.5`, `1e-9` and `30%` are numbers, and `1.`, `1,,0`, `e9`, `0x1F` and `7 kg` are none.
 pub fn is_number(text: &str) -> bool
     ensures { result ≡ is_number text.now }
 {
