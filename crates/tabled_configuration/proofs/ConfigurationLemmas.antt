@@ -1,5 +1,5 @@
 -- Configurations by the events of their stores.
-use Rattle.std.proofs.Common.{◌≡◌, ℕ, Option, None, List, [], ◌∷◌, ◌++◌, map, filter_map, refl, sym, ap, subst, ◌∙◌, Result, Ok, Err, OnOk, append-nil}
+use Rattle.std.proofs.Common.{◌≡◌, ℕ, Option, None, List, [], ◌∷◌, ◌++◌, map, filter_map, refl, sym, ap, subst, ◌∙◌, Result, Ok, Err, OnOk, append-nil, flat_map}
 use Rattle.std.specs.List.{cons_option}
 use Rattle.std.proofs.lemmas.List.Elements.{filter_map-append}
 use Rattle.tabled_grid.specs.declared.offset.Offset.{Offset}
@@ -21,9 +21,11 @@ use Rattle.tabled_grid.proofs.Replay.{replay-nil, replay_cleared, Shows_after, C
 use Rattle.tabled_grid.specs.Calls.{default_set, lines_erased, offsets_erased}
 use Rattle.tabled_grid.proofs.Writing.{Shows-writes_of}
 use Rattle.tabled_layout.specs.declared.table_settings.TableSettings.{TableSettings}
+use Rattle.tabled_object.specs.declared.position.Position.{Position}
+use Rattle.tabled_layout.specs.Spans.{SpanMap, after_span, spans_after, calls_for}
 use Rattle.tabled_layout.specs.TableSettings.{TableEvent, after_event, settings_after, first_settings, settings_left}
 use Rattle.tabled_layout.proofs.LayoutLemmas.{settings_after-append, as_by_what_is_left}
-use Rattle.tabled_configuration.specs.Configuration.{Configuration, ConfigEvent, of_characters, of_colors, of_settings, character_event, color_event, setting_event, characters_of, colors_of, settings_of, by_characters, by_colors, writes_applied, all_but_offsets, default_color_set, Shows, Changes, all_writes, borders_set, borders_removed}
+use Rattle.tabled_configuration.specs.Configuration.{Configuration, ConfigEvent, of_characters, of_colors, of_settings, character_event, color_event, setting_event, characters_of, colors_of, settings_of, by_characters, by_colors, by_column_span, by_row_span, writes_applied, all_but_offsets, default_color_set, Shows, Changes, all_writes, borders_set, borders_removed}
 
 -- events of another kind are passed over
 pub passed_over : {A B : Type 0} (kind : A → ConfigEvent) (mine : ConfigEvent → Option B) → ((e : A) → mine (kind e) ≡ None) → (es : List A) → filter_map mine (map kind es) ≡ []
@@ -99,6 +101,45 @@ pub Changes_by_setting : (e : TableEvent) (characters : State ℕ) (colors : Sta
 Changes_by_setting e characters colors before after old is changed =
     subst (λ cfg. Changes (of_settings e ∷ []) cfg (record { characters = characters; colors = colors; settings = after })) is
     (record { characters_changed = Changes-nil (state_at characters); colors_changed = Changes-nil (state_at colors); settings_changed = changed })
+
+-- spans of some cells: nothing is written, and their spans alone change
+module _ (columns : ℕ) where
+  spans_write_nothing : (cells : List Position) → (characters_of (flat_map (λ cell. by_column_span (cell, columns)) cells) ≡ []) × (colors_of (flat_map (λ cell. by_column_span (cell, columns)) cells) ≡ [])
+  spans_write_nothing [] = (refl, refl)
+  spans_write_nothing (cell ∷ cells) = spans_write_nothing cells
+
+  spans_made : (cells : List Position) (settings : TableSettings) → settings_after settings (settings_of (flat_map (λ cell. by_column_span (cell, columns)) cells)) ≡ record settings { column_spans = spans_after settings.column_spans (calls_for columns cells) }
+  spans_made [] settings = refl
+  spans_made (cell ∷ cells) settings = spans_made cells (record settings { column_spans = after_span settings.column_spans (cell, columns) })
+
+  row_spans_write_nothing : (cells : List Position) → (characters_of (flat_map (λ cell. by_row_span (cell, columns)) cells) ≡ []) × (colors_of (flat_map (λ cell. by_row_span (cell, columns)) cells) ≡ [])
+  row_spans_write_nothing [] = (refl, refl)
+  row_spans_write_nothing (cell ∷ cells) = row_spans_write_nothing cells
+
+  row_spans_made : (cells : List Position) (settings : TableSettings) → settings_after settings (settings_of (flat_map (λ cell. by_row_span (cell, columns)) cells)) ≡ record settings { row_spans = spans_after settings.row_spans (calls_for columns cells) }
+  row_spans_made [] settings = refl
+  row_spans_made (cell ∷ cells) settings = row_spans_made cells (record settings { row_spans = after_span settings.row_spans (cell, columns) })
+
+settings_alone : (es : List ConfigEvent) (characters : State ℕ) (colors : State Texts) (before after : TableSettings) (old : Configuration) → record { characters = characters; colors = colors; settings = before } ≡ old
+    → (characters_of es ≡ []) × (colors_of es ≡ []) → after ≡ settings_after before (settings_of es) → Changes es old (record { characters = characters; colors = colors; settings = after })
+settings_alone es characters colors before after old is none changed =
+    subst (λ cfg. Changes es cfg (record { characters = characters; colors = colors; settings = after })) is (record {
+      characters_changed = subst (λ all. grid.Changes all (state_at characters) (state_at characters)) (sym none.0) (Changes-nil (state_at characters));
+      colors_changed = subst (λ all. grid.Changes all (state_at colors) (state_at colors)) (sym none.1) (Changes-nil (state_at colors));
+      settings_changed = changed;
+    })
+
+pub Changes_by_column_spans : (columns : ℕ) (cells : List Position) (characters : State ℕ) (colors : State Texts) (before : TableSettings) (spans : SpanMap) (old : Configuration) → record { characters = characters; colors = colors; settings = before } ≡ old
+    → spans ≡ spans_after before.column_spans (calls_for columns cells) → Changes (flat_map (λ cell. by_column_span (cell, columns)) cells) old (record { characters = characters; colors = colors; settings = record before { column_spans = spans } })
+Changes_by_column_spans columns cells characters colors before spans old is made =
+    settings_alone (flat_map (λ cell. by_column_span (cell, columns)) cells) characters colors before (record before { column_spans = spans }) old is (spans_write_nothing columns cells)
+    ((λ i. record before { column_spans = made i }) ∙ sym (spans_made columns cells before))
+
+pub Changes_by_row_spans : (rows : ℕ) (cells : List Position) (characters : State ℕ) (colors : State Texts) (before : TableSettings) (spans : SpanMap) (old : Configuration) → record { characters = characters; colors = colors; settings = before } ≡ old
+    → spans ≡ spans_after before.row_spans (calls_for rows cells) → Changes (flat_map (λ cell. by_row_span (cell, rows)) cells) old (record { characters = characters; colors = colors; settings = record before { row_spans = spans } })
+Changes_by_row_spans rows cells characters colors before spans old is made =
+    settings_alone (flat_map (λ cell. by_row_span (cell, rows)) cells) characters colors before (record before { row_spans = spans }) old is (row_spans_write_nothing rows cells)
+    ((λ i. record before { row_spans = made i }) ∙ sym (row_spans_made rows cells before))
 
 -- two lists of writes made
 pub Changes-writes_applied : {A E : Type 0} (result : Result A E) (characters : List (Write ℕ)) (colors : List (Write Texts)) (before after : Configuration) (old : Configuration) → before ≡ old → after.settings ≡ before.settings → OnOk result (grid.Changes (writes_made characters) (state_at before.characters) (state_at after.characters)) → OnOk result (grid.Changes (writes_made colors) (state_at before.colors) (state_at after.colors)) → OnOk result (Changes (writes_applied characters colors) old after)

@@ -11,4 +11,5 @@ pub record AreAlike (settings : CellSettings) : Type 0 where
   pub line_alignment : settings.line_alignment.since ≡ []
   pub justification : settings.justification.since ≡ []
   pub justification_color : settings.justification_color.since ≡ []
+  pub padding : settings.padding.since ≡ []
   pub padding_color : settings.padding_color.since ≡ []

@@ -15,6 +15,7 @@ use Rattle.tabled_grid.specs.Calls.{default_set, line_set_horizontal, line_set_v
 use Rattle.tabled_grid.specs.State.{State, state_at, class_record_set, writes_of}
 use Rattle.tabled_border.specs.Texts.{Texts}
 use Rattle.tabled_settings.specs.CellSettings.{SettingEvent}
+use Rattle.tabled_settings.specs.Padding.{keeps_first_padding}
 use Rattle.tabled_layout.specs.declared.table_settings.TableSettings.{TableSettings}
 use Rattle.tabled_layout.specs.Margin.{MarginEvent}
 use Rattle.tabled_layout.specs.Spans.{SpanEvent}
@@ -31,6 +32,14 @@ pub record Configuration : Type 0 where
 -- whether no cell spans several columns or several rows
 abbrev pub has_no_spans : Configuration → Bool
 has_no_spans cfg = (finmap.len cfg.settings.column_spans == 0) && (finmap.len cfg.settings.row_spans == 0)
+
+-- whether no padding is set: each cell has a column of spaces at its left and at its right, and no line above or below
+abbrev pub has_no_padding : Configuration → Bool
+has_no_padding cfg = keeps_first_padding cfg.settings.cells.padding
+
+-- whether the columns and rows of a table are as large as its texts alone ask
+abbrev pub is_sized_by_texts : Configuration → Bool
+is_sized_by_texts cfg = has_no_spans cfg && has_no_padding cfg
 
 -- by this a proof tells two configurations apart
 pub configuration_code : Coded Configuration

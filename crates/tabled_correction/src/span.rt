@@ -9,8 +9,7 @@ ghost use Rattle.tabled_correction.specs.Span.{cell_spanned, span_events};
 
 use std::alloc::Global;
 use std::marker::Model;
-use std::mem;
-use tabled_border::{Keep, OutOfMemory};
+use tabled_border::OutOfMemory;
 use tabled_configuration::{CellOption, ColoredConfig, SpannedConfig};
 use tabled_object::{Entity, ExactRecords, Position, Records};
 
@@ -67,40 +66,16 @@ impl Span {
         }
     }
 
-    /// Lets one cell span.
-    fn set(&self, cfg: &mut SpannedConfig, cell: Position) -> Result<(), OutOfMemory>
-        ensures ok { OnOk result (borders.Changes (cell_spanned self.now cell) cfg.old cfg.new) }
-        ensures err { OnErr result (cfg.new ≡ cfg.old) }
-    {
-        if self.is_columns {
-            cfg.set_column_span(cell, self.count)
-        } else {
-            cfg.set_row_span(cell, self.count)
-        }
-    }
-
-    /// Lets cells span one after another. Where memory is refused some may span.
-    fn set_each(&self, cfg: &mut SpannedConfig, cells: &[Position]) -> Result<(), OutOfMemory>
-        ensures { OnOk result (borders.Changes (flat_map (cell_spanned self.now) cells.now) cfg.old cfg.new) }
-    {
-        for cell in cells {
-            self.set(cfg, *cell)?;
-        }
-        Ok(())
-    }
-
-    /// Lets all of some cells span, or none: several are set in a copy, which takes the place of the configuration when all are.
+    /// Lets all of some cells span, or none.
     fn set_all(&self, cfg: &mut SpannedConfig, cells: &[Position]) -> Result<(), OutOfMemory>
         ensures ok { OnOk result (borders.Changes (flat_map (cell_spanned self.now) cells.now) cfg.old cfg.new) }
         ensures err { OnErr result (cfg.new ≡ cfg.old) }
     {
-        if cells.len() == 1 {
-            return self.set(cfg, cells[0]);
+        if self.is_columns {
+            cfg.set_column_spans(cells, self.count)
+        } else {
+            cfg.set_row_spans(cells, self.count)
         }
-        let mut changed: SpannedConfig = cfg.keep(cfg.allocator())?;
-        self.set_each(&mut changed, cells)?;
-        drop(mem::replace(cfg, changed));
-        Ok(())
     }
 }
 

@@ -1,15 +1,15 @@
 -- Settings of a table that are equal are one.
-use Rattle.std.proofs.Common.{◌≡◌, ◌==◌, ◌&&◌, Bool, true, eqb-true}
+use Rattle.std.proofs.Common.{◌≡◌, ◌&&◌, Bool, true, eqb-true}
 use Rattle.std.specs.Cmp.{first_so, second_so}
 use Rattle.tabled_grid.specs.declared.offset.Offset.{Offset}
 use Rattle.tabled_grid.specs.contracts.offset.OffsetPartialEq.TheImpl.{eq-value as same_offset}
 use Rattle.tabled_grid.proofs.SameLemmas.{exact_maps}
+use Rattle.tabled_settings.specs.contracts.indent.IndentPartialEq.TheImpl.{eq-value as same_indent}
 use Rattle.tabled_settings.specs.contracts.cell_settings.CellSettingsPartialEq.TheImpl.{eq-value as same_cells}
-use Rattle.tabled_settings.proofs.SameSettings.{IsExact, same_sides, exact_sides, same_color, exact_color}
+use Rattle.tabled_settings.proofs.SameSettings.{IsExact, same_sides, exact_sides, exact_indent, same_color, exact_color}
 use Rattle.tabled_settings.proofs.SameSettings as cell
 use Rattle.tabled_layout.proofs.SpanLemmas.{positions_apart}
 use Rattle.tabled_layout.specs.declared.table_settings.TableSettings.{TableSettings}
-use Rattle.tabled_layout.specs.contracts.indent.IndentPartialEq.TheImpl.{eq-value as same_indent}
 use Rattle.tabled_layout.specs.contracts.margin.MarginPartialEq.TheImpl.{eq-value as same_margin}
 use Rattle.tabled_layout.specs.contracts.table_settings.TableSettingsPartialEq.TheImpl.{eq-value as same_table}
 use Rattle.tabled_layout.specs.Same.{same_spans}
@@ -18,12 +18,6 @@ exact_offset : IsExact same_offset.it
 exact_offset (Offset.Start n) (Offset.Start m) h = let e = eqb-true n m h in cc
 exact_offset (Offset.End n) (Offset.End m) h = let e = eqb-true n m h in cc
 exact_offset a b h = absurd cc
-
-exact_indent : IsExact same_indent.it
-exact_indent a b h = λ i. record {
-  size = eqb-true a.size b.size (first_so (a.size == b.size) (a.fill == b.fill) h) i;
-  fill = eqb-true a.fill b.fill (second_so (a.size == b.size) (a.fill == b.fill) h) i;
-}
 
 exact_margin : IsExact same_margin.it
 exact_margin a b h =

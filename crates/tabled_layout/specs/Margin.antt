@@ -3,17 +3,14 @@ use Rattle.std.specs.Prelude.{Option, Some, None, List, [], ◌∷◌}
 use Rattle.tabled_border.specs.Texts.{Texts}
 use Rattle.tabled_grid.specs.declared.offset.Offset.{Offset}
 use Rattle.tabled_grid.specs.declared.offset.Offset.TheVariants.{Start}
+use Rattle.tabled_settings.specs.declared.indent.Indent.{Indent}
 use Rattle.tabled_settings.specs.declared.sides.Sides.{Sides}
-use Rattle.tabled_layout.specs.declared.indent.Indent.{Indent}
+use Rattle.tabled_settings.specs.Padding.{no_indent}
 use Rattle.tabled_layout.specs.declared.margin.Margin.{Margin}
 
 -- one value on every side
 abbrev pub on_each_side : {T : Type 0} → T → Sides T
 on_each_side value = record { left = value; right = value; top = value; bottom = value }
-
--- no room, with a space to fill it
-abbrev pub no_indent : Indent
-no_indent = record { size = 0; fill = 32 }
 
 -- before anything is set there is no room on any side, each side begins at its start, and none has a color
 abbrev pub first_margin : Margin

@@ -1,5 +1,5 @@
 -- The spans of one direction: over how many columns, or rows, a cell spans.
-use Rattle.std.specs.Prelude.{◌≡◌, ℕ, ◌+◌, ◌<◌, ◌≤◌, Bool, ◌&&◌, ◌==◌, nat_lt, if◌then◌else◌, Option, Some, None, List, [], ◌∷◌, reverse, filter, option_and_then}
+use Rattle.std.specs.Prelude.{◌≡◌, ℕ, ◌+◌, ◌<◌, ◌≤◌, Bool, ◌&&◌, ◌==◌, nat_lt, if◌then◌else◌, Option, Some, None, List, [], ◌∷◌, map, reverse, filter, option_and_then}
 use Rattle.std.specs.List.{last_or}
 use Rattle.std.specs.FinMap.{FinMap, get, insert, remove, entries}
 use Rattle.std.specs.BTreeMap.Range.{entries_between}
@@ -28,6 +28,10 @@ after_span spans (position, count) = if nat_lt count 2 then remove spans positio
 abbrev pub spans_after : SpanMap → List SpanEvent → SpanMap
 spans_after spans [] = spans
 spans_after spans (event ∷ events) = spans_after (after_span spans event) events
+
+-- the calls for some cells, each with the same count
+abbrev pub calls_for : ℕ → List Position → List SpanEvent
+calls_for count cells = map (λ cell. (cell, count)) cells
 
 -- the calls that make these spans, from the last position to the first
 abbrev pub spans_left : SpanMap → List SpanEvent

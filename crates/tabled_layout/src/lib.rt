@@ -4,12 +4,11 @@
 #![tactic(auto)]
 
 mod covering;
-mod indent;
 mod margin;
 mod spans;
 mod table_settings;
 
-pub use indent::Indent;
 pub use margin::Margin;
 pub use spans::Spans;
 pub use table_settings::TableSettings;
+pub use tabled_settings::Indent;

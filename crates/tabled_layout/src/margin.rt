@@ -3,11 +3,10 @@
 ghost use Rattle.std.specs.Prelude.{◌≡◌};
 ghost use Rattle.tabled_layout.specs.Margin.{first_margin};
 
-use crate::Indent;
 use std::alloc::Global;
 use tabled_border::{ANSIBuf, Keep, OutOfMemory};
 use tabled_grid::Offset;
-use tabled_settings::Sides;
+use tabled_settings::{Indent, Sides};
 
 /// The margin of a table: how wide it is on each side, where it begins, and its colors.
 #[derive(Debug, Drop, PartialEq, Eq)]

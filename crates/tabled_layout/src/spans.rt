@@ -1,6 +1,8 @@
 //! Which cells span several columns, or several rows.
 
-ghost use Rattle.std.specs.Prelude.{◌≡◌, ◌<◌, ◌≤◌, ◌==◌, IsOk, OnOk, OnErr};
+mod several;
+
+ghost use Rattle.std.specs.Prelude.{◌≡◌, ◌<◌, ◌≤◌, ◌==◌, None, IsOk, OnOk, OnErr};
 ghost use Rattle.std.specs.FinMap as map;
 ghost use Rattle.std.specs.BTreeMap.{insert_entry};
 ghost use Rattle.tabled_grid.specs.Table.{table};
@@ -122,10 +124,11 @@ impl Spans {
             .range(Position::new(row, first)..Position::new(row, end))
     }
 
-    /// Sets a span.
+    /// Sets a span. Where there is one already no memory is asked for.
     fn insert(&mut self, position: Position, count: usize) -> Result<(), OutOfMemory>
         ensures ok { OnOk result (self.new ≡ map.insert self.old position count) }
         ensures err { OnErr result (self.new ≡ self.old) }
+        ensures absent { OnErr result (map.get self.old position ≡ None) }
     {
         self.spans.insert(position, count)?;
         self.longest = self.longest.max(count);

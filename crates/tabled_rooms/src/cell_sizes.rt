@@ -15,7 +15,7 @@ pub trait CellSizes {
     fn width(&self, row: usize, col: usize) -> Result<usize, AllocError>
         ensures { IfOk result (λ width. width ≡ width_at self.now row col) };
 
-    /// How high a cell asks to be.
-    fn height(&self, row: usize, col: usize) -> usize
-        ensures { result ≡ height_at self.now row col };
+    /// How high a cell asks to be. Refused where no number says it.
+    fn height(&self, row: usize, col: usize) -> Result<usize, AllocError>
+        ensures { IfOk result (λ height. height ≡ height_at self.now row col) };
 }

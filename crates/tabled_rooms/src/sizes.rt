@@ -98,7 +98,7 @@ fn ask_heights<M: CellSizes>(
         let host = hosts[col];
         let shown = is_shown(host, row, col);
         let count = host.bottom.saturating_sub(row);
-        let height = cells.height(row, col);
+        let height = cells.height(row, col)?;
         high = high.max(alone(shown, count, height));
         ask_over(asks, shown, row, count, height)?;
     }

@@ -8,4 +8,5 @@ pub mod SettingsLemmas
 pub mod SameSettings
 pub mod SettingBack
 pub mod InARow
+pub mod Paddings
 pub mod Holes

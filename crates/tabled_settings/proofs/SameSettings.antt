@@ -9,9 +9,11 @@ use Rattle.tabled_border.specs.Texts.{Texts}
 use Rattle.tabled_settings.specs.declared.alignment.AlignmentHorizontal.TheVariants as horizontal
 use Rattle.tabled_settings.specs.declared.alignment.AlignmentVertical.TheVariants as vertical
 use Rattle.tabled_settings.specs.declared.sides.Sides.{Sides}
+use Rattle.tabled_settings.specs.declared.indent.Indent.{Indent}
 use Rattle.tabled_settings.specs.declared.cell_settings.CellSettings.{CellSettings}
 use Rattle.tabled_settings.specs.contracts.alignment.AlignmentHorizontalPartialEq.TheImpl.{eq-value as same_horizontal}
 use Rattle.tabled_settings.specs.contracts.alignment.AlignmentVerticalPartialEq.TheImpl.{eq-value as same_vertical}
+use Rattle.tabled_settings.specs.contracts.indent.IndentPartialEq.TheImpl.{eq-value as same_indent}
 use Rattle.tabled_settings.specs.contracts.cell_settings.CellSettingsPartialEq.TheImpl.{eq-value as same_settings}
 use Rattle.tabled_settings.specs.Setting.{same_entity}
 use Rattle.tabled_settings.specs.Same.{same_event, same_live}
@@ -88,6 +90,12 @@ exact_sides E exact a b h =
       bottom = exact a.bottom b.bottom (second_so (E a.top b.top) (E a.bottom b.bottom) after_right) i;
     }
 
+pub exact_indent : IsExact same_indent.it
+exact_indent a b h = λ i. record {
+  size = eqb-true a.size b.size (first_so (a.size == b.size) (a.fill == b.fill) h) i;
+  fill = eqb-true a.fill b.fill (second_so (a.size == b.size) (a.fill == b.fill) h) i;
+}
+
 pub exact_settings : (a b : CellSettings) → same_settings.it a b ≡ true → a ≡ b
 exact_settings a b h =
     let test_1 : Bool = same_live same_horizontal.it a.alignment_horizontal b.alignment_horizontal in
@@ -97,8 +105,10 @@ exact_settings a b h =
     let test_5 : Bool = same_live same_bool.it a.line_alignment b.line_alignment in
     let test_6 : Bool = same_live ◌==◌ a.justification b.justification in
     let test_7 : Bool = same_live same_color a.justification_color b.justification_color in
-    let test_8 : Bool = same_live (same_sides same_color) a.padding_color b.padding_color in
-    let rest_8 : Bool = test_8 in
+    let test_8 : Bool = same_live (same_sides same_indent.it) a.padding b.padding in
+    let test_9 : Bool = same_live (same_sides same_color) a.padding_color b.padding_color in
+    let rest_9 : Bool = test_9 in
+    let rest_8 : Bool = test_8 && rest_9 in
     let rest_7 : Bool = test_7 && rest_8 in
     let rest_6 : Bool = test_6 && rest_7 in
     let rest_5 : Bool = test_5 && rest_6 in
@@ -112,6 +122,7 @@ exact_settings a b h =
     let left_6 = second_so test_5 rest_6 left_5 in
     let left_7 = second_so test_6 rest_7 left_6 in
     let left_8 = second_so test_7 rest_8 left_7 in
+    let left_9 = second_so test_8 rest_9 left_8 in
     λ i. record {
       alignment_horizontal = exact_live same_horizontal.it exact_horizontal a.alignment_horizontal b.alignment_horizontal (first_so test_1 rest_2 h) i;
       alignment_vertical = exact_live same_vertical.it exact_vertical a.alignment_vertical b.alignment_vertical (first_so test_2 rest_3 left_2) i;
@@ -120,5 +131,6 @@ exact_settings a b h =
       line_alignment = exact_live same_bool.it exact_bool a.line_alignment b.line_alignment (first_so test_5 rest_6 left_5) i;
       justification = exact_live ◌==◌ eqb-true a.justification b.justification (first_so test_6 rest_7 left_6) i;
       justification_color = exact_live same_color exact_color a.justification_color b.justification_color (first_so test_7 rest_8 left_7) i;
-      padding_color = exact_live (same_sides same_color) (exact_sides same_color exact_color) a.padding_color b.padding_color left_8 i;
+      padding = exact_live (same_sides same_indent.it) (exact_sides same_indent.it exact_indent) a.padding b.padding (first_so test_8 rest_9 left_8) i;
+      padding_color = exact_live (same_sides same_color) (exact_sides same_color exact_color) a.padding_color b.padding_color left_9 i;
     }

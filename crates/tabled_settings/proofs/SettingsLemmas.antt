@@ -5,11 +5,13 @@ use Rattle.tabled_border.specs.Texts.{Texts}
 use Rattle.tabled_object.specs.declared.position.Position.{Position}
 use Rattle.tabled_settings.specs.declared.alignment.AlignmentHorizontal.{AlignmentHorizontal}
 use Rattle.tabled_settings.specs.declared.alignment.AlignmentVertical.{AlignmentVertical}
+use Rattle.tabled_settings.specs.declared.indent.Indent.{Indent}
 use Rattle.tabled_settings.specs.declared.sides.Sides.{Sides}
 use Rattle.tabled_settings.specs.declared.cell_settings.CellSettings.{CellSettings}
 use Rattle.tabled_settings.specs.Setting.{EntityEvent, setting}
 use Rattle.tabled_settings.specs.Live.{Live, at_first, after_if, after_all, events_left, value_at}
-use Rattle.tabled_settings.specs.CellSettings.{SettingEvent, of_alignment_horizontal, of_alignment_vertical, of_trim_horizontal, of_trim_vertical, of_line_alignment, of_justification, of_justification_color, of_padding_color, alignment_horizontal_event, alignment_vertical_event, trim_horizontal_event, trim_vertical_event, line_alignment_event, justification_event, justification_color_event, padding_color_event, after_event, settings_after, first_settings, settings_left, no_colors}
+use Rattle.tabled_settings.specs.CellSettings.{SettingEvent, of_alignment_horizontal, of_alignment_vertical, of_trim_horizontal, of_trim_vertical, of_line_alignment, of_justification, of_justification_color, of_padding, of_padding_color, alignment_horizontal_event, alignment_vertical_event, trim_horizontal_event, trim_vertical_event, line_alignment_event, justification_event, justification_color_event, padding_event, padding_color_event, after_event, settings_after, first_settings, settings_left, no_colors}
+use Rattle.tabled_settings.specs.Padding.{first_padding}
 use Rattle.tabled_settings.proofs.Settling.{value_is_the_setting}
 use Rattle.tabled_settings.proofs.Leaving.{by_what_is_left}
 
@@ -69,6 +71,10 @@ after_justification_color : (settings : CellSettings) (es : List (EntityEvent (O
 after_justification_color settings [] = refl
 after_justification_color settings (e ∷ es) = after_justification_color (after_event settings (of_justification_color e)) es
 
+after_padding : (settings : CellSettings) (es : List (EntityEvent (Sides Indent))) → settings_after settings (map of_padding es) ≡ record settings { padding = after_all settings.padding es }
+after_padding settings [] = refl
+after_padding settings (e ∷ es) = after_padding (after_event settings (of_padding e)) es
+
 after_padding_color : (settings : CellSettings) (es : List (EntityEvent (Sides (Option Texts)))) → settings_after settings (map of_padding_color es) ≡ record settings { padding_color = after_all settings.padding_color es }
 after_padding_color settings [] = refl
 after_padding_color settings (e ∷ es) = after_padding_color (after_event settings (of_padding_color e)) es
@@ -86,6 +92,7 @@ pub after_left : (settings : CellSettings) → settings_after first_settings (se
   line_alignment = after_all (at_first false) (events_left settings.line_alignment);
   justification = after_all (at_first 32) (events_left settings.justification);
   justification_color = after_all (at_first None) (events_left settings.justification_color);
+  padding = after_all (at_first first_padding) (events_left settings.padding);
   padding_color = after_all (at_first no_colors) (events_left settings.padding_color);
 }
 unfolding settings_left
@@ -105,7 +112,9 @@ after_left settings =
     let events_5 : List SettingEvent = events_4 ++ map of_line_alignment (events_left settings.line_alignment) in
     let events_6 : List SettingEvent = events_5 ++ map of_justification (events_left settings.justification) in
     let events_7 : List SettingEvent = events_6 ++ map of_justification_color (events_left settings.justification_color) in
-    let left_8 : CellSettings = record left_7 { padding_color = after_all (at_first no_colors) (events_left settings.padding_color) } in
+    let events_8 : List SettingEvent = events_7 ++ map of_padding (events_left settings.padding) in
+    let left_8 : CellSettings = record left_7 { padding = after_all (at_first first_padding) (events_left settings.padding) } in
+    let left_9 : CellSettings = record left_8 { padding_color = after_all (at_first no_colors) (events_left settings.padding_color) } in
     let by_1 = after_alignment_horizontal left_0 (events_left settings.alignment_horizontal) in
     let by_2 = next left_0 left_1 left_2 events_1 (map of_alignment_vertical (events_left settings.alignment_vertical)) by_1 (after_alignment_vertical left_1 (events_left settings.alignment_vertical)) in
     let by_3 = next left_0 left_2 left_3 events_2 (map of_trim_horizontal (events_left settings.trim_horizontal)) by_2 (after_trim_horizontal left_2 (events_left settings.trim_horizontal)) in
@@ -113,7 +122,8 @@ after_left settings =
     let by_5 = next left_0 left_4 left_5 events_4 (map of_line_alignment (events_left settings.line_alignment)) by_4 (after_line_alignment left_4 (events_left settings.line_alignment)) in
     let by_6 = next left_0 left_5 left_6 events_5 (map of_justification (events_left settings.justification)) by_5 (after_justification left_5 (events_left settings.justification)) in
     let by_7 = next left_0 left_6 left_7 events_6 (map of_justification_color (events_left settings.justification_color)) by_6 (after_justification_color left_6 (events_left settings.justification_color)) in
-    next left_0 left_7 left_8 events_7 (map of_padding_color (events_left settings.padding_color)) by_7 (after_padding_color left_7 (events_left settings.padding_color))
+    let by_8 = next left_0 left_7 left_8 events_7 (map of_padding (events_left settings.padding)) by_7 (after_padding left_7 (events_left settings.padding)) in
+    next left_0 left_8 left_9 events_8 (map of_padding_color (events_left settings.padding_color)) by_8 (after_padding_color left_8 (events_left settings.padding_color))
 
 -- so after what is left of all events the same is there as after all of them
 pub as_by_what_is_left : (events : List SettingEvent) → settings_after first_settings (settings_left (settings_after first_settings events)) ≡ settings_after first_settings events
@@ -125,5 +135,6 @@ as_by_what_is_left events = after_left (settings_after first_settings events) �
   line_alignment = left_alike line_alignment_event (λ s. s.line_alignment) (λ s e. refl) false refl events i;
   justification = left_alike justification_event (λ s. s.justification) (λ s e. refl) 32 refl events i;
   justification_color = left_alike justification_color_event (λ s. s.justification_color) (λ s e. refl) None refl events i;
+  padding = left_alike padding_event (λ s. s.padding) (λ s e. refl) first_padding refl events i;
   padding_color = left_alike padding_color_event (λ s. s.padding_color) (λ s e. refl) no_colors refl events i;
 })

@@ -3,10 +3,12 @@ use Rattle.std.specs.Prelude.{ℕ, Bool, false, Option, Some, None, List, [], �
 use Rattle.tabled_border.specs.Texts.{Texts}
 use Rattle.tabled_settings.specs.declared.alignment.AlignmentHorizontal.{AlignmentHorizontal}
 use Rattle.tabled_settings.specs.declared.alignment.AlignmentVertical.{AlignmentVertical}
+use Rattle.tabled_settings.specs.declared.indent.Indent.{Indent}
 use Rattle.tabled_settings.specs.declared.sides.Sides.{Sides}
 use Rattle.tabled_settings.specs.declared.cell_settings.CellSettings.{CellSettings}
 use Rattle.tabled_settings.specs.Setting.{EntityEvent}
 use Rattle.tabled_settings.specs.Live.{at_first, after_if, events_left}
+use Rattle.tabled_settings.specs.Padding.{first_padding}
 
 -- an event of one kind of setting
 pub data SettingEvent : Type 0 where
@@ -17,6 +19,7 @@ pub data SettingEvent : Type 0 where
   of_line_alignment : EntityEvent Bool → SettingEvent
   of_justification : EntityEvent ℕ → SettingEvent
   of_justification_color : EntityEvent (Option Texts) → SettingEvent
+  of_padding : EntityEvent (Sides Indent) → SettingEvent
   of_padding_color : EntityEvent (Sides (Option Texts)) → SettingEvent
 
 -- the event as one of each kind
@@ -48,6 +51,10 @@ abbrev pub justification_color_event : SettingEvent → Option (EntityEvent (Opt
 justification_color_event (of_justification_color event) = Some event
 justification_color_event _ = None
 
+abbrev pub padding_event : SettingEvent → Option (EntityEvent (Sides Indent))
+padding_event (of_padding event) = Some event
+padding_event _ = None
+
 abbrev pub padding_color_event : SettingEvent → Option (EntityEvent (Sides (Option Texts)))
 padding_color_event (of_padding_color event) = Some event
 padding_color_event _ = None
@@ -62,6 +69,7 @@ after_event settings event = record {
   line_alignment = after_if settings.line_alignment (line_alignment_event event);
   justification = after_if settings.justification (justification_event event);
   justification_color = after_if settings.justification_color (justification_color_event event);
+  padding = after_if settings.padding (padding_event event);
   padding_color = after_if settings.padding_color (padding_color_event event);
 }
 
@@ -75,7 +83,7 @@ abbrev pub no_colors : Sides (Option Texts)
 no_colors = record { left = None; right = None; top = None; bottom = None }
 
 -- what cells have where nothing was set: texts stand at the left and at the top, nothing is trimmed, the lines of a text are
--- aligned as one, beside it stand spaces, and nothing has a color
+-- aligned as one, beside it stand spaces, one of them on each side is its padding, and nothing has a color
 abbrev pub first_settings : CellSettings
 first_settings = record {
   alignment_horizontal = at_first AlignmentHorizontal.Left;
@@ -85,6 +93,7 @@ first_settings = record {
   line_alignment = at_first false;
   justification = at_first 32;
   justification_color = at_first None;
+  padding = at_first first_padding;
   padding_color = at_first no_colors;
 }
 
@@ -98,4 +107,5 @@ settings_left settings =
     ++ map of_line_alignment (events_left settings.line_alignment)
     ++ map of_justification (events_left settings.justification)
     ++ map of_justification_color (events_left settings.justification_color)
+    ++ map of_padding (events_left settings.padding)
     ++ map of_padding_color (events_left settings.padding_color)

@@ -2,8 +2,9 @@
 
 ghost use Rattle.std.specs.Prelude.{◌≡◌, IfOk};
 ghost use Rattle.tabled_settings.specs.CellSettings.{first_settings};
+ghost use Rattle.tabled_settings.specs.Padding as padding;
 
-use crate::{AlignmentHorizontal, AlignmentVertical, EntityMap, Sides};
+use crate::{AlignmentHorizontal, AlignmentVertical, EntityMap, Indent, Sides};
 use std::alloc::Global;
 use tabled_border::{ANSIBuf, Keep, OutOfMemory};
 
@@ -24,13 +25,15 @@ pub struct CellSettings {
     pub justification: EntityMap<char>,
     /// The color of these characters, if they have one.
     pub justification_color: EntityMap<Option<ANSIBuf>>,
+    /// How many columns and lines of padding stand on each side between the border and the text, and what fills them.
+    pub padding: EntityMap<Sides<Indent>>,
     /// The color of the padding on each side, if it has one.
     pub padding_color: EntityMap<Sides<Option<ANSIBuf>>>,
 }
 
 impl CellSettings {
-    /// Every cell has its text at the left and at the top, nothing trimmed, all lines aligned as one, spaces beside it, and
-    /// no colors.
+    /// Every cell has its text at the left and at the top, nothing trimmed, all lines aligned as one, spaces beside it, one
+    /// of them on each side as padding, and no colors.
     pub fn new(alloc: Global) -> Self
         ensures { result ≡ first_settings }
     {
@@ -42,9 +45,18 @@ impl CellSettings {
             line_alignment: EntityMap::new(alloc, false),
             justification: EntityMap::new(alloc, ' '),
             justification_color: EntityMap::new(alloc, None),
+            padding: EntityMap::new(alloc, first_padding()),
             padding_color: EntityMap::new(alloc, Sides::new(None, None, None, None)),
         }
     }
+}
+
+/// The padding of cells where nothing was set.
+const fn first_padding() -> Sides<Indent>
+    ensures { result ≡ padding.first_padding }
+{
+    let (column, nothing) = (Indent::new(1, ' '), Indent::new(0, ' '));
+    Sides::new(column, column, nothing, nothing)
 }
 
 /// Where the texts of cells stand, and what is trimmed of them.
@@ -60,6 +72,7 @@ type TextSurroundings = (
     EntityMap<bool>,
     EntityMap<char>,
     EntityMap<Option<ANSIBuf>>,
+    EntityMap<Sides<Indent>>,
     EntityMap<Sides<Option<ANSIBuf>>>,
 );
 
@@ -84,12 +97,14 @@ impl CellSettings {
         ensures line_alignment { IfOk result (λ copies. copies.0 ≡ self.now.line_alignment) }
         ensures justification { IfOk result (λ copies. copies.1 ≡ self.now.justification) }
         ensures justification_color { IfOk result (λ copies. copies.2 ≡ self.now.justification_color) }
-        ensures padding_color { IfOk result (λ copies. copies.3 ≡ self.now.padding_color) }
+        ensures padding { IfOk result (λ copies. copies.3 ≡ self.now.padding) }
+        ensures padding_color { IfOk result (λ copies. copies.4 ≡ self.now.padding_color) }
     {
         Ok((
             self.line_alignment.keep(alloc)?,
             self.justification.keep(alloc)?,
             self.justification_color.keep(alloc)?,
+            self.padding.keep(alloc)?,
             self.padding_color.keep(alloc)?,
         ))
     }
@@ -99,7 +114,7 @@ impl Keep for CellSettings {
     fn keep(&self, alloc: Global) -> Result<Self, OutOfMemory> {
         let (alignment_horizontal, alignment_vertical, trim_horizontal, trim_vertical) =
             self.keep_text_places(alloc)?;
-        let (line_alignment, justification, justification_color, padding_color) =
+        let (line_alignment, justification, justification_color, padding, padding_color) =
             self.keep_text_surroundings(alloc)?;
         Ok(CellSettings {
             alignment_horizontal,
@@ -109,6 +124,7 @@ impl Keep for CellSettings {
             line_alignment,
             justification,
             justification_color,
+            padding,
             padding_color,
         })
     }

@@ -8,8 +8,7 @@ use super::SpannedConfig;
 use std::mem;
 use tabled_border::ANSIBuf;
 use tabled_grid::Offset;
-use tabled_layout::Indent;
-use tabled_settings::Sides;
+use tabled_settings::{Indent, Sides};
 
 impl SpannedConfig {
     /// Sets how wide the margin is on each side, in columns at the left and the right and in lines above and below, and

@@ -1,13 +1,16 @@
 //! What is asked of edges as wholes and of all cells, besides single places.
 
-ghost use Rattle.std.specs.Prelude.{◌≡◌, ◌↔◌, ◌||◌, IsTrue, is_some};
+ghost use Rattle.std.specs.Prelude.{◌≡◌, ◌↔◌, ◌||◌, not, IsTrue, is_some};
+ghost use Rattle.tabled_settings.specs.Padding as padding;
 ghost use Rattle.std.specs.FinMap as map;
 ghost use Rattle.tabled_grid.specs.Value.{plain_value};
 ghost use Rattle.tabled_grid.specs.State.{state_at};
 ghost use Rattle.tabled_configuration.specs.AlikeCells.{AreAlike};
+ghost use Rattle.tabled_configuration.specs.Configuration.{has_no_padding, is_sized_by_texts};
 
 use super::SpannedConfig;
 use tabled_grid::Place;
+use tabled_settings::{Indent, Sides};
 
 impl SpannedConfig {
     /// The character of an edge or a crossing without its offset characters. `at` of an edge is not read.
@@ -30,7 +33,25 @@ impl SpannedConfig {
             && cells.line_alignment.is_empty()
             && cells.justification.is_empty()
             && cells.justification_color.is_empty()
+            && cells.padding.is_empty()
             && cells.padding_color.is_empty()
+    }
+
+    /// Whether no padding is set: each cell has one column of spaces at its left and at its right, and no line above or below. So it is
+    /// where nothing was set, or that for all cells after all else.
+    pub fn has_no_padding(&self) -> bool
+        ensures { result ≡ has_no_padding self.now }
+    {
+        let padding = &self.settings.cells.padding;
+        padding.is_empty() && is_first_padding(padding.global())
+    }
+
+    /// Whether a cell spans several columns or rows, or padding is set, so that the columns and rows of a table are not as large as its
+    /// texts alone ask.
+    pub fn has_spans_or_padding(&self) -> bool
+        ensures { result ≡ not (is_sized_by_texts self.now) }
+    {
+        self.has_spans() || !self.has_no_padding()
     }
 
     /// Whether a custom horizontal line of characters, or one of colors, stands at an index.
@@ -39,4 +60,21 @@ impl SpannedConfig {
     {
         self.characters.get_hline(line).is_some() || self.colors.get_hline(line).is_some()
     }
+}
+
+/// Whether a side is that many spaces.
+fn is_spaces(size: usize, indent: Indent) -> bool
+    ensures { result ≡ padding.is_spaces size indent }
+{
+    indent.size == size && indent.fill == ' '
+}
+
+/// Whether it is the padding of cells where nothing was set.
+fn is_first_padding(sides: &Sides<Indent>) -> bool
+    ensures { result ≡ padding.is_first_padding sides.now }
+{
+    is_spaces(1, sides.left)
+        && is_spaces(1, sides.right)
+        && is_spaces(0, sides.top)
+        && is_spaces(0, sides.bottom)
 }

@@ -5,13 +5,13 @@
 ghost use Rattle.std.specs.Prelude.{◌≡◌, IsTrue, IsOk, OnOk, OnErr, option_copied};
 ghost use Rattle.tabled_settings.specs.Setting.{write_of, is_global};
 ghost use Rattle.tabled_settings.specs.Live.{value_at};
-ghost use Rattle.tabled_settings.specs.CellSettings.{of_alignment_horizontal, of_alignment_vertical, of_trim_horizontal, of_trim_vertical, of_line_alignment, of_justification, of_justification_color, of_padding_color};
+ghost use Rattle.tabled_settings.specs.CellSettings.{of_alignment_horizontal, of_alignment_vertical, of_trim_horizontal, of_trim_vertical, of_line_alignment, of_justification, of_justification_color, of_padding, of_padding_color};
 ghost use Rattle.tabled_configuration.specs.Configuration.{Changes, by_setting};
 
 use super::SpannedConfig;
 use tabled_border::{ANSIBuf, OutOfMemory};
 use tabled_object::{Entity, Position};
-use tabled_settings::{AlignmentHorizontal, AlignmentVertical, Sides};
+use tabled_settings::{AlignmentHorizontal, AlignmentVertical, Indent, Sides};
 
 impl SpannedConfig {
     /// Sets where the texts of the cells of an entity stand between the left and the right side. Where memory is refused
@@ -156,6 +156,25 @@ impl SpannedConfig {
             .justification_color
             .get(position)
             .as_ref()
+    }
+
+    /// Sets how much padding the cells of an entity have on each side, in columns at the left and the right and in lines above and below
+    /// the text, and what fills it. A character that does not draw plainly is a space when a table is printed. Where memory is refused
+    /// nothing changes; for all cells none is asked for.
+    pub fn set_padding(&mut self, entity: Entity, padding: Sides<Indent>) -> Result<(), OutOfMemory>
+        ensures ok { OnOk result (Changes (by_setting (of_padding (write_of entity padding))) self.old self.new) }
+        ensures err { OnErr result (self.new ≡ self.old) }
+        ensures always { IsTrue (is_global entity) → IsOk result }
+    {
+        self.settings.cells.padding.insert(entity, padding)
+    }
+
+    /// How much padding a cell has on each side, and what fills it, lent: a space at its left and at its right, and no line above or
+    /// below, where nothing was set.
+    pub fn get_padding(&self, position: Position) -> &Sides<Indent>
+        ensures { result.now ≡ value_at self.now.settings.cells.padding position }
+    {
+        self.settings.cells.padding.get(position)
     }
 
     /// Sets the color of the padding of the cells of an entity on each side, or none there. Where memory is refused

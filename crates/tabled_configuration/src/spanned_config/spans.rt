@@ -1,8 +1,9 @@
 //! Cells that span several columns or several rows.
 //!
-//! A span is kept for the position that is named, whether or not that lies inside the table. Tables with spans are not printed.
+//! A span is kept for the position that is named, whether or not that lies inside the table. Padded cells are not printed
+//! where any cell spans; tables of texts are.
 
-ghost use Rattle.std.specs.Prelude.{◌≡◌, ◌<◌, not, IsOk, OnOk, OnErr};
+ghost use Rattle.std.specs.Prelude.{◌≡◌, ◌<◌, not, flat_map, IsOk, OnOk, OnErr};
 ghost use Rattle.tabled_grid.specs.Table.{table};
 ghost use Rattle.tabled_layout.specs.Spans.{position_cmp};
 ghost use Rattle.tabled_layout.specs.Covering.{covered_by_column_span, covered_by_row_span, covered_by_both_spans};
@@ -32,6 +33,32 @@ impl SpannedConfig {
         ensures always { rows < 2 → IsOk result }
     {
         self.settings.row_spans.set(position, rows)
+    }
+
+    /// Sets over how many columns each of some cells spans; fewer than two remove their spans, which takes no memory. Where memory
+    /// is refused nothing changes. It costs the cells, and not what the table keeps.
+    pub fn set_column_spans(
+        &mut self,
+        cells: &[Position],
+        columns: usize,
+    ) -> Result<(), OutOfMemory>
+        ensures ok { OnOk result (Changes (flat_map (λ cell. by_column_span (cell, columns)) cells.now) self.old self.new) }
+        ensures err { OnErr result (self.new ≡ self.old) }
+        ensures always { columns < 2 → IsOk result }
+    {
+        let alloc = self.allocator();
+        self.settings.column_spans.set_all(alloc, cells, columns)
+    }
+
+    /// Sets over how many rows each of some cells spans; fewer than two remove their spans, which takes no memory. Where memory is
+    /// refused nothing changes. It costs the cells, and not what the table keeps.
+    pub fn set_row_spans(&mut self, cells: &[Position], rows: usize) -> Result<(), OutOfMemory>
+        ensures ok { OnOk result (Changes (flat_map (λ cell. by_row_span (cell, rows)) cells.now) self.old self.new) }
+        ensures err { OnErr result (self.new ≡ self.old) }
+        ensures always { rows < 2 → IsOk result }
+    {
+        let alloc = self.allocator();
+        self.settings.row_spans.set_all(alloc, cells, rows)
     }
 
     /// The cells that span several columns, each with their number, in the order of their rows and then of their columns.

@@ -1,0 +1,11 @@
+use Rattle.std.proofs.Common.{◌+◌, add-one, ap, take, ◌∙◌}
+use Rattle.std.proofs.Math.Seq.{take-suc}
+use Rattle.tabled_layout.proofs.TakenBackLemmas.{one_call, as_call}
+use Rattle.tabled_layout.proofs.spans.Spans.remove_each.Goals as goal
+
+pub loop-cell-preserved : goal.loop-cell-preserved
+loop-cell-preserved c = λ count few.
+    let n = c.loop-cell.cell-index in
+    one_call count (take n c.args.cells.now) (take (n + 1) c.args.cells.now) _ c.args.self.now c.loop-cell.self c.remove.new.self
+    (ap (λ k. take k c.args.cells.now) (add-one n) ∙ take-suc c.args.cells.now n _ c.loop-cell-test.true) (c.loop-cell.invariant count few)
+    (as_call count few c.loop-cell.self c.remove.new.self _ c.remove.ensures)
