@@ -43,7 +43,7 @@ fn text_at<'a>(rows: &'a [Vec<String>], row: usize, col: usize) -> &'a str
 }
 
 /// The text of a cell of a row.
-fn text_of<'a>(cells: &'a [String], col: usize) -> &'a str
+pub(crate) fn text_of<'a>(cells: &'a [String], col: usize) -> &'a str
     ensures { result.now ≡ cell (map string_bytes cells.now) col }
 {
     match cells.get(col) {

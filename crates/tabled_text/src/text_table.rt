@@ -10,8 +10,10 @@ ghost use Rattle.tabled_text.specs.Refusal.{unequal as refusal_of};
 ghost use Rattle.tabled_text.specs.Sizes.{column_widths, row_heights};
 ghost use Rattle.tabled_text.specs.TextTable.{lent_rows};
 
+mod columns;
 mod limits;
 mod making;
+mod panels;
 mod rows;
 mod spans;
 
