@@ -4,35 +4,43 @@ use Rattle.std.specs.Prelude.{chars}
 use Rattle.std.specs.Str.{IsUtf8}
 use Rattle.std.specs.List.{All}
 use Rattle.std.proofs.lemmas.Bool.{ltb-true, and_parts, eqb-true}
-use Rattle.std.proofs.lemmas.List.{get_or_default, get_or-reverse, take_at, length-replicate, length-reverse, reverse-append, reverse-reverse, get_or_at}
-use Rattle.std.proofs.lemmas.List.Elements.{All-nil, All-head, All-tail, All-cons, All-append, All-replicate, All-map}
-use Rattle.std.proofs.lemmas.Str.{chars-append, chars-IsAscii, IsUtf8-append, IsUtf8-take, IsUtf8-drop, IsUtf8-from_ascii, IsCharBoundary-before_ascii, IsCharBoundary-after_ascii}
+use Rattle.std.proofs.lemmas.List.{append_assoc, get_or_default, get_or-reverse, take_at, length-replicate, length-reverse, reverse-append, reverse-reverse, get_or_at}
+use Rattle.std.proofs.lemmas.List.Elements.{All-nil, All-head, All-tail, All-append, All-map}
+use Rattle.std.proofs.lemmas.Str.{encode_ascii, chars-append, chars-IsAscii, IsUtf8-append, IsUtf8-take, IsUtf8-drop, IsUtf8-from_ascii, IsCharBoundary-before_ascii, IsCharBoundary-after_ascii}
 use Rattle.unicode_width.specs.Width.{str_width}
 use Rattle.unicode_width.proofs.Rules.{str_width-append_simple, str_width-printable}
 use Rattle.tabled_settings.specs.declared.alignment.AlignmentHorizontal.{AlignmentHorizontal}
 use Rattle.tabled_settings.specs.declared.alignment.AlignmentHorizontal.TheVariants.{Left, Center, Right}
+use Rattle.tabled_settings.specs.declared.cell_settings.CellSettings.{CellSettings}
+use Rattle.tabled_settings.specs.declared.indent.Indent.{Indent}
+use Rattle.tabled_settings.specs.declared.sides.Sides.{Sides}
+use Rattle.tabled_settings.specs.Live.{value_at}
+use Rattle.tabled_settings.specs.Padding.{first_padding, keeps_first_padding}
+use Rattle.tabled_settings.proofs.Paddings.{no_padding_at}
+use Rattle.tabled_printing.specs.Columns.{draws_plainly}
 use Rattle.tabled_printing.specs.Texts.{pieces, width_of_text}
 use Rattle.tabled_printing.proofs.PieceTexts.{IsUtf8-piece, piece_lacks}
-use Rattle.tabled_printing.proofs.Tiles.{IsOther, Lacks, Tile, Tile-space, Tile-times, Splits-append, Splits-encoded, Splits-utf8, Splits-space, char_lacks, spaces_simple, spaces_printable, space_first, from_space}
+use Rattle.tabled_printing.proofs.Tiles.{IsOther, Lacks, Tile, Tile-space, Tile-times, Splits-append, Splits-encoded, Splits-utf8, char_lacks, spaces_simple, spaces_printable, space_first, from_space}
 use Rattle.tabled_cells.specs.declared.placement.Placement.{Placement}
 use Rattle.tabled_cells.specs.Trimmed.{without_first, without_ends, is_space, is_blank, line_shown, lines_shown}
-use Rattle.tabled_cells.specs.Placed.{line_parts, free_before, free_above, times, filled, fill_of, greatest, aligned_width}
+use Rattle.tabled_cells.specs.Placements.{placement_at}
+use Rattle.tabled_cells.specs.Placed.{HasSpaces, padding_shown, fill_shown, line_parts, lines_above, free_before, times, filled, fill_of, greatest, aligned_width}
 use Rattle.tabled_printing.proofs.TimesLemmas.{IsAscii-spaces, times_spaces}
 
 -- ---- a line of a cell, as text
 
 -- a line of a cell that has no text, one that has, and line n of a cell
-abbrev pub empty_line : ℕ → List ℕ
-empty_line width = replicate width 32
+abbrev pub empty_line : Indent → ℕ → List ℕ
+empty_line side width = times width side.fill
 
 unfoldable pub placed_line : Placement → ℕ → ℕ → List ℕ → List ℕ
-placed_line how width aligned line = let parts = line_parts how width aligned line in filled parts.fill parts.before parts.after line
+placed_line how width aligned line = let parts = line_parts how width aligned line in filled how.padding parts.fill parts.before parts.after line
 
 abbrev pub placed_at : Placement → ℕ → ℕ → List (List ℕ) → ℕ → List ℕ
 placed_at how width height lines n =
-    let above = free_above how.alignment_vertical (height - length lines) in
+    let above = lines_above how height (length lines) in
     let line = get_or lines (n - above) [] in
-    if ltb n above then empty_line width else if ltb (n - above) (length lines) then placed_line how width (aligned_width how lines line) line else empty_line width
+    if ltb n above then empty_line how.padding.top width else if ltb (n - above) (length lines) then placed_line how width (aligned_width how lines line) line else empty_line how.padding.bottom width
 
 fold-max-start : (a : ℕ) (ns : List ℕ) → a ≤ fold max a ns
 fold-max-start a [] = omega arith
@@ -71,21 +79,22 @@ spaces_after text n u =
     ∙ str_width-append_simple false (chars text) (replicate n 32) (spaces_simple n)
     ∙ ap (λ m. width_of_text text + m) (str_width-printable false (replicate n 32) (spaces_printable n) ∙ length-replicate n 32)
 
-pub empty_wide : (width : ℕ) → width_of_text (empty_line width) ≡ width
-empty_wide width = ap (str_width false) (chars-IsAscii (replicate width 32) (IsAscii-spaces width)) ∙ str_width-printable false (replicate width 32) (spaces_printable width) ∙ length-replicate width 32
-
--- a line filled with spaces
-spaces_filled : (before after : ℕ) (line : List ℕ) → IsUtf8 line → width_of_text (filled 32 before after line) ≡ before + width_of_text line + after + 2
-spaces_filled before after line u =
-    let front : List ℕ = replicate before 32 ++ line in
+-- a line filled with spaces between spaces
+spaces_filled : (padding : Sides Indent) → HasSpaces padding → (before after : ℕ) (line : List ℕ) → IsUtf8 line
+    → width_of_text (filled padding 32 before after line) ≡ padding.left.size + before + width_of_text line + after + padding.right.size
+spaces_filled padding has before after line u =
+    let left : ℕ = padding.left.size in
+    let right : ℕ = padding.right.size in
+    let own_text : List ℕ = replicate before 32 ++ line in
+    let front : List ℕ = replicate left 32 ++ own_text in
     let whole : List ℕ = front ++ replicate after 32 in
-    let front_text = IsUtf8-append (replicate before 32) line (IsUtf8-spaces before) u in
-    let ends = spaces_after whole 1 (IsUtf8-append front (replicate after 32) front_text (IsUtf8-spaces after)) in
-    let first = one_space (whole ++ 32 ∷ []) in
+    let front_text = IsUtf8-append (replicate left 32) own_text (IsUtf8-spaces left) (IsUtf8-append (replicate before 32) line (IsUtf8-spaces before) u) in
+    let ends = spaces_after whole right (IsUtf8-append front (replicate after 32) front_text (IsUtf8-spaces after)) in
     let sides = spaces_after front after front_text in
+    let first = spaces_before left own_text in
     let own = spaces_before before line in
-    ap (λ bs. width_of_text (32 ∷ bs ++ line ++ times after 32 ++ 32 ∷ [])) (times_spaces before)
-    ∙ ap (λ bs. width_of_text (32 ∷ replicate before 32 ++ line ++ bs ++ 32 ∷ [])) (times_spaces after)
+    (λ i. width_of_text ((ap (times left) has.left ∙ times_spaces left) i ++ times_spaces before i ++ line ++ times_spaces after i ++ (ap (times right) has.right ∙ times_spaces right) i))
+    ∙ ap (λ bs. width_of_text (bs ++ replicate after 32 ++ replicate right 32)) (append_assoc (replicate left 32) (replicate before 32) line)
     ∙ omega (arith, ends, first, sides, own)
 
 -- ---- a line in its column
@@ -95,20 +104,22 @@ before_fits Left free = omega arith
 before_fits Center free = omega arith
 before_fits Right free = omega arith
 
-wide_by : (character width before after : ℕ) (line : List ℕ) (fits : Bool) → (not (character == 10) && (width_of_text (filled character before after line) == width)) ≡ fits
-    → width_of_text (filled 32 before after line) ≡ width → width_of_text (filled (fill_of character width before after line) before after line) ≡ width
-wide_by character width before after line true e spaces =
-    ap (λ b. width_of_text (filled (if b then character else 32) before after line)) e
-    ∙ eqb-true (width_of_text (filled character before after line)) width (and_parts (not (character == 10)) (width_of_text (filled character before after line) == width) e).1
-wide_by character width before after line false e spaces = ap (λ b. width_of_text (filled (if b then character else 32) before after line)) e ∙ spaces
+wide_by : (padding : Sides Indent) (character width before after : ℕ) (line : List ℕ) (fits : Bool) → (not (character == 10) && (width_of_text (filled padding character before after line) == width)) ≡ fits
+    → width_of_text (filled padding 32 before after line) ≡ width → width_of_text (filled padding (fill_of padding character width before after line) before after line) ≡ width
+wide_by padding character width before after line true e spaces =
+    ap (λ b. width_of_text (filled padding (if b then character else 32) before after line)) e
+    ∙ eqb-true (width_of_text (filled padding character before after line)) width (and_parts (not (character == 10)) (width_of_text (filled padding character before after line) == width) e).1
+wide_by padding character width before after line false e spaces = ap (λ b. width_of_text (filled padding (if b then character else 32) before after line)) e ∙ spaces
 
-wide_line : (how : Placement) (width aligned : ℕ) (line : List ℕ) → IsUtf8 line → width_of_text line ≤ aligned → aligned + 2 ≤ width → width_of_text (placed_line how width aligned line) ≡ width
+wide_line : (how : Placement) → HasSpaces how.padding → (width aligned : ℕ) (line : List ℕ) → IsUtf8 line → width_of_text line ≤ aligned → how.padding.left.size + aligned + how.padding.right.size ≤ width
+    → width_of_text (placed_line how width aligned line) ≡ width
 unfolding placed_line line_parts
-wide_line how width aligned line u narrow room =
-    let before : ℕ = free_before how.alignment_horizontal (width - 2 - aligned) in
-    let after : ℕ = width - 2 - before - width_of_text line in
-    let stands = before_fits how.alignment_horizontal (width - 2 - aligned) in
-    wide_by how.justification width before after line _ refl (spaces_filled before after line u ∙ omega (arith, stands))
+wide_line how has width aligned line u narrow room =
+    let free : ℕ = width - how.padding.left.size - how.padding.right.size in
+    let before : ℕ = free_before how.alignment_horizontal (free - aligned) in
+    let after : ℕ = free - before - width_of_text line in
+    let stands = before_fits how.alignment_horizontal (free - aligned) in
+    wide_by how.padding how.justification width before after line _ refl (spaces_filled how.padding has before after line u ∙ omega (arith, stands))
 
 -- ---- no line has a line feed
 
@@ -116,46 +127,100 @@ times_lack : (count character : ℕ) → (character == 10) ≡ false → Lacks (
 times_lack zero character other = All-nil IsOther
 times_lack (suc count) character other = All-append IsOther (encode_utf8 character) (times count character) (char_lacks character other) (times_lack count character other)
 
-fill_other : (character width before after : ℕ) (line : List ℕ) (fits : Bool) → (not (character == 10) && (width_of_text (filled character before after line) == width)) ≡ fits
-    → (fill_of character width before after line == 10) ≡ false
-fill_other character width before after line true e =
-    ap (λ b. (if b then character else 32) == 10) e ∙ no_feed (character == 10) (and_parts (not (character == 10)) (width_of_text (filled character before after line) == width) e).0
+fill_other : (padding : Sides Indent) (character width before after : ℕ) (line : List ℕ) (fits : Bool) → (not (character == 10) && (width_of_text (filled padding character before after line) == width)) ≡ fits
+    → (fill_of padding character width before after line == 10) ≡ false
+fill_other padding character width before after line true e =
+    ap (λ b. (if b then character else 32) == 10) e ∙ no_feed (character == 10) (and_parts (not (character == 10)) (width_of_text (filled padding character before after line) == width) e).0
   where
     no_feed : (b : Bool) → not b ≡ true → b ≡ false
     no_feed true is = sym is
     no_feed false is = refl
-fill_other character width before after line false e = ap (λ b. (if b then character else 32) == 10) e
+fill_other padding character width before after line false e = ap (λ b. (if b then character else 32) == 10) e
 
-filled_lacks : (character before after : ℕ) (line : List ℕ) → (character == 10) ≡ false → Lacks line → Lacks (filled character before after line)
-filled_lacks character before after line other lack =
-    All-append IsOther (32 ∷ times before character ++ line ++ times after character) (32 ∷ [])
-    (All-append IsOther (32 ∷ times before character ++ line) (times after character)
-    (All-append IsOther (32 ∷ times before character) line (All-cons IsOther 32 (times before character) refl (times_lack before character other)) lack)
+-- a padding in which no line feed is shown: one of spaces, and any as it is shown
+pub record NoFeeds (padding : Sides Indent) : Type 0 where
+  pub left : (padding.left.fill == 10) ≡ false
+  pub right : (padding.right.fill == 10) ≡ false
+  pub top : (padding.top.fill == 10) ≡ false
+  pub bottom : (padding.bottom.fill == 10) ≡ false
+
+shown_other : (fill : ℕ) → (fill_shown fill == 10) ≡ false
+shown_other fill = by_test (draws_plainly fill) refl (fill == 10) refl
+  where
+    by_test : (plainly : Bool) → draws_plainly fill ≡ plainly → (feed : Bool) → (fill == 10) ≡ feed → ((if plainly then fill else 32) == 10) ≡ false
+    by_test true e true is = absurd (let feed : draws_plainly 10 ≡ true = ap draws_plainly (sym (eqb-true fill 10 is)) ∙ e in cc)
+    by_test true e false is = is
+    by_test false e feed is = refl
+
+shown_lack : (padding : Sides Indent) → NoFeeds (padding_shown padding)
+shown_lack padding = record { left = shown_other padding.left.fill; right = shown_other padding.right.fill; top = shown_other padding.top.fill; bottom = shown_other padding.bottom.fill }
+
+pub settings_lack : (settings : CellSettings) (r c : ℕ) → NoFeeds (placement_at settings r c).padding
+unfolding placement_at
+settings_lack settings r c = shown_lack (value_at settings.padding (record { row = r; col = c }))
+
+spaces_lack : (padding : Sides Indent) → HasSpaces padding → NoFeeds padding
+spaces_lack padding has = record { left = ap (λ c. c == 10) has.left; right = ap (λ c. c == 10) has.right; top = ap (λ c. c == 10) has.top; bottom = ap (λ c. c == 10) has.bottom }
+
+filled_lacks : (padding : Sides Indent) → NoFeeds padding → (character before after : ℕ) (line : List ℕ) → (character == 10) ≡ false → Lacks line → Lacks (filled padding character before after line)
+filled_lacks padding none character before after line other lack =
+    let first : List ℕ = times padding.left.size padding.left.fill in
+    let last : List ℕ = times padding.right.size padding.right.fill in
+    All-append IsOther (first ++ times before character ++ line ++ times after character) last
+    (All-append IsOther (first ++ times before character ++ line) (times after character)
+    (All-append IsOther (first ++ times before character) line
+    (All-append IsOther first (times before character) (times_lack padding.left.size padding.left.fill none.left) (times_lack before character other)) lack)
     (times_lack after character other))
-    (All-cons IsOther 32 [] refl (All-nil IsOther))
+    (times_lack padding.right.size padding.right.fill none.right)
 
-placed_lacks : (how : Placement) (width aligned : ℕ) (line : List ℕ) → Lacks line → Lacks (placed_line how width aligned line)
+placed_lacks : (how : Placement) → NoFeeds how.padding → (width aligned : ℕ) (line : List ℕ) → Lacks line → Lacks (placed_line how width aligned line)
 unfolding placed_line line_parts
-placed_lacks how width aligned line lack =
-    let before : ℕ = free_before how.alignment_horizontal (width - 2 - aligned) in
-    let after : ℕ = width - 2 - before - width_of_text line in
-    filled_lacks (fill_of how.justification width before after line) before after line (fill_other how.justification width before after line _ refl) lack
+placed_lacks how none width aligned line lack =
+    let free : ℕ = width - how.padding.left.size - how.padding.right.size in
+    let before : ℕ = free_before how.alignment_horizontal (free - aligned) in
+    let after : ℕ = free - before - width_of_text line in
+    filled_lacks how.padding none (fill_of how.padding how.justification width before after line) before after line (fill_other how.padding how.justification width before after line _ refl) lack
 
--- a line that is filled begins with a space, so it joins nothing before it
-line_tile : (how : Placement) (width aligned : ℕ) (line : List ℕ) → IsUtf8 line → width_of_text (placed_line how width aligned line) ≡ width → Lacks (placed_line how width aligned line)
-    → Tile width (placed_line how width aligned line)
+-- a line that begins with a space joins nothing before it
+begun : (padding : Sides Indent) (k : ℕ) → padding.left.size ≡ suc k → padding.left.fill ≡ 32 → (character before after : ℕ) (line : List ℕ)
+    → filled padding character before after line ≡ 32 ∷ times k 32 ++ times before character ++ line ++ times after character ++ times padding.right.size padding.right.fill
+begun padding k long spaces character before after line =
+    ap (λ first. first ++ times before character ++ line ++ times after character ++ times padding.right.size padding.right.fill)
+    ((λ i. times (long i) (spaces i)) ∙ ap (λ bs. bs ++ times k 32) (encode_ascii 32 (lit< tt)))
+
+filled_tile : (padding : Sides Indent) → padding.left.fill ≡ 32 → (size : ℕ) → padding.left.size ≡ size → 1 ≤ size → (character before after : ℕ) (line : List ℕ) (width : ℕ) → IsUtf8 line
+    → width_of_text (filled padding character before after line) ≡ width → Lacks (filled padding character before after line) → Tile width (filled padding character before after line)
+filled_tile padding spaces zero long some character before after line width u wide lacks = absurd (omega arith)
+filled_tile padding spaces (suc k) long some character before after line width u wide lacks =
+    let last : List ℕ = times padding.right.size padding.right.fill in
+    let rest : List ℕ = times k 32 ++ times before character ++ line ++ times after character ++ last in
+    let is : filled padding character before after line ≡ 32 ∷ rest = begun padding k long spaces character before after line in
+    subst (Tile width) (sym is)
+    (Tile-space width rest
+    (Splits-append (times k 32 ++ times before character ++ line ++ times after character) last
+    (Splits-append (times k 32 ++ times before character ++ line) (times after character)
+    (Splits-append (times k 32 ++ times before character) line
+    (Splits-append (times k 32) (times before character) (Splits-encoded (replicate k 32)) (Splits-encoded (replicate before character))) (Splits-utf8 line u))
+    (Splits-encoded (replicate after character)))
+    (Splits-encoded (replicate padding.right.size padding.right.fill)))
+    (ap width_of_text (sym is) ∙ wide) (All-tail IsOther 32 rest (subst Lacks is lacks)))
+
+line_tile : (how : Placement) → HasSpaces how.padding → 1 ≤ how.padding.left.size → (width aligned : ℕ) (line : List ℕ) → IsUtf8 line → width_of_text (placed_line how width aligned line) ≡ width
+    → Lacks (placed_line how width aligned line) → Tile width (placed_line how width aligned line)
 unfolding placed_line line_parts
-line_tile how width aligned line u wide lacks =
-    let before : ℕ = free_before how.alignment_horizontal (width - 2 - aligned) in
-    let after : ℕ = width - 2 - before - width_of_text line in
-    let fill : ℕ = fill_of how.justification width before after line in
-    Tile-space width (times before fill ++ line ++ times after fill ++ 32 ∷ [])
-    (Splits-append (times before fill ++ line ++ times after fill) (32 ∷ [])
-    (Splits-append (times before fill ++ line) (times after fill)
-    (Splits-append (times before fill) line (Splits-encoded (replicate before fill)) (Splits-utf8 line u))
-    (Splits-encoded (replicate after fill)))
-    Splits-space)
-    wide (All-tail IsOther 32 _ lacks)
+line_tile how has some width aligned line u wide lacks =
+    let free : ℕ = width - how.padding.left.size - how.padding.right.size in
+    let before : ℕ = free_before how.alignment_horizontal (free - aligned) in
+    let after : ℕ = free - before - width_of_text line in
+    filled_tile how.padding has.left how.padding.left.size refl some (fill_of how.padding how.justification width before after line) before after line width u wide lacks
+
+-- where no padding is set, a cell has the first one
+pub padding_unset : (settings : CellSettings) (r c : ℕ) → keeps_first_padding settings.padding ≡ true → (placement_at settings r c).padding ≡ first_padding
+unfolding placement_at
+padding_unset settings r c is = ap padding_shown (no_padding_at settings.padding (record { row = r; col = c }) is)
+
+pub first_spaces : (padding : Sides Indent) → padding ≡ first_padding → HasSpaces padding
+first_spaces padding is = record { left = ap (λ (sides : Sides Indent). sides.left.fill) is; right = ap (λ (sides : Sides Indent). sides.right.fill) is; top = ap (λ (sides : Sides Indent). sides.top.fill) is; bottom = ap (λ (sides : Sides Indent). sides.bottom.fill) is }
 
 -- ---- what is trimmed of lines
 
@@ -285,50 +350,53 @@ module _ (how : Placement) (width height : ℕ) (text : List ℕ) (n : ℕ) wher
   shown = lines_shown how text
 
   abbrev above : ℕ
-  above = free_above how.alignment_vertical (height - length (lines_shown how text))
+  above = lines_above how height (length (lines_shown how text))
 
   abbrev line : List ℕ
   line = get_or (lines_shown how text) (n - above) []
 
   abbrev by_place : Bool → Bool → List ℕ
-  by_place first second = if first then empty_line width else if second then placed_line how width (aligned_width how shown line) line else empty_line width
+  by_place first second = if first then empty_line how.padding.top width else if second then placed_line how width (aligned_width how shown line) line else empty_line how.padding.bottom width
 
   -- a line of a cell has no line feed
-  pub placed_at_lacks : Lacks (placed_at how width height (lines_shown how text) n)
-  placed_at_lacks = by_case (ltb n above) (ltb (n - above) (length shown)) refl
+  pub placed_at_lacks : NoFeeds how.padding → Lacks (placed_at how width height (lines_shown how text) n)
+  placed_at_lacks none = by_case (ltb n above) (ltb (n - above) (length shown)) refl
     where
-      empty_lacks : Lacks (empty_line width)
-      empty_lacks = All-replicate IsOther width 32 refl
-
       by_case : (first second : Bool) → ltb (n - above) (length shown) ≡ second → Lacks (by_place first second)
-      by_case true second is = empty_lacks
-      by_case false true is = placed_lacks how width (aligned_width how shown line) line (shown_lacks how text (n - above) [] (ltb-true (n - above) (length shown) is))
-      by_case false false is = empty_lacks
+      by_case true second is = times_lack width how.padding.top.fill none.top
+      by_case false true is = placed_lacks how none width (aligned_width how shown line) line (shown_lacks how text (n - above) [] (ltb-true (n - above) (length shown) is))
+      by_case false false is = times_lack width how.padding.bottom.fill none.bottom
 
-  text_wide : IsUtf8 text → greatest (map width_of_text (pieces text)) + 2 ≤ width → n - above < length shown → width_of_text (placed_line how width (aligned_width how shown line) line) ≡ width
-  text_wide u room within =
-      let most : ℕ = greatest (map width_of_text (pieces text)) in
-      let good : Good most line = shown_good how text u (n - above) [] within in
-      let all : greatest (map width_of_text shown) ≤ most = widest_narrow most 0 shown (omega arith) (shown_good how text u) in
-      let own : width_of_text line ≤ greatest (map width_of_text shown) = greatest_bound width_of_text 0 shown (n - above) [] within in
-      wide_line how width (aligned_width how shown line) line good.utf8 (aligned_room how.line_alignment (width_of_text line) (greatest (map width_of_text shown)) own)
-      (let least = aligned_most how.line_alignment (width_of_text line) (greatest (map width_of_text shown)) most good.narrow all in omega (arith, least))
+  module _ (has : HasSpaces how.padding) (u : IsUtf8 text) (room : how.padding.left.size + greatest (map width_of_text (pieces text)) + how.padding.right.size ≤ width) where
+    text_wide : n - above < length shown → width_of_text (placed_line how width (aligned_width how shown line) line) ≡ width
+    text_wide within =
+        let most : ℕ = greatest (map width_of_text (pieces text)) in
+        let good : Good most line = shown_good how text u (n - above) [] within in
+        let all : greatest (map width_of_text shown) ≤ most = widest_narrow most 0 shown (omega arith) (shown_good how text u) in
+        let own : width_of_text line ≤ greatest (map width_of_text shown) = greatest_bound width_of_text 0 shown (n - above) [] within in
+        wide_line how has width (aligned_width how shown line) line good.utf8 (aligned_room how.line_alignment (width_of_text line) (greatest (map width_of_text shown)) own)
+        (let least = aligned_most how.line_alignment (width_of_text line) (greatest (map width_of_text shown)) most good.narrow all in omega (arith, least))
 
-  -- a line of a cell is a tile of its column: whatever stands before it, it is as wide as that
-  pub placed_at_tile : IsUtf8 text → greatest (map width_of_text (pieces text)) + 2 ≤ width → Tile width (placed_at how width height (lines_shown how text) n)
-  placed_at_tile u room = by_case (ltb n above) (ltb (n - above) (length shown)) refl
-    where
-      empty_tile : Tile width (empty_line width)
-      empty_tile = subst (Tile width) (times_spaces width) (Tile-times width 32 refl)
+    empty_tile : (side : Indent) → side.fill ≡ 32 → Tile width (empty_line side width)
+    empty_tile side spaces = subst (λ fill. Tile width (times width fill)) (sym spaces) (Tile-times width 32 refl)
 
-      by_case : (first second : Bool) → ltb (n - above) (length shown) ≡ second → Tile width (by_place first second)
-      by_case true second is = empty_tile
-      by_case false true is =
-          let within = ltb-true (n - above) (length shown) is in
-          line_tile how width (aligned_width how shown line) line (shown_good how text u (n - above) [] within).utf8 (text_wide u room within)
-          (placed_lacks how width (aligned_width how shown line) line (shown_lacks how text (n - above) [] within))
-      by_case false false is = empty_tile
+    -- a line of a cell is as wide as its column, where that leaves room for the text
+    pub placed_at_wide : width_of_text (placed_at how width height (lines_shown how text) n) ≡ width
+    placed_at_wide = by_case (ltb n above) (ltb (n - above) (length shown)) refl
+      where
+        by_case : (first second : Bool) → ltb (n - above) (length shown) ≡ second → width_of_text (by_place first second) ≡ width
+        by_case true second is = (empty_tile how.padding.top has.top).wide
+        by_case false true is = text_wide (ltb-true (n - above) (length shown) is)
+        by_case false false is = (empty_tile how.padding.bottom has.bottom).wide
 
-  -- so it is as wide as its column, where that leaves room for the text
-  pub placed_at_wide : IsUtf8 text → greatest (map width_of_text (pieces text)) + 2 ≤ width → width_of_text (placed_at how width height (lines_shown how text) n) ≡ width
-  placed_at_wide u room = (placed_at_tile u room).wide
+    -- where it begins with a space it is a tile of its column: whatever stands before it, it is as wide as that
+    pub placed_at_tile : 1 ≤ how.padding.left.size → Tile width (placed_at how width height (lines_shown how text) n)
+    placed_at_tile some = by_case (ltb n above) (ltb (n - above) (length shown)) refl
+      where
+        by_case : (first second : Bool) → ltb (n - above) (length shown) ≡ second → Tile width (by_place first second)
+        by_case true second is = empty_tile how.padding.top has.top
+        by_case false true is =
+            let within = ltb-true (n - above) (length shown) is in
+            line_tile how has some width (aligned_width how shown line) line (shown_good how text u (n - above) [] within).utf8 (text_wide within)
+            (placed_lacks how (spaces_lack how.padding has) width (aligned_width how shown line) line (shown_lacks how text (n - above) [] within))
+        by_case false false is = empty_tile how.padding.bottom has.bottom

@@ -32,9 +32,10 @@ pub parts_same : (how : Placement) (width widest : ℕ) (lines : List (List ℕ)
     → line_parts how width (if how.line_alignment then width_of_text line else widest) line ≡ line_parts how width (aligned_width how lines line) line
 unfolding line_parts
 parts_same how width widest lines line is =
+    let room : ℕ = width - how.padding.left.size - how.padding.right.size in
     let parts : ℕ → LineParts = λ before. record {
       before = before;
-      after = width - 2 - before - width_of_text line;
-      fill = fill_of how.justification width before (width - 2 - before - width_of_text line) line;
+      after = room - before - width_of_text line;
+      fill = fill_of how.padding how.justification width before (room - before - width_of_text line) line;
     } in
-    ap parts (before_same how.alignment_horizontal how.line_alignment (width - 2) (width_of_text line) widest (greatest (map width_of_text lines)) is)
+    ap parts (before_same how.alignment_horizontal how.line_alignment room (width_of_text line) widest (greatest (map width_of_text lines)) is)

@@ -2,6 +2,7 @@
 use Rattle.std.proofs.Common.{◌≡◌, ℕ, ◌-◌, Bool, true, false, if◌then◌else◌, List, [], ◌∷◌, ◌++◌, map, length, get_or, ltb, nat_lt, replicate, refl, ap, ◌∙◌, arith}
 use Rattle.std.proofs.lemmas.Bool.{le-ltb}
 use Rattle.tabled_settings.specs.CellSettings.{first_settings}
+use Rattle.tabled_settings.specs.Padding.{first_padding}
 use Rattle.tabled_printing.specs.Texts.{pieces, width_of_text}
 use Rattle.tabled_cells.specs.declared.placement.Placement.{Placement}
 use Rattle.tabled_cells.specs.Placements.{placement_at}
@@ -22,10 +23,10 @@ either_same false n = refl
 unset_line : (row col width aligned : ℕ) (line : List ℕ) → placed_line (placement_at first_settings row col) width aligned line ≡ 32 ∷ line ++ replicate (width - 2 - width_of_text line) 32 ++ 32 ∷ []
 unfolding placed_line line_parts placement_at
 unset_line row col width aligned line =
-    let after : ℕ = width - 2 - 0 - width_of_text line in
+    let after : ℕ = width - 1 - 1 - 0 - width_of_text line in
     let same : after ≡ width - 2 - width_of_text line = omega arith in
-    ap (λ character. filled character 0 after line) (either_same _ 32)
-    ∙ ap (λ spaces. 32 ∷ line ++ spaces ++ 32 ∷ []) (times_spaces after)
+    ap (λ character. filled first_padding character 0 after line) (either_same _ 32)
+    ∙ (λ i. times_spaces 1 i ++ [] ++ line ++ times_spaces after i ++ times_spaces 1 i)
     ∙ ap (λ n. 32 ∷ line ++ replicate n 32 ++ 32 ∷ []) same
 
 -- all lines that are shown
@@ -46,8 +47,8 @@ unset_at row col width height text n =
     let how : Placement = placement_at first_settings row col in
     let lines : List (List ℕ) = pieces text in
     let shown : ℕ → List ℕ = λ k. placed_line how width (aligned_width how lines (get_or lines k [])) (get_or lines k []) in
-    let at : Bool → ℕ → List ℕ = λ above k. if above then empty_line width else if ltb k (length lines) then shown k else empty_line width in
+    let at : Bool → ℕ → List ℕ = λ above k. if above then empty_line how.padding.top width else if ltb k (length lines) then shown k else empty_line how.padding.bottom width in
     let same : n - 0 ≡ n = omega arith in
     ap (λ lines. placed_at how width height lines n) (unset_shown row col text)
     ∙ (λ i. at (le-ltb n 0 (omega arith) i) (same i))
-    ∙ ap (λ line. if ltb n (length lines) then line else replicate width 32) (unset_line row col width (aligned_width how lines (get_or lines n [])) (get_or lines n []))
+    ∙ (λ i. if ltb n (length lines) then unset_line row col width (aligned_width how lines (get_or lines n [])) (get_or lines n []) i else times_spaces width i)

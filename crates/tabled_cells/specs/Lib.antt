@@ -1,3 +1,3 @@
+pub mod Placed
 pub mod Placements
 pub mod Trimmed
-pub mod Placed

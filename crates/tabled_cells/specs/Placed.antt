@@ -1,11 +1,33 @@
 -- A cell as it is printed: where its text stands in it, and what fills the rest.
 pub use Rattle.tabled_printing.specs.Texts.{times}
-use Rattle.std.specs.Prelude.{ℕ, ◌-◌, ◌/◌, ◌==◌, ◌&&◌, not, max, fold, if◌then◌else◌, List, [], ◌∷◌, ◌++◌, map}
+use Rattle.std.specs.Prelude.{◌≡◌, ℕ, ◌+◌, ◌-◌, ◌/◌, ◌==◌, ◌&&◌, not, max, fold, if◌then◌else◌, List, ◌++◌, map}
 use Rattle.tabled_settings.specs.declared.alignment.AlignmentHorizontal.{AlignmentHorizontal}
 use Rattle.tabled_settings.specs.declared.alignment.AlignmentVertical.{AlignmentVertical}
+use Rattle.tabled_settings.specs.declared.indent.Indent.{Indent}
+use Rattle.tabled_settings.specs.declared.sides.Sides.{Sides}
+use Rattle.tabled_printing.specs.Columns.{draws_plainly}
 use Rattle.tabled_printing.specs.Texts.{width_of_text}
 use Rattle.tabled_cells.specs.declared.filling.LineParts.{LineParts}
 use Rattle.tabled_cells.specs.declared.placement.Placement.{Placement}
+
+-- what is shown of the character that fills a side: the character where it draws plainly, else a space. So each line stays as wide
+-- as the others
+abbrev pub fill_shown : ℕ → ℕ
+fill_shown character = if draws_plainly character then character else 32
+
+abbrev pub indent_shown : Indent → Indent
+indent_shown side = record { size = side.size; fill = fill_shown side.fill }
+
+-- the padding of a cell as it is shown
+abbrev pub padding_shown : Sides Indent → Sides Indent
+padding_shown padding = record { left = indent_shown padding.left; right = indent_shown padding.right; top = indent_shown padding.top; bottom = indent_shown padding.bottom }
+
+-- a padding of spaces, whatever its sizes
+pub record HasSpaces (padding : Sides Indent) : Type 0 where
+  pub left : padding.left.fill ≡ 32
+  pub right : padding.right.fill ≡ 32
+  pub top : padding.top.fill ≡ 32
+  pub bottom : padding.bottom.fill ≡ 32
 
 -- how much of what is free in a line stands before the text, and how many of the free lines stand above it: of an odd number the
 -- middle leaves one more behind
@@ -19,14 +41,20 @@ free_above AlignmentVertical.Top free = 0
 free_above AlignmentVertical.Center free = free / 2
 free_above AlignmentVertical.Bottom free = free
 
--- a line between two spaces, with the given numbers of a character before it and after it
-abbrev pub filled : ℕ → ℕ → ℕ → List ℕ → List ℕ
-filled character before after line = 32 ∷ times before character ++ line ++ times after character ++ 32 ∷ []
+-- how many lines of a cell stand above its text, which has so many: those of its padding, and of what is free below these
+abbrev pub lines_above : Placement → ℕ → ℕ → ℕ
+lines_above how height count =
+    how.padding.top.size + free_above how.alignment_vertical (height - how.padding.top.size - how.padding.bottom.size - count)
+
+-- a line between its padding, with the given numbers of a character before it and after it
+abbrev pub filled : Sides Indent → ℕ → ℕ → ℕ → List ℕ → List ℕ
+filled padding character before after line =
+    times padding.left.size padding.left.fill ++ times before character ++ line ++ times after character ++ times padding.right.size padding.right.fill
 
 -- a character fills a line where that is then as wide as its column, and no line feed; else spaces do
-abbrev pub fill_of : ℕ → ℕ → ℕ → ℕ → List ℕ → ℕ
-fill_of character width before after line =
-    if not (character == 10) && (width_of_text (filled character before after line) == width) then character else 32
+abbrev pub fill_of : Sides Indent → ℕ → ℕ → ℕ → ℕ → List ℕ → ℕ
+fill_of padding character width before after line =
+    if not (character == 10) && (width_of_text (filled padding character before after line) == width) then character else 32
 
 -- the greatest of some numbers, 0 of none
 abbrev pub greatest : List ℕ → ℕ
@@ -35,10 +63,10 @@ greatest = fold max 0
 -- how a line in a column is filled, where something as wide as `aligned` is aligned: the line stands where that begins
 unfoldable pub line_parts : Placement → ℕ → ℕ → List ℕ → LineParts
 line_parts how width aligned line =
-    let room = width - 2 in
+    let room = width - how.padding.left.size - how.padding.right.size in
     let before = free_before how.alignment_horizontal (room - aligned) in
     let after = room - before - width_of_text line in
-    record { before = before; after = after; fill = fill_of how.justification width before after line }
+    record { before = before; after = after; fill = fill_of how.padding how.justification width before after line }
 
 -- how wide what is aligned is: a line by itself, or all of them as one, which is as wide as the widest
 abbrev pub aligned_width : Placement → List (List ℕ) → List ℕ → ℕ

@@ -4,6 +4,7 @@ use Rattle.tabled_object.specs.declared.position.Position.{Position}
 use Rattle.tabled_settings.specs.declared.cell_settings.CellSettings.{CellSettings}
 use Rattle.tabled_settings.specs.Live.{value_at}
 use Rattle.tabled_cells.specs.declared.placement.Placement.{Placement}
+use Rattle.tabled_cells.specs.Placed.{padding_shown}
 
 -- the placement of the text at a row and a column
 unfoldable pub placement_at : CellSettings → ℕ → ℕ → Placement
@@ -16,4 +17,5 @@ placement_at settings row col =
       trim_vertical = value_at settings.trim_vertical cell;
       line_alignment = value_at settings.line_alignment cell;
       justification = value_at settings.justification cell;
+      padding = padding_shown (value_at settings.padding cell);
     }

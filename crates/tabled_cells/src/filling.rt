@@ -11,10 +11,10 @@ use crate::Placement;
 use crate::placement::free_before;
 use std::alloc::{AllocError, Global};
 use tabled_printing::push_times;
-use tabled_settings::AlignmentHorizontal;
+use tabled_settings::{AlignmentHorizontal, Indent, Sides};
 use tabled_width::width_of;
 
-/// What stands beside the text of a line, between the spaces at its ends.
+/// What stands beside the text of a line, between its padding.
 #[derive(Clone, Copy, Debug)]
 pub struct LineParts {
     /// How many characters stand before the text.
@@ -25,40 +25,42 @@ pub struct LineParts {
     pub fill: char,
 }
 
-/// Writes a line between two spaces, with the given numbers of a character before it and after it.
+/// Writes a line between its padding, with the given numbers of a character before it and after it.
 fn push_filled(
     cell: &mut String,
+    padding: &Sides<Indent>,
     character: char,
     before: usize,
     after: usize,
     line: &str,
 ) -> Result<(), AllocError>
-    ensures { OnOk result (string_bytes cell.new ≡ string_bytes cell.old ++ filled character before after line.now) }
+    ensures { OnOk result (string_bytes cell.new ≡ string_bytes cell.old ++ filled padding.now character before after line.now) }
 {
-    cell.push(' ')?;
+    push_times(cell, padding.left.size, padding.left.fill)?;
     push_times(cell, before, character)?;
     cell.push_str(line)?;
     push_times(cell, after, character)?;
-    cell.push(' ')?;
+    push_times(cell, padding.right.size, padding.right.fill)?;
     Ok(())
 }
 
 /// The character that fills a line beside it: the one that is set, if the line is then as wide as its column.
 fn fill_of(
     alloc: Global,
-    character: char,
+    how: &Placement,
     width: usize,
     before: usize,
     after: usize,
     line: &str,
 ) -> Result<char, AllocError>
-    ensures { IfOk result (λ fill. fill ≡ parts.fill_of character width before after line.now) }
+    ensures { IfOk result (λ fill. fill ≡ parts.fill_of how.now.padding how.now.justification width before after line.now) }
 {
+    let character = how.justification;
     if character == ' ' || character == '\n' {
         return Ok(' ');
     }
     let mut tried = String::new(alloc);
-    push_filled(&mut tried, character, before, after, line)?;
+    push_filled(&mut tried, &how.padding, character, before, after, line)?;
     if width_of(tried.as_str()) == width {
         Ok(character)
     } else {
@@ -76,10 +78,13 @@ pub fn line_parts(
 ) -> Result<LineParts, AllocError>
     ensures { IfOk result (λ found. found ≡ parts.line_parts how.now width aligned line.now) }
 {
-    let room = width.saturating_sub(2);
+    let padding = &how.padding;
+    let room = width
+        .saturating_sub(padding.left.size)
+        .saturating_sub(padding.right.size);
     let before = free_before(how.alignment_horizontal, room.saturating_sub(aligned));
     let after = room.saturating_sub(before).saturating_sub(width_of(line));
-    let fill = fill_of(alloc, how.justification, width, before, after, line)?;
+    let fill = fill_of(alloc, how, width, before, after, line)?;
     Ok(LineParts {
         before,
         after,

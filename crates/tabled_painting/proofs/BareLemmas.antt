@@ -11,12 +11,15 @@ use Rattle.tabled_settings.specs.Setting.{write_of, setting}
 use Rattle.tabled_settings.specs.Live.{Live, value_at}
 use Rattle.tabled_settings.specs.declared.alignment.AlignmentHorizontal.{AlignmentHorizontal}
 use Rattle.tabled_settings.specs.declared.cell_settings.CellSettings.{CellSettings}
+use Rattle.tabled_settings.specs.declared.indent.Indent.{Indent}
+use Rattle.tabled_settings.specs.declared.sides.Sides.{Sides}
+use Rattle.tabled_settings.specs.Padding.{first_padding}
 use Rattle.tabled_configuration.specs.AlikeCells.{AreAlike}
 use Rattle.tabled_printing.specs.Texts.{pieces, width_of_text}
-use Rattle.tabled_printing.proofs.TimesLemmas.{times_both}
+use Rattle.tabled_printing.proofs.TimesLemmas.{times_both, times_spaces}
 use Rattle.tabled_cells.specs.declared.filling.LineParts.{LineParts}
 use Rattle.tabled_cells.specs.declared.placement.Placement.{Placement}
-use Rattle.tabled_cells.specs.Placed.{times, free_before, free_above, fill_of, line_parts, aligned_width}
+use Rattle.tabled_cells.specs.Placed.{padding_shown, times, free_before, free_above, fill_of, line_parts, aligned_width}
 use Rattle.tabled_cells.specs.Placements.{placement_at}
 use Rattle.tabled_width.specs.Texts.{is_printable}
 use Rattle.tabled_cells.specs.Trimmed.{without_ends, is_space, is_blank, line_shown, lines_shown}
@@ -45,6 +48,7 @@ placement_alike settings r c alike = λ i. record {
   trim_vertical = value_alike settings.trim_vertical (cell_at 0 0) (cell_at r c) alike.trim_vertical i;
   line_alignment = value_alike settings.line_alignment (cell_at 0 0) (cell_at r c) alike.line_alignment i;
   justification = value_alike settings.justification (cell_at 0 0) (cell_at r c) alike.justification i;
+  padding = padding_shown (value_alike settings.padding (cell_at 0 0) (cell_at r c) alike.padding i);
 }
 
 no_color_alike : (colors : Option (Live Texts)) (a b : Position) → colors ≡ None → option_map (λ live. value_at live a) colors ≡ option_map (λ live. value_at live b) colors
@@ -96,18 +100,20 @@ module _ (how : Placement) (colors : Coloring) (is : IsBareCell how colors) (wid
   parts : (aligned : ℕ) → line_parts how width aligned text ≡ record { before = 0; after = after; fill = 32 }
   unfolding line_parts
   parts aligned =
-      let before : AlignmentHorizontal → ℕ = λ side. free_before side (width - 2 - aligned) in
-      let made : AlignmentHorizontal → ℕ → ℕ → LineParts = λ side character wide. record {
-        before = before side;
-        after = width - 2 - before side - wide;
-        fill = fill_of character width (before side) (width - 2 - before side - wide) text;
+      let room : Sides Indent → ℕ = λ padding. width - padding.left.size - padding.right.size in
+      let before : Sides Indent → AlignmentHorizontal → ℕ = λ padding side. free_before side (room padding - aligned) in
+      let made : Sides Indent → AlignmentHorizontal → ℕ → ℕ → LineParts = λ padding side character wide. record {
+        before = before padding side;
+        after = room padding - before padding side - wide;
+        fill = fill_of padding character width (before padding side) (room padding - before padding side - wide) text;
       } in
       let of : ℕ → ℕ → LineParts = λ rest character. record { before = 0; after = rest; fill = character } in
-      let rest : width - 2 - 0 - length text ≡ after = omega arith in
-      ap (λ side. made side how.justification (width_of_text text)) is.left
-      ∙ ap (λ character. made AlignmentHorizontal.Left character (width_of_text text)) is.spaces
-      ∙ ap (made AlignmentHorizontal.Left 32) (printable_width text printable)
-      ∙ ap (of (width - 2 - 0 - length text)) (either_same _ 32)
+      let rest : width - 1 - 1 - 0 - length text ≡ after = omega arith in
+      ap (λ padding. made padding how.alignment_horizontal how.justification (width_of_text text)) is.padding
+      ∙ ap (λ side. made first_padding side how.justification (width_of_text text)) is.left
+      ∙ ap (λ character. made first_padding AlignmentHorizontal.Left character (width_of_text text)) is.spaces
+      ∙ ap (made first_padding AlignmentHorizontal.Left 32) (printable_width text printable)
+      ∙ ap (of (width - 1 - 1 - 0 - length text)) (either_same _ 32)
       ∙ ap (λ n. of n 32) rest
 
   spaces_after : times (after + 1) 32 ≡ times after 32 ++ 32 ∷ []
@@ -116,13 +122,16 @@ module _ (how : Placement) (colors : Coloring) (is : IsBareCell how colors) (wid
   line : (aligned : ℕ) → painted_line how colors width aligned text ≡ paint None (at_left width text)
   unfolding painted_line
   line aligned =
-      let whole : Option Texts → Option Texts → Option Texts → Option Texts → LineParts → Painted =
-      λ left fill middle right of. paint left (32 ∷ []) ++ paint fill (times of.before of.fill) ++ paint middle text ++ paint fill (times of.after of.fill) ++ paint right (32 ∷ []) in
-      ap (λ left. whole left colors.fill colors.text colors.padding.right (line_parts how width aligned text)) is.before
-      ∙ ap (λ fill. whole None fill colors.text colors.padding.right (line_parts how width aligned text)) is.fill
-      ∙ ap (λ middle. whole None None middle colors.padding.right (line_parts how width aligned text)) is.text
-      ∙ ap (λ right. whole None None None right (line_parts how width aligned text)) is.after
-      ∙ ap (whole None None None None) (parts aligned)
+      let whole : Sides Indent → Option Texts → Option Texts → Option Texts → Option Texts → LineParts → Painted =
+      λ padding left fill middle right of. paint left (times padding.left.size padding.left.fill) ++ paint fill (times of.before of.fill) ++ paint middle text ++ paint fill (times of.after of.fill)
+      ++ paint right (times padding.right.size padding.right.fill) in
+      ap (λ padding. whole padding colors.padding.left colors.fill colors.text colors.padding.right (line_parts how width aligned text)) is.padding
+      ∙ ap (λ left. whole first_padding left colors.fill colors.text colors.padding.right (line_parts how width aligned text)) is.before
+      ∙ ap (λ fill. whole first_padding None fill colors.text colors.padding.right (line_parts how width aligned text)) is.fill
+      ∙ ap (λ middle. whole first_padding None None middle colors.padding.right (line_parts how width aligned text)) is.text
+      ∙ ap (λ right. whole first_padding None None None right (line_parts how width aligned text)) is.after
+      ∙ ap (whole first_padding None None None None) (parts aligned)
+      ∙ (λ i. paint None (times_spaces 1 i) ++ [] ++ paint None text ++ paint None (times after 32) ++ paint None (times_spaces 1 i))
       ∙ ap (λ rest. paint None (32 ∷ []) ++ rest) (painted_in_turn text (times after 32) (32 ∷ []))
       ∙ ap (λ bs. paint None (32 ∷ bs)) (append_assoc text (times after 32) (32 ∷ []) ∙ ap (λ bs. text ++ bs) (sym spaces_after))
 
@@ -130,13 +139,14 @@ module _ (how : Placement) (colors : Coloring) (is : IsBareCell how colors) (wid
   abbrev by_place : ℕ → Painted
   by_place above =
       let own = slice_index_or (text ∷ []) (0 - above) [] in
-      if nat_lt 0 above then paint colors.padding.top (times width 32) else
+      if nat_lt 0 above then paint colors.padding.top (times width how.padding.top.fill) else
       if nat_lt (0 - above) (length (text ∷ [])) then painted_line how colors width (aligned_width how (text ∷ []) own) own else
-      paint colors.padding.bottom (times width 32)
+      paint colors.padding.bottom (times width how.padding.bottom.fill)
 
   pub bare_cell : paint None (at_left width text) ≡ cell_line how colors width height (lines_shown how text) 0
   unfolding cell_line
   bare_cell =
       sym (ap (λ lines. cell_line how colors width height lines 0) shown
-      ∙ ap (λ side. by_place (free_above side (height - 1))) is.top
+      ∙ ap (λ (padding : Sides Indent). by_place (padding.top.size + free_above how.alignment_vertical (height - padding.top.size - padding.bottom.size - 1))) is.padding
+      ∙ ap (λ side. by_place (0 + free_above side (height - 0 - 0 - 1))) is.top
       ∙ line (aligned_width how (text ∷ []) text))

@@ -1,5 +1,5 @@
 -- A line of a cell, by where it stands and by its parts.
-use Rattle.std.proofs.Common.{◌≡◌, ◌≢◌, ℕ, ◌-◌, ◌<◌, ◌≤◌, Bool, true, false, if◌then◌else◌, ltb, Option, List, [], ◌∷◌, ◌++◌, map, length, get_or, refl, sym, ap, subst, ◌∙◌, Result, OnOk}
+use Rattle.std.proofs.Common.{◌≡◌, ◌≢◌, ℕ, ◌-◌, ◌<◌, ◌≤◌, Bool, true, false, if◌then◌else◌, ltb, Option, List, [], ◌++◌, map, length, get_or, refl, sym, ap, subst, ◌∙◌, Result, OnOk}
 use Rattle.std.proofs.lemmas.Bool.{lt-ltb, le-ltb}
 use Rattle.std.proofs.lemmas.List.{length-map, get_or-map}
 use denote.Ref.{Bor}
@@ -9,7 +9,7 @@ use Rattle.tabled_printing.specs.Texts.{width_of_text}
 use Rattle.tabled_settings.specs.declared.alignment.AlignmentHorizontal.TheVariants.{Left}
 use Rattle.tabled_cells.specs.declared.filling.LineParts.{LineParts}
 use Rattle.tabled_cells.specs.declared.placement.Placement.{Placement}
-use Rattle.tabled_cells.specs.Placed.{times, free_above, line_parts, aligned_width, greatest}
+use Rattle.tabled_cells.specs.Placed.{times, lines_above, line_parts, aligned_width, greatest}
 use Rattle.tabled_cells.proofs.Measuring.{parts_same}
 use Rattle.tabled_painting.specs.declared.painter.Painter.{Painter}
 use Rattle.tabled_painting.specs.Painted.{Painted, paint}
@@ -24,13 +24,14 @@ same_line r line other p q same = subst (λ l. OnOk r (Paints l p q)) same
 -- a line of the text, by its five parts
 pub line_of_parts : (how : Placement) (colors : Coloring) (width aligned : ℕ) (line : List ℕ) (left right : Option Texts) (parts : LineParts) (p q r s t u : Painter)
     → left ≡ colors.padding.left → right ≡ colors.padding.right → parts ≡ line_parts how width aligned line
-    → Paints (paint left (32 ∷ [])) p q → Paints (paint colors.fill (times parts.before parts.fill)) q r → Paints (paint colors.text line) r s
-    → Paints (paint colors.fill (times parts.after parts.fill)) s t → Paints (paint right (32 ∷ [])) t u → Paints (painted_line how colors width aligned line) p u
+    → Paints (paint left (times how.padding.left.size how.padding.left.fill)) p q → Paints (paint colors.fill (times parts.before parts.fill)) q r → Paints (paint colors.text line) r s
+    → Paints (paint colors.fill (times parts.after parts.fill)) s t → Paints (paint right (times how.padding.right.size how.padding.right.fill)) t u → Paints (painted_line how colors width aligned line) p u
 unfolding painted_line
 line_of_parts how colors width aligned line left right parts p q r s t u at_left at_right found a b c d e =
     let whole : Option Texts → Option Texts → LineParts → Painted =
-    λ one other of. paint one (32 ∷ []) ++ paint colors.fill (times of.before of.fill) ++ paint colors.text line ++ paint colors.fill (times of.after of.fill) ++ paint other (32 ∷ []) in
-    let first : Painted = paint left (32 ∷ []) in
+    λ one other of. paint one (times how.padding.left.size how.padding.left.fill) ++ paint colors.fill (times of.before of.fill) ++ paint colors.text line ++ paint colors.fill (times of.after of.fill)
+    ++ paint other (times how.padding.right.size how.padding.right.fill) in
+    let first : Painted = paint left (times how.padding.left.size how.padding.left.fill) in
     let second : Painted = first ++ paint colors.fill (times parts.before parts.fill) in
     let third : Painted = second ++ paint colors.text line in
     let fourth : Painted = third ++ paint colors.fill (times parts.after parts.fill) in
@@ -42,20 +43,21 @@ pub aligned_line : (how : Placement) (colors : Coloring) (width widest aligned :
     → aligned ≡ (if how.line_alignment then width_of_text line else widest) → painted_line how colors width aligned line ≡ painted_line how colors width (aligned_width how lines line) line
 unfolding painted_line
 aligned_line how colors width widest aligned lines line as_one is =
-    ap (λ parts. paint colors.padding.left (32 ∷ []) ++ paint colors.fill (times parts.before parts.fill) ++ paint colors.text line ++ paint colors.fill (times parts.after parts.fill) ++ paint colors.padding.right (32 ∷ []))
+    ap (λ parts. paint colors.padding.left (times how.padding.left.size how.padding.left.fill) ++ paint colors.fill (times parts.before parts.fill) ++ paint colors.text line ++ paint colors.fill (times parts.after parts.fill)
+    ++ paint colors.padding.right (times how.padding.right.size how.padding.right.fill))
     (ap (λ n. line_parts how width n line) is ∙ parts_same how width widest lines line as_one)
 
 -- line n of a cell: above the text, in it, or below it
-module _ (how : Placement) (colors : Coloring) (width height : ℕ) (texts : List (Bor (List ℕ))) (n above free count : ℕ)
-    (stands : above ≡ free_above how.alignment_vertical free) (left : free ≡ height - count) (counted : count ≡ length texts) where
-  stands_there : above ≡ free_above how.alignment_vertical (height - length (lent texts))
-  stands_there = stands ∙ ap (free_above how.alignment_vertical) (left ∙ ap (λ k. height - k) (counted ∙ sym (length-map texts (λ text. text.now))))
+module _ (how : Placement) (colors : Coloring) (width height : ℕ) (texts : List (Bor (List ℕ))) (n above count : ℕ)
+    (stands : above ≡ lines_above how height count) (counted : count ≡ length texts) where
+  stands_there : above ≡ lines_above how height (length (lent texts))
+  stands_there = stands ∙ ap (lines_above how height) (counted ∙ sym (length-map texts (λ text. text.now)))
 
   abbrev by_place : ℕ → Bool → Bool → Painted
   by_place there first second =
-      if first then paint colors.padding.top (times width 32) else
+      if first then paint colors.padding.top (times width how.padding.top.fill) else
       if second then painted_line how colors width (aligned_width how (lent texts) (get_or (lent texts) (n - there) [])) (get_or (lent texts) (n - there) []) else
-      paint colors.padding.bottom (times width 32)
+      paint colors.padding.bottom (times width how.padding.bottom.fill)
 
   placed : (first second : Bool) → ltb n above ≡ first → ltb (n - above) (length (lent texts)) ≡ second → by_place above first second ≡ cell_line how colors width height (lent texts) n
   unfolding cell_line
@@ -63,12 +65,12 @@ module _ (how : Placement) (colors : Coloring) (width height : ℕ) (texts : Lis
       ap (λ b. by_place above b second) (sym p) ∙ ap (λ b. by_place above (ltb n above) b) (sym q)
       ∙ ap (λ there. by_place there (ltb n there) (ltb (n - there) (length (lent texts)))) stands_there
 
-  pub upper_line : (top : Option Texts) → top ≡ colors.padding.top → n < above → paint top (times width 32) ≡ cell_line how colors width height (lent texts) n
-  upper_line top is within = ap (λ color. paint color (times width 32)) is ∙ placed true (ltb (n - above) (length (lent texts))) (lt-ltb n above within) refl
+  pub upper_line : (top : Option Texts) → top ≡ colors.padding.top → n < above → paint top (times width how.padding.top.fill) ≡ cell_line how colors width height (lent texts) n
+  upper_line top is within = ap (λ color. paint color (times width how.padding.top.fill)) is ∙ placed true (ltb (n - above) (length (lent texts))) (lt-ltb n above within) refl
 
-  pub lower_line : (bottom : Option Texts) → bottom ≡ colors.padding.bottom → above ≤ n → length texts ≤ n - above → paint bottom (times width 32) ≡ cell_line how colors width height (lent texts) n
+  pub lower_line : (bottom : Option Texts) → bottom ≡ colors.padding.bottom → above ≤ n → length texts ≤ n - above → paint bottom (times width how.padding.bottom.fill) ≡ cell_line how colors width height (lent texts) n
   lower_line bottom is past after =
-      ap (λ color. paint color (times width 32)) is
+      ap (λ color. paint color (times width how.padding.bottom.fill)) is
       ∙ placed false false (le-ltb n above past) (le-ltb (n - above) (length (lent texts)) (rw length-map after))
 
   pub text_line : (line : Bor (List ℕ)) (aligned : ℕ) → above ≤ n → n - above < length texts → line ≡ get_or texts (n - above) line

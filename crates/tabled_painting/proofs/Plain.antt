@@ -11,9 +11,8 @@ use Rattle.tabled_printing.specs.Along.{is_empty}
 use Rattle.tabled_printing.specs.Texts.{Table, pieces}
 use Rattle.tabled_printing.specs.Picture.{Look, Shown, character, text_shown, text_marked, mark_at, marks_along, side_shown, line_of_pieces, line_if_drawn, text_lines}
 use Rattle.tabled_cells.specs.declared.placement.Placement.{Placement}
-use Rattle.tabled_cells.specs.Placed.{times, free_above, line_parts, aligned_width}
+use Rattle.tabled_cells.specs.Placed.{times, lines_above, line_parts, aligned_width}
 use Rattle.tabled_cells.proofs.Fits.{empty_line, placed_line, placed_at}
-use Rattle.tabled_printing.proofs.TimesLemmas.{times_spaces}
 use Rattle.tabled_painting.specs.Painted.{Painted, paint, plain, colored_if}
 use Rattle.tabled_painting.specs.InColor.{in_color, suffix_of}
 use Rattle.tabled_painting.specs.Margin.{Side, side_at, between_sides, strip, in_margin, left_side, right_side, top_side, bottom_side}
@@ -121,14 +120,17 @@ plain_text_line : (how : Placement) (colors : Coloring) (width aligned : ℕ) (l
 unfolding painted_line placed_line
 plain_text_line how colors width aligned line =
     let parts = line_parts how width aligned line in
-    let before : Painted = paint colors.padding.left (32 ∷ []) ++ paint colors.fill (times parts.before parts.fill) in
+    let first : List ℕ = times how.padding.left.size how.padding.left.fill in
+    let last : List ℕ = times how.padding.right.size how.padding.right.fill in
+    let before : Painted = paint colors.padding.left first ++ paint colors.fill (times parts.before parts.fill) in
     let text : Painted = before ++ paint colors.text line in
     let after : Painted = text ++ paint colors.fill (times parts.after parts.fill) in
-    plain_both after (paint colors.padding.right (32 ∷ []))
-    ∙ ap (λ bs. bs ++ 32 ∷ []) (plain_both text (paint colors.fill (times parts.after parts.fill))
-    ∙ (λ i. (plain_both before (paint colors.text line)
-    ∙ (λ j. (plain_both (paint colors.padding.left (32 ∷ [])) (paint colors.fill (times parts.before parts.fill)) ∙ ap (λ bs. 32 ∷ bs) (plain_paint colors.fill (times parts.before parts.fill))) j ++ plain_paint colors.text line j)) i
-    ++ plain_paint colors.fill (times parts.after parts.fill) i))
+    plain_both after (paint colors.padding.right last)
+    ∙ (λ i. (plain_both text (paint colors.fill (times parts.after parts.fill))
+    ∙ (λ j. (plain_both before (paint colors.text line)
+    ∙ (λ k. (plain_both (paint colors.padding.left first) (paint colors.fill (times parts.before parts.fill))
+    ∙ (λ m. plain_paint colors.padding.left first m ++ plain_paint colors.fill (times parts.before parts.fill) m)) k ++ plain_paint colors.text line k)) j
+    ++ plain_paint colors.fill (times parts.after parts.fill) j)) i ++ plain_paint colors.padding.right last i)
 
 -- the characters of a line of a cell are its text as it is placed, whatever its colors
 pub plain_cell : (how : Placement) (colors : Coloring) (width height : ℕ) (lines : List (List ℕ)) (n : ℕ) → plain (cell_line how colors width height lines n) ≡ placed_at how width height lines n
@@ -136,17 +138,17 @@ unfolding cell_line
 plain_cell how colors width height lines n = by_place (nat_lt n above) (nat_lt (n - above) (length lines))
   where
     above : ℕ
-    above = free_above how.alignment_vertical (height - length lines)
+    above = lines_above how height (length lines)
 
     line : List ℕ
     line = get_or lines (n - above) []
 
     by_place : (first second : Bool)
-        → plain (if first then paint colors.padding.top (times width 32) else if second then painted_line how colors width (aligned_width how lines line) line else paint colors.padding.bottom (times width 32))
-        ≡ (if first then empty_line width else if second then placed_line how width (aligned_width how lines line) line else empty_line width)
-    by_place true second = plain_paint colors.padding.top (times width 32) ∙ times_spaces width
+        → plain (if first then paint colors.padding.top (times width how.padding.top.fill) else if second then painted_line how colors width (aligned_width how lines line) line else paint colors.padding.bottom (times width how.padding.bottom.fill))
+        ≡ (if first then empty_line how.padding.top width else if second then placed_line how width (aligned_width how lines line) line else empty_line how.padding.bottom width)
+    by_place true second = plain_paint colors.padding.top (times width how.padding.top.fill)
     by_place false true = plain_text_line how colors width (aligned_width how lines line) line
-    by_place false false = plain_paint colors.padding.bottom (times width 32) ∙ times_spaces width
+    by_place false false = plain_paint colors.padding.bottom (times width how.padding.bottom.fill)
 
 -- ---- a margin around lines
 

@@ -5,6 +5,7 @@ use Rattle.tabled_settings.specs.declared.alignment.AlignmentHorizontal.{Alignme
 use Rattle.tabled_settings.specs.declared.alignment.AlignmentVertical.{AlignmentVertical}
 use Rattle.tabled_settings.specs.declared.cell_settings.CellSettings.{CellSettings}
 use Rattle.tabled_settings.specs.Live.{Live}
+use Rattle.tabled_settings.specs.Padding.{first_padding}
 use Rattle.tabled_cells.specs.declared.placement.Placement.{Placement}
 use Rattle.tabled_cells.specs.Placed.{times}
 use Rattle.tabled_cells.specs.Placements.{placement_at}
@@ -17,6 +18,7 @@ pub record IsBareCell (how : Placement) (colors : Coloring) : Type 0 where
   pub whole_lines : how.trim_horizontal ≡ false
   pub all_lines : how.trim_vertical ≡ false
   pub spaces : how.justification ≡ 32
+  pub padding : how.padding ≡ first_padding
   pub text : colors.text ≡ None
   pub fill : colors.fill ≡ None
   pub before : colors.padding.left ≡ None

@@ -1,16 +1,16 @@
 -- A cell as it is painted, line by line.
-use Rattle.std.specs.Prelude.{ℕ, nat_lt, ◌-◌, if◌then◌else◌, Option, List, [], ◌∷◌, ◌++◌, length, slice_index_or, option_copied, option_map}
+use Rattle.std.specs.Prelude.{ℕ, nat_lt, ◌-◌, if◌then◌else◌, Option, List, [], ◌++◌, length, slice_index_or, option_copied, option_map}
 use Rattle.tabled_border.specs.Texts.{Texts}
 use Rattle.tabled_object.specs.declared.position.Position.{Position}
 use Rattle.tabled_settings.specs.declared.cell_settings.CellSettings.{CellSettings}
 use Rattle.tabled_settings.specs.declared.sides.Sides.{Sides}
 use Rattle.tabled_settings.specs.Live.{Live, value_at}
 use Rattle.tabled_cells.specs.declared.placement.Placement.{Placement}
-use Rattle.tabled_cells.specs.Placed.{times, free_above, line_parts, aligned_width}
+use Rattle.tabled_cells.specs.Placed.{times, lines_above, line_parts, aligned_width}
 use Rattle.tabled_painting.specs.declared.cell_colors.CellColors.{CellColors}
 use Rattle.tabled_painting.specs.Painted.{Painted, paint}
 
--- the colors of a cell: of its text, of what fills its lines, and of the spaces around these
+-- the colors of a cell: of its text, of what fills its lines, and of the padding around these
 pub record Coloring : Type 0 where
   pub text : Option Texts
   pub fill : Option Texts
@@ -26,21 +26,22 @@ coloring_at settings colors row col =
       padding = value_at settings.padding_color cell;
     }
 
--- a line of the text of a cell: a space, what fills the line before the text, the text, what fills it after that, and a space
+-- a line of the text of a cell: its padding at the left, what fills the line before the text, the text, what fills it after that, and
+-- its padding at the right
 unfoldable pub painted_line : Placement → Coloring → ℕ → ℕ → List ℕ → Painted
 painted_line how colors width aligned line =
     let parts = line_parts how width aligned line in
-    paint colors.padding.left (32 ∷ []) ++ paint colors.fill (times parts.before parts.fill) ++ paint colors.text line
-    ++ paint colors.fill (times parts.after parts.fill) ++ paint colors.padding.right (32 ∷ [])
+    paint colors.padding.left (times how.padding.left.size how.padding.left.fill) ++ paint colors.fill (times parts.before parts.fill) ++ paint colors.text line
+    ++ paint colors.fill (times parts.after parts.fill) ++ paint colors.padding.right (times how.padding.right.size how.padding.right.fill)
 
--- line n of a cell: a line of its text, or above and below these a line of spaces
+-- line n of a cell: a line of its text, or above and below these a line that looks as its padding there
 unfoldable pub cell_line : Placement → Coloring → ℕ → ℕ → List (List ℕ) → ℕ → Painted
 cell_line how colors width height lines n =
-    let above = free_above how.alignment_vertical (height - length lines) in
+    let above = lines_above how height (length lines) in
     let line = slice_index_or lines (n - above) [] in
-    if nat_lt n above then paint colors.padding.top (times width 32) else
+    if nat_lt n above then paint colors.padding.top (times width how.padding.top.fill) else
     if nat_lt (n - above) (length lines) then painted_line how colors width (aligned_width how lines line) line else
-    paint colors.padding.bottom (times width 32)
+    paint colors.padding.bottom (times width how.padding.bottom.fill)
 
 -- the colors as the code has them
 abbrev pub coloring_of : CellColors → Coloring

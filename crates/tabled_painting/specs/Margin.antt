@@ -5,8 +5,8 @@ use Rattle.tabled_border.specs.Texts.{Texts}
 use Rattle.tabled_object.specs.Entities.{below}
 use Rattle.tabled_grid.specs.declared.offset.Offset.{Offset}
 use Rattle.tabled_layout.specs.declared.margin.Margin.{Margin}
-use Rattle.tabled_printing.specs.Columns.{draws_plainly}
 use Rattle.tabled_cells.specs.Placed.{times}
+pub use Rattle.tabled_cells.specs.Placed.{fill_shown}
 use Rattle.tabled_painting.specs.declared.margin_side.MarginSide.{MarginSide}
 use Rattle.tabled_painting.specs.Painted.{Painted, paint}
 
@@ -16,11 +16,6 @@ pub record Side : Type 0 where
   pub fill : ℕ
   pub offset : Offset
   pub color : Option Texts
-
--- what is shown of the character that fills a side: the character where it draws plainly, else a space. So each line stays as wide
--- as the others
-abbrev pub fill_shown : ℕ → ℕ
-fill_shown character = if draws_plainly character then character else 32
 
 abbrev pub left_side : Margin → Side
 left_side margin = record { size = margin.size.left.size; fill = fill_shown margin.size.left.fill; offset = margin.offset.left; color = margin.color.left }

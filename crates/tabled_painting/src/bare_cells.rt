@@ -1,6 +1,7 @@
 //! Whether nothing is set for the cells of a table, so that their texts are shown as they are.
 
-ghost use Rattle.std.specs.Prelude.{IsTrue};
+ghost use Rattle.std.specs.Prelude.{◌≡◌, IsTrue};
+ghost use Rattle.tabled_settings.specs.Padding.{first_padding};
 ghost use Rattle.tabled_painting.specs.BareCells.{AreBare, IsBareCell};
 ghost use Rattle.tabled_painting.specs.CellLines.{coloring_of};
 
@@ -10,8 +11,9 @@ use tabled_configuration::{ColorMap, SpannedConfig};
 use tabled_object::Position;
 use tabled_settings::{AlignmentHorizontal, AlignmentVertical};
 
-/// Whether a cell shows its text whole, at the left and at the top, between spaces, and without colors.
+/// Whether a cell for which no padding is set shows its text whole, at the left and at the top, between spaces, and without colors.
 fn is_bare(how: &Placement, colors: &CellColors) -> bool
+    requires { how.now.padding ≡ first_padding }
     ensures { IsTrue result → IsBareCell how.now (coloring_of colors.now) }
 {
     how.alignment_horizontal == AlignmentHorizontal::Left
@@ -29,7 +31,7 @@ fn is_bare(how: &Placement, colors: &CellColors) -> bool
 pub(crate) fn has_bare_cells(cfg: &SpannedConfig, colors: &ColorMap) -> bool
     ensures { IsTrue result → AreBare cfg.now.settings.cells colors.now }
 {
-    if !cfg.has_alike_cells() || !colors.is_empty() {
+    if !cfg.has_alike_cells() || !cfg.has_no_padding() || !colors.is_empty() {
         return false;
     }
     let first = Position::new(0, 0);

@@ -11,7 +11,7 @@ ghost use Rattle.tabled_painting.specs.CellLines.{coloring_of, painted_line, cel
 
 use crate::{CellColors, Painter};
 use std::alloc::{AllocError, Global};
-use tabled_cells::{Placement, aligned, free_above, line_parts, show_lines, widest};
+use tabled_cells::{Placement, aligned, line_parts, lines_above, show_lines, widest};
 
 /// A cell whose lines are painted one by one.
 #[derive(Drop)]
@@ -72,12 +72,13 @@ impl<'a> CellLines<'a> {
         ensures { OnOk result (Paints (painted_line self.now.how (coloring_of self.now.colors) self.now.width aligned line.now) painter.old painter.new) }
     {
         let parts = line_parts(self.alloc, &self.how, self.width, aligned, line)?;
-        let colors = self.colors;
-        painter.push_str(colors.padding.left.as_ref(), " ")?;
+        let (padding, colors) = (&self.how.padding, self.colors);
+        let (left, right) = (padding.left, padding.right);
+        painter.push_times(colors.padding.left.as_ref(), left.size, left.fill)?;
         painter.push_times(colors.fill, parts.before, parts.fill)?;
         painter.push_str(colors.text, line)?;
         painter.push_times(colors.fill, parts.after, parts.fill)?;
-        painter.push_str(colors.padding.right.as_ref(), " ")?;
+        painter.push_times(colors.padding.right.as_ref(), right.size, right.fill)?;
         Ok(())
     }
 
@@ -85,14 +86,13 @@ impl<'a> CellLines<'a> {
     pub(crate) fn paint_line(&self, painter: &mut Painter<'a>, n: usize) -> Result<(), AllocError>
         ensures { OnOk result (Paints (cell_line self.now.how (coloring_of self.now.colors) self.now.width self.now.height (lent self.now.lines.items) n) painter.old painter.new) }
     {
-        let padding = self.colors.padding;
-        let free = self.height.saturating_sub(self.lines.len());
-        let above = free_above(self.how.alignment_vertical, free);
+        let (padding, colors) = (&self.how.padding, self.colors.padding);
+        let above = lines_above(&self.how, self.height, self.lines.len());
         if n < above {
-            return painter.push_times(padding.top.as_ref(), self.width, ' ');
+            return painter.push_times(colors.top.as_ref(), self.width, padding.top.fill);
         }
         let Some(line) = self.lines.get(n - above) else {
-            return painter.push_times(padding.bottom.as_ref(), self.width, ' ');
+            return painter.push_times(colors.bottom.as_ref(), self.width, padding.bottom.fill);
         };
         self.paint_text(painter, line, self.aligned(line))
     }

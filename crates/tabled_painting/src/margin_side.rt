@@ -9,9 +9,9 @@ ghost use Rattle.tabled_painting.specs.Pages.{PaintsWhole};
 use crate::Painter;
 use std::alloc::AllocError;
 use tabled_border::ANSIBuf;
+use tabled_cells::fill_shown;
 use tabled_grid::Offset;
-use tabled_layout::Indent;
-use tabled_printing::draws_plainly;
+use tabled_settings::Indent;
 
 /// One side of a margin.
 #[derive(Clone, Copy, Debug)]
@@ -24,17 +24,6 @@ pub(crate) struct MarginSide<'a> {
     pub(crate) offset: Offset,
     /// Its color, if it has one.
     pub(crate) color: Option<&'a ANSIBuf>,
-}
-
-/// What is shown of the character that fills a side: the character where it surely takes one column and joins nothing, else a space.
-fn fill_shown(character: char) -> char
-    ensures { result ≡ margin.fill_shown character }
-{
-    if draws_plainly(character) {
-        character
-    } else {
-        ' '
-    }
 }
 
 /// Whether an offset leaves number `n` of an extent out.

@@ -1,5 +1,5 @@
 -- The lines of a table's text are as wide as each other, and its vertical lines stand straight.
-use Rattle.std.proofs.Common.{◌≡◌, ◌==◌, ℕ, ◌<◌, ◌≤◌, zero, suc, true, false, ◌||◌, eqb, List, [], ◌∷◌, map, length, get_or, sym, ap, subst, ◌∙◌, arith, String, string_bytes, Vec}
+use Rattle.std.proofs.Common.{◌≡◌, ◌==◌, ℕ, ◌+◌, ◌<◌, ◌≤◌, zero, suc, true, false, ◌||◌, eqb, List, [], ◌∷◌, map, length, get_or, sym, ap, subst, ◌∙◌, arith, String, string_bytes, Vec}
 use Rattle.std.specs.Prelude.{slice_index}
 use Rattle.std.specs.Str.{IsUtf8}
 use Rattle.std.specs.List.{list_all}
@@ -8,6 +8,9 @@ use Rattle.std.proofs.lemmas.List.{get_or-map}
 use Rattle.std.proofs.lemmas.List.FromFn.{get_or-map-range_with_len}
 use Rattle.std.proofs.lemmas.List.Splits.{length-slice_split}
 use Rattle.std.proofs.lemmas.Str.{IsUtf8-nil, IsUtf8-string_bytes}
+use Rattle.std.specs.Cmp.{second_so}
+use Rattle.tabled_settings.specs.declared.indent.Indent.{Indent}
+use Rattle.tabled_settings.specs.declared.sides.Sides.{Sides}
 use Rattle.tabled_configuration.specs.Configuration.{ConfigEvent, characters_of}
 use Rattle.tabled_printing.specs.Texts.{Table, texts, pieces, width_of_text}
 use Rattle.tabled_printing.specs.Along.{is_empty}
@@ -17,15 +20,15 @@ use Rattle.tabled_printing.proofs.NarrowLemmas.{borders_narrow}
 use Rattle.tabled_printing.proofs.Tiles.{Tile}
 use Rattle.tabled_cells.specs.Placements.{placement_at}
 use Rattle.tabled_cells.specs.Trimmed.{lines_shown}
-use Rattle.tabled_cells.proofs.Fits.{greatest_bound, placed_at_tile}
+use Rattle.tabled_cells.proofs.Fits.{first_spaces, greatest_bound, padding_unset, placed_at_tile}
 use Rattle.tabled_painting.specs.Painted.{plain}
 use Rattle.tabled_painting.specs.CellLines.{coloring_at}
 use Rattle.tabled_painting.specs.PaintedTable.{Cells, painted_cells, painted_table, plain_text}
 use Rattle.tabled_painting.specs.Widths.{text_width, StandsStraightIn}
 use Rattle.tabled_painting.proofs.Even.{table_even, table_straight}
 use Rattle.tabled_painting.proofs.Plain.{plain_cell}
-use Rattle.tabled_text.specs.Sizes.{cell, column_count, column_width, column_widths, row_height, row_heights, width_asked, height_asked}
-use Rattle.tabled_text.specs.Cells.{cells_set, margin_set, cell_colors, sets_no_spans}
+use Rattle.tabled_text.specs.Sizes.{greatest, cell, column_count, column_width, column_widths, row_height, row_heights, width_asked, height_asked}
+use Rattle.tabled_text.specs.Cells.{cells_set, margin_set, cell_colors, leaves_sizes, sets_no_padding, sets_no_spans}
 use Rattle.tabled_text.specs.TextTable.{look_of, painted_alone, text_of}
 use Rattle.tabled_text.proofs.SpanLemmas.{text_without}
 
@@ -58,7 +61,7 @@ row_room table r c within inside =
 -- ---- the text
 
 module _ (es : List ConfigEvent) (table : Table) (equal : (r : ℕ) → r < length table → length (get_or table r []) ≡ column_count table) (utf8 : (r c : ℕ) → IsUtf8 (cell (get_or table r []) c))
-    (all : list_all is_narrow_write (characters_of es) ≡ true) (none : sets_no_spans es ≡ true) where
+    (all : list_all is_narrow_write (characters_of es) ≡ true) (none : leaves_sizes es ≡ true) where
   abbrev view : Look
   view = look_of es table
 
@@ -73,9 +76,12 @@ module _ (es : List ConfigEvent) (table : Table) (equal : (r : ℕ) → r < leng
   cells_tiles r c k within inside above =
       let how = placement_at (cells_set es) r c in
       let text : List ℕ = cell (get_or table r []) c in
+      let unpadded = padding_unset (cells_set es) r c (second_so (sets_no_spans es) (sets_no_padding es) none) in
       subst (Tile (slice_index (column_widths table) c))
       (sym (plain_cell how (coloring_at (cells_set es) (cell_colors es) r c) (slice_index (column_widths table) c) (slice_index (row_heights table) r) (lines_shown how text) k))
-      (placed_at_tile how (slice_index (column_widths table) c) (slice_index (row_heights table) r) text k (utf8 r c) (column_room table r c within inside))
+      (placed_at_tile how (slice_index (column_widths table) c) (slice_index (row_heights table) r) text k (first_spaces how.padding unpadded) (utf8 r c)
+      (subst (λ (padding : Sides Indent). padding.left.size + greatest (map width_of_text (pieces text)) + padding.right.size ≤ slice_index (column_widths table) c) (sym unpadded) (let room = column_room table r c within inside in omega (arith, room)))
+      (subst (λ (padding : Sides Indent). 1 ≤ padding.left.size) (sym unpadded) (omega arith)))
 
   -- the first row of a table with places has a line
   first_high : is_empty view.shape ≡ false → 0 < slice_index (row_heights table) 0

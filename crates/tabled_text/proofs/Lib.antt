@@ -9,4 +9,5 @@ pub mod ShareSums
 pub mod Frames
 pub mod Totals
 pub mod EditedLemmas
+pub mod NumericLemmas
 pub mod SpanLemmas

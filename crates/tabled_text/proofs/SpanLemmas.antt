@@ -9,8 +9,9 @@ use Rattle.tabled_object.specs.declared.dimension.FixedDimension.{FixedDimension
 use Rattle.tabled_object.specs.declared.records.Shape.{Shape}
 use Rattle.tabled_layout.specs.declared.table_settings.TableSettings.{TableSettings}
 use Rattle.tabled_settings.specs.Live.{Live}
+use Rattle.tabled_settings.specs.Padding.{keeps_first_padding}
 use Rattle.tabled_configuration.specs.Configuration as borders
-use Rattle.tabled_configuration.specs.Configuration.{Configuration, ConfigEvent, all_writes, has_no_spans}
+use Rattle.tabled_configuration.specs.Configuration.{Configuration, ConfigEvent, all_writes, is_sized_by_texts}
 use Rattle.tabled_configuration.specs.Colored.{Changes, Colored, Shows}
 use Rattle.tabled_printing.specs.Picture.{Look, look}
 use Rattle.tabled_printing.specs.Texts.{Table}
@@ -24,41 +25,41 @@ use Rattle.tabled_cells.specs.Placements.{placement_at}
 use Rattle.tabled_cells.specs.Trimmed.{lines_shown}
 use Rattle.tabled_painting.proofs.Plain.{plain_cell}
 use Rattle.tabled_painting.proofs.SpannedPlain.{spanned_table_same}
-use Rattle.tabled_text.specs.Sizes.{cell, column_count, column_widths, row_heights, width_asked, height_asked}
-use Rattle.tabled_text.specs.Cells.{cell_colors, settings_set, sets_no_spans}
+use Rattle.tabled_text.specs.Sizes.{column_count, column_widths, row_heights, width_with_padding, height_with_padding}
+use Rattle.tabled_text.specs.Cells.{cell_colors, settings_set, leaves_sizes}
 use Rattle.tabled_text.specs.TextTable.{AreRead, Drawing, shape_of, look_with_spans, painted, painted_alone, painted_with_spans, text_of, widths_with_spans, heights_with_spans}
 
 -- ---- the one or the other
 
-pub painted_without : (es : List ConfigEvent) (table : Table) → sets_no_spans es ≡ true → painted es table ≡ painted_alone es table
+pub painted_without : (es : List ConfigEvent) (table : Table) → leaves_sizes es ≡ true → painted es table ≡ painted_alone es table
 unfolding painted
 painted_without es table none = ap (λ b. if b then painted_alone es table else painted_with_spans es table) none
 
-pub painted_spanned : (es : List ConfigEvent) (table : Table) → sets_no_spans es ≡ false → painted es table ≡ painted_with_spans es table
+pub painted_spanned : (es : List ConfigEvent) (table : Table) → leaves_sizes es ≡ false → painted es table ≡ painted_with_spans es table
 unfolding painted
 painted_spanned es table some = ap (λ b. if b then painted_alone es table else painted_with_spans es table) some
 
-pub text_without : (es : List ConfigEvent) (table : Table) → sets_no_spans es ≡ true → text_of es table ≡ plain_text (painted_alone es table)
+pub text_without : (es : List ConfigEvent) (table : Table) → leaves_sizes es ≡ true → text_of es table ≡ plain_text (painted_alone es table)
 unfolding text_of
 text_without es table none = ap plain_text (painted_without es table none)
 
-pub text_spanned : (es : List ConfigEvent) (table : Table) → sets_no_spans es ≡ false → text_of es table ≡ plain_text (painted_with_spans es table)
+pub text_spanned : (es : List ConfigEvent) (table : Table) → leaves_sizes es ≡ false → text_of es table ≡ plain_text (painted_with_spans es table)
 unfolding text_of
 text_spanned es table some = ap plain_text (painted_spanned es table some)
 
 -- a configuration has spans where the events that it shows set some
-pub spans_shown : (es : List ConfigEvent) (cfg : Configuration) → borders.Shows es cfg → has_no_spans cfg ≡ sets_no_spans es
-spans_shown es cfg shows = ap (λ (settings : TableSettings). (len settings.column_spans == 0) && (len settings.row_spans == 0)) shows.settings_shown
+pub spans_shown : (es : List ConfigEvent) (cfg : Configuration) → borders.Shows es cfg → is_sized_by_texts cfg ≡ leaves_sizes es
+spans_shown es cfg shows = ap (λ (settings : TableSettings). (len settings.column_spans == 0) && (len settings.row_spans == 0) && keeps_first_padding settings.cells.padding) shows.settings_shown
 
-pub none_set : (es : List ConfigEvent) (cfg : Configuration) (some : Bool) → borders.Shows es cfg → some ≡ not (has_no_spans cfg) → some ≡ false → sets_no_spans es ≡ true
-none_set es cfg some shows is none = sym (spans_shown es cfg shows) ∙ turned (has_no_spans cfg) (sym is ∙ none)
+pub none_set : (es : List ConfigEvent) (cfg : Configuration) (some : Bool) → borders.Shows es cfg → some ≡ not (is_sized_by_texts cfg) → some ≡ false → leaves_sizes es ≡ true
+none_set es cfg some shows is none = sym (spans_shown es cfg shows) ∙ turned (is_sized_by_texts cfg) (sym is ∙ none)
   where
     turned : (b : Bool) → not b ≡ false → b ≡ true
     turned true e = refl
     turned false e = sym e
 
-pub some_set : (es : List ConfigEvent) (cfg : Configuration) (some : Bool) → borders.Shows es cfg → some ≡ not (has_no_spans cfg) → some ≡ true → sets_no_spans es ≡ false
-some_set es cfg some shows is any = sym (spans_shown es cfg shows) ∙ turned (has_no_spans cfg) (sym is ∙ any)
+pub some_set : (es : List ConfigEvent) (cfg : Configuration) (some : Bool) → borders.Shows es cfg → some ≡ not (is_sized_by_texts cfg) → some ≡ true → leaves_sizes es ≡ false
+some_set es cfg some shows is any = sym (spans_shown es cfg shows) ∙ turned (is_sized_by_texts cfg) (sym is ∙ any)
   where
     turned : (b : Bool) → not b ≡ true → b ≡ false
     turned true e = sym e
@@ -66,7 +67,7 @@ some_set es cfg some shows is any = sym (spans_shown es cfg shows) ∙ turned (h
 
 -- ---- the sizes that an option reads
 
-pub are_read_alone : (drawing : Drawing) → has_no_spans drawing.config.spanned ≡ true → drawing.sizes.widths.items ≡ column_widths drawing.texts → drawing.sizes.heights.items ≡ row_heights drawing.texts
+pub are_read_alone : (drawing : Drawing) → is_sized_by_texts drawing.config.spanned ≡ true → drawing.sizes.widths.items ≡ column_widths drawing.texts → drawing.sizes.heights.items ≡ row_heights drawing.texts
     → AreRead drawing drawing.sizes
 are_read_alone drawing none wide high =
     let cfg = drawing.config.spanned in
@@ -76,7 +77,7 @@ are_read_alone drawing none wide high =
       kept = λ e. refl;
     }
 
-pub are_read_spanned : (drawing : Drawing) (sizes : FixedDimension) → has_no_spans drawing.config.spanned ≡ false
+pub are_read_spanned : (drawing : Drawing) (sizes : FixedDimension) → is_sized_by_texts drawing.config.spanned ≡ false
     → sizes.widths.items ≡ widths_with_spans drawing.config.spanned.settings (all_writes drawing.config.spanned) drawing.texts
     → sizes.heights.items ≡ heights_with_spans drawing.config.spanned.settings (all_writes drawing.config.spanned) drawing.texts → AreRead drawing sizes
 are_read_spanned drawing sizes some wide high =
@@ -109,13 +110,13 @@ module _ (cfg : Configuration) (table : Table) (es : List ConfigEvent) (shows : 
   widths_same : widths_with_spans cfg.settings (all_writes cfg) table ≡ widths_with_spans (settings_set es) es table
   unfolding widths_with_spans
   widths_same =
-      λ i. spanned_widths (columns_spanned (shows.settings_shown i)) (rows_spanned (shows.settings_shown i)) (length table, column_count table) (λ r c. width_asked (cell (slice_index_or table r []) c))
+      λ i. spanned_widths (columns_spanned (shows.settings_shown i)) (rows_spanned (shows.settings_shown i)) (length table, column_count table) (width_with_padding (shows.settings_shown i).cells table)
       (own_look cfg es (length table, column_count table) (λ c. 0) (λ r. 0) shows i).vertical
 
   heights_same : heights_with_spans cfg.settings (all_writes cfg) table ≡ heights_with_spans (settings_set es) es table
   unfolding heights_with_spans
   heights_same =
-      λ i. spanned_heights (columns_spanned (shows.settings_shown i)) (rows_spanned (shows.settings_shown i)) (length table, column_count table) (λ r c. height_asked (cell (slice_index_or table r []) c))
+      λ i. spanned_heights (columns_spanned (shows.settings_shown i)) (rows_spanned (shows.settings_shown i)) (length table, column_count table) (height_with_padding (shows.settings_shown i).cells table)
       (own_look cfg es (length table, column_count table) (λ c. 0) (λ r. 0) shows i).horizontal
 
   module _ (shape : Shape) (widths heights : List ℕ) (shaped : shape ≡ shape_of table)

@@ -4,6 +4,7 @@ use Rattle.std.specs.FinMap.{len}
 use Rattle.std.specs.List.{join_with_byte}
 use Rattle.tabled_object.specs.Entities.{below}
 use Rattle.tabled_settings.specs.declared.cell_settings.CellSettings.{CellSettings}
+use Rattle.tabled_settings.specs.Padding.{keeps_first_padding}
 use Rattle.tabled_layout.specs.TableSettings.{settings_after, first_settings}
 use Rattle.tabled_layout.specs.declared.table_settings.TableSettings.{TableSettings}
 use Rattle.tabled_configuration.specs.Configuration.{ConfigEvent, settings_of, cell_colors_of}
@@ -29,11 +30,18 @@ margin_set es = (settings_set es).margin
 abbrev pub cell_colors : List ConfigEvent → Option (Live Texts)
 cell_colors es = colors_after None (cell_colors_of es)
 
--- whether no cell spans several columns or several rows after a list of events
+-- whether no cell spans several columns or several rows after a list of events; whether no padding is set; and whether these leave the
+-- columns and rows as large as the texts alone ask
 abbrev pub sets_no_spans : List ConfigEvent → Bool
 sets_no_spans es = (len (settings_set es).column_spans == 0) && (len (settings_set es).row_spans == 0)
 
--- the text of each cell as it is shown where none spans: its lines, joined by line feeds
+abbrev pub sets_no_padding : List ConfigEvent → Bool
+sets_no_padding es = keeps_first_padding (cells_set es).padding
+
+abbrev pub leaves_sizes : List ConfigEvent → Bool
+leaves_sizes es = sets_no_spans es && sets_no_padding es
+
+-- the text of each cell as it is shown where none spans and no padding is set: its lines, joined by line feeds
 unfoldable pub cell_texts : List ConfigEvent → Table → Table
 cell_texts es table =
     let lines = painted_cells (cells_set es) (cell_colors es) (column_widths table) (row_heights table) table in

@@ -5,3 +5,5 @@ pub mod TextTable
 pub mod Changed
 pub mod Fitted
 pub mod Edited
+pub mod Numeric
+pub mod Panels

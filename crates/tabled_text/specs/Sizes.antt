@@ -1,6 +1,10 @@
 -- How large a table of texts is: its rows and columns, and the width and the height that its cells ask for.
 use Rattle.std.specs.Prelude.{ℕ, ◌+◌, ◌==◌, if◌then◌else◌, Option, Some, None, List, [], ◌∷◌, map, length, slice_index_or}
-use Rattle.tabled_object.specs.Entities.{below}
+use Rattle.tabled_object.specs.Entities.{below, position}
+use Rattle.tabled_settings.specs.declared.cell_settings.CellSettings.{CellSettings}
+use Rattle.tabled_settings.specs.declared.indent.Indent.{Indent}
+use Rattle.tabled_settings.specs.declared.sides.Sides.{Sides}
+use Rattle.tabled_settings.specs.Live.{value_at}
 use Rattle.tabled_printing.specs.Texts.{Table, pieces, width_of_text}
 pub use Rattle.tabled_cells.specs.Placed.{greatest}
 
@@ -30,7 +34,21 @@ width_asked text = greatest (map width_of_text (pieces text)) + 2
 abbrev pub height_asked : List ℕ → ℕ
 height_asked text = length (pieces text)
 
--- how wide a column is: as wide as any of its cells asks for
+-- how many terminal columns and how many lines a cell asks for with a padding: those of its text, and those of the padding
+unfoldable pub padded_width : Sides Indent → List ℕ → ℕ
+padded_width padding text = padding.left.size + greatest (map width_of_text (pieces text)) + padding.right.size
+
+abbrev pub padded_height : Sides Indent → List ℕ → ℕ
+padded_height padding text = padding.top.size + length (pieces text) + padding.bottom.size
+
+-- what the cell of a row and a column asks for then
+abbrev pub width_with_padding : CellSettings → Table → ℕ → ℕ → ℕ
+width_with_padding settings table r c = padded_width (value_at settings.padding (position r c)) (cell (slice_index_or table r []) c)
+
+abbrev pub height_with_padding : CellSettings → Table → ℕ → ℕ → ℕ
+height_with_padding settings table r c = padded_height (value_at settings.padding (position r c)) (cell (slice_index_or table r []) c)
+
+-- how wide a column is where no padding is set: as wide as any of its cells asks for
 abbrev pub column_width : Table → ℕ → ℕ
 column_width table col = greatest (map (λ row. width_asked (cell row col)) table)
 

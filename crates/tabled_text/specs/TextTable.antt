@@ -1,11 +1,11 @@
 -- A table of texts with its configuration, and the text that it prints.
-use Rattle.std.specs.Prelude.{◌≡◌, ℕ, true, if◌then◌else◌, List, [], length, map, slice_index, slice_index_or}
+use Rattle.std.specs.Prelude.{◌≡◌, ℕ, true, if◌then◌else◌, List, length, map, slice_index}
 use Rattle.std.specs.Coded.{Coded, codes}
 use Rattle.std.specs.FinMap as finmap
 use Rattle.tabled_object.specs.declared.dimension.FixedDimension.{FixedDimension}
 use Rattle.tabled_object.specs.declared.records.Shape.{Shape}
 use Rattle.tabled_configuration.specs.Colored.{Colored}
-use Rattle.tabled_configuration.specs.Configuration.{Configuration, ConfigEvent, all_writes, characters_of, has_no_spans}
+use Rattle.tabled_configuration.specs.Configuration.{Configuration, ConfigEvent, all_writes, characters_of, is_sized_by_texts}
 use Rattle.tabled_grid.specs.Drawn.{drawn}
 use Rattle.tabled_grid.specs.declared.place.LineOf.{LineOf}
 use Rattle.tabled_layout.specs.declared.table_settings.TableSettings.{TableSettings}
@@ -17,8 +17,8 @@ use Rattle.tabled_painting.specs.PaintedSpans.{columns_spanned, rows_spanned, sp
 use Rattle.tabled_printing.specs.Texts.{Table}
 use Rattle.tabled_printing.specs.Pieces.{lent}
 use denote.Ref.{Bor}
-use Rattle.tabled_text.specs.Sizes.{cell, column_count, column_widths, row_heights, width_asked, height_asked}
-use Rattle.tabled_text.specs.Cells.{cells_set, margin_set, cell_colors, settings_set, sets_no_spans}
+use Rattle.tabled_text.specs.Sizes.{column_count, column_widths, row_heights, width_with_padding, height_with_padding}
+use Rattle.tabled_text.specs.Cells.{cells_set, margin_set, cell_colors, settings_set, leaves_sizes}
 
 -- the text of each cell, the sizes, and the configuration
 pub record Drawing : Type 0 where
@@ -34,7 +34,7 @@ drawing_code = Prim.hlevel (codes, finmap.code)
 abbrev pub shape_of : Table → Shape
 shape_of table = record { rows = length table; cols = column_count table }
 
--- how a table looks after a list of events, where no cell spans
+-- how a table looks after a list of events, where no cell spans and no padding is set
 abbrev pub look_of : List ConfigEvent → Table → Look
 look_of es table = look es (length table, column_count table) (slice_index (column_widths table)) (slice_index (row_heights table))
 
@@ -43,15 +43,15 @@ look_of es table = look es (length table, column_count table) (slice_index (colu
 unfoldable pub painted_alone : List ConfigEvent → Table → List Painted
 painted_alone es table = painted_table (look_of es table) (margin_set es) (painted_cells (cells_set es) (cell_colors es) (column_widths table) (row_heights table) table)
 
--- where cells span: how wide each column is, and how high each row, by what is set and by which lines are drawn
+-- where cells span or have padding: how wide each column is, and how high each row, by what is set and by which lines are drawn
 unfoldable pub widths_with_spans : TableSettings → List ConfigEvent → Table → List ℕ
 widths_with_spans settings es table =
-    spanned_widths (columns_spanned settings) (rows_spanned settings) (length table, column_count table) (λ r c. width_asked (cell (slice_index_or table r []) c))
+    spanned_widths (columns_spanned settings) (rows_spanned settings) (length table, column_count table) (width_with_padding settings.cells table)
     (λ n. drawn (characters_of es) (column_count table) (LineOf.Vertical n))
 
 unfoldable pub heights_with_spans : TableSettings → List ConfigEvent → Table → List ℕ
 heights_with_spans settings es table =
-    spanned_heights (columns_spanned settings) (rows_spanned settings) (length table, column_count table) (λ r c. height_asked (cell (slice_index_or table r []) c))
+    spanned_heights (columns_spanned settings) (rows_spanned settings) (length table, column_count table) (height_with_padding settings.cells table)
     (λ n. drawn (characters_of es) (length table) (LineOf.Horizontal n))
 
 -- how the table looks then, and its lines: each cell that is shown in the room of all columns and rows that it takes
@@ -64,7 +64,7 @@ painted_with_spans es table = spanned_as_set (look_with_spans es table) (setting
 
 -- its lines after a list of events: those of the one or of the other
 unfoldable pub painted : List ConfigEvent → Table → List Painted
-painted es table = if sets_no_spans es then painted_alone es table else painted_with_spans es table
+painted es table = if leaves_sizes es then painted_alone es table else painted_with_spans es table
 
 -- its text after a list of events: the characters of these lines
 unfoldable pub text_of : List ConfigEvent → Table → List ℕ
@@ -74,14 +74,15 @@ text_of es table = plain_text (painted es table)
 abbrev pub lent_rows : List (Bor (List (Bor (List ℕ)))) → Table
 lent_rows rows = map (λ row. lent row.now) rows
 
--- the sizes that an option reads: those that are kept, where no cell spans; and else those with spans, by what stands before the option
+-- the sizes that an option reads: those that are kept, where no cell spans and no padding is set; and else those by what is set, as it
+-- stands before the option
 abbrev pub widths_read : Configuration → Table → List ℕ
-widths_read cfg table = if has_no_spans cfg then column_widths table else widths_with_spans cfg.settings (all_writes cfg) table
+widths_read cfg table = if is_sized_by_texts cfg then column_widths table else widths_with_spans cfg.settings (all_writes cfg) table
 
 abbrev pub heights_read : Configuration → Table → List ℕ
-heights_read cfg table = if has_no_spans cfg then row_heights table else heights_with_spans cfg.settings (all_writes cfg) table
+heights_read cfg table = if is_sized_by_texts cfg then row_heights table else heights_with_spans cfg.settings (all_writes cfg) table
 
 pub record AreRead (drawing : Drawing) (sizes : FixedDimension) : Type 0 where
   pub widths : sizes.widths.items ≡ widths_read drawing.config.spanned drawing.texts
   pub heights : sizes.heights.items ≡ heights_read drawing.config.spanned drawing.texts
-  pub kept : has_no_spans drawing.config.spanned ≡ true → sizes ≡ drawing.sizes
+  pub kept : is_sized_by_texts drawing.config.spanned ≡ true → sizes ≡ drawing.sizes

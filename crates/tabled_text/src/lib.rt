@@ -7,6 +7,7 @@ mod changing;
 mod display;
 mod fitting;
 mod measure;
+mod numeric;
 mod spanned;
 mod table_error;
 mod text_table;

@@ -4,11 +4,12 @@ ghost use Rattle.std.specs.Prelude.{◌≡◌, ◌+◌, ◌<◌, ℕ, true, max,
 ghost use Rattle.tabled_object.specs.Entities.{below};
 ghost use Rattle.tabled_printing.specs.Texts.{texts, pieces, width_of_text};
 ghost use Rattle.tabled_text.specs.Edited.{widths_with};
-ghost use Rattle.tabled_text.specs.Sizes.{cell, greatest, column_count, unequal_row, width_asked, height_asked, column_widths, row_height, row_heights};
+ghost use Rattle.tabled_text.specs.Sizes.{cell, greatest, column_count, unequal_row, width_asked, height_asked, padded_width, padded_height, column_widths, row_height, row_heights};
 
 use std::alloc::{AllocError, Global};
 use tabled_border::OutOfMemory;
 use tabled_object::FixedDimension;
+use tabled_settings::{Indent, Sides};
 use tabled_width::{is_printable, width_of};
 
 /// How many cells the first row has.
@@ -73,12 +74,39 @@ fn measure(text: &str) -> Result<CellSize, OutOfMemory>
     })
 }
 
-/// How wide a text is with the spaces around it. Refused where no number says it.
-pub(crate) fn width_asked(text: &str) -> Result<usize, OutOfMemory>
-    ensures { IfOk result (λ width. width ≡ width_asked text.now) }
+/// How many terminal columns a text takes: one of printable characters as many as it is long.
+#[inline(always)]
+fn columns_of(text: &str) -> usize
+    ensures { result ≡ greatest (map width_of_text (pieces text.now)) }
 {
-    let found = measure(text)?;
-    Ok(found.width)
+    if is_printable(text) {
+        text.len()
+    } else {
+        widest_line(text)
+    }
+}
+
+/// A size and those on its two sides. Refused where no number says it.
+fn with_sides(size: usize, before: usize, after: usize) -> Result<usize, AllocError>
+    ensures { IfOk result (λ sum. sum ≡ before + size + after) }
+{
+    let first = before.checked_add(size).ok_or(AllocError)?;
+    first.checked_add(after).ok_or(AllocError)
+}
+
+/// How wide a text is with a padding. Refused where no number says it.
+#[tactic(auto, unfolding(crate::specs::Sizes::padded_width))]
+pub(crate) fn padded_width(padding: &Sides<Indent>, text: &str) -> Result<usize, AllocError>
+    ensures { IfOk result (λ width. width ≡ padded_width padding.now text.now) }
+{
+    with_sides(columns_of(text), padding.left.size, padding.right.size)
+}
+
+/// How high a text is with a padding. Refused where no number says it.
+pub(crate) fn padded_height(padding: &Sides<Indent>, text: &str) -> Result<usize, AllocError>
+    ensures { IfOk result (λ height. height ≡ padded_height padding.now text.now) }
+{
+    with_sides(height_asked(text), padding.top.size, padding.bottom.size)
 }
 
 /// Measures the cell of a row in a column.
@@ -119,7 +147,7 @@ fn no_widths(alloc: Global, rows: &[Vec<String>]) -> Result<Vec<usize>, AllocErr
 }
 
 /// How many lines a text asks for.
-pub(crate) fn height_asked(text: &str) -> usize
+fn height_asked(text: &str) -> usize
     ensures { result ≡ height_asked text.now }
 {
     text.as_bytes()

@@ -10,8 +10,10 @@ ghost use Rattle.tabled_text.specs.Refusal.{unequal as refusal_of};
 ghost use Rattle.tabled_text.specs.Sizes.{column_widths, row_heights};
 ghost use Rattle.tabled_text.specs.TextTable.{lent_rows};
 
+mod columns;
 mod limits;
 mod making;
+mod panels;
 mod rows;
 mod spans;
 
@@ -28,8 +30,8 @@ use tabled_printing::PrintError;
 /// A table of texts with its sizes and its configuration: options draw its borders, and it prints itself.
 ///
 /// Each column is as wide as its widest cell and two more columns of the terminal, for a space on each side of a cell; each
-/// row is as high as its highest cell has lines. Where cells span, the columns and rows of each have room for it together. Indices are
-/// counted from 0.
+/// row is as high as its highest cell has lines. Where padding is set it counts in place of the spaces. Where cells span, the columns and
+/// rows of each have room for it together. Indices are counted from 0.
 ///
 /// Two rows of two cells after `with(Style::rounded())`, and after a further `modify(Cell::new(1, 0), Border::filled('#'))`:
 ///
@@ -99,7 +101,7 @@ impl TextTable {
     ghost use Rattle.tabled_text.specs.Sizes.{column_count, column_widths, row_heights, unequal_row};
     ghost use Rattle.tabled_painting.specs.PaintedTable.{plain_text, colored_text};
     ghost use Rattle.tabled_painting.specs.Widths.{StandsStraightIn, text_width};
-    ghost use Rattle.tabled_text.specs.Cells.{margin_set, sets_no_spans};
+    ghost use Rattle.tabled_text.specs.Cells.{margin_set, leaves_sizes};
     ghost use Rattle.tabled_text.specs.TextTable.{AreRead, lent_rows, look_of, painted, shape_of, text_of};
     ghost use Rattle.tabled_text.specs.contracts.text_table.TextTable.{the_row};
     ghost use Rattle.tabled_configuration.specs.contracts.colored_config.ColoredConfig.{the_row as config_row};
@@ -229,7 +231,7 @@ impl TextTable {
         ensures sizes { self.new.sizes ≡ self.old.sizes }
         ensures err { OnErr result (self.new ≡ self.old) }
     {
-        if self.config().config().has_spans() {
+        if self.config().config().has_spans_or_padding() {
             return self.apply_with_spans(option);
         }
         self.apply_alone(option)
@@ -274,7 +276,7 @@ impl TextTable {
         self.shape
     }
 
-    /// How wide the columns are and how high the rows, with the spaces around cells, where no cell spans.
+    /// How wide the columns are and how high the rows, with the spaces around cells, where no cell spans and no padding is set.
     pub fn sizes(&self) -> &FixedDimension
         ensures value { result.now ≡ self.now.sizes }
         ensures widths { result.now.widths.items ≡ column_widths self.now.texts }
@@ -286,18 +288,18 @@ impl TextTable {
     /// The text of the table without colors: its cells as they are set for each, its borders, and its margin around them. A cell that spans
     /// several columns or rows is shown in the room of all of them. Only memory can be refused.
     ///
-    /// Where only narrow characters were written and no cell spans, the text is a rectangle: each of its lines takes as many columns of a
-    /// terminal as the others; and each vertical line stands in one column.
+    /// Where only narrow characters were written, no cell spans and no padding is set, the text is a rectangle: each of its lines takes as
+    /// many columns of a terminal as the others; and each vertical line stands in one column.
     pub fn to_text(&self) -> Result<String, PrintError>
         ensures text { (es : List ConfigEvent) → borders.Shows es self.now.config.spanned → IfOk result (λ text. string_bytes text ≡ text_of es self.now.texts) }
-        ensures rectangle { (es : List ConfigEvent) → borders.Shows es self.now.config.spanned → WritesNarrow es → sets_no_spans es ≡ true
+        ensures rectangle { (es : List ConfigEvent) → borders.Shows es self.now.config.spanned → WritesNarrow es → leaves_sizes es ≡ true
             → IfOk result (λ text. IsRectangle (text_width (look_of es self.now.texts) (margin_set es)) (string_bytes text)) }
-        ensures straight { (es : List ConfigEvent) → borders.Shows es self.now.config.spanned → WritesNarrow es → sets_no_spans es ≡ true → is_empty (look_of es self.now.texts).shape ≡ false
+        ensures straight { (es : List ConfigEvent) → borders.Shows es self.now.config.spanned → WritesNarrow es → leaves_sizes es ≡ true → is_empty (look_of es self.now.texts).shape ≡ false
             → (c : ℕ) → c ≤ column_count self.now.texts → (look_of es self.now.texts).vertical c ≡ true
             → IfOk result (λ text. StandsStraightIn (look_of es self.now.texts) (margin_set es) c (pieces (string_bytes text))) }
         ensures refusal { IsOkUnless result Fault.OutOfMemory }
     {
-        if self.config().config().has_spans() {
+        if self.config().config().has_spans_or_padding() {
             let spanned = self.text_with_spans()?;
             return Ok(spanned);
         }
@@ -348,7 +350,7 @@ impl TextTable {
         ensures characters { IfOk result (λ _. (es : List ConfigEvent) → text_of es self.now.texts ≡ plain_text (painted es self.now.texts)) }
         ensures refusal { IsOkUnless result Fault.OutOfMemory }
     {
-        if self.config().config().has_spans() {
+        if self.config().config().has_spans_or_padding() {
             let spanned = self.ansi_with_spans()?;
             return Ok(spanned);
         }

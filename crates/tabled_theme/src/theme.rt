@@ -11,6 +11,7 @@ mod fields;
 mod keep;
 mod lines;
 mod option;
+mod ready;
 mod records;
 
 use crate::line_map::LineMap;

@@ -93,7 +93,8 @@ impl TextTable {
     /// left, as `tabled_width::shares_of` says. An option that changes which lines are drawn, or the margin, comes before it; one that
     /// reads how wide columns are, as a text on a line does, after it. A column that asks for any keeps one, so a table of many columns
     /// may stay wider (`least_width(1)` tells), and so may one with a character of two columns where there is one: a total of 0 leaves
-    /// each column one. Where memory is refused the table is as it was.
+    /// each column one. Padding that is set is not counted: each cell counts for a space on each side. Where memory is refused the table
+    /// is as it was.
     ///
     /// `table.fit(19, Overflow::WrapWords)?`, where the second cell was `leaves in hot water`:
     ///
@@ -153,7 +154,7 @@ impl TextTable {
 
     /// The least total that `fit_with` keeps the table within, with this least width of a column, where each character takes one column of
     /// the terminal: what its spaces, its vertical lines and its margin take, and for each column `least`, or what its texts ask for, if
-    /// that is less. For `fit` that is `least_width(1)`. Where it can't be counted it is `usize::MAX`.
+    /// that is less. For `fit` that is `least_width(1)`. Padding that is set is not counted. Where it can't be counted it is `usize::MAX`.
     pub fn least_width(&self, least: usize) -> usize
         ensures { (es : List ConfigEvent) → Shows es self.now.config.spanned → result ≡ min (least_width (max least 1) es self.now.texts) usize.MAX }
     {

@@ -1,0 +1,15 @@
+-- Rows of cells between separators.
+use Rattle.std.specs.Prelude.{ℕ, ◌==◌, List, map, string_bytes}
+use Rattle.std.specs.List.{slice_split}
+use Rattle.std.specs.Str.Lines.{lines}
+use Rattle.std.specs.declared.string.String.{String}
+use Rattle.std.specs.declared.vec.Vec.{Vec}
+
+-- the bytes of each cell of rows of texts
+abbrev pub cells_of : {Z W : Type 0} → List (Vec (String Z) W) → List (List (List ℕ))
+cells_of rows = map (λ row. map string_bytes row.items) rows
+
+-- the rows of a text: its lines, each cut at the separator. A line ends at a line feed, or at a carriage return and a line feed; one at the
+-- end of the text begins no further line
+unfoldable pub separated : ℕ → List ℕ → List (List (List ℕ))
+separated separator text = map (slice_split (λ b. b == separator)) (lines text)

@@ -1,0 +1,107 @@
+//! Rows over all columns, above the others and below them.
+
+ghost use Rattle.std.specs.Prelude.{◌≡◌, ◌+◌, true, length, map, string_bytes, IfOk, OnOk, OnErr, IsOkUnless};
+ghost use Rattle.std.specs.List.{insert};
+ghost use Rattle.tabled_text.specs.Edited.{goes_in};
+ghost use Rattle.tabled_text.specs.Panels.{IsSpannedBy, panel, panel_columns};
+ghost use Rattle.tabled_text.specs.declared.table_error.TableError.{TableError as Refusal};
+
+use super::TextTable;
+use crate::TableError;
+use std::mem;
+use tabled_border::{Keep, OutOfMemory};
+use tabled_configuration::{ColoredConfig, TableOption};
+use tabled_correction::BorderCorrection;
+use tabled_object::{Position, Shape};
+
+impl TextTable {
+    /// Puts a title above all rows: one cell over all columns, around which the borders are corrected as by `BorderCorrection`. It is to
+    /// follow the style, since a style replaces what was corrected. What is set for rows and cells stays under its numbers, and is that of
+    /// other texts then. Where memory is refused the table is as it was; so it is where its rows have no cells, which is refused as by
+    /// `insert_row`.
+    ///
+    /// `table.with(Style::ascii())?` and then `table.insert_title("staff")?`:
+    ///
+    /// ```text
+    /// +-------------+
+    /// | staff       |
+    /// +-------+-----+
+    /// | name  | age |
+    /// +-------+-----+
+    /// | Alice | 30  |
+    /// +-------+-----+
+    /// ```
+    pub fn insert_title(&mut self, text: &str) -> Result<(), TableError>
+        ensures texts { OnOk result (self.new.texts ≡ insert self.old.texts 0 (panel text.now self.old.texts)) }
+        ensures config { OnOk result (IsSpannedBy 0 (length self.old.texts + 1, panel_columns self.old.texts) self.old.config self.new.config) }
+        ensures same_texts { OnErr result (self.new.texts ≡ self.old.texts) }
+        ensures same_config { OnErr result (self.new.config ≡ self.old.config) }
+        ensures fits { goes_in (panel text.now self.old.texts) self.old.texts ≡ true → IsOkUnless result Refusal.OutOfMemory }
+    {
+        self.insert_panel(0, text)
+    }
+
+    /// Puts a footer below all rows, as `insert_title` puts a title above them.
+    ///
+    /// `table.with(Style::psql())?` and then `table.insert_footer("2 people")?`:
+    ///
+    /// ```text
+    ///  name  | age
+    /// -------+-----
+    ///  Alice | 30
+    ///  Bob   | 7
+    ///  2 people
+    /// ```
+    pub fn insert_footer(&mut self, text: &str) -> Result<(), TableError>
+        ensures texts { OnOk result (self.new.texts ≡ insert self.old.texts (length self.old.texts) (panel text.now self.old.texts)) }
+        ensures config { OnOk result (IsSpannedBy (length self.old.texts) (length self.old.texts + 1, panel_columns self.old.texts) self.old.config self.new.config) }
+        ensures same_texts { OnErr result (self.new.texts ≡ self.old.texts) }
+        ensures same_config { OnErr result (self.new.config ≡ self.old.config) }
+        ensures fits { goes_in (panel text.now self.old.texts) self.old.texts ≡ true → IsOkUnless result Refusal.OutOfMemory }
+    {
+        let last = self.shape.rows;
+        self.insert_panel(last, text)
+    }
+
+    /// Puts a row over all columns at an index.
+    fn insert_panel(&mut self, index: usize, text: &str) -> Result<(), TableError>
+        ensures texts { OnOk result (self.new.texts ≡ insert self.old.texts index (panel text.now self.old.texts)) }
+        ensures config { OnOk result (IsSpannedBy index (length self.old.texts + 1, panel_columns self.old.texts) self.old.config self.new.config) }
+        ensures same_texts { OnErr result (self.new.texts ≡ self.old.texts) }
+        ensures same_config { OnErr result (self.new.config ≡ self.old.config) }
+        ensures fits { goes_in (panel text.now self.old.texts) self.old.texts ≡ true → IsOkUnless result Refusal.OutOfMemory }
+    {
+        let row = self.panel(text)?;
+        let config = self.spanned_by(index)?;
+        self.insert_row(index, row)?;
+        drop(mem::replace(&mut *self.config, config));
+        Ok(())
+    }
+
+    /// The cells of a row over all columns.
+    fn panel(&self, text: &str) -> Result<Vec<String>, OutOfMemory>
+        ensures { IfOk result (λ row. map string_bytes row.items ≡ panel text.now self.now.texts) }
+    {
+        let alloc = self.config().config().allocator();
+        let columns = self.shape.cols.max(1);
+        let mut row = Vec::with_capacity(alloc, columns)?;
+        row.push(String::from_str(alloc, text)?)?;
+        for _ in 1..columns {
+            row.push(String::new(alloc))?;
+        }
+        Ok(row)
+    }
+
+    /// A copy of the configuration in which the first cell of a row spans all columns, with the borders corrected for one row more.
+    fn spanned_by(&self, row: usize) -> Result<ColoredConfig, OutOfMemory>
+        ensures { IfOk result (λ config. IsSpannedBy row (length self.now.texts + 1, panel_columns self.now.texts) self.now.config config) }
+    {
+        let alloc = self.config().config().allocator();
+        let rows = self.shape.rows.checked_add(1).ok_or(OutOfMemory)?;
+        let cols = self.shape.cols.max(1);
+        let mut config: ColoredConfig = self.config().keep(alloc)?;
+        config.config_mut().set_column_span(Position::new(row, 0), cols)?;
+        BorderCorrection::span().change(&mut Shape { rows, cols }, &mut config, &mut ())?;
+        Ok(config)
+    }
+}
