@@ -1,13 +1,15 @@
 //! Rows: of values, put into a table and taken out, and records of which one is built.
 
-ghost use Rattle.std.specs.Prelude.{◌≡◌, ◌∷◌, ◌++◌, [], true, false, Err, min, length, map, option_map, slice_get, string_bytes, IfOk, OnOk, OnErr, IsOkUnless};
+ghost use Rattle.std.specs.Prelude.{◌≡◌, ◌+◌, ◌∷◌, ◌++◌, [], ℕ, true, false, take, Err, min, length, map, option_map, slice_get, string_bytes, IfOk, OnOk, OnErr, IsOkUnless};
 ghost use Rattle.std.specs.List.{AllZip, insert, remove};
 ghost use Rattle.tabled_builder.specs.Records.{columns, filled, with_column};
-ghost use Rattle.tabled_configuration.specs.Colored.{Shows};
+ghost use Rattle.tabled_configuration.specs.Colored.{Changes, Shows};
 ghost use Rattle.tabled_printing.specs.Texts.{texts};
 ghost use Rattle.tabled_rows.specs.Rows.{HasRoom, column_put, filled_to, row_texts};
 ghost use Rattle.tabled_rows.specs.Spelled.{IsRow};
 ghost use Rattle.tabled_text.specs.Edited.{goes_in};
+ghost use Rattle.tabled_text.specs.Numeric.{at_right, numeric_columns};
+ghost use Rattle.tabled_text.specs.Panels.{IsSpannedBy, panel, panel_columns};
 ghost use Rattle.tabled_text.specs.Sizes.{column_count};
 ghost use Rattle.tabled_text.specs.declared.table_error.TableError.{TableError as Refusal};
 
@@ -58,6 +60,38 @@ pub fn row_taken_out(
     ensures err { OnErr result (table.new.texts ≡ table.old.texts) }
 {
     table.remove_row(index)
+}
+
+/// The columns of numbers stand at the right, and nothing else changes; where memory is refused, the first ones of them.
+pub fn numbers_aligned(table: &mut TextTable, headings: usize) -> Result<(), OutOfMemory>
+    ensures config { OnOk result (Changes (at_right (numeric_columns headings table.old.texts)) table.old.config table.new.config) }
+    ensures texts { table.new.texts ≡ table.old.texts }
+    ensures sizes { table.new.sizes ≡ table.old.sizes }
+    ensures err { OnErr result ((count : ℕ) × Changes (at_right (take count (numeric_columns headings table.old.texts))) table.old.config table.new.config) }
+{
+    table.align_numbers(headings)
+}
+
+/// A title is a row above the others, whose first cell spans all columns, with the borders corrected; or nothing changes.
+pub fn title_put_in(table: &mut TextTable, text: &str) -> Result<(), TableError>
+    ensures texts { OnOk result (table.new.texts ≡ panel text.now table.old.texts ∷ table.old.texts) }
+    ensures config { OnOk result (IsSpannedBy 0 (length table.old.texts + 1, panel_columns table.old.texts) table.old.config table.new.config) }
+    ensures same_texts { OnErr result (table.new.texts ≡ table.old.texts) }
+    ensures same_config { OnErr result (table.new.config ≡ table.old.config) }
+    ensures fits { goes_in (panel text.now table.old.texts) table.old.texts ≡ true → IsOkUnless result Refusal.OutOfMemory }
+{
+    table.insert_title(text)
+}
+
+/// A footer is such a row below the others.
+pub fn footer_put_in(table: &mut TextTable, text: &str) -> Result<(), TableError>
+    ensures texts { OnOk result (table.new.texts ≡ insert table.old.texts (length table.old.texts) (panel text.now table.old.texts)) }
+    ensures config { OnOk result (IsSpannedBy (length table.old.texts) (length table.old.texts + 1, panel_columns table.old.texts) table.old.config table.new.config) }
+    ensures same_texts { OnErr result (table.new.texts ≡ table.old.texts) }
+    ensures same_config { OnErr result (table.new.config ≡ table.old.config) }
+    ensures fits { goes_in (panel text.now table.old.texts) table.old.texts ≡ true → IsOkUnless result Refusal.OutOfMemory }
+{
+    table.insert_footer(text)
 }
 
 /// The texts of a table are handed over.

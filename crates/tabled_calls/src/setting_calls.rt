@@ -9,6 +9,7 @@ ghost use Rattle.tabled_layout.specs.Spans.{position_cmp};
 ghost use Rattle.tabled_settings.specs.CellSettings.{of_alignment_horizontal, of_alignment_vertical, of_justification, of_justification_color, of_line_alignment, of_padding_color, of_trim_horizontal, of_trim_vertical};
 ghost use Rattle.tabled_settings.specs.Live.{value_at};
 ghost use Rattle.tabled_settings.specs.Setting.{is_global, write_of};
+ghost use Rattle.std.specs.List.{flat_map};
 
 use std::collections::BTreeMap;
 use tabled_border::{ANSIBuf, OutOfMemory};
@@ -208,6 +209,32 @@ pub fn row_span_set(
     ensures always { rows < 2 → IsOk result }
 {
     cfg.set_row_span(position, rows)
+}
+
+/// Several cells span at once, over as many columns each; or none of them does.
+pub fn column_spans_set(
+    cfg: &mut SpannedConfig,
+    cells: &[Position],
+    columns: usize,
+) -> Result<(), OutOfMemory>
+    ensures changed { OnOk result (Changes (flat_map (λ cell. by_column_span (cell, columns)) cells.now) cfg.old cfg.new) }
+    ensures unchanged { OnErr result (cfg.new ≡ cfg.old) }
+    ensures always { columns < 2 → IsOk result }
+{
+    cfg.set_column_spans(cells, columns)
+}
+
+/// Over as many rows each likewise.
+pub fn row_spans_set(
+    cfg: &mut SpannedConfig,
+    cells: &[Position],
+    rows: usize,
+) -> Result<(), OutOfMemory>
+    ensures changed { OnOk result (Changes (flat_map (λ cell. by_row_span (cell, rows)) cells.now) cfg.old cfg.new) }
+    ensures unchanged { OnErr result (cfg.new ≡ cfg.old) }
+    ensures always { rows < 2 → IsOk result }
+{
+    cfg.set_row_spans(cells, rows)
 }
 
 /// The cells that span several columns, each with their number, in the order of their rows and then of their columns.

@@ -6,6 +6,7 @@ ghost use Rattle.std.specs.Ordering.{nat_cmp};
 ghost use Rattle.tabled_grid.specs.Borders.{has_horizontal, has_vertical};
 ghost use Rattle.tabled_grid.specs.CustomLines.{no_borders};
 ghost use Rattle.tabled_grid.specs.Table.{table};
+ghost use Rattle.tabled_style.specs.Named.{shown};
 ghost use Rattle.tabled_theme.specs.Changing.{with_horizontals_set, with_verticals_set, without_horizontals, without_verticals};
 ghost use Rattle.tabled_theme.specs.Fields.{frame_of, with_frame};
 ghost use Rattle.tabled_theme.specs.Lines.{shown_line};
@@ -16,7 +17,7 @@ use std::collections::BTreeMap;
 use tabled_border::{Border, OutOfMemory};
 use tabled_configuration::ColoredConfig;
 use tabled_grid::{Borders, HorizontalLine, Rank, VerticalLine};
-use tabled_style::Style;
+use tabled_style::{ReadyStyle, Style};
 use tabled_theme::Theme;
 
 /// The fifteen characters of a theme set in a row, from its sides to what lies inside: each stands in its own field, and colors and
@@ -221,6 +222,13 @@ pub fn theme_of_a_style<T, B, L, R, H, V, const HN: usize, const VN: usize>(
     ensures without_lines { style.horizontals ≡ [] → style.verticals ≡ [] → IsOk result }
 {
     Theme::from_style(alloc, style)
+}
+
+/// A theme of a ready style is what that style shows.
+pub fn theme_of_a_ready_style(alloc: Global, style: ReadyStyle) -> Result<Theme, OutOfMemory>
+    ensures { IfOk result (λ theme. theme ≡ of_style (shown style)) }
+{
+    Theme::from_ready(alloc, style)
 }
 
 /// A theme of a configuration: its class record and its class colors, and its custom lines as lines that were set.

@@ -93,6 +93,7 @@ impl<'a, 'b> TableLines<'a, 'b> {
     }
 
     /// Paints a horizontal line, which is not past the last one, if the line is drawn.
+    #[inline(always)]
     pub(crate) fn paint_line(&self, page: &mut Page<'a>, row: usize) -> Result<(), OutOfMemory>
         requires within { row ≤ self.now.frame.shape.0 }
         requires ended { option_copied page.old.painter.color ≡ None }

@@ -1,29 +1,30 @@
 -- Columns of numbers: one column more, and one that is set.
-use Rattle.std.proofs.Common.{◌≡◌, ℕ, ◌+◌, Bool, true, false, cond, List, [], ◌∷◌, ◌++◌, map, filter, flat_map, string_bytes, refl, sym, ap, subst, ◌∙◌, append-nil}
-use Rattle.std.specs.List.{list_all, list_any}
+use Rattle.std.proofs.Common.{◌≡◌, ℕ, ◌+◌, Bool, true, false, if◌then◌else◌, List, [], ◌∷◌, ◌++◌, map, filter, flat_map, string_bytes, drop, length, min, zero, suc, arith, refl, sym, ap, subst, ◌∙◌, Result, Ok, Err, OnErr}
+use Rattle.std.specs.List.{drop-map, range_with_len}
+use Rattle.tabled_object.specs.Entities.{below}
 use Rattle.std.specs.declared.string.String.{String}
 use Rattle.std.specs.declared.vec.Vec.{Vec}
 use Rattle.std.proofs.lemmas.List.Elements.{filter-append}
 use Rattle.std.proofs.lemmas.List.Concat.{flat_map-append}
-use Rattle.std.proofs.lemmas.List.Folds.{list_all-map}
-use Rattle.tabled_object.proofs.Sets.{any_map}
-use Rattle.tabled_object.specs.Entities.{below}
 use Rattle.tabled_object.specs.declared.entity.Entity.TheVariants.{Column}
 use Rattle.tabled_settings.specs.declared.alignment.AlignmentHorizontal.{AlignmentHorizontal}
 use Rattle.tabled_settings.specs.Setting.{write_of}
 use Rattle.tabled_settings.specs.CellSettings.{of_alignment_horizontal}
 use Rattle.tabled_configuration.specs.ChangeLaws.{both_change_borders}
 use Rattle.tabled_configuration.specs.Configuration.{Changes, ConfigEvent, Configuration, by_setting, cell_colors_of}
+use Rattle.tabled_printing.specs.Texts.{texts}
 use Rattle.tabled_text.specs.Numeric.{at_right}
 
--- a column that passes, and one that does not
-pub one_passes : (test : ℕ → Bool) (old new all so_far : List ℕ) (col : ℕ) → new ≡ old ++ col ∷ [] → all ≡ so_far ++ col ∷ [] → test col ≡ true → old ≡ filter test so_far → new ≡ filter test all
-one_passes test old new all so_far col pushed is passes before =
-    pushed ∙ ap (λ xs. xs ++ col ∷ []) before ∙ ap (λ b. filter test so_far ++ cond b (col ∷ []) []) (sym passes) ∙ sym (ap (filter test) is ∙ filter-append test so_far (col ∷ []))
+-- the columns up to one more
+last : (a n j : ℕ) → a + n ≡ j → range_with_len a (suc n) ≡ range_with_len a n ++ j ∷ []
+last a zero j e = ap (λ k. k ∷ []) (let same : a ≡ j = omega (arith, e) in same)
+last a (suc n) j e = ap (λ rest. a ∷ rest) (last (a + 1) n j (omega (arith, e)))
 
-pub none_passes : (test : ℕ → Bool) (old all so_far : List ℕ) (col : ℕ) → all ≡ so_far ++ col ∷ [] → test col ≡ false → old ≡ filter test so_far → old ≡ filter test all
-none_passes test old all so_far col is fails before =
-    before ∙ sym (append-nil (filter test so_far)) ∙ ap (λ b. filter test so_far ++ cond b (col ∷ []) []) (sym fails) ∙ sym (ap (filter test) is ∙ filter-append test so_far (col ∷ []))
+-- a column more, which passes or does not
+pub one_more : (test : ℕ → Bool) (old new : List ℕ) (col : ℕ) (holds : Bool) → holds ≡ test col → new ≡ old ++ (if holds then col ∷ [] else []) → old ≡ filter test (below col) → new ≡ filter test (below (col + 1))
+one_more test old new col holds is pushed before =
+    pushed ∙ (λ i. before i ++ (if is i then col ∷ [] else [])) ∙ sym (filter-append test (below col) (col ∷ []))
+    ∙ ap (filter test) (sym (ap (range_with_len 0) (let on : col + 1 ≡ suc col = omega arith in on) ∙ last 0 col col refl))
 
 -- one column more stands at the right
 pub one_at_right : (so_far all : List ℕ) (col : ℕ) (old mid new : Configuration) → all ≡ so_far ++ col ∷ [] → Changes (at_right so_far) old mid → Changes (by_setting (of_alignment_horizontal (write_of (Column col) AlignmentHorizontal.Right))) mid new → Changes (at_right all) old new
@@ -35,3 +36,21 @@ one_at_right so_far all col old mid new is before last =
 pub none_colored : (columns : List ℕ) → cell_colors_of (at_right columns) ≡ []
 none_colored [] = refl
 none_colored (col ∷ columns) = none_colored columns
+
+-- ---- the rows below the headings
+
+drop_nil : {X : Type 0} (n : ℕ) → drop {A = X} n [] ≡ []
+drop_nil zero = refl
+drop_nil (suc n) = refl
+
+dropped : {X : Type 0} (headings n : ℕ) (xs : List X) → n ≡ min headings (length xs) → drop n xs ≡ drop headings xs
+dropped headings n [] is = drop_nil n ∙ sym (drop_nil headings)
+dropped zero n (x ∷ xs) is = ap (λ k. drop k (x ∷ xs)) (omega (arith, is))
+dropped (suc headings) n (x ∷ xs) is = ap (λ k. drop k (x ∷ xs)) (let one_more : n ≡ suc (min headings (length xs)) = omega (arith, is) in one_more) ∙ dropped headings (min headings (length xs)) xs refl
+
+pub below_headings : {Z W : Type 0} (headings n : ℕ) (rows : List (Vec (String Z) W)) → n ≡ min headings (length rows) → texts (drop n rows) ≡ drop headings (texts rows)
+below_headings headings n rows is = ap texts (dropped headings n rows is) ∙ sym (drop-map (λ row. map string_bytes row.items) headings rows)
+
+pub on_err : {A E P Q : Type 0} (result : Result A E) → (P → Q) → OnErr result P → OnErr result Q
+on_err (Ok x) f p = tt
+on_err (Err e) f p = f p

@@ -57,6 +57,7 @@ struct CellSize {
 }
 
 /// Measures a text: one of printable characters by its length. Refused where no number says how wide it is.
+#[inline(always)]
 #[tactic(auto, unfolding(crate::specs::Sizes::width_asked))]
 fn measure(text: &str) -> Result<CellSize, OutOfMemory>
     ensures width { IfOk result (λ found. found.width ≡ width_asked text.now) }

@@ -27,8 +27,7 @@ impl TextTable {
         ensures err { OnErr result ((count : ℕ) × Changes (at_right (take count (numeric_columns headings self.old.texts))) self.old.config self.new.config) }
     {
         let alloc = self.config().config().allocator();
-        let below = &self.cells[headings.min(self.cells.len())..];
-        let columns = numeric_columns(alloc, below, self.shape.cols)?;
+        let columns = numeric_columns(alloc, &self.cells, headings, self.shape.cols)?;
         set_at_right(self.config.config_mut(), &columns)
     }
 }

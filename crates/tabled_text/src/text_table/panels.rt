@@ -1,13 +1,17 @@
 //! Rows over all columns, above the others and below them.
 
-ghost use Rattle.std.specs.Prelude.{◌≡◌, ◌+◌, true, length, map, string_bytes, IfOk, OnOk, OnErr, IsOkUnless};
+ghost use Rattle.std.specs.Prelude.{◌≡◌, ◌+◌, ◌-◌, ◌∷◌, [], replicate, true, length, map, string_bytes, IfOk, OnOk, OnErr, IsOkUnless};
 ghost use Rattle.std.specs.List.{insert};
+ghost use Rattle.tabled_object.specs.Entities.{position};
+ghost use Rattle.tabled_configuration.specs.Colored.{Changes};
+ghost use Rattle.tabled_configuration.specs.Configuration.{by_column_span};
 ghost use Rattle.tabled_text.specs.Edited.{goes_in};
 ghost use Rattle.tabled_text.specs.Panels.{IsSpannedBy, panel, panel_columns};
 ghost use Rattle.tabled_text.specs.declared.table_error.TableError.{TableError as Refusal};
 
 use super::TextTable;
 use crate::TableError;
+use std::alloc::Global;
 use std::mem;
 use tabled_border::{Keep, OutOfMemory};
 use tabled_configuration::{ColoredConfig, TableOption};
@@ -71,25 +75,12 @@ impl TextTable {
         ensures same_config { OnErr result (self.new.config ≡ self.old.config) }
         ensures fits { goes_in (panel text.now self.old.texts) self.old.texts ≡ true → IsOkUnless result Refusal.OutOfMemory }
     {
-        let row = self.panel(text)?;
+        let alloc = self.config().config().allocator();
+        let row = panel_of(alloc, text, self.shape.cols.max(1))?;
         let config = self.spanned_by(index)?;
         self.insert_row(index, row)?;
         drop(mem::replace(&mut *self.config, config));
         Ok(())
-    }
-
-    /// The cells of a row over all columns.
-    fn panel(&self, text: &str) -> Result<Vec<String>, OutOfMemory>
-        ensures { IfOk result (λ row. map string_bytes row.items ≡ panel text.now self.now.texts) }
-    {
-        let alloc = self.config().config().allocator();
-        let columns = self.shape.cols.max(1);
-        let mut row = Vec::with_capacity(alloc, columns)?;
-        row.push(String::from_str(alloc, text)?)?;
-        for _ in 1..columns {
-            row.push(String::new(alloc))?;
-        }
-        Ok(row)
     }
 
     /// A copy of the configuration in which the first cell of a row spans all columns, with the borders corrected for one row more.
@@ -100,8 +91,41 @@ impl TextTable {
         let rows = self.shape.rows.checked_add(1).ok_or(OutOfMemory)?;
         let cols = self.shape.cols.max(1);
         let mut config: ColoredConfig = self.config().keep(alloc)?;
-        config.config_mut().set_column_span(Position::new(row, 0), cols)?;
-        BorderCorrection::span().change(&mut Shape { rows, cols }, &mut config, &mut ())?;
+        set_spanned(&mut config, row, rows, cols)?;
         Ok(config)
     }
+}
+
+/// Lets the first cell of a row span all columns of a table, and corrects its borders. Where memory is refused, the cell may span.
+fn set_spanned(
+    config: &mut ColoredConfig,
+    row: usize,
+    rows: usize,
+    cols: usize,
+) -> Result<(), OutOfMemory>
+    ensures { OnOk result (IsSpannedBy row (rows, cols) config.old config.new) }
+{
+    set_span(config, row, cols)?;
+    BorderCorrection::span().change(&mut Shape { rows, cols }, config, &mut ())
+}
+
+/// Lets the first cell of a row span some columns.
+fn set_span(config: &mut ColoredConfig, row: usize, cols: usize) -> Result<(), OutOfMemory>
+    ensures { OnOk result (Changes (by_column_span (position row 0, cols)) config.old config.new) }
+{
+    config
+        .config_mut()
+        .set_column_span(Position::new(row, 0), cols)
+}
+
+/// The cells of a row over some columns, one at least: a text, and empty ones after it.
+fn panel_of(alloc: Global, text: &str, columns: usize) -> Result<Vec<String>, OutOfMemory>
+    ensures { IfOk result (λ row. map string_bytes row.items ≡ text.now ∷ replicate (columns - 1) []) }
+{
+    let mut row = Vec::with_capacity(alloc, columns)?;
+    row.push(String::from_str(alloc, text)?)?;
+    for _ in 0..columns.saturating_sub(1) {
+        row.push(String::new(alloc))?;
+    }
+    Ok(row)
 }

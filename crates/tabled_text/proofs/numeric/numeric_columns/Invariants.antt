@@ -1,9 +1,9 @@
 -- The columns so far that pass.
-use Rattle.std.proofs.Common.{◌≡◌, filter}
+use Rattle.std.proofs.Common.{◌≡◌, drop, filter}
 use Rattle.tabled_object.specs.Entities.{below}
 use Rattle.tabled_printing.specs.Texts.{texts}
 use Rattle.tabled_text.specs.Numeric.{is_numeric}
 use Rattle.tabled_text.proofs.numeric.numeric_columns.Given as goal
 
 abbrev pub invariant-loop-col : goal.invariant-loop-col
-invariant-loop-col l = l.columns.items ≡ filter (is_numeric (texts l.rows)) (below l.col)
+invariant-loop-col l = l.columns.items ≡ filter (is_numeric (drop l.headings (texts l.fn.rows))) (below l.col)
