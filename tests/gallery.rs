@@ -487,6 +487,21 @@ fn shadow_in_color_is_drawn(rt: HostRuntime) -> Result<(), Fail> {
 }
 
 #[test]
+fn table_without_padding_is_drawn(rt: HostRuntime) -> Result<(), Fail> {
+    let text = options::table_without_padding(rt.alloc())?;
+    let picture = "
+╭─────┬───╮
+│name │age│
+├─────┼───┤
+│Alice│ 30│
+│Bob  │  7│
+╰─────┴───╯
+";
+    assert!(rt; is_picture(text.as_str(), picture));
+    Ok(())
+}
+
+#[test]
 fn margin_in_color_is_drawn(rt: HostRuntime) -> Result<(), Fail> {
     let text = options::margin_in_color(rt.alloc())?;
     let picture = "

@@ -10,7 +10,7 @@ use tabled_grid::{ANSIStr, Borders, Entity, FixedDimension, Offset, OutOfMemory,
 use tabled_object::FirstRow;
 use tabled_options::{
     Alignment, AlignmentStrategy, BorderCorrection, Colorization, Highlight, Justification,
-    LineChar, LineText, Margin, MarginColor, PaddingColor, Shadow, Span, TrimStrategy,
+    LineChar, LineText, Margin, MarginColor, Padding, PaddingColor, Shadow, Span, TrimStrategy,
 };
 use tabled_style::{Border, EmptyBorder, ReadyStyle, Style};
 use tabled_theme::Theme;
@@ -59,6 +59,11 @@ fn settings_of_cells_change_the_sizes(rt: HostRuntime) {
 #[test]
 fn spans_change_the_sizes(rt: HostRuntime) {
     assert!(rt; of_cells(&Span::column(2)) == ALL && of_cells(&Span::row(2)) == ALL);
+}
+
+#[test]
+fn padding_changes_the_sizes(rt: HostRuntime) {
+    assert!(rt; of_table(&Padding::zero()) == ALL && of_cells(&Padding::zero()) == ALL);
 }
 
 #[test]

@@ -32,6 +32,7 @@ fn small_values_are_kept(rt: HostRuntime) -> Result<(), Fail> {
     assert!(rt; is_kept::<Option<char>>(alloc, &Some('x'))?);
     assert!(rt; is_kept::<AlignmentHorizontal>(alloc, &AlignmentHorizontal::Right)?);
     assert!(rt; is_kept::<AlignmentVertical>(alloc, &AlignmentVertical::Bottom)?);
+    assert!(rt; is_kept::<Indent>(alloc, &Indent::new(2, '.'))?);
     assert!(rt; is_kept::<ANSIStr<'static>>(alloc, &ANSIStr::new("<", ">"))?);
     Ok(())
 }
@@ -77,6 +78,9 @@ fn settings(alloc: Global) -> Result<TableSettings, OutOfMemory> {
     cells
         .justification_color
         .insert(Entity::Global, Some(owned(alloc)?))?;
+    cells
+        .padding
+        .insert(Entity::Column(1), Sides::filled(Indent::new(2, '.')))?;
     settings.column_spans.set(Position::new(0, 0), 2)?;
     settings.margin.size = Sides::filled(Indent::new(1, '#'));
     settings.margin.offset = Sides::filled(Offset::End(2));

@@ -11,7 +11,7 @@ use tabled_grid::{
 };
 use tabled_options::{
     Alignment, AlignmentStrategy, BorderCorrection, Colorization, Highlight, Justification,
-    LineChar, LineText, Margin, MarginColor, PaddingColor, Shadow, Span, TrimStrategy,
+    LineChar, LineText, Margin, MarginColor, Padding, PaddingColor, Shadow, Span, TrimStrategy,
 };
 use tabled_style::{Border, EmptyBorder, HorizontalLine, ReadyStyle, Style, VerticalLine};
 use tabled_theme::Theme;
@@ -232,6 +232,7 @@ fn settings_are_made(alloc: Global, shape: (usize, usize)) -> Result<bool, OutOf
     let margin = Margin::new(usize::MAX, 1, 0, usize::MAX).fill('<', '>', '^', 'v');
     Ok(
         with(alloc, shape, margin)?
+            && with(alloc, shape, Padding::filled(usize::MAX))?
             && with(alloc, shape, Alignment::right())?
             && with(alloc, shape, AlignmentStrategy::PerLine)?
             && with(alloc, shape, TrimStrategy::Both)?
@@ -292,6 +293,7 @@ fn cell_settings_are_made(alloc: Global, shape: (usize, usize)) -> Result<bool, 
             && modify(alloc, shape, &Justification::new('#'))?
             && modify(alloc, shape, &Span::column(usize::MAX))?
             && modify(alloc, shape, &Span::row(usize::MAX))?
+            && modify(alloc, shape, &Padding::filled(usize::MAX))?
             && modify(alloc, shape, &PaddingColor::filled(alloc, Color::FG_RED)?)?
             && modify(alloc, shape, &Color::FG_RED)?,
     )

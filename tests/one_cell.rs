@@ -9,7 +9,9 @@ use tabled_grid::{
     Border, Cell, Columns, Entity, FixedDimension, Object, Offset, OutOfMemory, Place, Position,
     Row, Rows, Shape,
 };
-use tabled_options::{BorderCorrection, Colorization, Highlight, LineChar, LineText, Shadow};
+use tabled_options::{
+    BorderCorrection, Colorization, Highlight, LineChar, LineText, Padding, Shadow,
+};
 use tabled_style::{HorizontalLine, Style, VerticalLine};
 use tabled_theme::Theme;
 
@@ -359,6 +361,18 @@ fn a_margin_takes_any_size(rt: HostRuntime) -> Result<(), Fail> {
             table.cfg().get_margin_offset().right == Offset::Start(size),
             "{size}"
         );
+        assert!(rt; table.prints(rt.alloc(), FRAMED)?, "{size}");
+    }
+    Ok(())
+}
+
+#[test]
+fn a_padding_takes_any_size(rt: HostRuntime) -> Result<(), Fail> {
+    for size in [0, 1, usize::MAX] {
+        let mut table = framed(rt.alloc())?;
+        table.with(Padding::filled(size))?;
+        let cell = Position::new(0, 0);
+        assert!(rt; table.cfg().get_padding(cell).top.size == size, "{size}");
         assert!(rt; table.prints(rt.alloc(), FRAMED)?, "{size}");
     }
     Ok(())

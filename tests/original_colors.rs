@@ -9,7 +9,7 @@ use tabled::settings::formatting::Justification;
 use tabled::settings::object::{Combine, Rows};
 use tabled::settings::style::{BorderColor, LineChar, LineText, Offset};
 use tabled::settings::themes::Colorization;
-use tabled::settings::{Color, Highlight, MarginColor, PaddingColor, Shadow, Style};
+use tabled::settings::{Color, Highlight, MarginColor, Padding, PaddingColor, Shadow, Style};
 use tabled::{TableError, TextTable};
 use tabled_settings::Sides;
 
@@ -90,25 +90,25 @@ fn what_fills_cells_is_colored(rt: HostRuntime) -> Result<(), Fail> {
     Ok(())
 }
 
-/// The original's example sets a padding of two and of four spaces; here it is one on each side.
 #[test]
-fn the_spaces_around_a_text_are_colored(rt: HostRuntime) -> Result<(), Fail> {
+fn the_padding_of_a_text_is_colored(rt: HostRuntime) -> Result<(), Fail> {
     let rows: &[&[&str]] = &[&["char"], &["2"], &["0"], &["2"], &["4"]];
     let mut table = TextTable::new(rt.alloc(), rows)?;
     table.with(Style::modern())?;
+    table.modify((2, 0), Padding::new(2, 4, 0, 0))?;
     table.modify((2, 0), PaddingColor::filled(rt.alloc(), Color::FG_RED)?)?;
     let picture = "
-┌──────┐
-│ char │
-├──────┤
-│ 2    │
-├──────┤
-│\u{1b}[31m \u{1b}[39m0   \u{1b}[31m \u{1b}[39m│
-├──────┤
-│ 2    │
-├──────┤
-│ 4    │
-└──────┘
+┌───────┐
+│ char  │
+├───────┤
+│ 2     │
+├───────┤
+│\u{1b}[31m  \u{1b}[39m0\u{1b}[31m    \u{1b}[39m│
+├───────┤
+│ 2     │
+├───────┤
+│ 4     │
+└───────┘
 ";
     assert!(rt; is_picture(table.to_ansi()?.as_str(), picture));
     Ok(())

@@ -142,6 +142,7 @@ fn is_set_the_same(cfg: &ColoredConfig, other: &ColoredConfig, cell: Position) -
         && settings.get_alignment_horizontal(cell) == others.get_alignment_horizontal(cell)
         && settings.get_alignment_vertical(cell) == others.get_alignment_vertical(cell)
         && settings.get_justification(cell) == others.get_justification(cell)
+        && settings.get_padding(cell) == others.get_padding(cell)
         && settings.get_padding_color(cell) == others.get_padding_color(cell)
 }
 

@@ -7,7 +7,7 @@ use tabled::settings::formatting::{AlignmentStrategy, Justification, TrimStrateg
 use tabled::settings::object::{Columns, Rows};
 use tabled::settings::{Alignment, Style};
 use tabled::{TableError, TextTable};
-use tabled_cells::{Placement, aligned, free_above, line_parts, show_lines, widest};
+use tabled_cells::{Placement, aligned, line_parts, lines_above, show_lines, widest};
 use tabled_config::{SpannedConfig, push_spaces_before, push_times};
 use tabled_grid::{Entity, Position};
 use tabled_settings::{AlignmentHorizontal, AlignmentVertical};
@@ -146,6 +146,7 @@ fn a_cell_is_taken_apart(rt: HostRuntime) -> Result<(), Fail> {
     let alloc = rt.alloc();
     let mut cfg = SpannedConfig::new(alloc);
     cfg.set_alignment_horizontal(Entity::Global, AlignmentHorizontal::Center)?;
+    cfg.set_alignment_vertical(Entity::Global, AlignmentVertical::Bottom)?;
     cfg.set_trim_horizontal(Entity::Global, true)?;
     cfg.set_justification(Entity::Global, '.')?;
     let how = Placement::of(&cfg, Position::new(0, 0));
@@ -160,7 +161,7 @@ fn a_cell_is_taken_apart(rt: HostRuntime) -> Result<(), Fail> {
     let mut text = String::new(alloc);
     push_times(&mut text, parts.after, parts.fill)?;
     assert_eq!(rt; text.as_str(), "...");
-    assert_eq!(rt; free_above(AlignmentVertical::Bottom, 3), 3);
+    assert_eq!(rt; lines_above(&how, 5, 2), 3);
     Ok(())
 }
 

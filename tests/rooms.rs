@@ -35,8 +35,8 @@ impl CellSizes for Wide {
         Ok(if (row, col) == (0, 0) { 8 } else { 1 })
     }
 
-    fn height(&self, row: usize, _col: usize) -> usize {
-        row + 1
+    fn height(&self, row: usize, _col: usize) -> Result<usize, AllocError> {
+        Ok(row + 1)
     }
 }
 

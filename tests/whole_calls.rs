@@ -260,8 +260,8 @@ impl CellSizes for Small {
         Ok(3)
     }
 
-    fn height(&self, _row: usize, _col: usize) -> usize {
-        1
+    fn height(&self, _row: usize, _col: usize) -> Result<usize, AllocError> {
+        Ok(1)
     }
 }
 

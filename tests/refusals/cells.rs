@@ -8,7 +8,7 @@ use tabled_color::BorderColor;
 use tabled_config::{CellOption, ColoredConfig, modify};
 use tabled_grid::{Entity, Offset, OutOfMemory, Shape};
 use tabled_options::{
-    Alignment, AlignmentStrategy, CellColor, Justification, LineChar, Span, TrimStrategy,
+    Alignment, AlignmentStrategy, CellColor, Justification, LineChar, Padding, Span, TrimStrategy,
 };
 use tabled_style::{Border, EmptyBorder};
 
@@ -56,7 +56,7 @@ fn filling(alloc: Global) -> Result<Justification, OutOfMemory> {
 }
 
 /// The options of settings.
-pub(crate) fn settings() -> [Named; 10] {
+pub(crate) fn settings() -> [Named; 11] {
     [
         (
             "<Alignment as CellOption<R, ColoredConfig>>::change",
@@ -77,6 +77,10 @@ pub(crate) fn settings() -> [Named; 10] {
         (
             "<Justification as CellOption<R, ColoredConfig>>::change (the first)",
             |turn| { on_a_bare_row(turn, filling) },
+        ),
+        (
+            "<Padding as CellOption<R, ColoredConfig>>::change",
+            |turn| { on_a_bare_row(turn, |_| Ok(Padding::zero())) },
         ),
         (
             "<PaddingColor<C> as CellOption<R, ColoredConfig>>::change",

@@ -12,7 +12,8 @@ use tabled_grid::{
 };
 use tabled_options::{
     Alignment, AlignmentStrategy, BorderCorrection, CellColor, Colorization, ExactColorization,
-    Highlight, Justification, LineText, Margin, MarginColor, PaddingColor, Shadow, TrimStrategy,
+    Highlight, Justification, LineText, Margin, MarginColor, Padding, PaddingColor, Shadow,
+    TrimStrategy,
 };
 use tabled_style::{Border, EmptyBorder, HorizontalLine, ReadyStyle, Style};
 use tabled_theme::Theme;
@@ -56,7 +57,7 @@ where
 }
 
 /// The options of settings.
-pub(crate) fn settings() -> [Named; 12] {
+pub(crate) fn settings() -> [Named; 13] {
     [
         (
             "<Alignment as TableOption<R, ColoredConfig, D>>::change",
@@ -76,6 +77,10 @@ pub(crate) fn settings() -> [Named; 12] {
                 turn,
                 |alloc| color(alloc).map(|color| Justification::colored('#', color)),
             ),
+        ),
+        (
+            "<Padding as TableOption<R, ColoredConfig, D>>::change",
+            |turn| with(turn, |_| Ok(Padding::new(2, 0, 1, 0).fill('<', ' ', '^', ' '))),
         ),
         (
             "<PaddingColor<C> as TableOption<R, ColoredConfig, D>>::change",

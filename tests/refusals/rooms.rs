@@ -36,8 +36,8 @@ impl CellSizes for Wide {
         Ok(if (row, col) == (0, 0) { 8 } else { 1 })
     }
 
-    fn height(&self, _row: usize, _col: usize) -> usize {
-        1
+    fn height(&self, _row: usize, _col: usize) -> Result<usize, AllocError> {
+        Ok(1)
     }
 }
 

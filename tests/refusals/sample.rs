@@ -8,7 +8,7 @@ use tabled_grid::{
     ANSIBuf, Border, Borders, Entity, FixedDimension, HorizontalLine, Keep, Offset, OutOfMemory,
     Place, Position, Probes, Shape, VerticalLine,
 };
-use tabled_settings::{AlignmentHorizontal, AlignmentVertical, Sides};
+use tabled_settings::{AlignmentHorizontal, AlignmentVertical, Indent, Sides};
 use tabled_style::Style;
 
 /// A color with texts of its own.
@@ -61,6 +61,7 @@ fn set_settings(cfg: &mut SpannedConfig, alloc: Global) -> Result<(), OutOfMemor
     cfg.set_trims(cell, true, false)?;
     cfg.set_line_alignment(cell, true)?;
     cfg.set_colored_justification(cell, '.', Some(owned(alloc)?))?;
+    cfg.set_padding(cell, Sides::filled(Indent::new(2, '.')))?;
     cfg.set_padding_color(cell, Sides::new(Some(owned(alloc)?), None, None, None))?;
     let colors = Sides::new(Some(owned(alloc)?), None, None, None);
     cfg.set_margin_color(colors);
@@ -203,6 +204,7 @@ fn is_aligned_the_same(cfg: &SpannedConfig, other: &SpannedConfig, cell: Positio
 fn is_filled_the_same(cfg: &SpannedConfig, other: &SpannedConfig, cell: Position) -> bool {
     cfg.get_justification(cell) == other.get_justification(cell)
         && cfg.get_justification_color(cell) == other.get_justification_color(cell)
+        && cfg.get_padding(cell) == other.get_padding(cell)
         && cfg.get_padding_color(cell) == other.get_padding_color(cell)
 }
 

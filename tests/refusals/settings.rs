@@ -7,7 +7,9 @@ use tabled_border::{ANSIBuf, Border, Keep, OutOfMemory};
 use tabled_config::{ColoredConfig, SpannedConfig};
 use tabled_grid::{Entity, HorizontalLine, Offset, Place, Position, Target, VerticalLine, Write};
 use tabled_layout::{Spans, TableSettings};
-use tabled_settings::{AlignmentHorizontal, AlignmentVertical, CellSettings, EntityMap, Sides};
+use tabled_settings::{
+    AlignmentHorizontal, AlignmentVertical, CellSettings, EntityMap, Indent, Sides,
+};
 use tabled_style::{ReadyStyle, Style};
 
 /// A map in which a row and a cell have values.
@@ -406,7 +408,7 @@ pub(crate) fn offsets() -> [Named; 4] {
 const COLUMN: Entity = Entity::Column(1);
 
 /// The settings of a configuration.
-pub(crate) fn cells() -> [Named; 10] {
+pub(crate) fn cells() -> [Named; 11] {
     [
         (
             "SpannedConfig::set_trims",
@@ -481,6 +483,14 @@ pub(crate) fn cells() -> [Named; 10] {
                 call_with(turn, Sample::bare, |cfg, color| {
                     cfg.config_mut()
                         .set_justification_color(COLUMN, Some(color))
+                })
+            },
+        ),
+        (
+            "SpannedConfig::set_padding",
+            |turn| {
+                call(turn, Sample::bare, |cfg| {
+                    cfg.set_padding(COLUMN, Sides::filled(Indent::new(2, '.')))
                 })
             },
         ),

@@ -11,7 +11,7 @@ use tabled_object::Rows;
 use tabled_options::{
     Colorization, Highlight, Justification, LineText, MarginColor, PaddingColor, Shadow,
 };
-use tabled_settings::{AlignmentHorizontal, AlignmentVertical, Sides};
+use tabled_settings::{AlignmentHorizontal, AlignmentVertical, Indent, Sides};
 use tabled_style::Style;
 
 /// What becomes of a value that is made: whether it is the right one.
@@ -217,7 +217,7 @@ fn vertical(alloc: Global) -> Result<VerticalLine<ANSIBuf>, OutOfMemory> {
 }
 
 /// Copies of small values, which take no memory.
-pub(crate) fn small_copies() -> [Named; 6] {
+pub(crate) fn small_copies() -> [Named; 7] {
     [
         ("<char as Keep>::keep", |turn| keep(turn, Ok('x'))),
         ("<bool as Keep>::keep", |turn| keep(turn, Ok(true))),
@@ -233,6 +233,10 @@ pub(crate) fn small_copies() -> [Named; 6] {
         (
             "<AlignmentVertical as Keep>::keep",
             |turn| { keep(turn, Ok(AlignmentVertical::Bottom)) },
+        ),
+        (
+            "<Indent as Keep>::keep",
+            |turn| keep(turn, Ok(Indent::new(2, '.'))),
         ),
     ]
 }

@@ -9,7 +9,9 @@ pub use tabled_color::Color;
 pub use tabled_colorization::CellColor;
 pub use tabled_config::{CellOption, TableOption, modify};
 pub use tabled_correction::Span;
-pub use tabled_formatting::{Alignment, Justification, Margin, MarginColor, PaddingColor, Shadow};
+pub use tabled_formatting::{
+    Alignment, Justification, Margin, MarginColor, Padding, PaddingColor, Shadow,
+};
 pub use tabled_highlight::Highlight;
 pub use tabled_style::{Border, Style};
 pub use tabled_theme::Theme;

@@ -3,7 +3,7 @@ use Rattle.std.proofs.Common.{◌≡◌, Option, Some, None, option_map, List, [
 use Rattle.tabled_border.specs.Texts.{Texts}
 use Rattle.tabled_grid.specs.declared.offset.Offset.{Offset}
 use Rattle.tabled_settings.specs.declared.sides.Sides.{Sides}
-use Rattle.tabled_layout.specs.declared.indent.Indent.{Indent}
+use Rattle.tabled_settings.specs.declared.indent.Indent.{Indent}
 use Rattle.tabled_layout.specs.Margin.{of_size, of_offset, of_color}
 use Rattle.tabled_color.specs.Shade.{Shade}
 use Rattle.tabled_configuration.specs.ChangeLaws.{both_change_borders}

@@ -1,9 +1,10 @@
 -- What options set for the cells of an entity.
 use Rattle.std.specs.Prelude.{ℕ, Bool, true, false, Option, option_map, unwrap_or, List, ◌++◌}
 use Rattle.tabled_object.specs.declared.entity.Entity.{Entity}
+use Rattle.tabled_settings.specs.declared.indent.Indent.{Indent}
 use Rattle.tabled_settings.specs.declared.sides.Sides.{Sides}
 use Rattle.tabled_settings.specs.Setting.{write_of}
-use Rattle.tabled_settings.specs.CellSettings.{of_alignment_horizontal, of_alignment_vertical, of_trim_horizontal, of_trim_vertical, of_line_alignment, of_justification, of_justification_color, of_padding_color}
+use Rattle.tabled_settings.specs.CellSettings.{of_alignment_horizontal, of_alignment_vertical, of_trim_horizontal, of_trim_vertical, of_line_alignment, of_justification, of_justification_color, of_padding, of_padding_color}
 use Rattle.tabled_configuration.specs.Configuration.{ConfigEvent, by_setting}
 use Rattle.tabled_color.specs.Shade.{Shade, texts_of}
 use Rattle.tabled_formatting.specs.SideTexts.{side_texts}
@@ -41,6 +42,10 @@ abbrev pub justification_set : Justifying → Entity → List ConfigEvent
 justification_set given entity =
     by_setting (of_justification (write_of entity (unwrap_or given.character 32)))
     ++ by_setting (of_justification_color (write_of entity (option_map texts_of given.color)))
+
+-- so much padding on each side
+abbrev pub padding_given : Sides Indent → Entity → List ConfigEvent
+padding_given sizes entity = by_setting (of_padding (write_of entity sizes))
 
 -- a color for each side of the padding
 abbrev pub padding_set : {C : Type 0} → (C → List ℕ) → (C → List ℕ) → Sides C → Entity → List ConfigEvent

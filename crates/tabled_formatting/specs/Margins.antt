@@ -4,16 +4,14 @@ use Rattle.tabled_border.specs.Texts.{Texts}
 use Rattle.tabled_grid.specs.declared.offset.Offset.{Offset}
 use Rattle.tabled_grid.specs.declared.offset.Offset.TheVariants.{Start, End}
 use Rattle.tabled_settings.specs.declared.sides.Sides.{Sides}
-use Rattle.tabled_layout.specs.declared.indent.Indent.{Indent}
-use Rattle.tabled_layout.specs.Margin.{no_indent, of_size, of_offset, of_color}
+use Rattle.tabled_settings.specs.declared.indent.Indent.{Indent}
+use Rattle.tabled_settings.specs.Padding.{no_indent}
+pub use Rattle.tabled_settings.specs.Padding.{spaces}
+use Rattle.tabled_layout.specs.Margin.{of_size, of_offset, of_color}
 use Rattle.tabled_configuration.specs.Configuration.{ConfigEvent, by_margin}
 use Rattle.tabled_color.specs.Shade.{Shade, texts_of}
 use Rattle.tabled_formatting.specs.SideTexts.{side_texts}
 use Rattle.tabled_formatting.specs.declared.shadow.Shadow.{Shadow}
-
--- so much room on a side, filled with spaces
-abbrev pub spaces : ℕ → Indent
-spaces size = record { size = size; fill = 32 }
 
 -- the same room on each side, filled with other characters
 abbrev pub with_fills : Sides Indent → ℕ → ℕ → ℕ → ℕ → Sides Indent

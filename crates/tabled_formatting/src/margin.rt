@@ -7,9 +7,8 @@ ghost use Rattle.tabled_formatting.specs.Margins.{margin_given, with_fills};
 use std::marker::Model;
 use tabled_border::OutOfMemory;
 use tabled_configuration::{ColoredConfig, TableOption};
-use tabled_layout::Indent;
 use tabled_object::Entity;
-use tabled_settings::Sides;
+use tabled_settings::{Indent, Sides};
 
 /// The room around a table: how many columns at its left and its right, how many lines above and below it, and the characters that fill
 /// them, spaces where none are said.
@@ -28,7 +27,7 @@ pub struct Margin {
 }
 
 impl Model for Margin {
-    ghost use Rattle.tabled_layout.specs.declared.indent.Indent.{Indent as Room};
+    ghost use Rattle.tabled_settings.specs.declared.indent.Indent.{Indent as Room};
     ghost use Rattle.tabled_settings.specs.declared.sides.Sides.{Sides as Four};
 
     ghost Value = { Four Room };

@@ -12,9 +12,8 @@ use tabled_border::{ANSIBuf, Keep, OutOfMemory};
 use tabled_color::Color;
 use tabled_configuration::{ColoredConfig, SpannedConfig, TableOption};
 use tabled_grid::Offset;
-use tabled_layout::Indent;
 use tabled_object::Entity;
-use tabled_settings::Sides;
+use tabled_settings::{Indent, Sides};
 
 /// A shadow of a table. It falls on two sides of the margin that meet at a corner, and begins a little away from the other
 /// corners. Here it is one wide, at the right and below:

@@ -20,7 +20,7 @@ pub use line_text::LineText;
 pub use tabled_colorization::{CellColor, Colorization, ExactColorization};
 pub use tabled_correction::{BorderCorrection, Span};
 pub use tabled_formatting::{
-    Alignment, AlignmentStrategy, Justification, Margin, MarginColor, PaddingColor, Shadow,
-    TrimStrategy,
+    Alignment, AlignmentStrategy, Justification, Margin, MarginColor, Padding, PaddingColor,
+    Shadow, TrimStrategy,
 };
 pub use tabled_highlight::Highlight;

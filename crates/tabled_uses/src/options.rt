@@ -11,7 +11,8 @@ use tabled::settings::style::{
 };
 use tabled::settings::themes::Colorization;
 use tabled::settings::{
-    Alignment, Color, Highlight, Justification, MarginColor, PaddingColor, Shadow, Style, Theme,
+    Alignment, Color, Highlight, Justification, MarginColor, Padding, PaddingColor, Shadow, Style,
+    Theme,
 };
 use tabled::{TableError, TextTable};
 
@@ -184,6 +185,14 @@ pub fn outline_in_color(alloc: Global) -> Result<String, TableError> {
     table.with(Style::ascii())?;
     table.with(Highlight::colored(alloc, Rows::one(1), Color::FG_RED)?)?;
     Ok(table.to_ansi()?)
+}
+
+/// A compact table, without padding.
+pub fn table_without_padding(alloc: Global) -> Result<String, TableError> {
+    let mut table = people(alloc)?;
+    table.with(Style::rounded())?.with(Padding::zero())?;
+    table.modify(Columns::one(1), Alignment::right())?;
+    Ok(table.to_text()?)
 }
 
 /// The spaces around texts in color, and what fills cells.

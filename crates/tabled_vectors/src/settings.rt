@@ -5,9 +5,9 @@ use std::alloc::Global;
 use tabled_color::Color;
 use tabled_config::{ColoredConfig, CompactConfig, TableOption};
 use tabled_grid::{Borders, Combine, Offset, OutOfMemory, Position, Rows, Shape};
-use tabled_layout::Indent;
+
 use tabled_options::{Alignment, Colorization, Justification, MarginColor, Shadow, TrimStrategy};
-use tabled_settings::Sides;
+use tabled_settings::{Indent, Sides};
 use tabled_style::Style;
 
 const X: &str = "\u{1b}[31m";

@@ -7,6 +7,5 @@ pub use tabled_config::{
 };
 pub use tabled_grid::{Borders, HorizontalLine, Layers, LineOf, Offset, Place, VerticalLine};
 pub use tabled_kept::Probes;
-pub use tabled_layout::Indent;
 pub use tabled_object::{Entity, Position};
-pub use tabled_settings::{AlignmentHorizontal, AlignmentVertical, EntityMap, Sides};
+pub use tabled_settings::{AlignmentHorizontal, AlignmentVertical, EntityMap, Indent, Sides};
