@@ -10,8 +10,8 @@ use tabled_compact::{CompactConfig, CompactMultilineConfig};
 use tabled_configuration::{CellOption, ColoredConfig, Configured, TableOption};
 use tabled_correction::{BorderCorrection, Span};
 use tabled_formatting::{
-    Alignment, AlignmentStrategy, Justification, Margin, MarginColor, PaddingColor, Shadow,
-    TrimStrategy,
+    Alignment, AlignmentStrategy, Justification, Margin, MarginColor, Padding, PaddingColor,
+    Shadow, TrimStrategy,
 };
 use tabled_grid::Borders;
 use tabled_highlight::Highlight;
@@ -136,11 +136,13 @@ where
     ensures shadow { ⟦<Shadow as TableOption<Data, ColoredConfig, Dims>>⟧.hinted shadow.now ≡ Some cells.Global }
 {}
 
-/// So may room of the margin, and cells that span.
-pub fn all_sizes_after_room<Data, Dims>(margin: &Margin, span: &Span)
+/// So may room of the margin, padding, and cells that span.
+pub fn all_sizes_after_room<Data, Dims>(margin: &Margin, padding: &Padding, span: &Span)
 where
     Data: Records + ExactRecords,
     ensures margin { ⟦<Margin as TableOption<Data, ColoredConfig, Dims>>⟧.hinted margin.now ≡ Some cells.Global }
+    ensures padding { ⟦<Padding as TableOption<Data, ColoredConfig, Dims>>⟧.hinted padding.now ≡ Some cells.Global }
+    ensures padding_on_cells { ⟦<Padding as CellOption<Data, ColoredConfig>>⟧.hinted padding.now ≡ Some cells.Global }
     ensures span { ⟦<Span as CellOption<Data, ColoredConfig>>⟧.hinted span.now ≡ Some cells.Global }
 {}
 

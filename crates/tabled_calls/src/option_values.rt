@@ -21,7 +21,9 @@ use tabled_border::{ANSIStr, Keep, OutOfMemory};
 use tabled_color::{BorderColor, Color};
 use tabled_colorization::{CellColor, Colorization, ExactColorization};
 use tabled_correction::Span;
-use tabled_formatting::{Alignment, Justification, Margin, MarginColor, PaddingColor, Shadow};
+use tabled_formatting::{
+    Alignment, Justification, Margin, MarginColor, Padding, PaddingColor, Shadow,
+};
 use tabled_grid::Offset;
 use tabled_highlight::Highlight;
 use tabled_options::{LineChar, LineText};
@@ -75,6 +77,40 @@ pub fn filling_colored(filling: Justification, color: Color) -> Justification
     ensures first { (given : Justifying) → ⟦<Justification as Default>⟧.is_default given → given ≡ record { character = None; color = None } }
 {
     filling.color(color)
+}
+
+/// A new padding has so much room on each side, none, or as much on all sides, filled with spaces.
+pub fn new_paddings(
+    left: usize,
+    right: usize,
+    top: usize,
+    bottom: usize,
+) -> (Padding, Padding, Padding)
+    ensures parts { result.0 ≡ record { left = spaces left; right = spaces right; top = spaces top; bottom = spaces bottom } }
+    ensures zero { result.1 ≡ record { left = spaces 0; right = spaces 0; top = spaces 0; bottom = spaces 0 } }
+    ensures all { result.2 ≡ record { left = spaces left; right = spaces left; top = spaces left; bottom = spaces left } }
+{
+    (
+        Padding::new(left, right, top, bottom),
+        Padding::zero(),
+        Padding::filled(left),
+    )
+}
+
+/// A padding filled with these characters, the last ones of two fillings in a row: its room is as before.
+pub fn padding_filled(
+    padding: Padding,
+    first: char,
+    left: char,
+    right: char,
+    top: char,
+    bottom: char,
+) -> Padding
+    ensures { result ≡ with_fills padding left right top bottom }
+{
+    padding
+        .fill(first, first, first, first)
+        .fill(left, right, top, bottom)
 }
 
 /// Colors of the padding, one for each side.

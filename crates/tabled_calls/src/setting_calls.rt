@@ -1,12 +1,12 @@
 //! What is set for cells, for the margin and as spans, call by call.
 
 ghost use Rattle.std.specs.Prelude.{◌++◌, ◌<◌, ◌≡◌, IsOk, IsTrue, OnErr, OnOk, not, option_copied, [], ◌∷◌};
-ghost use Rattle.tabled_configuration.specs.Configuration.{Changes, by_column_span, by_margin, by_row_span, by_setting, has_no_spans};
+ghost use Rattle.tabled_configuration.specs.Configuration.{Changes, by_column_span, by_margin, by_row_span, by_setting, has_no_padding, has_no_spans, is_sized_by_texts};
 ghost use Rattle.tabled_grid.specs.Table.{table};
 ghost use Rattle.tabled_layout.specs.Covering.{covered_by_both_spans, covered_by_column_span, covered_by_row_span};
 ghost use Rattle.tabled_layout.specs.Margin.{of_color, of_offset, of_size};
 ghost use Rattle.tabled_layout.specs.Spans.{position_cmp};
-ghost use Rattle.tabled_settings.specs.CellSettings.{of_alignment_horizontal, of_alignment_vertical, of_justification, of_justification_color, of_line_alignment, of_padding_color, of_trim_horizontal, of_trim_vertical};
+ghost use Rattle.tabled_settings.specs.CellSettings.{of_alignment_horizontal, of_alignment_vertical, of_justification, of_justification_color, of_line_alignment, of_padding, of_padding_color, of_trim_horizontal, of_trim_vertical};
 ghost use Rattle.tabled_settings.specs.Live.{value_at};
 ghost use Rattle.tabled_settings.specs.Setting.{is_global, write_of};
 ghost use Rattle.std.specs.List.{flat_map};
@@ -15,9 +15,8 @@ use std::collections::BTreeMap;
 use tabled_border::{ANSIBuf, OutOfMemory};
 use tabled_configuration::SpannedConfig;
 use tabled_grid::Offset;
-use tabled_layout::Indent;
 use tabled_object::{Entity, Position};
-use tabled_settings::{AlignmentHorizontal, AlignmentVertical, Sides};
+use tabled_settings::{AlignmentHorizontal, AlignmentVertical, Indent, Sides};
 
 /// Sets where the texts of the cells of an entity stand between the left and the right side. Where memory is refused nothing
 /// changes; for all cells none is asked for.
@@ -115,6 +114,20 @@ pub fn justification_color_set(
     ensures always { IsTrue (is_global entity) → IsOk result }
 {
     cfg.set_justification_color(entity, color)
+}
+
+/// Sets how much padding the cells of an entity have on each side, and what fills it. Where memory is refused nothing changes; for all
+/// cells none is asked for.
+pub fn padding_set(
+    cfg: &mut SpannedConfig,
+    entity: Entity,
+    padding: Sides<Indent>,
+) -> Result<(), OutOfMemory>
+    ensures changed { OnOk result (Changes (by_setting (of_padding (write_of entity padding))) cfg.old cfg.new) }
+    ensures unchanged { OnErr result (cfg.new ≡ cfg.old) }
+    ensures always { IsTrue (is_global entity) → IsOk result }
+{
+    cfg.set_padding(entity, padding)
 }
 
 /// Sets the color of the padding of the cells of an entity on each side, or none there. Where memory is refused nothing changes;
@@ -278,6 +291,19 @@ pub fn settings_of_a_cell(
         cfg.get_trim_vertical(position),
         cfg.get_line_alignment(position),
         cfg.get_justification(position),
+    )
+}
+
+/// The padding that is set for a cell; whether none is set for any, and whether one is or some cell spans.
+pub fn padding_of_a_cell(cfg: &SpannedConfig, position: Position) -> (&Sides<Indent>, bool, bool)
+    ensures padding { result.0.now ≡ value_at cfg.now.settings.cells.padding position }
+    ensures none { result.1 ≡ has_no_padding cfg.now }
+    ensures sized { result.2 ≡ not (is_sized_by_texts cfg.now) }
+{
+    (
+        cfg.get_padding(position),
+        cfg.has_no_padding(),
+        cfg.has_spans_or_padding(),
     )
 }
 

@@ -17,7 +17,7 @@ ghost use Rattle.tabled_grid.specs.Drawn.{number};
 ghost use Rattle.tabled_grid.specs.Probing.{IsRaised};
 ghost use Rattle.tabled_grid.specs.Calls.{spot_of};
 ghost use Rattle.tabled_grid.specs.Value.{inside};
-ghost use Rattle.tabled_layout.specs.declared.indent.Indent.{Indent as Filled};
+ghost use Rattle.tabled_settings.specs.declared.indent.Indent.{Indent as Filled};
 
 use std::alloc::Global;
 use std::fmt;
@@ -25,8 +25,7 @@ use tabled_border::{ANSIBuf, ANSIFmt, ANSIStr, AnsiText, Border, Keep, OutOfMemo
 use tabled_color::Color;
 use tabled_grid::{Borders, HorizontalLine, LineOf, Place, Rank, Spot, VerticalLine};
 use tabled_kept::{Meter, Probes};
-use tabled_layout::Indent;
-use tabled_settings::{AlignmentHorizontal, AlignmentVertical, Sides};
+use tabled_settings::{AlignmentHorizontal, AlignmentVertical, Indent, Sides};
 
 /// A border of what is given for its sides and corners, and one without anything.
 pub fn borders_of_parts<T>(
@@ -404,7 +403,7 @@ pub fn suffix_written<C: ANSIFmt, W: fmt::Write>(color: &C, out: &mut W) -> fmt:
     color.fmt_ansi_suffix(out)
 }
 
-/// A character, a truth value, a number and an alignment are copied without memory.
+/// A character, a truth value, a number, an alignment and the room on a side are copied without memory.
 pub fn plain_values_copied(
     alloc: Global,
     c: &char,
@@ -412,18 +411,21 @@ pub fn plain_values_copied(
     n: &u128,
     across: &AlignmentHorizontal,
     down: &AlignmentVertical,
+    room: &Indent,
 ) -> (
     Result<char, OutOfMemory>,
     Result<bool, OutOfMemory>,
     Result<u128, OutOfMemory>,
     Result<AlignmentHorizontal, OutOfMemory>,
     Result<AlignmentVertical, OutOfMemory>,
+    Result<Indent, OutOfMemory>,
 )
     ensures character { IfOk result.0 (λ copy. copy ≡ c.now) × IsOk result.0 }
     ensures truth { IfOk result.1 (λ copy. copy ≡ b.now) × IsOk result.1 }
     ensures number { IfOk result.2 (λ copy. copy ≡ n.now) × IsOk result.2 }
     ensures across { IfOk result.3 (λ copy. copy ≡ across.now) × IsOk result.3 }
     ensures down { IfOk result.4 (λ copy. copy ≡ down.now) × IsOk result.4 }
+    ensures room { IfOk result.5 (λ copy. copy ≡ room.now) × IsOk result.5 }
 {
     (
         c.keep(alloc),
@@ -431,6 +433,7 @@ pub fn plain_values_copied(
         n.keep(alloc),
         across.keep(alloc),
         down.keep(alloc),
+        room.keep(alloc),
     )
 }
 

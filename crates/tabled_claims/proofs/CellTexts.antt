@@ -16,7 +16,7 @@ use Rattle.tabled_cells.specs.Placements.{placement_at}
 use Rattle.tabled_cells.specs.Trimmed.{lines_shown}
 use Rattle.tabled_printing.proofs.PieceTexts.{cut_lines}
 use Rattle.tabled_printing.proofs.Tiles.{Lacks}
-use Rattle.tabled_cells.proofs.Fits.{placed_at_lacks}
+use Rattle.tabled_cells.proofs.Fits.{placed_at_lacks, settings_lack}
 use Rattle.tabled_painting.specs.Painted.{plain}
 use Rattle.tabled_painting.specs.CellLines.{coloring_at}
 use Rattle.tabled_painting.specs.Margin.{in_margin, is_without_room}
@@ -63,7 +63,7 @@ cells_show es table r within k c above inside =
     let long : length lines ≡ height = length-map-range_with_len line 0 height in
     let lacks : All Lacks lines = All-map Lacks line (below height) (λ n d inside.
     subst Lacks (sym (plain_cell how (coloring_at (cells_set es) (cell_colors es) r c) (slice_index (column_widths table) c) height (lines_shown how text) (get_or (below height) n d)))
-    (placed_at_lacks how (slice_index (column_widths table) c) height text (get_or (below height) n d))) in
+    (placed_at_lacks how (slice_index (column_widths table) c) height text (get_or (below height) n d) (settings_lack (cells_set es) r c))) in
     let cell : ℕ → List ℕ = λ n. join_with_byte 10 (map (λ m. plain (cells r n m)) (below height)) in
     let row : ℕ → List (List ℕ) = λ n. map (λ m. join_with_byte 10 (map (λ i. plain (cells n m i)) (below (slice_index (row_heights table) n)))) (below (column_count table)) in
     sym (get_or-map-range_with_len line 0 height k k [] above (omega arith))

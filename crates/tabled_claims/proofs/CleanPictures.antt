@@ -9,13 +9,17 @@ use Rattle.tabled_border.specs.Texts.{Texts}
 use Rattle.tabled_object.specs.Entities.{below}
 use Rattle.tabled_grid.specs.declared.place.Place.{Place}
 use Rattle.tabled_grid.specs.declared.place.LineOf.{LineOf}
+use Rattle.tabled_settings.specs.declared.cell_settings.CellSettings.{CellSettings}
+use Rattle.tabled_settings.specs.declared.indent.Indent.{Indent}
+use Rattle.tabled_settings.specs.declared.sides.Sides.{Sides}
+use Rattle.tabled_settings.specs.Live.{value_at}
 use Rattle.tabled_layout.specs.declared.margin.Margin.{Margin}
 use Rattle.tabled_configuration.specs.Configuration.{ConfigEvent}
 use Rattle.tabled_printing.specs.Along.{is_empty, along, crossing_at}
 use Rattle.tabled_printing.specs.Picture.{Look, character, mark_at, marks_along}
 use Rattle.tabled_printing.specs.Texts.{Table, width_of_text}
 use Rattle.tabled_cells.specs.declared.placement.Placement.{Placement}
-use Rattle.tabled_cells.specs.Placed.{times, free_above, free_before, fill_of, filled, line_parts, aligned_width}
+use Rattle.tabled_cells.specs.Placed.{times, lines_above, free_before, fill_of, filled, line_parts, aligned_width}
 use Rattle.tabled_cells.specs.Placements.{placement_at}
 use Rattle.tabled_cells.specs.Trimmed.{lines_shown}
 use Rattle.tabled_painting.specs.Painted.{Painted, paint, plain}
@@ -27,7 +31,7 @@ use Rattle.tabled_rooms.specs.Hosts.{Cell, Counts, host}
 use Rattle.tabled_painting.proofs.PainterLemmas.{plain_paint}
 use Rattle.tabled_painting.proofs.Plain.{plain_both}
 use Rattle.tabled_text.specs.Sizes.{column_count, column_widths, row_heights}
-use Rattle.tabled_text.specs.Cells.{cells_set, margin_set, cell_colors, settings_set, sets_no_spans}
+use Rattle.tabled_text.specs.Cells.{cells_set, margin_set, cell_colors, settings_set, leaves_sizes}
 use Rattle.tabled_text.specs.TextTable.{look_of, look_with_spans, painted, painted_alone, painted_with_spans, text_of, widths_with_spans, heights_with_spans}
 use Rattle.tabled_claims.specs.Clean.{WritesClean}
 use Rattle.tabled_text.specs.Changed.{CellsAreClean}
@@ -57,44 +61,62 @@ All-flat f (x ∷ xs) each = All-append QuietLine (f x) (flat_map f xs) (each x)
 
 -- ---- cells
 
+times_quiet : (color : Option Texts) (count character : ℕ) → steers character ≡ false → QuietLine (paint color (times count character))
+times_quiet color count character e = paint_quiet color (times count character) (Quiet-times count character e)
+
 fill_quiet : (fits : Bool) (character : ℕ) → steers character ≡ false → steers (if fits then character else 32) ≡ false
 fill_quiet true character e = e
 fill_quiet false character e = space_steers
 
-line_quiet : (how : Placement) (colors : Coloring) (width aligned : ℕ) (line : List ℕ) → steers how.justification ≡ false → Quiet line → QuietLine (painted_line how colors width aligned line)
-unfolding painted_line line_parts
-line_quiet how colors width aligned line filling quiet =
-    let before : ℕ = free_before how.alignment_horizontal (width - 2 - aligned) in
-    let after : ℕ = width - 2 - before - width_of_text line in
-    let fill : ℕ = fill_of how.justification width before after line in
-    let fills : (count : ℕ) → QuietLine (paint colors.fill (times count fill)) = λ count. paint_quiet colors.fill (times count fill)
-    (Quiet-times count fill (fill_quiet (not (how.justification == 10) && (width_of_text (filled how.justification before after line) == width)) how.justification filling)) in
-    both_quiet (paint colors.padding.left (32 ∷ []) ++ paint colors.fill (times before fill) ++ paint colors.text line ++ paint colors.fill (times after fill)) (paint colors.padding.right (32 ∷ []))
-    (both_quiet (paint colors.padding.left (32 ∷ []) ++ paint colors.fill (times before fill) ++ paint colors.text line) (paint colors.fill (times after fill))
-    (both_quiet (paint colors.padding.left (32 ∷ []) ++ paint colors.fill (times before fill)) (paint colors.text line)
-    (both_quiet (paint colors.padding.left (32 ∷ [])) (paint colors.fill (times before fill)) (paint_quiet colors.padding.left (32 ∷ []) Quiet-space) (fills before))
-    (paint_quiet colors.text line quiet)) (fills after)) (paint_quiet colors.padding.right (32 ∷ []) Quiet-space)
+-- a padding whose characters do not steer
+record QuietPadding (padding : Sides Indent) : Type 0 where
+  left : steers padding.left.fill ≡ false
+  right : steers padding.right.fill ≡ false
+  top : steers padding.top.fill ≡ false
+  bottom : steers padding.bottom.fill ≡ false
 
-spaces_quiet : (color : Option Texts) (width : ℕ) → QuietLine (paint color (times width 32))
-spaces_quiet color width = paint_quiet color (times width 32) (Quiet-times width 32 space_steers)
+-- so is any as it is shown
+padding_quiet : (settings : CellSettings) (r c : ℕ) → QuietPadding (placement_at settings r c).padding
+unfolding placement_at
+padding_quiet settings r c =
+    let padding = value_at settings.padding (record { row = r; col = c }) in
+    record { left = fill_steers padding.left.fill; right = fill_steers padding.right.fill; top = fill_steers padding.top.fill; bottom = fill_steers padding.bottom.fill }
+
+line_quiet : (how : Placement) (colors : Coloring) (width aligned : ℕ) (line : List ℕ) → QuietPadding how.padding → steers how.justification ≡ false → Quiet line → QuietLine (painted_line how colors width aligned line)
+unfolding painted_line line_parts
+line_quiet how colors width aligned line padded filling quiet =
+    let padding = how.padding in
+    let free : ℕ = width - padding.left.size - padding.right.size in
+    let before : ℕ = free_before how.alignment_horizontal (free - aligned) in
+    let after : ℕ = free - before - width_of_text line in
+    let fill : ℕ = fill_of padding how.justification width before after line in
+    let first : Painted = paint colors.padding.left (times padding.left.size padding.left.fill) in
+    let last : Painted = paint colors.padding.right (times padding.right.size padding.right.fill) in
+    let fills : (count : ℕ) → QuietLine (paint colors.fill (times count fill)) = λ count. paint_quiet colors.fill (times count fill)
+    (Quiet-times count fill (fill_quiet (not (how.justification == 10) && (width_of_text (filled padding how.justification before after line) == width)) how.justification filling)) in
+    both_quiet (first ++ paint colors.fill (times before fill) ++ paint colors.text line ++ paint colors.fill (times after fill)) last
+    (both_quiet (first ++ paint colors.fill (times before fill) ++ paint colors.text line) (paint colors.fill (times after fill))
+    (both_quiet (first ++ paint colors.fill (times before fill)) (paint colors.text line)
+    (both_quiet first (paint colors.fill (times before fill)) (times_quiet colors.padding.left padding.left.size padding.left.fill padded.left) (fills before))
+    (paint_quiet colors.text line quiet)) (fills after)) (times_quiet colors.padding.right padding.right.size padding.right.fill padded.right)
 
 module _ (how : Placement) (colors : Coloring) (width height : ℕ) (lines : List (List ℕ)) (n : ℕ) where
   abbrev above : ℕ
-  above = free_above how.alignment_vertical (height - length lines)
+  above = lines_above how height (length lines)
 
   abbrev line : List ℕ
   line = get_or lines (n - above) []
 
-  by_place : (first second : Bool) → ltb (n - above) (length lines) ≡ second → steers how.justification ≡ false → All IsCleanText lines
-      → QuietLine (if first then paint colors.padding.top (times width 32) else if second then painted_line how colors width (aligned_width how lines line) line else paint colors.padding.bottom (times width 32))
-  by_place true second is filling all = spaces_quiet colors.padding.top width
-  by_place false true is filling all =
-      line_quiet how colors width (aligned_width how lines line) line filling (Quiet-text line (all (n - above) [] (ltb-true (n - above) (length lines) is)))
-  by_place false false is filling all = spaces_quiet colors.padding.bottom width
+  by_place : (first second : Bool) → ltb (n - above) (length lines) ≡ second → QuietPadding how.padding → steers how.justification ≡ false → All IsCleanText lines
+      → QuietLine (if first then paint colors.padding.top (times width how.padding.top.fill) else if second then painted_line how colors width (aligned_width how lines line) line else paint colors.padding.bottom (times width how.padding.bottom.fill))
+  by_place true second is padded filling all = times_quiet colors.padding.top width how.padding.top.fill padded.top
+  by_place false true is padded filling all =
+      line_quiet how colors width (aligned_width how lines line) line padded filling (Quiet-text line (all (n - above) [] (ltb-true (n - above) (length lines) is)))
+  by_place false false is padded filling all = times_quiet colors.padding.bottom width how.padding.bottom.fill padded.bottom
 
-  cell_quiet : steers how.justification ≡ false → All IsCleanText lines → QuietLine (cell_line how colors width height lines n)
+  cell_quiet : QuietPadding how.padding → steers how.justification ≡ false → All IsCleanText lines → QuietLine (cell_line how colors width height lines n)
   unfolding cell_line
-  cell_quiet filling all = by_place (ltb n above) (ltb (n - above) (length lines)) refl filling all
+  cell_quiet padded filling all = by_place (ltb n above) (ltb (n - above) (length lines)) refl padded filling all
 
 -- ---- sides of a margin
 
@@ -103,8 +125,8 @@ unfolding side_at
 side_quiet side extent n count e = by_offset (is_left_out side.offset extent n)
   where
     by_offset : (out : Bool) → QuietLine (if out then paint None (times count 32) else paint side.color (times count side.fill))
-    by_offset true = spaces_quiet None count
-    by_offset false = paint_quiet side.color (times count side.fill) (Quiet-times count side.fill e)
+    by_offset true = times_quiet None count 32 space_steers
+    by_offset false = times_quiet side.color count side.fill e
 
 strips_quiet : (side : Side) (long count : ℕ) → steers side.fill ≡ false → All QuietLine (replicate count (strip side long))
 strips_quiet side long count e = All-replicate QuietLine count (strip side long) (flat_quiet (λ n. side_at side long n 1) (below long) (λ n. side_quiet side long n 1 e))
@@ -241,7 +263,7 @@ module _ (events : List ConfigEvent) (table : Table) (clean : CellsAreClean tabl
       let how : Placement = placement_at (cells_set events) r c in
       let text : List ℕ = slice_index_or (slice_index_or table r []) c [] in
       cell_quiet how (coloring_at (cells_set events) (cell_colors events) r c) (slice_index (column_widths table) c) (slice_index (row_heights table) r) (lines_shown how text) k
-      (writes.filling (record { row = r; col = c })) (shown_clean how text (clean r c))
+      (padding_quiet (cells_set events) r c) (writes.filling (record { row = r; col = c })) (shown_clean how text (clean r c))
 
   alone_quiet : All QuietLine (painted_alone events table)
   unfolding painted_alone
@@ -255,7 +277,7 @@ module _ (events : List ConfigEvent) (table : Table) (clean : CellsAreClean tabl
       let how : Placement = placement_at (cells_set events) r c in
       let text : List ℕ = slice_index_or (slice_index_or table r []) c [] in
       cell_quiet how (coloring_at (cells_set events) (cell_colors events) r c) (wide r c) (high r c) (lines_shown how text) k
-      (writes.filling (record { row = r; col = c })) (shown_clean how text (clean r c))
+      (padding_quiet (cells_set events) r c) (writes.filling (record { row = r; col = c })) (shown_clean how text (clean r c))
 
   with_spans_quiet : All QuietLine (painted_with_spans events table)
   unfolding painted_with_spans
@@ -270,7 +292,7 @@ module _ (events : List ConfigEvent) (table : Table) (clean : CellsAreClean tabl
 
   painted_quiet : All QuietLine (painted events table)
   unfolding painted
-  painted_quiet = by_case (sets_no_spans events)
+  painted_quiet = by_case (leaves_sizes events)
     where
       by_case : (none : Bool) → All QuietLine (if none then painted_alone events table else painted_with_spans events table)
       by_case true = alone_quiet

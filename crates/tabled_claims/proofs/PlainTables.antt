@@ -11,11 +11,12 @@ use Rattle.tabled_grid.specs.declared.event.Event.TheVariants.{Erase as erase}
 use Rattle.tabled_grid.specs.declared.event.Region.TheVariants.{All as every_site}
 use Rattle.tabled_grid.specs.State.{class_record_set}
 use Rattle.tabled_object.specs.declared.position.Position.{Position}
+use Rattle.tabled_settings.specs.Padding.{keeps_first_padding}
 use Rattle.tabled_layout.specs.Spans.{position_cmp}
 use Rattle.tabled_layout.specs.TableSettings.{settings_after, first_settings}
 use Rattle.tabled_style.specs.Shown.{StyleShown}
 use Rattle.tabled_theme.specs.Events.{style_applied}
-use Rattle.tabled_text.specs.Cells.{sets_no_spans}
+use Rattle.tabled_text.specs.Cells.{leaves_sizes}
 use Rattle.tabled_pages.proofs.NoSpans.{no_settings}
 use Rattle.tabled_configuration.proofs.ConfigurationLemmas.{Shows_after_change}
 use Rattle.tabled_printing.specs.Columns.{is_narrow, WritesNarrow}
@@ -23,15 +24,15 @@ use Rattle.tabled_claims.specs.Clean.{ShowsPlainly, WritesClean, is_quiet}
 use Rattle.tabled_claims.proofs.Characters.{drawn_both}
 use Rattle.tabled_claims.proofs.CleanWrites.{clean_append}
 
--- events that set nothing else let no cell span
-none_after : (es made : List ConfigEvent) → settings_of made ≡ [] → sets_no_spans es ≡ true → sets_no_spans (es ++ made) ≡ true
+-- events that set nothing else leave the sizes as they are
+none_after : (es made : List ConfigEvent) → settings_of made ≡ [] → leaves_sizes es ≡ true → leaves_sizes (es ++ made) ≡ true
 none_after es made none before =
     let same : settings_of (es ++ made) ≡ settings_of es = filter_map-append setting_event es made ∙ ap (λ rest. settings_of es ++ rest) none ∙ append-nil (settings_of es) in
-    ap (λ all. let settings = settings_after first_settings all in (len settings.column_spans == 0) && (len settings.row_spans == 0)) same ∙ before
+    ap (λ all. let settings = settings_after first_settings all in ((len settings.column_spans == 0) && (len settings.row_spans == 0)) && keeps_first_padding settings.cells.padding) same ∙ before
 
--- no event lets no cell span
-pub nothing_spans : sets_no_spans [] ≡ true
-nothing_spans = λ i. (len-empty {K = Position} position_cmp ℕ i == 0) && (len-empty {K = Position} position_cmp ℕ i == 0)
+-- so does no event
+pub nothing_spans : leaves_sizes [] ≡ true
+nothing_spans = λ i. ((len-empty {K = Position} position_cmp ℕ i == 0) && (len-empty {K = Position} position_cmp ℕ i == 0)) && true
 
 -- a style sets nothing beside borders
 pub style_sets_nothing : (style : StyleShown) → settings_of (style_applied style) ≡ []

@@ -14,7 +14,7 @@ use Rattle.tabled_grid.specs.declared.lines.HorizontalLine.{HorizontalLine}
 use Rattle.tabled_grid.specs.declared.lines.VerticalLine.{VerticalLine}
 use Rattle.tabled_configuration.specs.Configuration.{Configuration, ConfigEvent, Shows, characters_of, settings_of}
 use Rattle.tabled_printing.specs.Columns.{WritesNarrow}
-use Rattle.tabled_text.specs.Cells.{cells_set, sets_no_spans}
+use Rattle.tabled_text.specs.Cells.{cells_set, leaves_sizes}
 use Rattle.tabled_claims.specs.Characters.{is_passing_write, passes_if_given, passes_border, passes_record, passes_horizontal, passes_vertical}
 
 -- whether a character does not steer
@@ -50,6 +50,6 @@ pub record WritesClean (events : List ConfigEvent) : Type 0 where
   pub borders : list_all is_clean_write (characters_of events) ≡ true
   pub filling : (position : Position) → steers (value_at (cells_set events).justification position) ≡ false
 
--- a configuration shows events that write narrow characters alone, none of which steers, and let no cell span
+-- a configuration shows events that write narrow characters alone, none of which steers, and that let no cell span or have padding
 abbrev pub ShowsPlainly : Configuration → Type 0
-ShowsPlainly cfg = (events : List ConfigEvent) × Shows events cfg × WritesNarrow events × WritesClean events × (sets_no_spans events ≡ true)
+ShowsPlainly cfg = (events : List ConfigEvent) × Shows events cfg × WritesNarrow events × WritesClean events × (leaves_sizes events ≡ true)

@@ -3,17 +3,42 @@
 ghost use Rattle.std.specs.Prelude.{IsOk, OnOk};
 ghost use Rattle.tabled_object.specs.declared.entity.Entity.TheVariants as cells;
 ghost use Rattle.tabled_configuration.specs.Colored.{Changes};
-ghost use Rattle.tabled_formatting.specs.Formatting.{alignment_set, justification_set, padding_set, strategy_set, trim_set};
+ghost use Rattle.tabled_formatting.specs.Formatting.{alignment_set, justification_set, padding_given, padding_set, strategy_set, trim_set};
 ghost use Rattle.tabled_formatting.specs.Margins.{margin_colored, margin_given, shadow_set};
 
 use std::alloc::Global;
 use tabled_border::{AnsiText, OutOfMemory};
 use tabled_configuration::{CellOption, ColoredConfig, TableOption};
 use tabled_formatting::{
-    Alignment, AlignmentStrategy, Justification, Margin, MarginColor, PaddingColor, Shadow,
-    TrimStrategy,
+    Alignment, AlignmentStrategy, Justification, Margin, MarginColor, Padding, PaddingColor,
+    Shadow, TrimStrategy,
 };
 use tabled_object::Entity;
+
+/// The padding of all cells, which takes no memory: its colors stay.
+pub fn padding_on_a_table<R, D>(
+    option: Padding,
+    records: &mut R,
+    cfg: &mut ColoredConfig,
+    dims: &mut D,
+) -> Result<(), OutOfMemory>
+    ensures changed { OnOk result (Changes (padding_given option cells.Global) cfg.old cfg.new) }
+    ensures always { IsOk result }
+{
+    option.change(records, cfg, dims)
+}
+
+/// The padding of the cells of an entity: its colors stay.
+pub fn padding_on_cells<R>(
+    option: &Padding,
+    records: &mut R,
+    cfg: &mut ColoredConfig,
+    entity: Entity,
+) -> Result<(), OutOfMemory>
+    ensures { OnOk result (Changes (padding_given option.now entity) cfg.old cfg.new) }
+{
+    option.change(records, cfg, entity)
+}
 
 /// The colors of the padding of all cells.
 pub fn padding_colors_on_a_table<C, R, D>(

@@ -11,6 +11,7 @@ ghost use Rattle.tabled_object.specs.declared.position.Position.{Position as At}
 ghost use Rattle.tabled_object.specs.declared.records.Shape.{Shape as Counts};
 ghost use Rattle.tabled_settings.specs.declared.alignment.AlignmentHorizontal.TheVariants as horizontally;
 ghost use Rattle.tabled_settings.specs.declared.alignment.AlignmentVertical.TheVariants as vertically;
+ghost use Rattle.tabled_settings.specs.declared.indent.Indent.{Indent as Filled};
 ghost use Rattle.tabled_settings.specs.declared.sides.Sides.{Sides as Four};
 ghost use Rattle.tabled_grid.specs.declared.borders.Borders.{Borders as Fifteen};
 ghost use Rattle.tabled_grid.specs.declared.lines.HorizontalLine.{HorizontalLine as Horizontal};
@@ -18,7 +19,6 @@ ghost use Rattle.tabled_grid.specs.declared.lines.VerticalLine.{VerticalLine as 
 ghost use Rattle.tabled_grid.specs.declared.offset.Offset.TheVariants as places;
 ghost use Rattle.tabled_grid.specs.declared.place.LineOf.TheVariants as lines;
 ghost use Rattle.tabled_grid.specs.declared.place.Place.TheVariants as spots;
-ghost use Rattle.tabled_layout.specs.declared.indent.Indent.{Indent as Filled};
 ghost use Rattle.tabled_color.specs.Shade.{Shade};
 ghost use Rattle.tabled_style.specs.Shown.{StyleShown};
 ghost use Rattle.tabled_options.specs.LineChar.{EdgeChar};
@@ -32,10 +32,9 @@ use tabled_border::{ANSIBuf, Border};
 use tabled_color::{BorderColor, Color};
 use tabled_formatting::{Alignment, AlignmentStrategy, PaddingColor, Shadow, TrimStrategy};
 use tabled_grid::{Borders, HorizontalLine, LineOf, Offset, Place, VerticalLine};
-use tabled_layout::Indent;
 use tabled_object::{Entity, Position, Shape};
 use tabled_options::LineChar;
-use tabled_settings::{AlignmentHorizontal, AlignmentVertical, Sides};
+use tabled_settings::{AlignmentHorizontal, AlignmentVertical, Indent, Sides};
 use tabled_style::{
     Border as StyleBorder, HorizontalLine as StyleHorizontal, Style, VerticalLine as StyleVertical,
 };

@@ -8,7 +8,8 @@ ghost use Rattle.tabled_object.specs.Entities.{position};
 ghost use Rattle.tabled_settings.specs.declared.alignment.AlignmentHorizontal.{AlignmentHorizontal};
 ghost use Rattle.tabled_settings.specs.declared.alignment.AlignmentVertical.{AlignmentVertical};
 ghost use Rattle.tabled_settings.specs.declared.cell_settings.CellSettings.{CellSettings};
-ghost use Rattle.tabled_settings.specs.CellSettings.{SettingEvent, settings_after, first_settings, settings_left, no_colors, alignment_horizontal_event, alignment_vertical_event, trim_horizontal_event, trim_vertical_event, line_alignment_event, justification_event, justification_color_event, padding_color_event};
+ghost use Rattle.tabled_settings.specs.CellSettings.{SettingEvent, settings_after, first_settings, settings_left, no_colors, alignment_horizontal_event, alignment_vertical_event, trim_horizontal_event, trim_vertical_event, line_alignment_event, justification_event, justification_color_event, padding_event, padding_color_event};
+ghost use Rattle.tabled_settings.specs.Padding.{first_padding};
 ghost use Rattle.tabled_settings.specs.Live.{after, after_all, at_first, value_at};
 ghost use Rattle.tabled_settings.specs.Setting.{EntityEvent, is_global, removal_of, setting, write_of};
 ghost use Rattle.tabled_configuration.specs.EntitiesColored.{entities_colored, text_writes};
@@ -148,6 +149,8 @@ pub fn each_by_its_own_events()
         → value_at (settings_after first_settings events).justification cell ≡ setting (filter_map justification_event events) 32 cell }
     ensures justification_color { (events : List SettingEvent) (cell : At)
         → value_at (settings_after first_settings events).justification_color cell ≡ setting (filter_map justification_color_event events) None cell }
+    ensures padding { (events : List SettingEvent) (cell : At)
+        → value_at (settings_after first_settings events).padding cell ≡ setting (filter_map padding_event events) first_padding cell }
     ensures padding_color { (events : List SettingEvent) (cell : At)
         → value_at (settings_after first_settings events).padding_color cell ≡ setting (filter_map padding_color_event events) no_colors cell }
 {}

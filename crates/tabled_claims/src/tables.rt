@@ -17,7 +17,7 @@ ghost use Rattle.tabled_painting.specs.Margin.{is_without_room};
 ghost use Rattle.tabled_painting.specs.Painted.{Painted, plain};
 ghost use Rattle.tabled_painting.specs.PaintedTable.{plain_text, colored_text};
 ghost use Rattle.tabled_painting.specs.Widths.{StandsStraightIn, text_width};
-ghost use Rattle.tabled_text.specs.Cells.{cell_texts, margin_set, sets_no_spans};
+ghost use Rattle.tabled_text.specs.Cells.{cell_texts, margin_set, leaves_sizes};
 ghost use Rattle.tabled_text.specs.Changed.{CellsAreClean, CellsArePrintable};
 ghost use Rattle.tabled_printing.specs.declared.print_error.PrintError.{PrintError as Fault};
 ghost use Rattle.tabled_text.specs.Fitted.{CanShare, IsFitted, frame_width, least_width};
@@ -137,20 +137,21 @@ pub fn text_of_a_table(table: &TextTable) -> Result<String, PrintError>
     table.to_text()
 }
 
-/// Where cells span, the text is that of the cells that are shown, each in the room of all columns and rows that it takes, around which all
-/// places are as they are drawn; and where none does, that of all cells, each at its place.
+/// Where cells span or padding is set, the text is that of the cells that are shown, each in the room of all columns and rows that it takes,
+/// around which all places are as they are drawn; and else that of all cells, each at its place.
 pub fn text_with_spans(table: &TextTable) -> Result<String, PrintError>
-    ensures spanned { (events : List ConfigEvent) → borders.Shows events table.now.config.spanned → sets_no_spans events ≡ false
+    ensures spanned { (events : List ConfigEvent) → borders.Shows events table.now.config.spanned → leaves_sizes events ≡ false
         → IfOk result (λ text. string_bytes text ≡ plain_text (painted_with_spans events table.now.texts)) }
-    ensures alone { (events : List ConfigEvent) → borders.Shows events table.now.config.spanned → sets_no_spans events ≡ true
+    ensures alone { (events : List ConfigEvent) → borders.Shows events table.now.config.spanned → leaves_sizes events ≡ true
         → IfOk result (λ text. string_bytes text ≡ plain_text (painted_alone events table.now.texts)) }
     ensures memory_alone { IsOkUnless result Fault.OutOfMemory }
 {
     table.to_text()
 }
 
-/// What an option reads of a table's sizes is what is set when it is applied: where no cell spans the sizes that the texts ask for, and else
-/// those of columns and rows in which each cell that is shown has room, by the lines that are drawn then.
+/// What an option reads of a table's sizes is what is set when it is applied: where no cell spans and no padding is set the sizes that the
+/// texts ask for, and else those of columns and rows in which each cell that is shown has room with its padding, by the lines that are drawn
+/// then.
 pub fn sizes_by_what_is_set<P>(table: &mut TextTable, option: P) -> Result<(), OutOfMemory>
 where
     P: TableOption<Shape, ColoredConfig, FixedDimension> + Drop,
@@ -179,34 +180,34 @@ pub fn text_written<W: fmt::Write>(table: &TextTable, out: &mut W) -> Result<(),
     table.write_to(out)
 }
 
-/// Where only narrow characters were written and no cell spans, the text of a table of equal rows is a rectangle, whatever its cells say and
-/// however they stand, and with any margin: each of its lines takes as many columns of the terminal as the others.
+/// Where only narrow characters were written, no cell spans and no padding is set, the text of a table of equal rows is a rectangle, whatever
+/// its cells say and however they stand, and with any margin: each of its lines takes as many columns of the terminal as the others.
 pub fn text_is_a_rectangle()
-    ensures { (events : List ConfigEvent) (table : Table) → unequal_row table ≡ None → ((r c : ℕ) → IsUtf8 (cell (slice_index_or table r []) c)) → WritesNarrow events → sets_no_spans events ≡ true
+    ensures { (events : List ConfigEvent) (table : Table) → unequal_row table ≡ None → ((r c : ℕ) → IsUtf8 (cell (slice_index_or table r []) c)) → WritesNarrow events → leaves_sizes events ≡ true
         → IsRectangle (text_width (look_of events table) (margin_set events)) (text_of events table) }
 {}
 
 /// And each vertical line that is drawn stands straight: reading the text's lines in the column that follows the left side of the margin and
 /// the columns before the line gives, from top to bottom, what the places along it show.
 pub fn vertical_lines_stand_straight()
-    ensures { (events : List ConfigEvent) (table : Table) → unequal_row table ≡ None → ((r c : ℕ) → IsUtf8 (cell (slice_index_or table r []) c)) → WritesNarrow events → sets_no_spans events ≡ true
+    ensures { (events : List ConfigEvent) (table : Table) → unequal_row table ≡ None → ((r c : ℕ) → IsUtf8 (cell (slice_index_or table r []) c)) → WritesNarrow events → leaves_sizes events ≡ true
         → is_empty (look_of events table).shape ≡ false → (c : ℕ) → c ≤ column_count table → (look_of events table).vertical c ≡ true
         → StandsStraightIn (look_of events table) (margin_set events) c (pieces (text_of events table)) }
 {}
 
 /// A table that is kept within a number of columns of the terminal prints lines that take no more, with its cells, its lines and its margin:
-/// where only narrow characters were written, where no cell spans, where the columns can have one column each, and where each text can be kept within the share
-/// of its column, as one can whose characters take one column, and one of any characters that is cut off.
+/// where only narrow characters were written, where no cell spans and no padding is set, where the columns can have one column each, and where
+/// each text can be kept within the share of its column, as one can whose characters take one column, and one of any characters that is cut off.
 pub fn fitted_table_fits(
     table: &mut TextTable,
     total: usize,
     how: Overflow<'_>,
 ) -> Result<String, PrintError>
-    ensures fits { (events : List ConfigEvent) → borders.Shows events table.old.config.spanned → WritesNarrow events → sets_no_spans events ≡ true → CanShare how.entry 1 (total - frame_width events table.old.texts) table.old.texts
+    ensures fits { (events : List ConfigEvent) → borders.Shows events table.old.config.spanned → WritesNarrow events → leaves_sizes events ≡ true → CanShare how.entry 1 (total - frame_width events table.old.texts) table.old.texts
         → least_width 1 events table.old.texts ≤ total → IfOk result (λ text. list_all (λ line. nat_le (width_of_text line) total) (pieces (string_bytes text)) ≡ true) }
     ensures texts { (events : List ConfigEvent) → borders.Shows events table.old.config.spanned
         → IfOk result (λ text. IsFitted how.entry 1 (total - frame_width events table.old.texts) table.old.texts table.new.texts) }
-    ensures printable { (events : List ConfigEvent) → borders.Shows events table.old.config.spanned → WritesNarrow events → sets_no_spans events ≡ true → ends_printable how.entry ≡ true → CellsArePrintable table.old.texts
+    ensures printable { (events : List ConfigEvent) → borders.Shows events table.old.config.spanned → WritesNarrow events → leaves_sizes events ≡ true → ends_printable how.entry ≡ true → CellsArePrintable table.old.texts
         → least_width 1 events table.old.texts ≤ total → IfOk result (λ text. list_all (λ line. nat_le (width_of_text line) total) (pieces (string_bytes text)) ≡ true) }
 {
     table.fit(total, how)?;
@@ -222,11 +223,11 @@ pub fn fitted_with_least_shares(
     how: Overflow<'_>,
 ) -> Result<String, PrintError>
     ensures fits { (events : List ConfigEvent) → borders.Shows events table.old.config.spanned → WritesNarrow events
-        → sets_no_spans events ≡ true → CanShare how.entry (max least 1) (total - frame_width events table.old.texts) table.old.texts → least_width (max least 1) events table.old.texts ≤ total
+        → leaves_sizes events ≡ true → CanShare how.entry (max least 1) (total - frame_width events table.old.texts) table.old.texts → least_width (max least 1) events table.old.texts ≤ total
         → IfOk result (λ text. list_all (λ line. nat_le (width_of_text line) total) (pieces (string_bytes text)) ≡ true) }
     ensures texts { (events : List ConfigEvent) → borders.Shows events table.old.config.spanned
         → IfOk result (λ text. IsFitted how.entry (max least 1) (total - frame_width events table.old.texts) table.old.texts table.new.texts) }
-    ensures printable { (events : List ConfigEvent) → borders.Shows events table.old.config.spanned → WritesNarrow events → sets_no_spans events ≡ true → ends_printable how.entry ≡ true → CellsArePrintable table.old.texts
+    ensures printable { (events : List ConfigEvent) → borders.Shows events table.old.config.spanned → WritesNarrow events → leaves_sizes events ≡ true → ends_printable how.entry ≡ true → CellsArePrintable table.old.texts
         → least_width (max least 1) events table.old.texts ≤ total → IfOk result (λ text. list_all (λ line. nat_le (width_of_text line) total) (pieces (string_bytes text)) ≡ true) }
 {
     table.fit_with(total, least, how)?;
@@ -242,7 +243,7 @@ pub fn least_width_of_a_table(table: &TextTable, least: usize) -> usize
 
 /// Nothing in the text of a table steers a terminal, where nothing in its cells does, nor among the characters that its options write: no
 /// character of the text, none between the texts of the colors, where it is written in color, and so no byte is a control character of ASCII
-/// but the line feed. What fills a margin never steers.
+/// but the line feed. What fills a margin or padding never steers.
 pub fn nothing_steers_the_terminal()
     ensures plain { (events : List ConfigEvent) (table : Table) → CellsAreClean table → WritesClean events → is_clean (text_of events table) ≡ true }
     ensures colored { (events : List ConfigEvent) (table : Table) → CellsAreClean table → WritesClean events
@@ -271,9 +272,9 @@ pub fn cleaned_table_in_color(table: &mut TextTable) -> Result<String, PrintErro
     table.to_ansi()
 }
 
-/// Where the margin has no room and no cell spans, the text of a table is what the plain printer prints around its cells.
+/// Where the margin has no room, no cell spans and no padding is set, the text of a table is what the plain printer prints around its cells.
 pub fn text_without_margin()
-    ensures { (events : List ConfigEvent) (table : Table) → is_without_room (margin_set events) ≡ true → sets_no_spans events ≡ true
+    ensures { (events : List ConfigEvent) (table : Table) → is_without_room (margin_set events) ≡ true → leaves_sizes events ≡ true
         → text_of events table ≡ printed events (length table, column_count table) (slice_index (column_widths table)) (slice_index (row_heights table))
         (cell_texts events table) }
 {}

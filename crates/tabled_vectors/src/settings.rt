@@ -5,7 +5,6 @@ use std::alloc::Global;
 use tabled_color::Color;
 use tabled_config::{ColoredConfig, CompactConfig, TableOption};
 use tabled_grid::{Borders, Combine, Offset, OutOfMemory, Position, Rows, Shape};
-
 use tabled_options::{Alignment, Colorization, Justification, MarginColor, Shadow, TrimStrategy};
 use tabled_settings::{Indent, Sides};
 use tabled_style::Style;

@@ -1,7 +1,8 @@
 use Rattle.std.proofs.Common.{false, None, refl}
 use Rattle.tabled_settings.specs.declared.alignment.AlignmentHorizontal.{AlignmentHorizontal}
 use Rattle.tabled_settings.specs.declared.alignment.AlignmentVertical.{AlignmentVertical}
-use Rattle.tabled_settings.specs.CellSettings.{no_colors, alignment_horizontal_event, alignment_vertical_event, trim_horizontal_event, trim_vertical_event, line_alignment_event, justification_event, justification_color_event, padding_color_event}
+use Rattle.tabled_settings.specs.CellSettings.{no_colors, alignment_horizontal_event, alignment_vertical_event, trim_horizontal_event, trim_vertical_event, line_alignment_event, justification_event, justification_color_event, padding_event, padding_color_event}
+use Rattle.tabled_settings.specs.Padding.{first_padding}
 use Rattle.tabled_settings.proofs.SettingsLemmas.{own_setting}
 use Rattle.tabled_claims.proofs.settings.each_by_its_own_events.Goals as goal
 
@@ -25,6 +26,9 @@ returns-clause-justification c = λ events cell. own_setting justification_event
 
 pub returns-clause-justification_color : goal.returns-clause-justification_color
 returns-clause-justification_color c = λ events cell. own_setting justification_color_event (λ s. s.justification_color) (λ s e. refl) None refl events cell
+
+pub returns-clause-padding : goal.returns-clause-padding
+returns-clause-padding c = λ events cell. own_setting padding_event (λ s. s.padding) (λ s e. refl) first_padding refl events cell
 
 pub returns-clause-padding_color : goal.returns-clause-padding_color
 returns-clause-padding_color c = λ events cell. own_setting padding_color_event (λ s. s.padding_color) (λ s e. refl) no_colors refl events cell
