@@ -1,10 +1,11 @@
 -- Columns of numbers: one column more, and one that is set.
-use Rattle.std.proofs.Common.{◌≡◌, ℕ, ◌+◌, Bool, true, false, if◌then◌else◌, List, [], ◌∷◌, ◌++◌, map, filter, flat_map, string_bytes, drop, length, min, zero, suc, arith, refl, sym, ap, subst, ◌∙◌, Result, Ok, Err, OnErr}
+use Rattle.std.proofs.Common.{◌≡◌, ℕ, ◌+◌, ◌-◌, Bool, true, false, if◌then◌else◌, List, [], ◌∷◌, ◌++◌, map, filter, flat_map, string_bytes, drop, take, length, min, zero, suc, arith, refl, sym, ap, subst, ◌∙◌, Result, Ok, Err, OnErr}
 use Rattle.std.specs.List.{drop-map, range_with_len}
 use Rattle.tabled_object.specs.Entities.{below}
 use Rattle.std.specs.declared.string.String.{String}
 use Rattle.std.specs.declared.vec.Vec.{Vec}
 use Rattle.std.proofs.lemmas.List.Elements.{filter-append}
+use Rattle.std.proofs.lemmas.List.{length-drop, take_all}
 use Rattle.std.proofs.lemmas.List.Concat.{flat_map-append}
 use Rattle.tabled_object.specs.declared.entity.Entity.TheVariants.{Column}
 use Rattle.tabled_settings.specs.declared.alignment.AlignmentHorizontal.{AlignmentHorizontal}
@@ -24,7 +25,7 @@ last a (suc n) j e = ap (λ rest. a ∷ rest) (last (a + 1) n j (omega (arith, e
 pub one_more : (test : ℕ → Bool) (old new : List ℕ) (col : ℕ) (holds : Bool) → holds ≡ test col → new ≡ old ++ (if holds then col ∷ [] else []) → old ≡ filter test (below col) → new ≡ filter test (below (col + 1))
 one_more test old new col holds is pushed before =
     pushed ∙ (λ i. before i ++ (if is i then col ∷ [] else [])) ∙ sym (filter-append test (below col) (col ∷ []))
-    ∙ ap (filter test) (sym (ap (range_with_len 0) (let on : col + 1 ≡ suc col = omega arith in on) ∙ last 0 col col refl))
+    ∙ ap (filter test) (sym (ap (range_with_len 0) (let on : col + 1 ≡ suc col = omega arith in on) ∙ last 0 col col (let start : 0 + col ≡ col = omega arith in start)))
 
 -- one column more stands at the right
 pub one_at_right : (so_far all : List ℕ) (col : ℕ) (old mid new : Configuration) → all ≡ so_far ++ col ∷ [] → Changes (at_right so_far) old mid → Changes (by_setting (of_alignment_horizontal (write_of (Column col) AlignmentHorizontal.Right))) mid new → Changes (at_right all) old new
@@ -45,11 +46,12 @@ drop_nil (suc n) = refl
 
 dropped : {X : Type 0} (headings n : ℕ) (xs : List X) → n ≡ min headings (length xs) → drop n xs ≡ drop headings xs
 dropped headings n [] is = drop_nil n ∙ sym (drop_nil headings)
-dropped zero n (x ∷ xs) is = ap (λ k. drop k (x ∷ xs)) (omega (arith, is))
+dropped zero n (x ∷ xs) is = ap (λ k. drop k (x ∷ xs)) (let nothing : n ≡ 0 = omega (arith, is) in nothing)
 dropped (suc headings) n (x ∷ xs) is = ap (λ k. drop k (x ∷ xs)) (let one_more : n ≡ suc (min headings (length xs)) = omega (arith, is) in one_more) ∙ dropped headings (min headings (length xs)) xs refl
 
-pub below_headings : {Z W : Type 0} (headings n : ℕ) (rows : List (Vec (String Z) W)) → n ≡ min headings (length rows) → texts (drop n rows) ≡ drop headings (texts rows)
-below_headings headings n rows is = ap texts (dropped headings n rows is) ∙ sym (drop-map (λ row. map string_bytes row.items) headings rows)
+pub below_headings : {Z W : Type 0} (headings n : ℕ) (rows : List (Vec (String Z) W)) → n ≡ min headings (length rows) → texts (take (length rows - n) (drop n rows)) ≡ drop headings (texts rows)
+below_headings headings n rows is =
+    ap texts (take_all (length rows - n) (drop n rows) (let left = length-drop n rows in omega (arith, left))) ∙ ap texts (dropped headings n rows is) ∙ sym (drop-map (λ row. map string_bytes row.items) headings rows)
 
 pub on_err : {A E P Q : Type 0} (result : Result A E) → (P → Q) → OnErr result P → OnErr result Q
 on_err (Ok x) f p = tt

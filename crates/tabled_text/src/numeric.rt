@@ -28,8 +28,7 @@ fn is_number_or_empty(text: &str) -> bool
 fn has_numbers_alone(rows: &[Vec<String>], col: usize) -> bool
     ensures { result ≡ list_all (λ row. is_number_or_empty (cell row col)) (texts rows.now) }
 {
-    rows.iter()
-        .all(|row| is_number_or_empty(text_of(row, col)))
+    rows.iter().all(|row| is_number_or_empty(text_of(row, col)))
 }
 
 /// Whether a cell of a column is a number.

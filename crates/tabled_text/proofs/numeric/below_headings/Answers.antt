@@ -1,5 +1,8 @@
+use Rattle.std.proofs.Common.{◌≡◌, arith, length, min}
 use Rattle.tabled_text.proofs.NumericLemmas.{below_headings}
 use Rattle.tabled_text.proofs.numeric.below_headings.Goals as goal
 
 pub returns : goal.returns
-returns c = below_headings c.args.headings c.min.result c.args.rows.now _
+returns c =
+    let first : c.min.result ≡ min c.args.headings (length c.args.rows.now) = omega (arith, c.min.ensures, c.len.ensures) in
+    below_headings c.args.headings c.min.result c.args.rows.now first

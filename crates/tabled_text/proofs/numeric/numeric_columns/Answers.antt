@@ -8,4 +8,4 @@ use Rattle.tabled_text.proofs.numeric.numeric_columns.Goals as goal
 pub loop-col-preserved : goal.loop-col-preserved
 loop-col-preserved c =
     one_more (is_numeric (drop c.args.headings (texts c.args.rows.now))) c.loop-col.columns.items c.push_if.new.columns.items c.loop-col.col c.is_numeric.result
-    (c.is_numeric.ensures ∙ ap (λ table. is_numeric table c.loop-col.col) c.below_headings.ensures) c.in_ok-push_if.ensures c.loop-col.invariant
+    (c.is_numeric.ensures ∙ ap (λ table. is_numeric table c.loop-col.col) c.below_headings-rows.ensures) c.in_ok-push_if.ensures c.loop-col.invariant

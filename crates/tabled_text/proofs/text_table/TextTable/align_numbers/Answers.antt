@@ -16,7 +16,7 @@ pub returns-in_err-columns-clause-err : goal.returns-in_err-columns-clause-err
 returns-in_err-columns-clause-err c = where_refused c.from_residual.result (0, none_change c.args.self.now.config)
 
 -- the columns that were found are those of the table
-found : (c : goal.After-set_at_right) → c.deref-2.result.now ≡ numeric_columns c.args.headings c.args.self.now.texts
+found : (c : goal.After-drop-columns) → c.deref-2.result.now ≡ numeric_columns c.args.headings c.args.self.now.texts
 found c =
     c.deref-2.ensures.value ∙ c.in_ok-columns.ensures
     ∙ (λ i. filter (is_numeric (drop c.args.headings (texts (c.deref.ensures.value i)))) (below ((ap (λ shape. shape.cols) c.self.invariant.1) i)))
@@ -35,7 +35,7 @@ returns-clause-err c =
     on_err c.set_at_right.result (λ changes. (
       changes.0,
       subst (λ old. Changes (at_right (take changes.0 (numeric_columns c.args.headings c.args.self.now.texts))) old (record { spanned = c.set_at_right.new.cfg; cell_colors = c.deref_mut.result.now.cell_colors }))
-      (c.deref_mut.ensures.value ∙ ap (λ (drawing : Drawing). drawing.config) c.self.view_is)
-      (Changes_lent _ _ c.deref_mut.result.now _ _ c.config_mut.ensures.value (ap (λ columns. at_right (take changes.0 columns)) (found c)) (none_colored (take changes.0 (numeric_columns c.args.headings c.args.self.now.texts))) changes.1),
+          (c.deref_mut.ensures.value ∙ ap (λ (drawing : Drawing). drawing.config) c.self.view_is)
+          (Changes_lent _ _ c.deref_mut.result.now _ _ c.config_mut.ensures.value (ap (λ columns. at_right (take changes.0 columns)) (found c)) (none_colored (take changes.0 (numeric_columns c.args.headings c.args.self.now.texts))) changes.1),
     ))
     c.set_at_right.ensures.err
