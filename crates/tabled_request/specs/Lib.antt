@@ -1,0 +1,4 @@
+pub mod Options
+pub mod Numerals
+pub mod Columns
+pub mod Words
