@@ -2,3 +2,4 @@ pub mod Options
 pub mod Numerals
 pub mod Columns
 pub mod Words
+pub mod Sides
