@@ -1,5 +1,5 @@
 -- Rows of cells between separators.
-use Rattle.std.specs.Prelude.{ℕ, ◌==◌, List, map, string_bytes}
+use Rattle.std.specs.Prelude.{ℕ, ◌==◌, nat_lt, if◌then◌else◌, List, [], ◌∷◌, map, string_bytes}
 use Rattle.std.specs.List.{slice_split}
 use Rattle.std.specs.Str.Lines.{lines}
 use Rattle.std.specs.declared.string.String.{String}
@@ -9,7 +9,11 @@ use Rattle.std.specs.declared.vec.Vec.{Vec}
 abbrev pub cells_of : {Z W : Type 0} → List (Vec (String Z) W) → List (List (List ℕ))
 cells_of rows = map (λ row. map string_bytes row.items) rows
 
+-- the cells of a line: it is cut at the separator, a character of ASCII; another one separates nothing
+abbrev pub cut_at : ℕ → List ℕ → List (List ℕ)
+cut_at separator line = if nat_lt separator 128 then slice_split (λ b. b == separator) line else line ∷ []
+
 -- the rows of a text: its lines, each cut at the separator. A line ends at a line feed, or at a carriage return and a line feed; one at the
 -- end of the text begins no further line
 unfoldable pub separated : ℕ → List ℕ → List (List (List ℕ))
-separated separator text = map (slice_split (λ b. b == separator)) (lines text)
+separated separator text = map (cut_at separator) (lines text)

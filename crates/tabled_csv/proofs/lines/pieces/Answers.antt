@@ -2,7 +2,7 @@
 use Rattle.std.proofs.Common.{◌∙◌}
 use Rattle.std.proofs.lemmas.Iterator.Consumers.{YieldsList-end}
 use Rattle.std.proofs.lemmas.Iterator.Splits.{YieldsList-from_str_split}
-use Rattle.tabled_csv.proofs.lines.cells.Goals as goal
+use Rattle.tabled_csv.proofs.lines.pieces.Goals as goal
 
 pub returns : goal.returns
 returns c =

@@ -1,0 +1,46 @@
+-- What an input says: its rows of cells, and the first reason for which it is refused.
+use Rattle.std.specs.Prelude.{ℕ, ◌+◌, not, ◌==◌, nat_lt, if◌then◌else◌, List, length, take, Option, Some, None}
+use Rattle.std.specs.List.{count_by, suffix_len}
+use Rattle.std.specs.Str.Lossy.{utf8_valid_len}
+use Rattle.tabled_csv.specs.Lines.{separated}
+use Rattle.tabled_csv.specs.Quoted.{csv_rows, has_open_quote}
+use Rattle.tabled_csv.specs.declared.quoted.CsvError.{CsvError}
+use Rattle.tabled_csv.specs.declared.quoted.CsvError.TheVariants as csv
+use Rattle.tabled_input.specs.declared.error.InputError.{InputError}
+use Rattle.tabled_input.specs.declared.error.InputError.TheVariants.{TooLong, NotUtf8, OpenQuote, OutOfMemory}
+use Rattle.tabled_input.specs.declared.read.TheConstants.{INPUT_LIMIT}
+use Rattle.tabled_input.specs.declared.rows.Cells.{Cells}
+use Rattle.tabled_input.specs.declared.rows.Cells.TheVariants.{Separated, Quoted}
+
+-- the rows of an input
+abbrev pub rows_in : Cells → List ℕ → List (List (List ℕ))
+rows_in (Separated separator) input = separated separator input
+rows_in (Quoted separator) input = csv_rows separator input
+
+-- the line of the byte after these, and its number in the line: both are counted from 1, and a line feed ends a line
+abbrev pub line_after : List ℕ → ℕ
+line_after bytes = count_by (λ b. b == 10) bytes + 1
+
+abbrev pub byte_after : List ℕ → ℕ
+byte_after bytes = suffix_len (λ b. not (b == 10)) bytes + 1
+
+-- the refusal of bytes that are no text of UTF-8: where the longest text that they begin with ends
+abbrev pub not_utf8 : List ℕ → InputError
+not_utf8 bytes = NotUtf8 (line_after (take (utf8_valid_len bytes) bytes)) (byte_after (take (utf8_valid_len bytes) bytes))
+
+-- why a text has no rows: a cell has no quote that ends it
+abbrev pub fault_of_text : Cells → List ℕ → Option InputError
+fault_of_text (Separated separator) text = None
+fault_of_text (Quoted separator) text = if has_open_quote separator text then Some (OpenQuote (length (csv_rows separator text))) else None
+
+-- the first reason for which an input is refused
+unfoldable pub fault_of : Cells → List ℕ → Option InputError
+fault_of cells input =
+    if nat_lt INPUT_LIMIT (length input) then Some TooLong
+    else if not (utf8_valid_len input == length input) then Some (not_utf8 input)
+    else fault_of_text cells input
+
+-- what a refusal of CSV is for an input
+abbrev pub of_csv : CsvError → InputError
+of_csv (csv.OpenQuote row) = OpenQuote row
+of_csv csv.OutOfMemory = OutOfMemory

@@ -1,0 +1,5 @@
+pub mod Options
+pub mod Numerals
+pub mod Columns
+pub mod Words
+pub mod Sides

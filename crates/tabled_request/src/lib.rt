@@ -1,0 +1,24 @@
+//! What the words after the program's name ask for, and what its surroundings say.
+//!
+//! `docs/DEFINITIONS.md` explains the words of the contracts.
+#![tactic(auto)]
+
+mod columns;
+mod error;
+mod given;
+mod numerals;
+mod options;
+mod request;
+mod sides;
+mod surroundings;
+mod words;
+
+pub use columns::{are_columns, names_column};
+pub use error::WordsError;
+pub use given::{GivenError, all_words};
+pub use numerals::number_of;
+pub use options::OptionName;
+pub use request::{FrameColor, Request, Shows};
+pub use sides::{Side, all_sides};
+pub use surroundings::{Surroundings, told_by};
+pub use words::{read_words, word_at};

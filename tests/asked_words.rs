@@ -1,0 +1,137 @@
+//! What words ask for, and which of them is wrong.
+
+use std::alloc::{AllocError, Global};
+use std::test::Fail;
+use tabled_request::{
+    FrameColor, OptionName, Request, Shows, WordsError, are_columns, names_column, number_of,
+    read_words,
+};
+
+/// Words that are given.
+fn words_of(alloc: Global, given: &[&str]) -> Result<Vec<String>, AllocError> {
+    let mut words = Vec::new(alloc);
+    for word in given {
+        words.push(String::from_str(alloc, word)?)?;
+    }
+    Ok(words)
+}
+
+/// What words ask for.
+fn asked(alloc: Global, given: &[&str]) -> Result<Result<Request, WordsError>, AllocError> {
+    let words = words_of(alloc, given)?;
+    Ok(read_words(&words))
+}
+
+#[test]
+fn nothing_is_asked_for_by_no_words(rt: HostRuntime) -> Result<(), Fail> {
+    let request = Request::of_no_words();
+    assert!(rt; asked(rt.alloc(), &[])? == Ok(request));
+    assert!(rt; request.shows == Shows::Table && request.has_header && request.finds_numbers);
+    assert!(rt; request.file.is_none() && request.style.is_none() && request.separator.is_none());
+    assert!(rt; !request.is_csv && !request.fills && !request.is_raw && !request.has_color);
+    Ok(())
+}
+
+#[test]
+fn options_without_values_are_read(rt: HostRuntime) -> Result<(), Fail> {
+    let none = Request::of_no_words();
+    for (word, request) in [
+        ("--csv", Request { is_csv: true, ..none }),
+        ("--header", none),
+        ("--no-header", Request { has_header: false, ..none }),
+        ("--no-numbers", Request { finds_numbers: false, ..none }),
+        ("--wrap", none),
+        ("--truncate", Request { cuts_off: true, ..none }),
+        ("--terminal", Request { fits_terminal: true, ..none }),
+        ("--stripes", Request { has_stripes: true, ..none }),
+        ("--fill", Request { fills: true, ..none }),
+        ("--raw", Request { is_raw: true, ..none }),
+        ("--help", Request { shows: Shows::Help, ..none }),
+        ("--version", Request { shows: Shows::Version, ..none }),
+        ("--styles", Request { shows: Shows::Styles, ..none }),
+        ("data.tsv", Request { file: Some(0), ..none }),
+        ("", Request { file: Some(0), ..none }),
+    ] {
+        assert!(rt; asked(rt.alloc(), &[word])? == Ok(request), "{word}");
+    }
+    Ok(())
+}
+
+#[test]
+fn options_with_values_are_read(rt: HostRuntime) -> Result<(), Fail> {
+    let none = Request::of_no_words();
+    for (option, value, request) in [
+        ("--style", "dots", Request { style: Some(1), ..none }),
+        ("--separator", ";", Request { separator: Some(';'), ..none }),
+        ("--separator", "\t", Request { separator: Some('\t'), ..none }),
+        ("--title", "--csv", Request { title: Some(1), ..none }),
+        ("--footer", "", Request { footer: Some(1), ..none }),
+        ("--left", "1", Request { left: Some(1), ..none }),
+        ("--center", "2-4,7", Request { center: Some(1), ..none }),
+        ("--right", "1,1", Request { right: Some(1), ..none }),
+        ("--width", "60", Request { width: Some(60), ..none }),
+        ("--width", "99999999999999999999", Request { width: Some(999_999_999), ..none }),
+        ("--color", "always", Request { has_color: true, ..none }),
+        ("--color", "never", none),
+        ("--frame-color", "cyan", Request { frame_color: Some(FrameColor::Cyan), ..none }),
+    ] {
+        assert!(rt; asked(rt.alloc(), &[option, value])? == Ok(request), "{option} {value}");
+    }
+    Ok(())
+}
+
+#[test]
+fn the_last_of_several_words_counts(rt: HostRuntime) -> Result<(), Fail> {
+    let none = Request::of_no_words();
+    let words = ["--no-header", "a", "--width", "3", "--header", "--width", "4", "--truncate", "--wrap"];
+    let request = Request { file: Some(1), width: Some(4), ..none };
+    assert!(rt; asked(rt.alloc(), &words)? == Ok(request));
+    Ok(())
+}
+
+#[test]
+fn wrong_words_are_refused(rt: HostRuntime) -> Result<(), Fail> {
+    let unknown = |word| WordsError::UnknownOption { word };
+    let bad = |option, word| WordsError::BadValue { option, word };
+    let cases: &[(&[&str], WordsError)] = &[
+        (&["--widht", "3"], unknown(0)),
+        (&["--csv", "-x"], unknown(1)),
+        (&["-"], unknown(0)),
+        (&["--CSV"], unknown(0)),
+        (&["a", "b", "-x"], WordsError::SecondFile { word: 1 }),
+        (&["--csv", "--title"], WordsError::NoValue { option: OptionName::Title }),
+        (&["--separator", ""], bad(OptionName::Separator, 1)),
+        (&["--separator", "ab"], bad(OptionName::Separator, 1)),
+        (&["--separator", "é"], bad(OptionName::Separator, 1)),
+        (&["--separator", "\""], bad(OptionName::Separator, 1)),
+        (&["--separator", "\n"], bad(OptionName::Separator, 1)),
+        (&["--title", "a\nb"], bad(OptionName::Title, 1)),
+        (&["--csv", "--footer", "\n"], bad(OptionName::Footer, 2)),
+        (&["--left", "0"], bad(OptionName::Left, 1)),
+        (&["--left", ""], bad(OptionName::Left, 1)),
+        (&["--center", "3-2"], bad(OptionName::Center, 1)),
+        (&["--right", "1,,2"], bad(OptionName::Right, 1)),
+        (&["--right", "1-2-3"], bad(OptionName::Right, 1)),
+        (&["--width", "0"], bad(OptionName::Width, 1)),
+        (&["--width", "+7"], bad(OptionName::Width, 1)),
+        (&["--width", "wide"], bad(OptionName::Width, 1)),
+        (&["--color", "auto"], bad(OptionName::Color, 1)),
+        (&["--frame-color", "Red"], bad(OptionName::FrameColor, 1)),
+    ];
+    for (words, refusal) in cases {
+        assert!(rt; asked(rt.alloc(), words)? == Err(*refusal), "{words:?}");
+    }
+    Ok(())
+}
+
+#[test]
+fn columns_and_numbers_are_named(rt: HostRuntime) {
+    for (word, named) in [("1", "+---"), ("2-3", "-++-"), ("1,4", "+--+"), ("4,2-2", "-+-+")] {
+        assert!(rt; are_columns(word), "{word}");
+        for (col, sign) in named.bytes().enumerate() {
+            assert!(rt; names_column(word, col) == (sign == b'+'), "{word} {col}");
+        }
+    }
+    assert!(rt; !names_column("1-99999999999", 1_000_000_000) && names_column("1-99999999999", 999_999_998));
+    assert!(rt; number_of("007") == Some(7) && number_of("").is_none() && number_of("1x").is_none());
+}
