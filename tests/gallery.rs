@@ -537,6 +537,37 @@ vvvvvvvvvvvvvvvvvvv
 }
 
 #[test]
+fn title_over_all_columns_is_drawn(rt: HostRuntime) -> Result<(), Fail> {
+    let text = recipes::title_over_all_columns(rt.alloc())?;
+    let picture = "
+┌─────────────┐
+│ staff       │
+├───────┬─────┤
+│ name  │ age │
+├───────┼─────┤
+│ Alice │ 30  │
+├───────┼─────┤
+│ Bob   │ 7   │
+└───────┴─────┘
+";
+    assert!(rt; is_picture(text.as_str(), picture));
+    Ok(())
+}
+
+#[test]
+fn columns_of_numbers_are_drawn(rt: HostRuntime) -> Result<(), Fail> {
+    let text = recipes::columns_of_numbers(rt.alloc())?;
+    let picture = "
+ name  | age 
+-------+-----
+ Alice |  30 
+ Bob   |   7 
+";
+    assert!(rt; is_picture(text.as_str(), picture));
+    Ok(())
+}
+
+#[test]
 fn headings_are_drawn(rt: HostRuntime) -> Result<(), Fail> {
     let text = recipes::headings(rt.alloc())?;
     let picture = "

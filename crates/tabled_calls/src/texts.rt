@@ -3,6 +3,7 @@
 ghost use Rattle.std.specs.Prelude.{◌≡◌, ◌++◌, ◌∷◌, ◌≤◌, ◌<◌, ◌-◌, [], ℕ, true, false, min, length, sum, slice_index, chars, string_bytes, if◌then◌else◌, IfOk, IfSome, OnOk, OnErr, MatchOption};
 ghost use Rattle.std.specs.List.{list_all};
 ghost use Rattle.tabled_clean.specs.Steering.{steers, without_steering, cleaned, is_clean};
+ghost use Rattle.tabled_numbers.specs.Numbers.{is_number};
 ghost use Rattle.tabled_object.specs.Listing.{covered};
 ghost use Rattle.tabled_object.specs.declared.position.Position.{Position as At};
 ghost use Rattle.tabled_text.specs.Changed.{CellsAreClean, cells_changed, each_text, texts_of_cells};
@@ -275,4 +276,11 @@ pub fn room_shared(
     ensures fits { IfOk result (λ shares. used least asked.now ≤ room → sum shares.items ≤ room) }
 {
     tabled_width::shares_of(alloc, asked, room, least)
+}
+
+/// Which texts are numbers.
+pub fn number_told(text: &str) -> bool
+    ensures { result ≡ is_number text.now }
+{
+    tabled_numbers::is_number(text)
 }

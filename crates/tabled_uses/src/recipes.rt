@@ -97,6 +97,22 @@ pub fn margin(alloc: Global) -> Result<String, TableError> {
     Ok(table.to_text()?)
 }
 
+/// A title over all columns.
+pub fn title_over_all_columns(alloc: Global) -> Result<String, TableError> {
+    let mut table = people(alloc)?;
+    table.with(Style::modern())?;
+    table.insert_title("staff")?;
+    Ok(table.to_text()?)
+}
+
+/// Columns of numbers, which are found below the headings.
+pub fn columns_of_numbers(alloc: Global) -> Result<String, TableError> {
+    let mut table = people(alloc)?;
+    table.with(Style::psql())?;
+    table.align_numbers(1)?;
+    Ok(table.to_text()?)
+}
+
 /// A heading over two columns, beside one over two rows.
 pub fn headings(alloc: Global) -> Result<String, TableError> {
     let rows: &[&[&str]] = &[

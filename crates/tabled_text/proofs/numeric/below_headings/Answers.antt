@@ -4,5 +4,5 @@ use Rattle.tabled_text.proofs.numeric.below_headings.Goals as goal
 
 pub returns : goal.returns
 returns c =
-    let first : c.min.result ≡ min c.args.headings (length c.args.rows.now) = omega (arith, c.min.ensures, c.len.ensures) in
+    let first : c.min.result ≡ min c.args.headings (length c.args.rows.now) = c.min.ensures in
     below_headings c.args.headings c.min.result c.args.rows.now first
