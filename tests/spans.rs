@@ -127,3 +127,27 @@ fn equal_spans_look_alike(rt: HostRuntime) -> Result<(), Fail> {
     assert!(rt; text.as_str() != other.as_str());
     Ok(())
 }
+
+#[test]
+fn several_cells_span_at_once(rt: HostRuntime) -> Result<(), OutOfMemory> {
+    let mut cfg = SpannedConfig::new(rt.alloc());
+    cfg.set_column_span(Position::new(1, 0), 5)?;
+    let cells = [Position::new(2, 1), Position::new(1, 0)];
+    cfg.set_column_spans(&cells, 3)?;
+    cfg.set_row_spans(&cells, 2)?;
+    assert_eq!(rt; column_spans(rt.alloc(), &cfg)?.as_slice(), &[(1, 0, 3), (2, 1, 3)]);
+    assert_eq!(rt; row_spans(rt.alloc(), &cfg)?.as_slice(), &[(1, 0, 2), (2, 1, 2)]);
+    cfg.set_column_spans(&cells, 1)?;
+    assert_eq!(rt; column_spans(rt.alloc(), &cfg)?.len(), 0);
+    Ok(())
+}
+
+#[test]
+fn spans_of_one_direction_are_set_at_once(rt: HostRuntime) -> Result<(), OutOfMemory> {
+    let mut spans = Spans::new(rt.alloc());
+    spans.set_all(rt.alloc(), &[Position::new(0, 4), Position::new(3, 0)], 2)?;
+    assert_eq!(rt; spans.get(Position::new(3, 0)), Some(2));
+    assert_eq!(rt; spans.get(Position::new(0, 4)), Some(2));
+    assert_eq!(rt; spans.get(Position::new(0, 0)), None);
+    Ok(())
+}

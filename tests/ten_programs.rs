@@ -113,8 +113,7 @@ fn in_a_named_style(alloc: Global, name: &str) -> Result<String, TableError> {
     let Some(style) = ReadyStyle::from_name(name) else {
         return Err(TableError::UnknownStyle);
     };
-    let mut theme = Theme::new(alloc);
-    theme.set_borders(style.borders());
+    let mut theme = Theme::from_ready(alloc, style)?;
     theme.remove_borders_vertical();
     theme.remove_borders_intersection();
     theme.remove_borders_intersection_top();

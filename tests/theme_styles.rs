@@ -71,3 +71,12 @@ fn themes_print_what_framed_styles_print(rt: HostRuntime) -> Result<(), Fail> {
     assert!(rt; is_its_theme(rt.alloc(), Style::ascii_rounded(), Style::ascii_rounded())?);
     Ok(())
 }
+
+#[test]
+fn a_theme_of_a_ready_style_draws_it(rt: HostRuntime) -> Result<(), tabled::TableError> {
+    let mut table = tabled::TextTable::new(rt.alloc(), &[&["a"]])?;
+    let style = tabled::settings::style::ReadyStyle::Modern;
+    table.with(Theme::from_ready(rt.alloc(), style)?)?;
+    assert_eq!(rt; table.to_text()?.as_str(), "┌───┐\n│ a │\n└───┘");
+    Ok(())
+}
