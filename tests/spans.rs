@@ -135,8 +135,8 @@ fn several_cells_span_at_once(rt: HostRuntime) -> Result<(), OutOfMemory> {
     let cells = [Position::new(2, 1), Position::new(1, 0)];
     cfg.set_column_spans(&cells, 3)?;
     cfg.set_row_spans(&cells, 2)?;
-    assert_eq!(rt; column_spans(rt.alloc(), &cfg)?.as_slice(), &[(1, 0, 3), (2, 1, 3)]);
-    assert_eq!(rt; row_spans(rt.alloc(), &cfg)?.as_slice(), &[(1, 0, 2), (2, 1, 2)]);
+    assert_eq!(rt; column_spans(rt.alloc(), &cfg)?.as_slice(), [(1, 0, 3), (2, 1, 3)].as_slice());
+    assert_eq!(rt; row_spans(rt.alloc(), &cfg)?.as_slice(), [(1, 0, 2), (2, 1, 2)].as_slice());
     cfg.set_column_spans(&cells, 1)?;
     assert_eq!(rt; column_spans(rt.alloc(), &cfg)?.len(), 0);
     Ok(())
