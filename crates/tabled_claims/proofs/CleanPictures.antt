@@ -19,7 +19,7 @@ use Rattle.tabled_printing.specs.Along.{is_empty, along, crossing_at}
 use Rattle.tabled_printing.specs.Picture.{Look, character, mark_at, marks_along}
 use Rattle.tabled_printing.specs.Texts.{Table, width_of_text}
 use Rattle.tabled_cells.specs.declared.placement.Placement.{Placement}
-use Rattle.tabled_cells.specs.Placed.{times, lines_above, free_before, fill_of, filled, line_parts, aligned_width}
+use Rattle.tabled_cells.specs.Placed.{times, lines_above as cell_lines_above, free_before, fill_of, filled, line_parts, aligned_width}
 use Rattle.tabled_cells.specs.Placements.{placement_at}
 use Rattle.tabled_cells.specs.Trimmed.{lines_shown}
 use Rattle.tabled_painting.specs.Painted.{Painted, paint, plain}
@@ -102,7 +102,7 @@ line_quiet how colors width aligned line padded filling quiet =
 
 module _ (how : Placement) (colors : Coloring) (width height : ℕ) (lines : List (List ℕ)) (n : ℕ) where
   abbrev above : ℕ
-  above = lines_above how height (length lines)
+  above = cell_lines_above how height (length lines)
 
   abbrev line : List ℕ
   line = get_or lines (n - above) []
