@@ -4,7 +4,9 @@ use crate::turn::{Named, Outcome, Turn};
 use std::alloc::Global;
 use tabled::builder::Builder;
 use tabled::{TableError, Tabled, TextTable};
-use tabled_grid::OutOfMemory;
+use tabled_csv::separated;
+use tabled_grid::{OutOfMemory, Position};
+use tabled_settings::AlignmentHorizontal;
 use tabled_rows::{fill_rows, reserve_column};
 
 /// A row of the texts of two numbers.
@@ -100,7 +102,7 @@ fn roomy(
 }
 
 /// The calls on tables and records.
-pub(crate) fn tables() -> [Named; 12] {
+pub(crate) fn tables() -> [Named; 16] {
     [
         ("TextTable::of", |turn| {
             turn.spend();
@@ -109,6 +111,20 @@ pub(crate) fn tables() -> [Named; 12] {
         ("TextTable::push_row", |turn| changed(turn, |table, row| table.push_row(row).is_ok(), 3)),
         ("TextTable::insert_row", |turn| changed(turn, |table, row| table.insert_row(0, row).is_ok(), 3)),
         ("TextTable::remove_row", |turn| changed(turn, |table, _row| table.remove_row(0).is_ok(), 1)),
+        ("TextTable::insert_title", |turn| changed(turn, |table, _row| table.insert_title("e").is_ok(), 3)),
+        ("TextTable::insert_footer", |turn| changed(turn, |table, _row| table.insert_footer("e").is_ok(), 3)),
+        ("TextTable::align_numbers", |turn| {
+            let mut table = TextTable::new(turn.alloc(), &[&["1", "2"]]).map_err(|_refused| OutOfMemory)?;
+            turn.spend();
+            let returned = table.align_numbers(0);
+            let first = table.config().config().get_alignment_horizontal(Position::new(0, 1));
+            let is_set = first == AlignmentHorizontal::Right;
+            Ok(Outcome::of(returned, is_set, !is_set))
+        }),
+        ("separated", |turn| {
+            turn.spend();
+            Ok(Outcome::of_value(separated(turn.alloc(), "a\tb", '\t').map(|rows| rows.len() == 1)))
+        }),
         ("Builder::push_record", |turn| built(turn, |builder, row| builder.push_record(row), (2, 2))),
         ("Builder::insert_record", |turn| built(turn, |builder, row| builder.insert_record(0, row), (2, 2))),
         ("Builder::push_column", |turn| built(turn, |builder, row| builder.push_column(row), (2, 3))),

@@ -137,6 +137,18 @@ fn set_a_span(turn: &mut Turn) -> Result<Outcome, OutOfMemory> {
     Ok(Outcome::of(returned, spans.get(position) == Some(2), spans == copy))
 }
 
+/// What becomes of spans of which two are set at once, one in the place of another.
+fn set_spans(turn: &mut Turn) -> Result<Outcome, OutOfMemory> {
+    let mut spans = Spans::new(turn.alloc());
+    spans.set(Position::new(1, 1), 5)?;
+    let copy = spans.keep(turn.alloc())?;
+    turn.spend();
+    let cells = [Position::new(0, 3), Position::new(1, 1)];
+    let returned = spans.set_all(turn.alloc(), &cells, 2);
+    let is_done = spans.get(cells[0]) == Some(2) && spans.get(cells[1]) == Some(2);
+    Ok(Outcome::of(returned, is_done, spans == copy))
+}
+
 /// What becomes of a copy of a configuration's colors of cells.
 fn copy_colors(turn: &mut Turn) -> Result<Outcome, OutOfMemory> {
     let sample = Sample::new(turn.alloc())?;
@@ -156,9 +168,10 @@ fn copy_colored(turn: &mut Turn) -> Result<Outcome, OutOfMemory> {
 }
 
 /// Spans, and copies of what is set.
-pub(crate) fn copies() -> [Named; 8] {
+pub(crate) fn copies() -> [Named; 9] {
     [
         ("Spans::set", set_a_span),
+        ("Spans::set_all", set_spans),
         (
             "<Spans as Keep>::keep",
             |turn| {
@@ -537,7 +550,7 @@ fn remove_color(turn: &mut Turn) -> Result<Outcome, OutOfMemory> {
 }
 
 /// Colors of cells, and spans.
-pub(crate) fn colors_and_spans() -> [Named; 5] {
+pub(crate) fn colors_and_spans() -> [Named; 7] {
     [
         (
             "ColoredConfig::set_color",
@@ -568,6 +581,26 @@ pub(crate) fn colors_and_spans() -> [Named; 5] {
                     turn,
                     Sample::bare,
                     |cfg| cfg.set_row_span(Position::new(0, 0), usize::MAX),
+                )
+            },
+        ),
+        (
+            "SpannedConfig::set_column_spans",
+            |turn| {
+                call(
+                    turn,
+                    Sample::bare,
+                    |cfg| cfg.set_column_spans(&[Position::new(0, 0), Position::new(1, 0)], 2),
+                )
+            },
+        ),
+        (
+            "SpannedConfig::set_row_spans",
+            |turn| {
+                call(
+                    turn,
+                    Sample::bare,
+                    |cfg| cfg.set_row_spans(&[Position::new(0, 0), Position::new(0, 1)], 2),
                 )
             },
         ),

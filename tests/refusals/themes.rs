@@ -5,7 +5,7 @@ use crate::turn::{Named, Outcome, Turn};
 use std::alloc::Global;
 use tabled_border::{Keep, OutOfMemory};
 use tabled_grid::VerticalLine;
-use tabled_style::{HorizontalLine, Style};
+use tabled_style::{HorizontalLine, ReadyStyle, Style};
 use tabled_theme::Theme;
 
 /// A theme of a style with two lines, and a color of its own texts.
@@ -37,6 +37,13 @@ fn from_style(turn: &mut Turn) -> Result<Outcome, OutOfMemory> {
     ];
     let made = Theme::from_style(turn.alloc(), Style::rounded().horizontals(lines));
     Ok(Outcome::of_value(made.map(|theme| theme.get_horizontal_line(2).is_some())))
+}
+
+/// What becomes of the theme of a ready style.
+fn from_ready(turn: &mut Turn) -> Result<Outcome, OutOfMemory> {
+    turn.spend();
+    let made = Theme::from_ready(turn.alloc(), ReadyStyle::Rounded);
+    Ok(Outcome::of_value(made.map(|theme| theme.get_horizontal_line(1).is_some())))
 }
 
 /// What becomes of the theme of a configuration.
@@ -78,9 +85,10 @@ fn put(
 }
 
 /// Each call of a theme.
-pub(crate) fn calls() -> [Named; 5] {
+pub(crate) fn calls() -> [Named; 6] {
     [
         ("Theme::from_style", from_style),
+        ("Theme::from_ready", from_ready),
         ("Theme::from_config", from_config),
         ("<Theme as Keep>::keep", keep),
         (
