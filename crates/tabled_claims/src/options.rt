@@ -72,8 +72,7 @@ where
     option.change(records, cfg, entity)
 }
 
-/// The same for the entities that an object lists, in turn. A refusal leaves the changes of a beginning of the listing, each
-/// whole.
+/// The same for the entities that an object lists, in turn. A refusal leaves the changes of the first of them, each whole.
 pub fn any_option_on_an_object<R, O, P>(
     alloc: Global,
     records: &mut R,
