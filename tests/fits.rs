@@ -2,7 +2,8 @@
 
 use std::alloc::Global;
 use std::test::Fail;
-use tabled::settings::{Shadow, Style};
+use tabled::settings::object::Cell;
+use tabled::settings::{Padding, Shadow, Style};
 use tabled::texts::{Overflow, fits};
 use tabled::{TableError, TextTable};
 use tabled_border::OutOfMemory;
@@ -55,6 +56,47 @@ fn a_margin_takes_its_room(rt: HostRuntime) -> Result<(), TableError> {
     let text = table.to_text()?;
     assert!(rt; is_within(text.as_str(), 15) && !is_within(text.as_str(), 14));
     assert!(rt; text.as_str().contains("| ab~ | x~ |"));
+    Ok(())
+}
+
+#[test]
+fn padding_takes_its_room(rt: HostRuntime) -> Result<(), TableError> {
+    let mut table = TextTable::new(rt.alloc(), &[&["abcdefgh", "xyz"]])?;
+    table.with(Style::ascii())?.with(Padding::new(2, 1, 0, 0))?;
+    assert_eq!(rt; table.least_width(1), 11);
+    table.fit(14, Overflow::Truncate("~"))?;
+    let expected = "+------+-----+\n\
+                    |  ab~ |  x~ |\n\
+                    +------+-----+";
+    assert_eq!(rt; table.to_text()?.as_str(), expected);
+    Ok(())
+}
+
+#[test]
+fn without_padding_texts_have_its_room(rt: HostRuntime) -> Result<(), TableError> {
+    let mut table = TextTable::new(rt.alloc(), &[&["abcdefgh", "xyz"]])?;
+    table.with(Style::ascii())?.with(Padding::zero())?;
+    table.fit(8, Overflow::Truncate("~"))?;
+    let expected = "+---+--+\n\
+                    |ab~|x~|\n\
+                    +---+--+";
+    assert_eq!(rt; table.to_text()?.as_str(), expected);
+    Ok(())
+}
+
+#[test]
+fn the_widest_padding_of_a_column_counts(rt: HostRuntime) -> Result<(), TableError> {
+    let mut table = TextTable::new(rt.alloc(), &[&["a", "b"], &["abcdefgh", "c"]])?;
+    table.with(Style::ascii())?;
+    table.modify(Cell::new(0, 0), Padding::new(3, 3, 0, 0))?;
+    assert_eq!(rt; table.least_width(1), 13);
+    table.fit(16, Overflow::Truncate("~"))?;
+    let expected = "+-------+---+\n\
+                    |   a   | b |\n\
+                    +-------+---+\n\
+                    | abc~  | c |\n\
+                    +-------+---+";
+    assert_eq!(rt; table.to_text()?.as_str(), expected);
     Ok(())
 }
 

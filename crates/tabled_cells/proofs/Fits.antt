@@ -1,11 +1,12 @@
 -- Each line of a cell is as wide as its column, and has no line feed.
-use Rattle.std.proofs.Common.{◌≡◌, ◌==◌, ◌&&◌, ℕ, ◌+◌, ◌-◌, ◌<◌, ◌≤◌, zero, suc, max, fold, Bool, true, false, if◌then◌else◌, not, ltb, List, [], ◌∷◌, ◌++◌, map, length, get_or, take, replicate, reverse, refl, sym, ap, subst, ◌∙◌, arith, lit<, encode_utf8, length-append}
+use Rattle.std.proofs.Common.{◌≡◌, ◌==◌, ◌&&◌, ◌||◌, ℕ, ◌+◌, ◌-◌, ◌<◌, ◌≤◌, zero, suc, max, fold, Bool, true, false, if◌then◌else◌, not, ltb, List, [], ◌∷◌, ◌++◌, map, length, get_or, take, replicate, reverse, refl, sym, ap, subst, ◌∙◌, arith, lit<, encode_utf8, encode_utf8_all, length-append}
 use Rattle.std.specs.Prelude.{chars}
 use Rattle.std.specs.Str.{IsUtf8}
-use Rattle.std.specs.List.{All}
-use Rattle.std.proofs.lemmas.Bool.{ltb-true, and_parts, eqb-true}
+use Rattle.std.specs.List.{All, list_all}
+use Rattle.std.proofs.lemmas.Bool.{ltb-true, and_from, and_parts, eqb-true}
+use Rattle.std.proofs.lemmas.Bool.Decides.{nat_tests}
 use Rattle.std.proofs.lemmas.List.{append_assoc, get_or_default, get_or-reverse, take_at, length-replicate, length-reverse, reverse-append, reverse-reverse, get_or_at}
-use Rattle.std.proofs.lemmas.List.Elements.{All-nil, All-head, All-tail, All-append, All-map}
+use Rattle.std.proofs.lemmas.List.Elements.{All-nil, All-cons, All-head, All-tail, All-append, All-map}
 use Rattle.std.proofs.lemmas.Str.{encode_ascii, chars-append, chars-IsAscii, IsUtf8-append, IsUtf8-take, IsUtf8-drop, IsUtf8-from_ascii, IsCharBoundary-before_ascii, IsCharBoundary-after_ascii}
 use Rattle.unicode_width.specs.Width.{str_width}
 use Rattle.unicode_width.proofs.Rules.{str_width-append_simple, str_width-printable}
@@ -17,14 +18,18 @@ use Rattle.tabled_settings.specs.declared.sides.Sides.{Sides}
 use Rattle.tabled_settings.specs.Live.{value_at}
 use Rattle.tabled_settings.specs.Padding.{first_padding, keeps_first_padding}
 use Rattle.tabled_settings.proofs.Paddings.{no_padding_at}
-use Rattle.tabled_printing.specs.Columns.{draws_plainly}
+use Rattle.tabled_printing.specs.Columns.{draws_plainly, is_narrow, is_narrow_kind}
+use Rattle.unicode_width.specs.Kind.{kind}
+use Rattle.tabled_width.specs.Texts.{is_printable}
+use Rattle.tabled_width.specs.Limited.{IsPrintableText}
+use Rattle.tabled_printing.proofs.Ranges.{plainly_narrow}
 use Rattle.tabled_printing.specs.Texts.{pieces, width_of_text}
 use Rattle.tabled_printing.proofs.PieceTexts.{IsUtf8-piece, piece_lacks}
-use Rattle.tabled_printing.proofs.Tiles.{IsOther, Lacks, Tile, Tile-space, Tile-times, Splits-append, Splits-encoded, Splits-utf8, char_lacks, spaces_simple, spaces_printable, space_first, from_space}
+use Rattle.tabled_printing.proofs.Tiles.{IsOther, Lacks, Tile, Tile-append, Tile-narrow, Tile-same, Tile-space, Tile-times, Splits-append, Splits-encoded, Splits-utf8, char_lacks, spaces_simple, spaces_printable, space_first, from_space}
 use Rattle.tabled_cells.specs.declared.placement.Placement.{Placement}
 use Rattle.tabled_cells.specs.Trimmed.{without_first, without_ends, is_space, is_blank, line_shown, lines_shown}
 use Rattle.tabled_cells.specs.Placements.{placement_at}
-use Rattle.tabled_cells.specs.Placed.{HasSpaces, padding_shown, fill_shown, line_parts, lines_above, free_before, times, filled, fill_of, greatest, aligned_width}
+use Rattle.tabled_cells.specs.Placed.{StartsWithSpaces, padding_shown, fill_shown, line_parts, lines_above, free_before, times, filled, fill_of, greatest, aligned_width}
 use Rattle.tabled_printing.proofs.TimesLemmas.{IsAscii-spaces, times_spaces}
 
 -- ---- a line of a cell, as text
@@ -79,8 +84,12 @@ spaces_after text n u =
     ∙ str_width-append_simple false (chars text) (replicate n 32) (spaces_simple n)
     ∙ ap (λ m. width_of_text text + m) (str_width-printable false (replicate n 32) (spaces_printable n) ∙ length-replicate n 32)
 
--- a line filled with spaces between spaces
-spaces_filled : (padding : Sides Indent) → HasSpaces padding → (before after : ℕ) (line : List ℕ) → IsUtf8 line
+-- narrow characters after a text
+narrow_after : (text : List ℕ) (n character : ℕ) → is_narrow character ≡ true → IsUtf8 text → width_of_text (text ++ times n character) ≡ width_of_text text + n
+narrow_after text n character narrow u = ap (str_width false) (chars-append text (times n character) u) ∙ (Tile-times n character narrow).apart (chars text)
+
+-- a line filled with spaces after spaces
+spaces_filled : (padding : Sides Indent) → StartsWithSpaces padding → (before after : ℕ) (line : List ℕ) → IsUtf8 line
     → width_of_text (filled padding 32 before after line) ≡ padding.left.size + before + width_of_text line + after + padding.right.size
 spaces_filled padding has before after line u =
     let left : ℕ = padding.left.size in
@@ -89,12 +98,12 @@ spaces_filled padding has before after line u =
     let front : List ℕ = replicate left 32 ++ own_text in
     let whole : List ℕ = front ++ replicate after 32 in
     let front_text = IsUtf8-append (replicate left 32) own_text (IsUtf8-spaces left) (IsUtf8-append (replicate before 32) line (IsUtf8-spaces before) u) in
-    let ends = spaces_after whole right (IsUtf8-append front (replicate after 32) front_text (IsUtf8-spaces after)) in
+    let ends = narrow_after whole right padding.right.fill has.right (IsUtf8-append front (replicate after 32) front_text (IsUtf8-spaces after)) in
     let sides = spaces_after front after front_text in
     let first = spaces_before left own_text in
     let own = spaces_before before line in
-    (λ i. width_of_text ((ap (times left) has.left ∙ times_spaces left) i ++ times_spaces before i ++ line ++ times_spaces after i ++ (ap (times right) has.right ∙ times_spaces right) i))
-    ∙ ap (λ bs. width_of_text (bs ++ replicate after 32 ++ replicate right 32)) (append_assoc (replicate left 32) (replicate before 32) line)
+    (λ i. width_of_text ((ap (times left) has.left ∙ times_spaces left) i ++ times_spaces before i ++ line ++ times_spaces after i ++ times right padding.right.fill))
+    ∙ ap (λ bs. width_of_text (bs ++ replicate after 32 ++ times right padding.right.fill)) (append_assoc (replicate left 32) (replicate before 32) line)
     ∙ omega (arith, ends, first, sides, own)
 
 -- ---- a line in its column
@@ -111,7 +120,7 @@ wide_by padding character width before after line true e spaces =
     ∙ eqb-true (width_of_text (filled padding character before after line)) width (and_parts (not (character == 10)) (width_of_text (filled padding character before after line) == width) e).1
 wide_by padding character width before after line false e spaces = ap (λ b. width_of_text (filled padding (if b then character else 32) before after line)) e ∙ spaces
 
-wide_line : (how : Placement) → HasSpaces how.padding → (width aligned : ℕ) (line : List ℕ) → IsUtf8 line → width_of_text line ≤ aligned → how.padding.left.size + aligned + how.padding.right.size ≤ width
+wide_line : (how : Placement) → StartsWithSpaces how.padding → (width aligned : ℕ) (line : List ℕ) → IsUtf8 line → width_of_text line ≤ aligned → how.padding.left.size + aligned + how.padding.right.size ≤ width
     → width_of_text (placed_line how width aligned line) ≡ width
 unfolding placed_line line_parts
 wide_line how has width aligned line u narrow room =
@@ -159,8 +168,20 @@ pub settings_lack : (settings : CellSettings) (r c : ℕ) → NoFeeds (placement
 unfolding placement_at
 settings_lack settings r c = shown_lack (value_at settings.padding (record { row = r; col = c }))
 
-spaces_lack : (padding : Sides Indent) → HasSpaces padding → NoFeeds padding
-spaces_lack padding has = record { left = ap (λ c. c == 10) has.left; right = ap (λ c. c == 10) has.right; top = ap (λ c. c == 10) has.top; bottom = ap (λ c. c == 10) has.bottom }
+narrow_other : (character : ℕ) → is_narrow character ≡ true → (character == 10) ≡ false
+narrow_other character narrow = by (character == 10) refl
+  where
+    by : (feed : Bool) → (character == 10) ≡ feed → (character == 10) ≡ false
+    by true is = absurd (let feed : is_narrow 10 ≡ true = ap is_narrow (sym (eqb-true character 10 is)) ∙ narrow in cc)
+    by false is = is
+
+spaces_lack : (padding : Sides Indent) → StartsWithSpaces padding → NoFeeds padding
+spaces_lack padding has = record {
+  left = ap (λ c. c == 10) has.left;
+  right = narrow_other padding.right.fill has.right;
+  top = narrow_other padding.top.fill has.top;
+  bottom = narrow_other padding.bottom.fill has.bottom;
+}
 
 filled_lacks : (padding : Sides Indent) → NoFeeds padding → (character before after : ℕ) (line : List ℕ) → (character == 10) ≡ false → Lacks line → Lacks (filled padding character before after line)
 filled_lacks padding none character before after line other lack =
@@ -205,7 +226,7 @@ filled_tile padding spaces (suc k) long some character before after line width u
     (Splits-encoded (replicate padding.right.size padding.right.fill)))
     (ap width_of_text (sym is) ∙ wide) (All-tail IsOther 32 rest (subst Lacks is lacks)))
 
-line_tile : (how : Placement) → HasSpaces how.padding → 1 ≤ how.padding.left.size → (width aligned : ℕ) (line : List ℕ) → IsUtf8 line → width_of_text (placed_line how width aligned line) ≡ width
+line_tile : (how : Placement) → StartsWithSpaces how.padding → 1 ≤ how.padding.left.size → (width aligned : ℕ) (line : List ℕ) → IsUtf8 line → width_of_text (placed_line how width aligned line) ≡ width
     → Lacks (placed_line how width aligned line) → Tile width (placed_line how width aligned line)
 unfolding placed_line line_parts
 line_tile how has some width aligned line u wide lacks =
@@ -219,8 +240,19 @@ pub padding_unset : (settings : CellSettings) (r c : ℕ) → keeps_first_paddin
 unfolding placement_at
 padding_unset settings r c is = ap padding_shown (no_padding_at settings.padding (record { row = r; col = c }) is)
 
-pub first_spaces : (padding : Sides Indent) → padding ≡ first_padding → HasSpaces padding
-first_spaces padding is = record { left = ap (λ (sides : Sides Indent). sides.left.fill) is; right = ap (λ (sides : Sides Indent). sides.right.fill) is; top = ap (λ (sides : Sides Indent). sides.top.fill) is; bottom = ap (λ (sides : Sides Indent). sides.bottom.fill) is }
+shown_narrow : (fill : ℕ) → is_narrow (fill_shown fill) ≡ true
+shown_narrow fill = by_test (draws_plainly fill) refl
+  where
+    by_test : (plainly : Bool) → draws_plainly fill ≡ plainly → is_narrow (if plainly then fill else 32) ≡ true
+    by_test true e = plainly_narrow fill e
+    by_test false e = refl
+
+-- the padding of a cell starts with spaces where these are at its left
+pub starts_with_spaces : (settings : CellSettings) (r c : ℕ) → (placement_at settings r c).padding.left.fill ≡ 32 → StartsWithSpaces (placement_at settings r c).padding
+unfolding placement_at
+starts_with_spaces settings r c spaces =
+    let set = value_at settings.padding (record { row = r; col = c }) in
+    record { left = spaces; right = shown_narrow set.right.fill; top = shown_narrow set.top.fill; bottom = shown_narrow set.bottom.fill }
 
 -- ---- what is trimmed of lines
 
@@ -322,6 +354,89 @@ widest_narrow most start (line ∷ lines) small all =
     let here : width_of_text line ≤ most = (All-head (Good most) line lines all).narrow in
     widest_narrow most (max start (width_of_text line)) lines (omega arith) (All-tail (Good most) line lines all)
 
+-- ---- lines of printable ASCII
+
+abbrev Printable : List ℕ → Type 0
+Printable line = All (λ byte. is_printable byte ≡ true) line
+
+printable_bytes : (line : List ℕ) → list_all is_printable line ≡ true → Printable line
+printable_bytes [] all = All-nil (λ byte. is_printable byte ≡ true)
+printable_bytes (byte ∷ line) all =
+    let parts = and_parts (is_printable byte) (list_all is_printable line) all in
+    All-cons (λ byte. is_printable byte ≡ true) byte line parts.0 (printable_bytes line parts.1)
+
+narrow_bytes : (line : List ℕ) → Printable line → list_all is_narrow line ≡ true
+narrow_bytes [] all = refl
+narrow_bytes (byte ∷ line) all =
+    let here : is_narrow byte ≡ true = ap (λ b. b || (ltb 0xA0 byte && is_narrow_kind (kind byte))) (All-head (λ byte. is_printable byte ≡ true) byte line all) in
+    and_from (is_narrow byte) (list_all is_narrow line) here (narrow_bytes line (All-tail (λ byte. is_printable byte ≡ true) byte line all))
+
+ascii_bytes : (line : List ℕ) → Printable line → encode_utf8_all line ≡ line
+ascii_bytes [] all = refl
+ascii_bytes (byte ∷ line) all =
+    let here = All-head (λ byte. is_printable byte ≡ true) byte line all in
+    let low : byte < 128 = grind (arith, nat_tests, here) in
+    (λ i. encode_ascii byte low i ++ ascii_bytes line (All-tail (λ byte. is_printable byte ≡ true) byte line all) i)
+
+bytes_tile : (line : List ℕ) → Printable line → Tile (length line) line
+bytes_tile line all = subst (Tile (length line)) (ascii_bytes line all) (Tile-narrow line (narrow_bytes line all))
+
+printable_shown : (how : Placement) (text : List ℕ) → IsPrintableText text → All Printable (lines_shown how text)
+unfolding lines_shown
+printable_shown how text printable = kept how.trim_vertical (map (line_shown how) (pieces text)) (All-map Printable (line_shown how) (pieces text) (λ k d within. trimmed how.trim_horizontal (get_or (pieces text) k d) (printable_bytes (get_or (pieces text) k d) (printable k d within))))
+  where
+    trimmed : (trim : Bool) (line : List ℕ) → Printable line → Printable (if trim then without_ends is_space line else line)
+    trimmed true line all = All-without_ends (λ byte. is_printable byte ≡ true) is_space line all
+    trimmed false line all = all
+
+    kept : (trim : Bool) (lines : List (List ℕ)) → All Printable lines → All Printable (if trim then without_ends is_blank lines else lines)
+    kept true lines all = All-without_ends Printable is_blank lines all
+    kept false lines all = all
+
+-- a padding of narrow characters, as what is shown of any is
+pub record IsNarrowPadding (padding : Sides Indent) : Type 0 where
+  pub left : is_narrow padding.left.fill ≡ true
+  pub right : is_narrow padding.right.fill ≡ true
+  pub top : is_narrow padding.top.fill ≡ true
+  pub bottom : is_narrow padding.bottom.fill ≡ true
+
+pub narrow_padding : (settings : CellSettings) (r c : ℕ) → IsNarrowPadding (placement_at settings r c).padding
+unfolding placement_at
+narrow_padding settings r c =
+    let set = value_at settings.padding (record { row = r; col = c }) in
+    record { left = shown_narrow set.left.fill; right = shown_narrow set.right.fill; top = shown_narrow set.top.fill; bottom = shown_narrow set.bottom.fill }
+
+fill_narrow : (padding : Sides Indent) (character width before after : ℕ) (line : List ℕ) → is_narrow character ≡ true → is_narrow (fill_of padding character width before after line) ≡ true
+fill_narrow padding character width before after line narrow = by (not (character == 10) && (width_of_text (filled padding character before after line) == width))
+  where
+    by : (fits : Bool) → is_narrow (if fits then character else 32) ≡ true
+    by true = narrow
+    by false = refl
+
+narrow_line : (how : Placement) → IsNarrowPadding how.padding → is_narrow how.justification ≡ true → (width aligned : ℕ) (line : List ℕ) → Printable line → width_of_text line ≤ aligned
+    → how.padding.left.size + aligned + how.padding.right.size ≤ width → Tile width (placed_line how width aligned line)
+unfolding placed_line line_parts
+narrow_line how sides narrow width aligned line printable less room =
+    let padding : Sides Indent = how.padding in
+    let left : ℕ = padding.left.size in
+    let right : ℕ = padding.right.size in
+    let free : ℕ = width - left - right in
+    let before : ℕ = free_before how.alignment_horizontal (free - aligned) in
+    let after : ℕ = free - before - width_of_text line in
+    let fill : ℕ = fill_of padding how.justification width before after line in
+    let filling : is_narrow fill ≡ true = fill_narrow padding how.justification width before after line narrow in
+    let own = bytes_tile line printable in
+    let stands = before_fits how.alignment_horizontal (free - aligned) in
+    let first : List ℕ = times left padding.left.fill in
+    let last : List ℕ = times right padding.right.fill in
+    let long = own.wide in
+    Tile-same (left + before + length line + after + right) width (filled padding fill before after line) (omega (arith, stands, long, less, room))
+    (Tile-append (left + before + length line + after) right (first ++ times before fill ++ line ++ times after fill) last
+    (Tile-append (left + before + length line) after (first ++ times before fill ++ line) (times after fill)
+    (Tile-append (left + before) (length line) (first ++ times before fill) line
+    (Tile-append left before first (times before fill) (Tile-times left padding.left.fill sides.left) (Tile-times before fill filling)) own) (Tile-times after fill filling))
+    (Tile-times right padding.right.fill sides.right))
+
 -- ---- a cell
 
 aligned_room : (each : Bool) (own all : ℕ) → own ≤ all → own ≤ (if each then own else all)
@@ -367,7 +482,7 @@ module _ (how : Placement) (width height : ℕ) (text : List ℕ) (n : ℕ) wher
       by_case false true is = placed_lacks how none width (aligned_width how shown line) line (shown_lacks how text (n - above) [] (ltb-true (n - above) (length shown) is))
       by_case false false is = times_lack width how.padding.bottom.fill none.bottom
 
-  module _ (has : HasSpaces how.padding) (u : IsUtf8 text) (room : how.padding.left.size + greatest (map width_of_text (pieces text)) + how.padding.right.size ≤ width) where
+  module _ (has : StartsWithSpaces how.padding) (u : IsUtf8 text) (room : how.padding.left.size + greatest (map width_of_text (pieces text)) + how.padding.right.size ≤ width) where
     text_wide : n - above < length shown → width_of_text (placed_line how width (aligned_width how shown line) line) ≡ width
     text_wide within =
         let most : ℕ = greatest (map width_of_text (pieces text)) in
@@ -377,8 +492,8 @@ module _ (how : Placement) (width height : ℕ) (text : List ℕ) (n : ℕ) wher
         wide_line how has width (aligned_width how shown line) line good.utf8 (aligned_room how.line_alignment (width_of_text line) (greatest (map width_of_text shown)) own)
         (let least = aligned_most how.line_alignment (width_of_text line) (greatest (map width_of_text shown)) most good.narrow all in omega (arith, least))
 
-    empty_tile : (side : Indent) → side.fill ≡ 32 → Tile width (empty_line side width)
-    empty_tile side spaces = subst (λ fill. Tile width (times width fill)) (sym spaces) (Tile-times width 32 refl)
+    empty_tile : (side : Indent) → is_narrow side.fill ≡ true → Tile width (empty_line side width)
+    empty_tile side narrow = Tile-times width side.fill narrow
 
     -- a line of a cell is as wide as its column, where that leaves room for the text
     pub placed_at_wide : width_of_text (placed_at how width height (lines_shown how text) n) ≡ width
@@ -400,3 +515,24 @@ module _ (how : Placement) (width height : ℕ) (text : List ℕ) (n : ℕ) wher
             line_tile how has some width (aligned_width how shown line) line (shown_good how text u (n - above) [] within).utf8 (text_wide within)
             (placed_lacks how (spaces_lack how.padding has) width (aligned_width how shown line) line (shown_lacks how text (n - above) [] within))
         by_case false false is = empty_tile how.padding.bottom has.bottom
+
+  -- a cell of printable ASCII between narrow characters is a tile too, also without any padding
+  module _ (sides : IsNarrowPadding how.padding) (fill : is_narrow how.justification ≡ true) (u : IsUtf8 text) (printable : IsPrintableText text)
+      (room : how.padding.left.size + greatest (map width_of_text (pieces text)) + how.padding.right.size ≤ width) where
+    printable_line : n - above < length shown → Tile width (placed_line how width (aligned_width how shown line) line)
+    printable_line within =
+        let most : ℕ = greatest (map width_of_text (pieces text)) in
+        let good : Good most line = shown_good how text u (n - above) [] within in
+        let all : greatest (map width_of_text shown) ≤ most = widest_narrow most 0 shown (omega arith) (shown_good how text u) in
+        let own : width_of_text line ≤ greatest (map width_of_text shown) = greatest_bound width_of_text 0 shown (n - above) [] within in
+        narrow_line how sides fill width (aligned_width how shown line) line (printable_shown how text printable (n - above) [] within)
+        (aligned_room how.line_alignment (width_of_text line) (greatest (map width_of_text shown)) own)
+        (let least = aligned_most how.line_alignment (width_of_text line) (greatest (map width_of_text shown)) most good.narrow all in omega (arith, least))
+
+    pub printable_tile : Tile width (placed_at how width height (lines_shown how text) n)
+    printable_tile = by_case (ltb n above) (ltb (n - above) (length shown)) refl
+      where
+        by_case : (first second : Bool) → ltb (n - above) (length shown) ≡ second → Tile width (by_place first second)
+        by_case true second is = Tile-times width how.padding.top.fill sides.top
+        by_case false true is = printable_line (ltb-true (n - above) (length shown) is)
+        by_case false false is = Tile-times width how.padding.bottom.fill sides.bottom

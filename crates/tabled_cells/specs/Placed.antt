@@ -1,11 +1,11 @@
 -- A cell as it is printed: where its text stands in it, and what fills the rest.
 pub use Rattle.tabled_printing.specs.Texts.{times}
-use Rattle.std.specs.Prelude.{◌≡◌, ℕ, ◌+◌, ◌-◌, ◌/◌, ◌==◌, ◌&&◌, not, max, fold, if◌then◌else◌, List, ◌++◌, map}
+use Rattle.std.specs.Prelude.{◌≡◌, ℕ, true, ◌+◌, ◌-◌, ◌/◌, ◌==◌, ◌&&◌, not, max, fold, if◌then◌else◌, List, ◌++◌, map}
 use Rattle.tabled_settings.specs.declared.alignment.AlignmentHorizontal.{AlignmentHorizontal}
 use Rattle.tabled_settings.specs.declared.alignment.AlignmentVertical.{AlignmentVertical}
 use Rattle.tabled_settings.specs.declared.indent.Indent.{Indent}
 use Rattle.tabled_settings.specs.declared.sides.Sides.{Sides}
-use Rattle.tabled_printing.specs.Columns.{draws_plainly}
+use Rattle.tabled_printing.specs.Columns.{draws_plainly, is_narrow}
 use Rattle.tabled_printing.specs.Texts.{width_of_text}
 use Rattle.tabled_cells.specs.declared.filling.LineParts.{LineParts}
 use Rattle.tabled_cells.specs.declared.placement.Placement.{Placement}
@@ -22,12 +22,12 @@ indent_shown side = record { size = side.size; fill = fill_shown side.fill }
 abbrev pub padding_shown : Sides Indent → Sides Indent
 padding_shown padding = record { left = indent_shown padding.left; right = indent_shown padding.right; top = indent_shown padding.top; bottom = indent_shown padding.bottom }
 
--- a padding of spaces, whatever its sizes
-pub record HasSpaces (padding : Sides Indent) : Type 0 where
+-- a padding that has spaces at the left, and narrow characters on its other sides, whatever its sizes: what is shown of any padding is narrow
+pub record StartsWithSpaces (padding : Sides Indent) : Type 0 where
   pub left : padding.left.fill ≡ 32
-  pub right : padding.right.fill ≡ 32
-  pub top : padding.top.fill ≡ 32
-  pub bottom : padding.bottom.fill ≡ 32
+  pub right : is_narrow padding.right.fill ≡ true
+  pub top : is_narrow padding.top.fill ≡ true
+  pub bottom : is_narrow padding.bottom.fill ≡ true
 
 -- how much of what is free in a line stands before the text, and how many of the free lines stand above it: of an odd number the
 -- middle leaves one more behind

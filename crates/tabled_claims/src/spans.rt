@@ -1,7 +1,7 @@
 //! The margin, spans, what is shown where cells span, and the correction of borders beside them.
 
-ghost use Rattle.std.specs.Prelude.{◌≡◌, ◌≤◌, ◌++◌, List, None, unwrap_or, ℕ, map, true, OnOk, OnErr};
-ghost use Rattle.std.specs.List.{filter_map, last_or};
+ghost use Rattle.std.specs.Prelude.{◌≡◌, ◌≤◌, ◌<◌, ◌+◌, ◌==◌, ◌++◌, if◌then◌else◌, Bool, List, None, unwrap_or, ℕ, map, slice_index, true, OnOk, OnErr};
+ghost use Rattle.std.specs.List.{filter_map, last_or, range_with_len, sum_by};
 ghost use Rattle.tabled_object.specs.declared.position.Position.{Position as At};
 ghost use Rattle.tabled_layout.specs.declared.table_settings.TableSettings.{TableSettings};
 ghost use Rattle.tabled_layout.specs.Margin.{MarginEvent, margin_after, first_margin, size_event, offset_event, color_event};
@@ -15,7 +15,10 @@ ghost use Rattle.tabled_configuration.specs.Configuration.{Configuration, Change
 ghost use Rattle.tabled_correction.specs.Correction.{Write, written_over, spanned, columns_corrected, rows_corrected, inner_corrected, crossing_written, crossings_written, correction_events};
 ghost use Rattle.tabled_configuration.specs.Colored as colored;
 ghost use Rattle.tabled_correction.specs.Span.{span_events};
+ghost use Rattle.tabled_rooms.specs.Growing.{size_part};
 ghost use Rattle.tabled_rooms.specs.Hosts.{Cell as Shown, Counts, IsAlone, Takes, host};
+ghost use Rattle.tabled_rooms.specs.Rooms.{one_if, room_width};
+ghost use Rattle.tabled_rooms.specs.Sizes.{below, is_own, row_count, spanned_heights, spanned_widths};
 ghost use Rattle.std.specs.FinMap as map;
 
 use tabled_border::OutOfMemory;
@@ -90,6 +93,23 @@ pub fn cells_alone()
 pub fn hosts_stand()
     ensures takes { (columns rows : Counts) → ((r c : ℕ) → 1 ≤ columns r c) → ((r c : ℕ) → 1 ≤ rows r c) → (r c : ℕ) → Takes columns rows (host columns rows r c) r c }
     ensures at_home { (columns rows : Counts) → (r c : ℕ) → host columns rows (host columns rows r c).0 (host columns rows r c).1 ≡ host columns rows r c }
+{}
+
+/// Each cell that is shown has the room that it asks for, over all columns and rows that it takes and the lines between them that are drawn.
+pub fn shown_cells_have_room()
+    ensures wide { (columns rows : Counts) → ((r c : ℕ) → 1 ≤ columns r c) → ((r c : ℕ) → 1 ≤ rows r c) → (shape : ℕ × ℕ) (asked : Counts) (vertical : ℕ → Bool) (r c : ℕ) → r < shape.0 → c < shape.1
+        → is_own columns rows shape r c ≡ true → asked r c ≤ room_width (slice_index (spanned_widths columns rows shape asked vertical)) vertical (host columns rows r) shape.1 c }
+    ensures high { (columns rows : Counts) → ((r c : ℕ) → 1 ≤ columns r c) → ((r c : ℕ) → 1 ≤ rows r c) → (shape : ℕ × ℕ) (asked : Counts) (horizontal : ℕ → Bool) (r c : ℕ) → r < shape.0 → c < shape.1
+        → is_own columns rows shape r c ≡ true
+        → asked r c ≤ sum_by (size_part (spanned_heights columns rows shape asked horizontal) horizontal r) (range_with_len r (row_count columns rows shape r c)) }
+{}
+
+/// What is shown along a row fills it: the rooms of the cells that are shown there, each with the line before it, take what the columns of the
+/// row and the lines before these take.
+pub fn rooms_fill_each_row()
+    ensures { (columns rows : Counts) → ((r c : ℕ) → 1 ≤ columns r c) → ((r c : ℕ) → 1 ≤ rows r c) → (widths : ℕ → ℕ) (vertical : ℕ → Bool) (count r : ℕ)
+        → sum_by (λ c. if (host columns rows r c).1 == c then one_if (vertical c) + room_width widths vertical (host columns rows r) count c else 0) (below count)
+        ≡ sum_by (λ c. one_if (vertical c) + widths c) (below count) }
 {}
 
 /// A cell is shown wherever it spans, if no other cell spans over any of these places.

@@ -5,25 +5,27 @@ ghost use Rattle.std.specs.Io.KnownBytes.{Appends};
 ghost use Rattle.std.specs.List.{All, list_all};
 ghost use Rattle.std.specs.Str.{IsUtf8};
 ghost use Rattle.tabled_clean.specs.Steering.{is_clean};
+ghost use Rattle.tabled_object.specs.Entities.{position};
+ghost use Rattle.tabled_settings.specs.Live.{value_at};
 ghost use Rattle.tabled_configuration.specs.Colored.{Shows, Changes};
 ghost use Rattle.tabled_configuration.specs.Configuration.{ConfigEvent};
 ghost use Rattle.tabled_configuration.specs.Configuration as borders;
 ghost use Rattle.tabled_configuration.specs.Options.{MakesInTurn};
 ghost use Rattle.tabled_printing.specs.Along.{is_empty};
-ghost use Rattle.tabled_printing.specs.Columns.{IsRectangle, WritesNarrow};
+ghost use Rattle.tabled_printing.specs.Columns.{IsRectangle, WritesNarrow, is_narrow};
 ghost use Rattle.tabled_printing.specs.Picture.{printed};
 ghost use Rattle.tabled_printing.specs.Texts.{Table, pieces, texts, width_of_text};
 ghost use Rattle.tabled_painting.specs.Margin.{is_without_room};
 ghost use Rattle.tabled_painting.specs.Painted.{Painted, plain};
 ghost use Rattle.tabled_painting.specs.PaintedTable.{plain_text, colored_text};
 ghost use Rattle.tabled_painting.specs.Widths.{StandsStraightIn, text_width};
-ghost use Rattle.tabled_text.specs.Cells.{cell_texts, margin_set, leaves_sizes};
+ghost use Rattle.tabled_text.specs.Cells.{KeepsApart, StandApart, cell_texts, cells_set, margin_set, leaves_sizes, sets_no_padding, sets_no_spans};
 ghost use Rattle.tabled_text.specs.Changed.{CellsAreClean, CellsArePrintable};
 ghost use Rattle.tabled_printing.specs.declared.print_error.PrintError.{PrintError as Fault};
 ghost use Rattle.tabled_text.specs.Fitted.{CanShare, IsFitted, frame_width, least_width};
 ghost use Rattle.tabled_text.specs.Refusal.{unequal};
 ghost use Rattle.tabled_text.specs.Sizes.{cell, column_count, column_widths, row_heights, unequal_row};
-ghost use Rattle.tabled_text.specs.TextTable.{AreRead, heights_read, lent_rows, look_of, painted, painted_alone, painted_with_spans, shape_of, text_of, widths_read};
+ghost use Rattle.tabled_text.specs.TextTable.{AreRead, heights_read, lent_rows, look_of, look_printed, painted, painted_alone, painted_with_spans, shape_of, text_of, widths_read};
 ghost use Rattle.tabled_object.specs.declared.dimension.FixedDimension.{FixedDimension};
 ghost use Rattle.tabled_text.specs.declared.table_error.TableError.{TableError as Refusal};
 ghost use Rattle.std.specs.Fmt.{WritesOnOk};
@@ -180,34 +182,39 @@ pub fn text_written<W: fmt::Write>(table: &TextTable, out: &mut W) -> Result<(),
     table.write_to(out)
 }
 
-/// Where only narrow characters were written, no cell spans and no padding is set, the text of a table of equal rows is a rectangle, whatever
-/// its cells say and however they stand, and with any margin: each of its lines takes as many columns of the terminal as the others.
+/// Where only narrow characters were written, and the padding of each cell begins with a space, the text of a table of equal rows is a
+/// rectangle, whatever its cells say, however they stand, whichever of them span, and with any margin: each of its lines takes as many columns
+/// of the terminal as the others. So it is where no padding is set [unset]; and, whatever padding is set, for texts of printable ASCII, where
+/// narrow characters fill the cells beside them [printable].
 pub fn text_is_a_rectangle()
-    ensures { (events : List ConfigEvent) (table : Table) → unequal_row table ≡ None → ((r c : ℕ) → IsUtf8 (cell (slice_index_or table r []) c)) → WritesNarrow events → leaves_sizes events ≡ true
-        → IsRectangle (text_width (look_of events table) (margin_set events)) (text_of events table) }
+    ensures rectangle { (events : List ConfigEvent) (table : Table) → unequal_row table ≡ None → ((r c : ℕ) → IsUtf8 (cell (slice_index_or table r []) c)) → WritesNarrow events → StandApart events table
+        → IsRectangle (text_width (look_printed events table) (margin_set events)) (text_of events table) }
+    ensures unset { (events : List ConfigEvent) (table : Table) → sets_no_padding events ≡ true → StandApart events table }
+    ensures printable { (events : List ConfigEvent) (table : Table) → CellsArePrintable table → ((r c : ℕ) → is_narrow (value_at (cells_set events).justification (position r c)) ≡ true) → StandApart events table }
 {}
 
-/// And each vertical line that is drawn stands straight: reading the text's lines in the column that follows the left side of the margin and
-/// the columns before the line gives, from top to bottom, what the places along it show.
+/// Where no cell spans and no padding is set, each vertical line that is drawn stands straight: reading the text's lines in the column that
+/// follows the left side of the margin and the columns before the line gives, from top to bottom, what the places along it show.
 pub fn vertical_lines_stand_straight()
     ensures { (events : List ConfigEvent) (table : Table) → unequal_row table ≡ None → ((r c : ℕ) → IsUtf8 (cell (slice_index_or table r []) c)) → WritesNarrow events → leaves_sizes events ≡ true
         → is_empty (look_of events table).shape ≡ false → (c : ℕ) → c ≤ column_count table → (look_of events table).vertical c ≡ true
         → StandsStraightIn (look_of events table) (margin_set events) c (pieces (text_of events table)) }
 {}
 
-/// A table that is kept within a number of columns of the terminal prints lines that take no more, with its cells, its lines and its margin:
-/// where only narrow characters were written, where no cell spans and no padding is set, where the columns can have one column each, and where
-/// each text can be kept within the share of its column, as one can whose characters take one column, and one of any characters that is cut off.
+/// A table that is kept within a number of columns of the terminal prints lines that take no more, with its cells and their padding, its lines
+/// and its margin: where only narrow characters were written, where no cell spans and the padding of each begins with a space, where the columns
+/// can have one column each, and where each text can be kept within the share of its column, as one can whose characters take one column, and
+/// one of any characters that is cut off.
 pub fn fitted_table_fits(
     table: &mut TextTable,
     total: usize,
     how: Overflow<'_>,
 ) -> Result<String, PrintError>
-    ensures fits { (events : List ConfigEvent) → borders.Shows events table.old.config.spanned → WritesNarrow events → leaves_sizes events ≡ true → CanShare how.entry 1 (total - frame_width events table.old.texts) table.old.texts
+    ensures fits { (events : List ConfigEvent) → borders.Shows events table.old.config.spanned → WritesNarrow events → KeepsApart events → sets_no_spans events ≡ true → CanShare how.entry 1 (total - frame_width events table.old.texts) table.old.texts
         → least_width 1 events table.old.texts ≤ total → IfOk result (λ text. list_all (λ line. nat_le (width_of_text line) total) (pieces (string_bytes text)) ≡ true) }
     ensures texts { (events : List ConfigEvent) → borders.Shows events table.old.config.spanned
         → IfOk result (λ text. IsFitted how.entry 1 (total - frame_width events table.old.texts) table.old.texts table.new.texts) }
-    ensures printable { (events : List ConfigEvent) → borders.Shows events table.old.config.spanned → WritesNarrow events → leaves_sizes events ≡ true → ends_printable how.entry ≡ true → CellsArePrintable table.old.texts
+    ensures printable { (events : List ConfigEvent) → borders.Shows events table.old.config.spanned → WritesNarrow events → KeepsApart events → sets_no_spans events ≡ true → ends_printable how.entry ≡ true → CellsArePrintable table.old.texts
         → least_width 1 events table.old.texts ≤ total → IfOk result (λ text. list_all (λ line. nat_le (width_of_text line) total) (pieces (string_bytes text)) ≡ true) }
 {
     table.fit(total, how)?;
@@ -222,12 +229,12 @@ pub fn fitted_with_least_shares(
     least: usize,
     how: Overflow<'_>,
 ) -> Result<String, PrintError>
-    ensures fits { (events : List ConfigEvent) → borders.Shows events table.old.config.spanned → WritesNarrow events
-        → leaves_sizes events ≡ true → CanShare how.entry (max least 1) (total - frame_width events table.old.texts) table.old.texts → least_width (max least 1) events table.old.texts ≤ total
+    ensures fits { (events : List ConfigEvent) → borders.Shows events table.old.config.spanned → WritesNarrow events → KeepsApart events → sets_no_spans events ≡ true
+        → CanShare how.entry (max least 1) (total - frame_width events table.old.texts) table.old.texts → least_width (max least 1) events table.old.texts ≤ total
         → IfOk result (λ text. list_all (λ line. nat_le (width_of_text line) total) (pieces (string_bytes text)) ≡ true) }
     ensures texts { (events : List ConfigEvent) → borders.Shows events table.old.config.spanned
         → IfOk result (λ text. IsFitted how.entry (max least 1) (total - frame_width events table.old.texts) table.old.texts table.new.texts) }
-    ensures printable { (events : List ConfigEvent) → borders.Shows events table.old.config.spanned → WritesNarrow events → leaves_sizes events ≡ true → ends_printable how.entry ≡ true → CellsArePrintable table.old.texts
+    ensures printable { (events : List ConfigEvent) → borders.Shows events table.old.config.spanned → WritesNarrow events → KeepsApart events → sets_no_spans events ≡ true → ends_printable how.entry ≡ true → CellsArePrintable table.old.texts
         → least_width (max least 1) events table.old.texts ≤ total → IfOk result (λ text. list_all (λ line. nat_le (width_of_text line) total) (pieces (string_bytes text)) ≡ true) }
 {
     table.fit_with(total, least, how)?;

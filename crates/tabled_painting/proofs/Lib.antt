@@ -9,6 +9,8 @@ pub mod AlikeLemmas
 pub mod BareLemmas
 pub mod MarginWidths
 pub mod Even
+pub mod SpannedEven
 pub mod SpannedPlain
 pub mod SpannedLemmas
+pub mod AloneLemmas
 pub mod DrawnLemmas

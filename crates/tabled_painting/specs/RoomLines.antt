@@ -1,5 +1,5 @@
 -- The rooms of cells as the code keeps them. Private functions alone cite this.
-use Rattle.std.specs.Prelude.{◌≡◌, ℕ, ◌-◌, ◌<◌, ◌≤◌, ◌==◌, true, false, Bool, if◌then◌else◌, Option, Some, None, List, [], ◌++◌, length, slice_index_or}
+use Rattle.std.specs.Prelude.{◌≡◌, ℕ, ◌+◌, ◌-◌, ◌<◌, ◌≤◌, ◌==◌, true, false, Bool, if◌then◌else◌, Option, Some, None, List, [], ◌++◌, length, slice_index_or}
 use Rattle.tabled_printing.specs.Picture.{Look}
 use Rattle.tabled_printing.specs.Texts.{Table}
 use Rattle.tabled_rooms.specs.Hosts.{Counts, host}
@@ -36,6 +36,10 @@ rows_of lines = rows_spanned lines.frame.cfg.now.settings
 
 abbrev pub room_cells : TableLines → Table → Cells
 room_cells lines table = spanned_cells (viewed lines.frame) (columns_of lines) (rows_of lines) lines.frame.cfg.now.settings.cells lines.colors.now table
+
+-- each of the hosts of row r is the cell of its own place, and ends with the row
+abbrev pub StandAlone : ℕ → List Host → Type 0
+StandAlone r kept = (c : ℕ) (none : Host) → c < length kept → let one = slice_index_or kept c none in (one.row ≡ r) × (one.col ≡ c) × (one.bottom ≡ r + 1)
 
 module _ (view : Look) (columns rows : Counts) (cells : Cells) where
   -- in a column a room is that of the cell of row r that begins there

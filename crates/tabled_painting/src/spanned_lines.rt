@@ -8,11 +8,12 @@ ghost use Rattle.tabled_printing.specs.Texts.{Table, texts};
 ghost use Rattle.tabled_rooms.specs.Rooms.{first_line, room_height};
 ghost use Rattle.tabled_painting.specs.InColor.{Paints};
 ghost use Rattle.tabled_painting.specs.Pages.{PaintsLines};
-ghost use Rattle.tabled_painting.specs.RoomLines.{room_shown};
+ghost use Rattle.tabled_painting.specs.RoomLines.{StandAlone, room_shown};
 ghost use Rattle.tabled_rooms.specs.declared.host.Host.{Host as Kept};
 ghost use Rattle.tabled_painting.specs.Viewed.{viewed};
 
 use crate::Painter;
+use crate::cell_lines::CellLines;
 use crate::drawn::{lines_drawn, sides_drawn};
 use crate::page::Page;
 use crate::painting::sum_of;
@@ -311,13 +312,50 @@ impl<'a, 'b, 'c> SpannedLines<'a, 'b, 'c> {
         Ok(())
     }
 
-    /// Paints the rows of a table, each with the line above it. `hosts`, `wides` and `rooms` are for what is shown in a row: at first nothing.
+    /// Paints the lines of text of a row, and begins the rooms of the cells that are shown from there on. Where each of its cells is shown
+    /// in its own place alone, the row is painted as it is without spans. `wides` and `cells` are for what is measured and cut, whatever
+    /// they had.
+    fn paint_shown(
+        &self,
+        page: &mut Page<'a>,
+        hosts: &[Host],
+        wides: &mut [usize],
+        rooms: &mut [Option<Room<'a>>],
+        cells: &mut Vec<CellLines<'a>>,
+        row: usize,
+        texts: &'a [String],
+    ) -> Result<(), OutOfMemory>
+        requires row { row < self.now.lines.now.frame.shape.0 }
+        requires texts { length texts.now ≡ self.now.lines.now.frame.shape.1 }
+        requires hosts { length hosts.now ≡ self.now.lines.now.frame.shape.1 }
+        requires wides { length wides.old ≡ self.now.lines.now.frame.shape.1 }
+        requires rooms { length rooms.old ≡ self.now.lines.now.frame.shape.1 }
+        requires are { AreHosts (columns_of self.now.lines.now) (rows_of self.now.lines.now) self.now.lines.now.frame.shape row hosts.now }
+        requires ended { option_copied page.old.painter.color ≡ None }
+        ensures painted { OnOk result ((table : Table) → slice_index_or table row [] ≡ map string_bytes texts.now → let lines = self.now.lines.now in
+            AreOpen (viewed lines.frame) (columns_of lines) (rows_of lines) (room_cells lines table) row rooms.old → PaintsLines (spanned_row (viewed lines.frame) (columns_of lines) (rows_of lines) (room_cells lines table) row) page.old page.new) }
+        ensures opened { OnOk result ((table : Table) → slice_index_or table row [] ≡ map string_bytes texts.now → let lines = self.now.lines.now in
+            AreOpen (viewed lines.frame) (columns_of lines) (rows_of lines) (room_cells lines table) row rooms.old → row + 1 < lines.frame.shape.0
+            → AreOpen (viewed lines.frame) (columns_of lines) (rows_of lines) (room_cells lines table) (row + 1) rooms.new) }
+    {
+        if all_stand_alone(hosts, row) {
+            self.lines.paint_row(page, row, texts, cells)?;
+            return Ok(());
+        }
+        self.begin_rooms(rooms, wides, hosts, row, texts)?;
+        self.paint_row(page, hosts, rooms, row)?;
+        Ok(())
+    }
+
+    /// Paints the rows of a table, each with the line above it. `hosts`, `wides`, `rooms` and `cells` are for what is shown in a row: at
+    /// first nothing.
     fn paint_rows(
         &self,
         page: &mut Page<'a>,
         hosts: &mut [Host],
         wides: &mut [usize],
         rooms: &mut [Option<Room<'a>>],
+        cells: &mut Vec<CellLines<'a>>,
         rows: &'a [Vec<String>],
     ) -> Result<(), OutOfMemory>
         requires rows { length rows.now ≡ self.now.lines.now.frame.shape.0 }
@@ -338,8 +376,7 @@ impl<'a, 'b, 'c> SpannedLines<'a, 'b, 'c> {
         for (row, texts) in rows.iter().enumerate() {
             next_hosts(hosts, &spans, row, frame.shape);
             self.paint_line(page, hosts, rooms, row)?;
-            self.begin_rooms(rooms, wides, hosts, row, texts)?;
-            self.paint_row(page, hosts, rooms, row)?;
+            self.paint_shown(page, hosts, wides, rooms, &mut *cells, row, texts)?;
         }
         Ok(())
     }
@@ -364,7 +401,8 @@ impl<'a, 'b, 'c> SpannedLines<'a, 'b, 'c> {
         let mut hosts = no_hosts(alloc, cols)?;
         let mut wides = vec![in alloc; 0usize; cols]?;
         let mut rooms = no_rooms(alloc, cols)?;
-        self.paint_rows(page, &mut hosts, &mut wides, &mut rooms, rows)?;
+        let mut cells = Vec::new(alloc);
+        self.paint_rows(page, &mut hosts, &mut wides, &mut rooms, &mut cells, rows)?;
         self.lines.paint_line(page, rows.len())?;
         Ok(())
     }
@@ -399,6 +437,25 @@ fn all_begin_in(hosts: &[Host], row: usize) -> bool
     ensures { IsTrue result → (c : ℕ) (none : Kept) → c < length hosts.now → (slice_index_or hosts.now c none).row ≡ row }
 {
     hosts.iter().all(|host| host.row == row)
+}
+
+/// Whether a cell that is shown is that of a row and a column, and ends with the row.
+fn stands_alone(host: Host, row: usize, col: usize) -> bool
+    ensures { IsTrue result → (host.row ≡ row) × (host.col ≡ col) × (host.bottom ≡ row + 1) }
+{
+    host.row == row && host.col == col && host.bottom.saturating_sub(row) == 1
+}
+
+/// Whether each of the cells of a row is shown in its own place alone.
+fn all_stand_alone(hosts: &[Host], row: usize) -> bool
+    ensures { IsTrue result → StandAlone row hosts.now }
+{
+    for (col, host) in hosts.iter().enumerate() {
+        if !stands_alone(*host, row, col) {
+            return false;
+        }
+    }
+    true
 }
 
 /// No rooms, for so many columns.

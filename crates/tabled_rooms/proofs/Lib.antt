@@ -4,3 +4,7 @@ pub mod GrowLemmas
 pub mod LawLemmas
 pub mod SizeLemmas
 pub mod OpenLemmas
+pub mod FirstColumns
+pub mod RowWidths
+pub mod GrownRooms
+pub mod CellRooms

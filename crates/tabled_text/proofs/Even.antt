@@ -20,7 +20,7 @@ use Rattle.tabled_printing.proofs.NarrowLemmas.{borders_narrow}
 use Rattle.tabled_printing.proofs.Tiles.{Tile}
 use Rattle.tabled_cells.specs.Placements.{placement_at}
 use Rattle.tabled_cells.specs.Trimmed.{lines_shown}
-use Rattle.tabled_cells.proofs.Fits.{first_spaces, greatest_bound, padding_unset, placed_at_tile}
+use Rattle.tabled_cells.proofs.Fits.{greatest_bound, padding_unset, placed_at_tile, starts_with_spaces}
 use Rattle.tabled_painting.specs.Painted.{plain}
 use Rattle.tabled_painting.specs.CellLines.{coloring_at}
 use Rattle.tabled_painting.specs.PaintedTable.{Cells, painted_cells, painted_table, plain_text}
@@ -79,7 +79,8 @@ module _ (es : List ConfigEvent) (table : Table) (equal : (r : ℕ) → r < leng
       let unpadded = padding_unset (cells_set es) r c (second_so (sets_no_spans es) (sets_no_padding es) none) in
       subst (Tile (slice_index (column_widths table) c))
       (sym (plain_cell how (coloring_at (cells_set es) (cell_colors es) r c) (slice_index (column_widths table) c) (slice_index (row_heights table) r) (lines_shown how text) k))
-      (placed_at_tile how (slice_index (column_widths table) c) (slice_index (row_heights table) r) text k (first_spaces how.padding unpadded) (utf8 r c)
+      (placed_at_tile how (slice_index (column_widths table) c) (slice_index (row_heights table) r) text k
+      (starts_with_spaces (cells_set es) r c (ap (λ (padding : Sides Indent). padding.left.fill) unpadded)) (utf8 r c)
       (subst (λ (padding : Sides Indent). padding.left.size + greatest (map width_of_text (pieces text)) + padding.right.size ≤ slice_index (column_widths table) c) (sym unpadded) (let room = column_room table r c within inside in omega (arith, room)))
       (subst (λ (padding : Sides Indent). 1 ≤ padding.left.size) (sym unpadded) (omega arith)))
 

@@ -3,6 +3,7 @@ pub mod CellLemmas
 pub mod EqualRows
 pub mod Painting
 pub mod Even
+pub mod SpannedEven
 pub mod ChangedLemmas
 pub mod Cleaned
 pub mod ShareSums

@@ -1,15 +1,20 @@
 -- A table whose columns share a room is no wider than it may be.
-use Rattle.std.proofs.Common.{◌≡◌, ◌⊎◌, ⊎_elim, ℕ, ◌+◌, ◌-◌, ◌<◌, ◌≤◌, zero, suc, max, fold, nat_le, sum, true, false, Bool, if◌then◌else◌, get_or, Some, None, List, [], ◌∷◌, map, length, refl, sym, ap, subst, ◌∙◌, arith}
+use Rattle.std.proofs.Common.{◌≡◌, ◌⊎◌, ⊎_elim, ℕ, ◌+◌, ◌-◌, ◌<◌, ◌≤◌, zero, suc, max, fold, nat_le, sum, true, false, Bool, if◌then◌else◌, get_or, unwrap_or, Ordering, ◌==◌, Some, None, List, [], ◌∷◌, map, length, refl, sym, ap, subst, ◌∙◌, arith}
 use Rattle.std.specs.Prelude.{slice_index, slice_get}
 use Rattle.std.specs.Str.{IsUtf8}
 use Rattle.std.specs.List.{All, sum_by}
-use Rattle.std.proofs.lemmas.Bool.{cases_lt, le-leb}
+use Rattle.std.proofs.lemmas.Bool.{cases_lt, le-leb, eqb-true}
+use Rattle.std.specs.Cmp.{first_so, second_so}
+use Rattle.std.specs.FinMap.{FinMap, len, get, get-empty, empty_of_len}
 use Rattle.std.proofs.lemmas.Bool.Decides.{nat_tests}
 use Rattle.std.proofs.lemmas.Option.{slice_get-get_or}
 use Rattle.std.proofs.lemmas.List.{length-map, get_or-map, get_or_default}
 use Rattle.std.proofs.lemmas.List.FromFn.{get_or-map-range_with_len, length-range_with_len}
-use Rattle.tabled_object.specs.Entities.{below}
-use Rattle.tabled_configuration.specs.Configuration.{ConfigEvent}
+use Rattle.tabled_object.specs.Entities.{below, position}
+use Rattle.tabled_grid.specs.Drawn.{drawn}
+use Rattle.tabled_grid.specs.declared.place.LineOf.{LineOf}
+use Rattle.tabled_settings.specs.Live.{value_at}
+use Rattle.tabled_configuration.specs.Configuration.{ConfigEvent, characters_of}
 use Rattle.tabled_layout.specs.declared.margin.Margin.{Margin}
 use Rattle.tabled_printing.specs.Along.{is_empty}
 use Rattle.tabled_printing.specs.Columns.{line_width}
@@ -24,15 +29,18 @@ use Rattle.tabled_width.specs.Texts.{LinesFit}
 use Rattle.tabled_width.proofs.LimitedLaws.{limited_fits, printable_can_fit}
 use Rattle.tabled_width.proofs.TextLaws.{wrapped_same, words_same, truncated_same}
 use Rattle.tabled_width.proofs.Sharing.{shares_fit, length_shared, step_small, step_great}
-use Rattle.tabled_text.specs.Cells.{margin_set}
+use Rattle.tabled_rooms.proofs.CellRooms.{alone_within, greatest_at}
+use Rattle.tabled_painting.specs.PaintedSpans.{columns_spanned, rows_spanned}
+use Rattle.tabled_text.specs.Cells.{settings_set, cells_set, margin_set, leaves_sizes, sets_no_spans, sets_no_padding}
 use Rattle.tabled_text.specs.Changed.{CellsArePrintable, texts_of_columns, within}
-use Rattle.tabled_text.specs.Fitted.{IsFitted, CanShare, frame_width, least_width, shares, texts_asked}
-use Rattle.tabled_text.specs.Sizes.{cell, column_count, column_width, column_widths, row_heights, greatest, unequal_row, width_asked}
-use Rattle.tabled_text.specs.TextTable.{look_of}
+use Rattle.tabled_text.specs.Fitted.{IsFitted, CanShare, frame_width, least_width, padding_across, shares, texts_asked}
+use Rattle.tabled_text.specs.Sizes.{cell, column_count, column_width, column_widths, row_heights, greatest, unequal_row, width_asked, padded_width, width_with_padding}
+use Rattle.tabled_text.specs.TextTable.{look_of, look_with_spans, look_printed, widths_with_spans, heights_with_spans}
 use Rattle.tabled_text.proofs.ChangedLemmas.{cells_at, counts_stay, length_cells, place_at, same_columns}
 use Rattle.tabled_text.proofs.EqualRows.{all_equal}
 use Rattle.tabled_text.proofs.Even.{column_room}
 use Rattle.tabled_cells.proofs.Fits.{greatest_bound}
+use Rattle.tabled_text.proofs.Frames.{across_unset}
 use Rattle.tabled_text.proofs.ShareSums.{sum_bound}
 
 -- ---- the greatest number is no greater than all are
@@ -149,6 +157,13 @@ width_of_places : (view : Look) (margin : Margin) → is_empty view.shape ≡ fa
 width_of_places view margin some =
     ap (λ b. if b then 0 else margin.size.left.size + (sum_by (λ n. line_width view n + view.widths n) (below view.shape.1) + line_width view view.shape.1) + margin.size.right.size) some
 
+-- where no cell spans, each is shown over its own column and row
+none_over : {K : Type 0} {R : K → K → Ordering} (spans : FinMap R ℕ) (key : K) → (len spans == 0) ≡ true → max (unwrap_or (get spans key) 1) 1 ≤ 1
+none_over {K} {R} spans key none =
+    let nothing : get spans key ≡ None = ap (λ m. get m key) (empty_of_len spans (eqb-true (len spans) 0 none)) ∙ get-empty R key in
+    let one : max (unwrap_or (get spans key) 1) 1 ≡ 1 = ap (λ found. max (unwrap_or found 1) 1) nothing in
+    omega (arith, one)
+
 module _ (es : List ConfigEvent) (how : Overflow) (least : ℕ) (before after : Table) (total : ℕ) (some_least : 1 ≤ least) (equal : unequal_row before ≡ None) (utf8 : (r c : ℕ) → IsUtf8 (cell (get_or before r []) c))
     (fitted : IsFitted how least (total - frame_width es before) before after) (can : CanShare how least (total - frame_width es before) before) (few : least_width least es before ≤ total) where
   abbrev room : ℕ
@@ -157,46 +172,93 @@ module _ (es : List ConfigEvent) (how : Overflow) (least : ℕ) (before after : 
   abbrev shape : ℕ × ℕ
   shape = (length before, column_count before)
 
-  abbrev widths : ℕ → ℕ
-  widths = slice_index (column_widths after)
-
-  abbrev wide : Look
-  wide = look es shape widths (slice_index (row_heights after))
+  abbrev padding : ℕ → ℕ
+  padding = padding_across (cells_set es) (length before)
 
   abbrev bare : Look
-  bare = look es shape (λ c. 2) (λ r. 1)
+  bare = look es shape padding (λ r. 1)
 
   abbrev given : List ℕ
   given = shares fitted.cap room before
 
-  same_width : text_width (look_of es after) (margin_set es) ≡ text_width wide (margin_set es)
-  same_width =
-      let rows = rows_stay how least before after room some_least equal utf8 fitted can in
-      let cols = columns_stay how least before after room some_least equal utf8 fitted can in
-      (λ i. text_width (look es (rows i, cols i) widths (slice_index (row_heights after))) (margin_set es))
+  rows_same : length after ≡ length before
+  rows_same = rows_stay how least before after room some_least equal utf8 fitted can
 
-  columns_bound : sum_by (λ n. line_width wide n + widths n) (below (column_count before)) ≤ sum_by (λ n. line_width bare n + 2) (below (column_count before)) + sum given
-  columns_bound =
-      let long = counted how least before after room some_least equal utf8 fitted can in
-      subst (λ count. sum_by (λ n. line_width wide n + widths n) (below count) ≤ sum_by (λ n. line_width bare n + 2) (below count) + sum given) long
-      (sum_bound (λ n. line_width bare n + 2) (λ n. line_width wide n + widths n) 0 given (λ col inside.
-      let most = column_within how least before after room some_least equal utf8 fitted can col (omega (arith, inside, long)) in
-      let place : col ≡ 0 + col = omega arith in
-      subst (λ n. line_width wide n + widths n ≤ line_width bare n + 2 + get_or given col 0) place (omega (arith, most))))
+  columns_same : column_count after ≡ column_count before
+  columns_same = columns_stay how least before after room some_least equal utf8 fitted can
 
-  by_places : (b : Bool) → is_empty shape ≡ b → text_width wide (margin_set es) ≤ total
-  by_places true none =
-      let nothing : text_width wide (margin_set es) ≡ 0 = ap (λ b. if b then 0 else (margin_set es).size.left.size
-      + (sum_by (λ n. line_width wide n + widths n) (below (column_count before)) + line_width wide (column_count before)) + (margin_set es).size.right.size) none in
-      omega (arith, nothing)
-  by_places false some =
-      let whole = width_of_places wide (margin_set es) some in
-      let frame = width_of_places bare (margin_set es) some in
-      let most = shares_fit least room fitted.cap (texts_asked before) fitted.is_cap (omega (arith, few)) in
-      omega (arith, whole, frame, columns_bound, most, few)
+  -- a table whose columns take no more than their padding and their shares
+  module _ (widths heights : ℕ → ℕ) (within : 0 < length before → (col : ℕ) → col < column_count before → widths col ≤ padding col + get_or given col 0) where
+    abbrev wide : Look
+    wide = look es shape widths heights
 
-  pub fits_total : text_width (look_of es after) (margin_set es) ≤ total
-  fits_total = let most = by_places (is_empty shape) refl in omega (arith, same_width, most)
+    columns_bound : 0 < length before → sum_by (λ n. line_width wide n + widths n) (below (column_count before)) ≤ sum_by (λ n. line_width bare n + padding n) (below (column_count before)) + sum given
+    columns_bound rows =
+        let long = counted how least before after room some_least equal utf8 fitted can in
+        subst (λ count. sum_by (λ n. line_width wide n + widths n) (below count) ≤ sum_by (λ n. line_width bare n + padding n) (below count) + sum given) long
+        (sum_bound (λ n. line_width bare n + padding n) (λ n. line_width wide n + widths n) 0 given (λ col inside.
+        let most = within rows col (omega (arith, inside, long)) in
+        let place : col ≡ 0 + col = omega arith in
+        subst (λ n. line_width wide n + widths n ≤ line_width bare n + padding n + get_or given col 0) place (omega (arith, most))))
+
+    by_places : (b : Bool) → is_empty shape ≡ b → text_width wide (margin_set es) ≤ total
+    by_places true none =
+        let nothing : text_width wide (margin_set es) ≡ 0 = ap (λ b. if b then 0 else (margin_set es).size.left.size
+        + (sum_by (λ n. line_width wide n + widths n) (below (column_count before)) + line_width wide (column_count before)) + (margin_set es).size.right.size) none in
+        omega (arith, nothing)
+    by_places false some =
+        let rows : 0 < length before = grind (arith, nat_tests, some) in
+        let whole = width_of_places wide (margin_set es) some in
+        let frame = width_of_places bare (margin_set es) some in
+        let most = shares_fit least room fitted.cap (texts_asked before) fitted.is_cap (omega (arith, few)) in
+        let bound = columns_bound rows in
+        omega (arith, whole, frame, bound, most, few)
+
+  -- where no cell spans and no padding is set
+  alone_bound : leaves_sizes es ≡ true → text_width (look_of es after) (margin_set es) ≤ total
+  alone_bound leaves =
+      let widths : ℕ → ℕ = slice_index (column_widths after) in
+      let heights : ℕ → ℕ = slice_index (row_heights after) in
+      let none = second_so (sets_no_spans es) (sets_no_padding es) leaves in
+      let same : text_width (look_of es after) (margin_set es) ≡ text_width (look es shape widths heights) (margin_set es) = (λ i. text_width (look es (rows_same i, columns_same i) widths heights) (margin_set es)) in
+      let most = by_places widths heights (λ rows col inside.
+      let own = column_within how least before after room some_least equal utf8 fitted can col inside in
+      let two = across_unset (cells_set es) (length before) col none rows in
+      omega (arith, own, two)) (is_empty shape) refl in
+      omega (arith, same, most)
+
+  -- what a cell asks for with its padding
+  padded_within : (row col : ℕ) → row < length before → col < column_count before → width_with_padding (cells_set es) after row col ≤ padding col + get_or given col 0
+  unfolding padded_width width_asked padding_across
+  padded_within row col within inside =
+      let own = cell_within how least before after room some_least equal utf8 fitted can row col within inside in
+      let great = greatest_at (λ row. (value_at (cells_set es).padding (position row col)).left.size + (value_at (cells_set es).padding (position row col)).right.size) (length before) row within in
+      omega (arith, own, great)
+
+  -- where padding is set
+  padded_bound : sets_no_spans es ≡ true → text_width (look_with_spans es after) (margin_set es) ≤ total
+  unfolding widths_with_spans
+  padded_bound alone =
+      let settings = settings_set es in
+      let columns = columns_spanned settings in
+      let rows = rows_spanned settings in
+      let widths : ℕ → ℕ = slice_index (widths_with_spans settings es after) in
+      let heights : ℕ → ℕ = slice_index (heights_with_spans settings es after) in
+      let same : text_width (look_with_spans es after) (margin_set es) ≡ text_width (look es shape widths heights) (margin_set es) = (λ i. text_width (look es (rows_same i, columns_same i) widths heights) (margin_set es)) in
+      let no_columns = first_so (len settings.column_spans == 0) (len settings.row_spans == 0) alone in
+      let no_rows = second_so (len settings.column_spans == 0) (len settings.row_spans == 0) alone in
+      let most = by_places widths heights (λ some col inside.
+      alone_within columns rows (λ r c. none_over settings.column_spans (position r c) no_columns) (λ r c. none_over settings.row_spans (position r c) no_rows) (length after, column_count after)
+      (width_with_padding settings.cells after) (λ n. drawn (characters_of es) (column_count after) (LineOf.Vertical n)) col (padding col + get_or given col 0) (omega (arith, inside, columns_same))
+      (λ row within. padded_within row col (omega (arith, within, rows_same)) inside)) (is_empty shape) refl in
+      omega (arith, same, most)
+
+  pub fits_total : sets_no_spans es ≡ true → text_width (look_printed es after) (margin_set es) ≤ total
+  fits_total alone = by (leaves_sizes es) refl
+    where
+      by : (leaves : Bool) → leaves_sizes es ≡ leaves → text_width (if leaves then look_of es after else look_with_spans es after) (margin_set es) ≤ total
+      by true is = alone_bound is
+      by false is = padded_bound alone
 
 -- ---- texts of printable ASCII
 

@@ -1,8 +1,8 @@
 -- What is set for a table after a list of events, besides its borders.
-use Rattle.std.specs.Prelude.{Bool, ◌==◌, ◌&&◌, Option, None, List, map, length, slice_index}
+use Rattle.std.specs.Prelude.{◌≡◌, ◌≤◌, ◌⊎◌, ℕ, true, [], Bool, ◌==◌, ◌&&◌, Option, None, List, map, length, slice_index, slice_index_or}
 use Rattle.std.specs.FinMap.{len}
 use Rattle.std.specs.List.{join_with_byte}
-use Rattle.tabled_object.specs.Entities.{below}
+use Rattle.tabled_object.specs.Entities.{below, position}
 use Rattle.tabled_settings.specs.declared.cell_settings.CellSettings.{CellSettings}
 use Rattle.tabled_settings.specs.Padding.{keeps_first_padding}
 use Rattle.tabled_layout.specs.TableSettings.{settings_after, first_settings}
@@ -10,12 +10,15 @@ use Rattle.tabled_layout.specs.declared.table_settings.TableSettings.{TableSetti
 use Rattle.tabled_configuration.specs.Configuration.{ConfigEvent, settings_of, cell_colors_of}
 use Rattle.tabled_configuration.specs.CellColors.{colors_after}
 use Rattle.tabled_border.specs.Texts.{Texts}
-use Rattle.tabled_settings.specs.Live.{Live}
+use Rattle.tabled_settings.specs.declared.indent.Indent.{Indent}
+use Rattle.tabled_settings.specs.Live.{Live, value_at}
 use Rattle.tabled_layout.specs.declared.margin.Margin.{Margin}
+use Rattle.tabled_width.specs.Limited.{IsPrintableText}
+use Rattle.tabled_printing.specs.Columns.{is_narrow}
 use Rattle.tabled_printing.specs.Texts.{Table}
 use Rattle.tabled_painting.specs.Painted.{plain}
 use Rattle.tabled_painting.specs.PaintedTable.{painted_cells}
-use Rattle.tabled_text.specs.Sizes.{column_count, column_widths, row_heights}
+use Rattle.tabled_text.specs.Sizes.{cell, column_count, column_widths, row_heights}
 
 -- all of it after a list of events; what is set for cells; and the margin and the colors of cells
 abbrev pub settings_set : List ConfigEvent → TableSettings
@@ -40,6 +43,18 @@ sets_no_padding es = keeps_first_padding (cells_set es).padding
 
 abbrev pub leaves_sizes : List ConfigEvent → Bool
 leaves_sizes es = sets_no_spans es && sets_no_padding es
+
+-- the padding of each cell begins with a space: so no text joins what stands before it
+abbrev pub StartsWithSpace : List ConfigEvent → ℕ → ℕ → Type 0
+StartsWithSpace es r c = let left : Indent = (value_at (cells_set es).padding (position r c)).left in (left.fill ≡ 32) × (1 ≤ left.size)
+
+abbrev pub KeepsApart : List ConfigEvent → Type 0
+KeepsApart es = (r c : ℕ) → StartsWithSpace es r c
+
+-- or so does that of each cell but those whose text is printable ASCII, and which a narrow character fills beside it
+abbrev pub StandApart : List ConfigEvent → Table → Type 0
+StandApart es table =
+    (r c : ℕ) → StartsWithSpace es r c ⊎ (IsPrintableText (cell (slice_index_or table r []) c) × (is_narrow (value_at (cells_set es).justification (position r c)) ≡ true))
 
 -- the text of each cell as it is shown where none spans and no padding is set: its lines, joined by line feeds
 unfoldable pub cell_texts : List ConfigEvent → Table → Table

@@ -1,5 +1,10 @@
 -- Tables within a number of terminal columns.
 use Rattle.std.specs.Prelude.{◌≡◌, ℕ, ◌+◌, ◌-◌, ◌≤◌, List, [], map, length, slice_index, slice_index_or}
+use Rattle.tabled_object.specs.Entities.{below, position}
+use Rattle.tabled_settings.specs.declared.cell_settings.CellSettings.{CellSettings}
+use Rattle.tabled_settings.specs.declared.indent.Indent.{Indent}
+use Rattle.tabled_settings.specs.declared.sides.Sides.{Sides}
+use Rattle.tabled_settings.specs.Live.{value_at}
 use Rattle.tabled_configuration.specs.Configuration.{ConfigEvent}
 use Rattle.tabled_printing.specs.Picture.{look}
 use Rattle.tabled_printing.specs.Texts.{Table}
@@ -7,13 +12,18 @@ use Rattle.tabled_painting.specs.Widths.{text_width}
 use Rattle.tabled_width.specs.declared.limit.Overflow.{Overflow}
 use Rattle.tabled_width.specs.Limited.{CanFit}
 use Rattle.tabled_width.specs.Shares.{used, IsCap, shared}
-use Rattle.tabled_text.specs.Sizes.{cell, column_count, column_widths}
-use Rattle.tabled_text.specs.Cells.{margin_set}
+use Rattle.tabled_text.specs.Sizes.{greatest, cell, column_count, column_widths}
+use Rattle.tabled_text.specs.Cells.{cells_set, margin_set}
 use Rattle.tabled_text.specs.Changed.{cells_changed, texts_of_columns}
 
--- how many terminal columns a table takes besides those of its texts: as many as where all its texts are empty
+-- how many terminal columns the padding of a column takes, in a table of so many rows: as many as at both sides of the cell that has most
+unfoldable pub padding_across : CellSettings → ℕ → ℕ → ℕ
+padding_across settings rows col =
+    greatest (map (λ row. let padding : Sides Indent = value_at settings.padding (position row col) in padding.left.size + padding.right.size) (below rows))
+
+-- how many terminal columns a table takes besides those of its texts: its margin, its vertical lines and the padding of its columns
 abbrev pub frame_width : List ConfigEvent → Table → ℕ
-frame_width es table = text_width (look es (length table, column_count table) (λ c. 2) (λ r. 1)) (margin_set es)
+frame_width es table = text_width (look es (length table, column_count table) (padding_across (cells_set es) (length table)) (λ r. 1)) (margin_set es)
 
 -- how many terminal columns the texts of each column ask for
 abbrev pub texts_asked : Table → List ℕ

@@ -62,6 +62,10 @@ look_with_spans es table =
 unfoldable pub painted_with_spans : List ConfigEvent → Table → List Painted
 painted_with_spans es table = spanned_as_set (look_with_spans es table) (settings_set es) (cell_colors es) table
 
+-- how it looks as it is printed: the one or the other
+abbrev pub look_printed : List ConfigEvent → Table → Look
+look_printed es table = if leaves_sizes es then look_of es table else look_with_spans es table
+
 -- its lines after a list of events: those of the one or of the other
 unfoldable pub painted : List ConfigEvent → Table → List Painted
 painted es table = if leaves_sizes es then painted_alone es table else painted_with_spans es table

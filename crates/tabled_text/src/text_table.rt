@@ -101,8 +101,8 @@ impl TextTable {
     ghost use Rattle.tabled_text.specs.Sizes.{column_count, column_widths, row_heights, unequal_row};
     ghost use Rattle.tabled_painting.specs.PaintedTable.{plain_text, colored_text};
     ghost use Rattle.tabled_painting.specs.Widths.{StandsStraightIn, text_width};
-    ghost use Rattle.tabled_text.specs.Cells.{margin_set, leaves_sizes};
-    ghost use Rattle.tabled_text.specs.TextTable.{AreRead, lent_rows, look_of, painted, shape_of, text_of};
+    ghost use Rattle.tabled_text.specs.Cells.{StandApart, margin_set, leaves_sizes};
+    ghost use Rattle.tabled_text.specs.TextTable.{AreRead, lent_rows, look_of, look_printed, painted, shape_of, text_of};
     ghost use Rattle.tabled_text.specs.contracts.text_table.TextTable.{the_row};
     ghost use Rattle.tabled_configuration.specs.contracts.colored_config.ColoredConfig.{the_row as config_row};
 
@@ -288,12 +288,13 @@ impl TextTable {
     /// The text of the table without colors: its cells as they are set for each, its borders, and its margin around them. A cell that spans
     /// several columns or rows is shown in the room of all of them. Only memory can be refused.
     ///
-    /// Where only narrow characters were written, no cell spans and no padding is set, the text is a rectangle: each of its lines takes as
-    /// many columns of a terminal as the others; and each vertical line stands in one column.
+    /// Where only narrow characters were written, and the padding of each cell begins with a space, as it does where none is set, or its text
+    /// is of printable ASCII, the text is a rectangle: each of its lines takes as many columns of a terminal as the others. Where no cell
+    /// spans, and no padding is set, each vertical line stands in one column.
     pub fn to_text(&self) -> Result<String, PrintError>
         ensures text { (es : List ConfigEvent) → borders.Shows es self.now.config.spanned → IfOk result (λ text. string_bytes text ≡ text_of es self.now.texts) }
-        ensures rectangle { (es : List ConfigEvent) → borders.Shows es self.now.config.spanned → WritesNarrow es → leaves_sizes es ≡ true
-            → IfOk result (λ text. IsRectangle (text_width (look_of es self.now.texts) (margin_set es)) (string_bytes text)) }
+        ensures rectangle { (es : List ConfigEvent) → borders.Shows es self.now.config.spanned → WritesNarrow es → StandApart es self.now.texts
+            → IfOk result (λ text. IsRectangle (text_width (look_printed es self.now.texts) (margin_set es)) (string_bytes text)) }
         ensures straight { (es : List ConfigEvent) → borders.Shows es self.now.config.spanned → WritesNarrow es → leaves_sizes es ≡ true → is_empty (look_of es self.now.texts).shape ≡ false
             → (c : ℕ) → c ≤ column_count self.now.texts → (look_of es self.now.texts).vertical c ≡ true
             → IfOk result (λ text. StandsStraightIn (look_of es self.now.texts) (margin_set es) c (pieces (string_bytes text))) }

@@ -1,15 +1,15 @@
 //! Texts of a table that are cleaned, whose tabs become spaces, or that are kept within a number of columns or lines.
 
-ghost use Rattle.std.specs.Prelude.{◌≡◌, ◌≤◌, ◌-◌, List, length, max, min, OnOk, OnErr};
+ghost use Rattle.std.specs.Prelude.{◌≡◌, ◌≤◌, ◌-◌, true, List, length, max, min, OnOk, OnErr};
 ghost use Rattle.tabled_configuration.specs.Configuration.{ConfigEvent, Shows};
 ghost use Rattle.tabled_clean.specs.Steering.{cleaned};
 ghost use Rattle.tabled_painting.specs.Widths.{text_width};
 ghost use Rattle.tabled_width.specs.Tabs.{tabs_expanded};
-ghost use Rattle.tabled_text.specs.Cells.{margin_set};
+ghost use Rattle.tabled_text.specs.Cells.{margin_set, sets_no_spans};
 ghost use Rattle.tabled_text.specs.Changed.{CellsAreClean, cells_changed, each_text, texts_of_cells};
 ghost use Rattle.tabled_text.specs.Fitted.{CanShare, IsFitted, frame_width, least_width};
 ghost use Rattle.tabled_text.specs.Sizes.{column_count};
-ghost use Rattle.tabled_text.specs.TextTable.{look_of};
+ghost use Rattle.tabled_text.specs.TextTable.{look_printed};
 
 use super::TextTable;
 use crate::changing::{Cleaning, ExpandedTabs, LimitedCells, LimitedColumns, changed_rows};
@@ -89,12 +89,11 @@ impl TextTable {
     }
 
     /// Keeps the texts of the cells so narrow that each line of the table takes no more than `total` columns of the terminal, with the
-    /// spaces of its cells, its vertical lines and its margin. Columns that ask for little keep their width; the others share what is
-    /// left, as `tabled_width::shares_of` says. An option that changes which lines are drawn, or the margin, comes before it; one that
-    /// reads how wide columns are, as a text on a line does, after it. A column that asks for any keeps one, so a table of many columns
-    /// may stay wider (`least_width(1)` tells), and so may one with a character of two columns where there is one: a total of 0 leaves
-    /// each column one. Padding that is set is not counted: each cell counts for a space on each side. Where memory is refused the table
-    /// is as it was.
+    /// padding of its cells, its vertical lines and its margin, where no cell spans several columns or rows. Columns that ask for little
+    /// keep their width; the others share what is left, as `tabled_width::shares_of` says. An option that changes which lines are drawn,
+    /// the margin or the padding comes before it; one that reads how wide columns are, as a text on a line does, after it. A column that
+    /// asks for any keeps one, so a table of many columns may stay wider (`least_width(1)` tells), and so may one with a character of two
+    /// columns where there is one: a total of 0 leaves each column one. Where memory is refused the table is as it was.
     ///
     /// `table.fit(19, Overflow::WrapWords)?`, where the second cell was `leaves in hot water`:
     ///
@@ -107,7 +106,7 @@ impl TextTable {
     pub fn fit(&mut self, total: usize, how: Overflow<'_>) -> Result<(), OutOfMemory>
         ensures texts { (es : List ConfigEvent) → Shows es self.old.config.spanned → OnOk result (IsFitted how.entry 1 (total - frame_width es self.old.texts) self.old.texts self.new.texts) }
         ensures fits { (es : List ConfigEvent) → Shows es self.old.config.spanned → CanShare how.entry 1 (total - frame_width es self.old.texts) self.old.texts → least_width 1 es self.old.texts ≤ total
-            → OnOk result (text_width (look_of es self.new.texts) (margin_set es) ≤ total) }
+            → sets_no_spans es ≡ true → OnOk result (text_width (look_printed es self.new.texts) (margin_set es) ≤ total) }
         ensures config { self.new.config ≡ self.old.config }
         ensures err { OnErr result (self.new ≡ self.old) }
     {
@@ -135,13 +134,13 @@ impl TextTable {
     ) -> Result<(), OutOfMemory>
         ensures texts { (es : List ConfigEvent) → Shows es self.old.config.spanned → OnOk result (IsFitted how.entry (max least 1) (total - frame_width es self.old.texts) self.old.texts self.new.texts) }
         ensures fits { (es : List ConfigEvent) → Shows es self.old.config.spanned → CanShare how.entry (max least 1) (total - frame_width es self.old.texts) self.old.texts
-            → least_width (max least 1) es self.old.texts ≤ total → OnOk result (text_width (look_of es self.new.texts) (margin_set es) ≤ total) }
+            → least_width (max least 1) es self.old.texts ≤ total → sets_no_spans es ≡ true → OnOk result (text_width (look_printed es self.new.texts) (margin_set es) ≤ total) }
         ensures config { self.new.config ≡ self.old.config }
         ensures err { OnErr result (self.new ≡ self.old) }
     {
         let config = self.config().config();
         let alloc = config.allocator();
-        let room = room_for_texts(config, self.shape.cols, total);
+        let room = room_for_texts(config, self.shape, total);
         let asked = texts_asked(alloc, &self.sizes.widths)?;
         let widths = shares_of(alloc, &asked, room, least.max(1))?;
         let change = LimitedColumns {
@@ -153,12 +152,12 @@ impl TextTable {
     }
 
     /// The least total that `fit_with` keeps the table within, with this least width of a column, where each character takes one column of
-    /// the terminal: what its spaces, its vertical lines and its margin take, and for each column `least`, or what its texts ask for, if
-    /// that is less. For `fit` that is `least_width(1)`. Padding that is set is not counted. Where it can't be counted it is `usize::MAX`.
+    /// the terminal: what its padding, its vertical lines and its margin take, and for each column `least`, or what its texts ask for, if
+    /// that is less. For `fit` that is `least_width(1)`. Where it can't be counted it is `usize::MAX`.
     pub fn least_width(&self, least: usize) -> usize
         ensures { (es : List ConfigEvent) → Shows es self.now.config.spanned → result ≡ min (least_width (max least 1) es self.now.texts) usize.MAX }
     {
-        let frame = frame_width(self.config().config(), self.shape.cols);
+        let frame = frame_width(self.config().config(), self.shape);
         frame.saturating_add(least_for_texts(&self.sizes.widths, least.max(1)))
     }
 }

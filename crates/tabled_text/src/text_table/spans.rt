@@ -11,8 +11,8 @@ ghost use Rattle.tabled_printing.specs.Along.{is_empty};
 ghost use Rattle.tabled_printing.specs.Columns.{IsRectangle, WritesNarrow};
 ghost use Rattle.tabled_printing.specs.Texts.{pieces};
 ghost use Rattle.tabled_painting.specs.Widths.{StandsStraightIn, text_width};
-ghost use Rattle.tabled_text.specs.Cells.{margin_set, leaves_sizes};
-ghost use Rattle.tabled_text.specs.TextTable.{AreRead, heights_with_spans, look_of, painted_alone, painted_with_spans, shape_of, widths_with_spans};
+ghost use Rattle.tabled_text.specs.Cells.{StandApart, margin_set, leaves_sizes};
+ghost use Rattle.tabled_text.specs.TextTable.{AreRead, heights_with_spans, look_of, look_with_spans, painted_alone, painted_with_spans, shape_of, widths_with_spans};
 
 use super::TextTable;
 use crate::spanned::TextSizes;
@@ -84,7 +84,9 @@ impl TextTable {
 
     /// The text of a table whose cells span or have padding.
     pub(super) fn text_with_spans(&self) -> Result<String, OutOfMemory>
-        ensures { (es : List ConfigEvent) → borders.Shows es self.now.config.spanned → IfOk result (λ text. string_bytes text ≡ plain_text (painted_with_spans es self.now.texts)) }
+        ensures text { (es : List ConfigEvent) → borders.Shows es self.now.config.spanned → IfOk result (λ text. string_bytes text ≡ plain_text (painted_with_spans es self.now.texts)) }
+        ensures rectangle { (es : List ConfigEvent) → borders.Shows es self.now.config.spanned → WritesNarrow es → StandApart es self.now.texts → leaves_sizes es ≡ false
+            → IfOk result (λ text. IsRectangle (text_width (look_with_spans es self.now.texts) (margin_set es)) (string_bytes text)) }
     {
         let sizes = self.sizes_with_spans()?;
         let shape = (self.shape.rows, self.shape.cols);

@@ -3,4 +3,4 @@ use Rattle.std.proofs.Common.{arith}
 use Rattle.tabled_text.proofs.fitting.frame_width.Goals as goal
 
 pub returns : goal.returns
-returns c es table shows cols = let left = c.room_for_texts.ensures es table shows cols in omega (arith, left, c.saturating_sub.ensures)
+returns c es table shows is = let left = c.room_for_texts.ensures es table shows is in omega (arith, left, c.saturating_sub.ensures)

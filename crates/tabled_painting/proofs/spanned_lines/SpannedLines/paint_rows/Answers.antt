@@ -11,7 +11,7 @@ use Rattle.tabled_painting.specs.RoomLines.{columns_of, room_cells, rows_of}
 use Rattle.tabled_painting.specs.Viewed.{viewed}
 use Rattle.tabled_painting.proofs.FrameLemmas.{row_texts}
 use Rattle.tabled_painting.proofs.PageLemmas.{row_more, no_lines}
-use Rattle.tabled_painting.proofs.SpannedLemmas.{none_open, still_open}
+use Rattle.tabled_painting.proofs.SpannedLemmas.{none_open}
 use Rattle.tabled_painting.proofs.spanned_lines.SpannedLines.paint_rows.Goals as goal
 
 pub loop-row-init : goal.loop-row-init
@@ -24,21 +24,21 @@ loop-row-init c =
       wides_count = c.requires.wides;
       rooms_count = c.requires.rooms;
       above = c.requires.above;
-      opened = none_open (viewed lines.frame) (columns_of lines) (rows_of lines) (room_cells lines (texts c.args.rows.now)) c.args.rooms.now;
+      opened = λ some. none_open (viewed lines.frame) (columns_of lines) (rows_of lines) (room_cells lines (texts c.args.rows.now)) c.args.rooms.now;
       painted = no_lines c.args.page.now c.requires.ended;
     }
 
-pub begin_rooms-requires-clause-texts : goal.begin_rooms-requires-clause-texts
-begin_rooms-requires-clause-texts c =
+pub paint_shown-requires-clause-texts : goal.paint_shown-requires-clause-texts
+paint_shown-requires-clause-texts c =
     let rows = c.args.rows.now in
     let there = row_texts rows c.loop-row.row c.index-rows-row.result c.deref.result.now c.loop-row-test.true c.index-rows-row.is c.deref.ensures.value in
     sym (length-map c.deref.result.now string_bytes) ∙ ap length there
     ∙ c.requires.cols c.loop-row.row [] (omega (arith, c.loop-row-test.true, length-map rows (λ row. map string_bytes row.items)))
 
-pub paint_row-requires-clause-ended : goal.paint_row-requires-clause-ended
-paint_row-requires-clause-ended c =
+pub paint_shown-requires-clause-ended : goal.paint_shown-requires-clause-ended
+paint_shown-requires-clause-ended c =
     let lines = c.args.self.now.lines.now in
-    (c.in_ok-paint_line.ensures (room_cells lines (texts c.args.rows.now)) c.loop-row.invariant.opened).ended
+    (c.in_ok-paint_line.ensures (room_cells lines (texts c.args.rows.now)) (c.loop-row.invariant.opened (omega (arith, c.loop-row-test.true, c.requires.rows)))).ended
 
 pub loop-row-preserved : goal.loop-row-preserved
 loop-row-preserved c =
@@ -48,9 +48,9 @@ loop-row-preserved c =
     let r = c.loop-row.row in
     let cells = room_cells lines (texts rows) in
     let there = row_texts rows r c.index-rows-row.result c.deref.result.now c.loop-row-test.true c.index-rows-row.is c.deref.ensures.value in
-    let are = c.in_ok-begin_rooms.ensures (texts rows) (sym there) c.loop-row.invariant.opened in
-    let lines_above = c.in_ok-paint_line.ensures cells c.loop-row.invariant.opened in
-    let own = c.in_ok-paint_row.ensures cells are in
+    let opened = c.loop-row.invariant.opened (omega (arith, c.loop-row-test.true, c.requires.rows)) in
+    let lines_above = c.in_ok-paint_line.ensures cells opened in
+    let own = c.in_ok-paint_shown.ensures.painted (texts rows) (sym there) opened in
     record {
       ended = own.ended;
       colors = own.same_colors ∙ lines_above.same_colors ∙ c.loop-row.invariant.colors;
@@ -58,7 +58,7 @@ loop-row-preserved c =
       wides_count = omega (arith, c.loop-row.invariant.wides_count);
       rooms_count = omega (arith, c.loop-row.invariant.rooms_count);
       above = hosts_above (columns_of lines) (rows_of lines) lines.frame.shape r c.next_hosts.new.hosts c.next_hosts.ensures.hosts;
-      opened = still_open view (columns_of lines) (rows_of lines) cells r c.begin_rooms.new.rooms are;
+      opened = c.in_ok-paint_shown.ensures.opened (texts rows) (sym there) opened;
       painted =
           row_more (spanned_if_drawn view (columns_of lines) (rows_of lines) cells) (spanned_row view (columns_of lines) (rows_of lines) cells) r _ _ _ _ _ refl
           c.loop-row.invariant.painted lines_above own;

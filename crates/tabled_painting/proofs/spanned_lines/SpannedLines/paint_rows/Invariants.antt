@@ -1,5 +1,5 @@
 -- The rows so far, and what is shown in the last of them.
-use Rattle.std.proofs.Common.{◌≡◌, ◌++◌, None, length, option_copied}
+use Rattle.std.proofs.Common.{◌≡◌, ◌<◌, ◌++◌, None, length, option_copied}
 use Rattle.std.specs.List.{flat_map}
 use Rattle.tabled_object.specs.Entities.{below}
 use Rattle.tabled_printing.specs.Texts.{texts}
@@ -22,6 +22,6 @@ invariant-loop-row l =
       wides_count : length l.wides ≡ lines.frame.shape.1;
       rooms_count : length l.rooms ≡ lines.frame.shape.1;
       above : AreAbove (columns_of lines) (rows_of lines) lines.frame.shape l.row l.hosts;
-      opened : AreOpen view (columns_of lines) (rows_of lines) cells l.row l.rooms;
+      opened : l.row < lines.frame.shape.0 → AreOpen view (columns_of lines) (rows_of lines) cells l.row l.rooms;
       painted : PaintsLines (flat_map (λ r. spanned_if_drawn view (columns_of lines) (rows_of lines) cells r ++ spanned_row view (columns_of lines) (rows_of lines) cells r) (below l.row)) l.initial.page l.page;
     }

@@ -11,7 +11,7 @@ pub returns : goal.returns
 returns c es shows =
     let table : Table = texts c.self.inside.cells.items in
     let shown : Shows es c.config-2.result.now = subst (Shows es) (sym (c.config-2.ensures ∙ ap (λ cfg. cfg.spanned) c.config.ensures)) shows in
-    let frame = c.frame_width-frame.ensures es table shown (ap (λ shape. shape.cols) c.self.invariant.1) in
+    let frame = c.frame_width-frame.ensures es table shown c.self.invariant.1 in
     let asked_is : map (λ width. width - 2) c.deref.result.now ≡ texts_asked table = ap (map (λ width. width - 2)) (c.deref.ensures.value ∙ c.self.invariant.2) in
     let texts_take = c.least_for_texts.ensures ∙ (λ i. min (used (c.max.ensures i) (asked_is i)) 18446744073709551615) in
     let own : c.saturating_add.result ≡ min (least_width (max c.args.least 1) es table) 18446744073709551615 = omega (arith, c.saturating_add.ensures, frame, texts_take) in

@@ -5,8 +5,9 @@ use Rattle.tabled_object.specs.Entities.{below}
 use Rattle.tabled_configuration.specs.Configuration.{all_writes, characters_of}
 use Rattle.tabled_grid.specs.Drawn.{drawn}
 use Rattle.tabled_grid.specs.declared.place.LineOf.{LineOf as Line}
-use Rattle.tabled_text.proofs.fitting.beside_spaces.Given as goal
+use Rattle.tabled_text.specs.Fitted.{padding_across}
+use Rattle.tabled_text.proofs.fitting.beside_columns.Given as goal
 
 abbrev pub invariant-loop-col : goal.invariant-loop-col
 invariant-loop-col l =
-    l.left ≡ l.room - sum_by (λ col. (if drawn (characters_of (all_writes l.cfg)) l.cols (Line.Vertical col) then 1 else 0) + 2) (below l.col)
+    l.left ≡ l.room - sum_by (λ col. (if drawn (characters_of (all_writes l.cfg)) l.cols (Line.Vertical col) then 1 else 0) + padding_across l.cfg.settings.cells l.rows col) (below l.col)
