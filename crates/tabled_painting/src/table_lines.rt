@@ -230,6 +230,7 @@ impl<'a, 'b> TableLines<'a, 'b> {
     }
 
     /// Paints the lines of text of a row. `cells` is for its cells, whatever it had.
+    #[inline(always)]
     pub(crate) fn paint_row(
         &self,
         page: &mut Page<'a>,
