@@ -1,0 +1,9 @@
+-- The second text ends where the first goes on.
+use Rattle.std.proofs.Common.{drop, arith}
+use Rattle.tabled_viewing.proofs.Tellings.{none_alike}
+use Rattle.tabled_viewing.proofs.saying.common.Goals as goal
+
+pub returns-else-at-b : goal.returns-else-at-b
+returns-else-at-b c =
+    let none = none_alike (drop c.loop-at.at c.args.a.now) c.args.b.now c.loop-at.at c.if-at-b.false in
+    omega (arith, none, c.loop-at.invariant.alike)

@@ -1,0 +1,7 @@
+pub mod Asked
+pub mod Refusal
+pub mod Captions
+pub mod Colors
+pub mod View
+pub mod Itself
+pub mod Said

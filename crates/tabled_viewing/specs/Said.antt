@@ -1,0 +1,126 @@
+-- What the program says of a refusal, in one line.
+use Rattle.std.specs.Prelude.{ℕ, ◌+◌, ◌-◌, ◌^◌, min, Bool, ◌==◌, nat_lt, if◌then◌else◌, List, [], ◌∷◌, ◌++◌, map, codes, chars, encode_utf8_all, decimal, fold, slice_index_or}
+use Rattle.std.specs.List.{common_prefix_len}
+use Rattle.tabled_clean.specs.Steering.{cleaned}
+use Rattle.tabled_input.specs.declared.error.InputError.{InputError}
+use Rattle.tabled_input.specs.declared.error.InputError.TheVariants as input
+use Rattle.tabled_input.specs.declared.read.TheConstants.{INPUT_LIMIT}
+use Rattle.tabled_request.specs.declared.given.GivenError.{GivenError}
+use Rattle.tabled_request.specs.declared.given.GivenError.TheVariants as given
+use Rattle.tabled_request.specs.declared.error.WordsError.{WordsError}
+use Rattle.tabled_request.specs.declared.error.WordsError.TheVariants.{UnknownOption, NoValue, BadValue, SecondFile}
+use Rattle.tabled_request.specs.declared.options.OptionName.{OptionName}
+use Rattle.tabled_request.specs.declared.options.OptionName.TheVariants as option
+use Rattle.tabled_request.specs.Options.{all_options, name_of}
+use Rattle.tabled_viewing.specs.declared.error.ViewError.{ViewError}
+use Rattle.tabled_viewing.specs.declared.error.ViewError.TheVariants.{Given, Words, OpenFailed, Input, UnequalRows, OutOfMemory, WriteFailed}
+
+-- the word of that number, the empty text past the last
+abbrev pub word : List (List ℕ) → ℕ → List ℕ
+word words n = slice_index_or words n []
+
+-- a text on one line: cleaned, with a picture in the place of each line feed; and between quotes
+abbrev pub in_line : ℕ → ℕ
+in_line character = if character == 10 then 0x240A else character
+
+unfoldable pub on_one_line : List ℕ → List ℕ
+on_one_line text = encode_utf8_all (map in_line (chars (cleaned text)))
+
+abbrev pub quoted : List ℕ → List ℕ
+quoted text = 34 ∷ (on_one_line text ++ 34 ∷ [])
+
+-- a number that is counted from 0, counted from 1, as far as numbers go
+abbrev pub from_one : ℕ → ℕ
+from_one n = min (n + 1) (2 ^ 64 - 1)
+
+-- how many bytes the name of an option and a word begin with alike
+abbrev pub alike : List ℕ → OptionName → ℕ
+alike word option = common_prefix_len (λ a b. a == b) (name_of option) word
+
+-- the option that begins most like a word: of several the first
+abbrev pub nearer : List ℕ → OptionName → OptionName → OptionName
+nearer word best option = if nat_lt (alike word best) (alike word option) then option else best
+
+unfoldable pub nearest : List ℕ → OptionName
+nearest word = fold (nearer word) option.Style all_options
+
+-- what the value of an option may be
+unfoldable pub values : OptionName → List ℕ
+values option.Style = codes "the name of a style, which --styles shows"
+values option.Separator = codes "one character of ASCII, but no quote and no line end"
+values option.Title = codes "a text without a line feed"
+values option.Footer = codes "a text without a line feed"
+values option.Left = codes "numbers of columns from 1 on, as 1,3-5"
+values option.Center = codes "numbers of columns from 1 on, as 1,3-5"
+values option.Right = codes "numbers of columns from 1 on, as 1,3-5"
+values option.Width = codes "a number from 1 on"
+values option.Color = codes "always or never"
+values option.FrameColor = codes "black, red, green, yellow, blue, magenta, cyan or white"
+values other = codes "nothing"
+
+-- of a word that names no option, of an option without its value, of a word that is no value of an option, and of a second file
+abbrev pub said_of_unknown : List ℕ → List ℕ
+said_of_unknown word = on_one_line word ++ (codes " is no option (" ++ (name_of (nearest word) ++ codes " is the nearest; --help shows them)"))
+
+abbrev pub said_of_no_value : OptionName → List ℕ
+said_of_no_value option = name_of option ++ (codes " has no value (" ++ (values option ++ codes ")"))
+
+abbrev pub said_of_bad_value : List ℕ → OptionName → List ℕ
+said_of_bad_value word option =
+    quoted word ++ (codes " is no value of " ++ (name_of option ++ (codes " (" ++ (values option ++ codes ")"))))
+
+abbrev pub said_of_second_file : List ℕ → List ℕ
+said_of_second_file word = quoted word ++ codes " is a second file (one file is read, or standard input)"
+
+-- of words
+abbrev pub said_of_words : List (List ℕ) → WordsError → List ℕ
+said_of_words words (UnknownOption n) = said_of_unknown (word words n)
+said_of_words words (NoValue option) = said_of_no_value option
+said_of_words words (BadValue option n) = said_of_bad_value (word words n) option
+said_of_words words (SecondFile n) = said_of_second_file (word words n)
+
+-- where memory was refused
+abbrev pub out_of_memory : List ℕ
+out_of_memory = codes "memory was refused (give less of the input)"
+
+-- of words that can't be read
+abbrev pub said_of_given : GivenError → List ℕ
+said_of_given (given.Unreadable n) =
+    codes "word " ++ (decimal (from_one n) ++ codes " is not UTF-8, or has more than 4096 bytes (give a shorter text)")
+said_of_given given.OutOfMemory = out_of_memory
+
+-- of an input
+abbrev pub said_of_input : InputError → List ℕ
+said_of_input input.ReadFailed = codes "the input can't be read (is it a file?)"
+said_of_input input.TooLong = codes "the input has more than " ++ (decimal INPUT_LIMIT ++ codes " bytes (give less of it)")
+said_of_input (input.NotUtf8 line byte) =
+    codes "line " ++ (decimal line ++ (codes " is not UTF-8 at its byte " ++ (decimal byte ++ codes " (convert the input to UTF-8)")))
+said_of_input (input.OpenQuote row) =
+    codes "row " ++ (decimal row ++ codes " has a cell that begins with a quote, which nothing ends (end it with a quote)")
+said_of_input input.OutOfMemory = out_of_memory
+
+-- of rows of unlike length, which are rows of CSV or lines
+abbrev pub unit : Bool → List ℕ
+unit is_csv = if is_csv then codes "row" else codes "line"
+
+abbrev pub said_of_rows : Bool → ℕ → ℕ → ℕ → List ℕ
+said_of_rows is_csv row cells columns =
+    unit is_csv ++ (codes " " ++ (decimal (from_one row) ++ (codes " has " ++ (decimal cells ++ (codes " cells where " ++ (unit is_csv
+    ++ (codes " 1 has " ++ (decimal columns ++ codes " (--fill fills them)"))))))))
+
+-- of a file that can't be opened, and where the output can't be written
+abbrev pub said_of_file : List ℕ → List ℕ
+said_of_file name = quoted name ++ codes " can't be opened (name a file that is there and may be read)"
+
+abbrev pub write_failed : List ℕ
+write_failed = codes "the output can't be written (is it closed, or full?)"
+
+-- of any refusal
+abbrev pub said : List (List ℕ) → Bool → ViewError → List ℕ
+said words is_csv (Given refusal) = said_of_given refusal
+said words is_csv (Words refusal) = said_of_words words refusal
+said words is_csv (OpenFailed n) = said_of_file (word words n)
+said words is_csv (Input refusal) = said_of_input refusal
+said words is_csv (UnequalRows row cells columns) = said_of_rows is_csv row cells columns
+said words is_csv OutOfMemory = out_of_memory
+said words is_csv WriteFailed = write_failed

@@ -1,0 +1,105 @@
+//! What a request asks for, in the surroundings of the program.
+
+ghost use Rattle.std.specs.Prelude.{◌≡◌, Ok, Err, None, Some, if◌then◌else◌, map, option_map, string_bytes, IfErr, IfOk};
+ghost use Rattle.tabled_request.specs.Words.{request_of};
+ghost use Rattle.tabled_request.specs.declared.error.WordsError.{WordsError as Wrong};
+ghost use Rattle.tabled_style.specs.declared.ready_style.ReadyStyle.TheVariants as ready;
+ghost use Rattle.tabled_viewing.specs.Asked.{cells_asked, is_about_itself, is_colored, style_asked, style_by, width_asked};
+ghost use Rattle.tabled_viewing.specs.Refusal.{unknown_style};
+ghost use Rattle.tabled_viewing.specs.declared.error.ViewError.TheVariants as refusals;
+
+use crate::error::ViewError;
+use tabled_input::Cells;
+use tabled_request::{OptionName, Request, Shows, Surroundings, WordsError, read_words, word_at};
+use tabled_style::ReadyStyle;
+
+/// What the words ask for. Refused with the first word that is wrong.
+pub fn understood(words: &[String]) -> Result<Request, ViewError>
+    ensures request { IfOk result (λ request. request_of (map string_bytes words.now) ≡ Ok request) }
+    ensures refused { IfErr result (λ e. (refusal : Wrong) × (e ≡ refusals.Words refusal) × (request_of (map string_bytes words.now) ≡ Err refusal)) }
+{
+    let request = read_words(words)?;
+    Ok(request)
+}
+
+/// Whether the program is asked about itself, and needs no input.
+pub fn is_about_itself(request: Request) -> bool
+    ensures { result ≡ is_about_itself request.shows }
+{
+    match request.shows {
+        Shows::Table => false,
+        Shows::Help => true,
+        Shows::Version => true,
+        Shows::Styles => true,
+    }
+}
+
+/// How the cells of the input stand: between tabs, or commas where they may stand in quotes, unless a separator is given.
+pub(crate) fn cells_asked(request: Request) -> Cells
+    ensures { result ≡ cells_asked request }
+{
+    if request.is_csv {
+        return Cells::Quoted(request.separator.unwrap_or(','));
+    }
+    Cells::Separated(request.separator.unwrap_or('\t'))
+}
+
+/// The style that is drawn where no word names one.
+fn first_style(around: Surroundings) -> ReadyStyle
+    ensures { result ≡ (if around.takes_utf8 then ready.Rounded else ready.Ascii) }
+{
+    if around.takes_utf8 {
+        ReadyStyle::Rounded
+    } else {
+        ReadyStyle::Ascii
+    }
+}
+
+/// The style that a word names, and where none does the one that the terminal can show.
+fn style_by(name: Option<&str>, around: Surroundings) -> Option<ReadyStyle>
+    ensures { result ≡ style_by (option_map (λ name. name.now) name.entry) around }
+{
+    match name {
+        None => Some(first_style(around)),
+        Some(name) => ReadyStyle::from_name(name),
+    }
+}
+
+/// The style that is asked for. Refused where the word for it names none.
+pub(crate) fn style_asked(
+    request: Request,
+    words: &[String],
+    around: Surroundings,
+) -> Result<ReadyStyle, ViewError>
+    ensures style { IfOk result (λ style. style_asked request (map string_bytes words.now) around ≡ Some style) }
+    ensures refused { IfErr result (λ e. (style_asked request (map string_bytes words.now) around ≡ None) × (e ≡ unknown_style request)) }
+{
+    match style_by(word_at(words, request.style), around) {
+        Some(style) => Ok(style),
+        None => Err(ViewError::Words {
+            refusal: WordsError::BadValue {
+                option: OptionName::Style,
+                word: request.style.unwrap_or(0),
+            },
+        }),
+    }
+}
+
+/// How many columns of the terminal the table may take, if that is limited.
+pub(crate) fn width_asked(request: Request, around: Surroundings) -> Option<usize>
+    ensures { result ≡ width_asked request around }
+{
+    let of_terminal = if request.fits_terminal {
+        around.columns
+    } else {
+        None
+    };
+    request.width.or(of_terminal)
+}
+
+/// Whether there are colors.
+pub(crate) fn is_colored(request: Request, around: Surroundings) -> bool
+    ensures { result ≡ is_colored request around }
+{
+    request.has_color && !around.forbids_color
+}

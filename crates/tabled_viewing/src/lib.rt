@@ -1,0 +1,19 @@
+//! What the program `tabled_view` does: it reads rows of cells, and writes them as a table as its words ask for.
+//!
+//! `docs/DEFINITIONS.md` explains the words of the contracts.
+#![tactic(auto)]
+
+mod asked;
+mod captions;
+mod colors;
+mod drawing;
+mod error;
+mod page;
+mod program;
+mod saying;
+mod texts;
+
+pub use asked::{is_about_itself, understood};
+pub use error::ViewError;
+pub use program::run;
+pub use saying::said;

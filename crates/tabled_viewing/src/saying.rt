@@ -1,0 +1,289 @@
+//! What refusals say.
+
+ghost use Rattle.std.specs.Prelude.{◌≡◌, ◌==◌, fold, map, string_bytes, IfOk};
+ghost use Rattle.std.specs.List.{common_prefix_len};
+ghost use Rattle.tabled_viewing.specs.Said.{alike, in_line, nearer, nearest, on_one_line, out_of_memory, quoted, said, said_of_bad_value, said_of_file, said_of_given, said_of_input, said_of_no_value, said_of_rows, said_of_second_file, said_of_unknown, said_of_words, unit, values, word, write_failed};
+
+use crate::error::ViewError;
+use std::alloc::Global;
+use tabled_border::OutOfMemory;
+use tabled_clean::cleaned;
+use tabled_input::{INPUT_LIMIT, InputError};
+use tabled_request::{GivenError, OptionName, WordsError};
+
+/// The word of that number, the empty text past the last.
+fn word(words: &[String], number: usize) -> &str
+    ensures { result.now ≡ word (map string_bytes words.now) number }
+{
+    match words.get(number) {
+        Some(word) => word.as_str(),
+        None => "",
+    }
+}
+
+/// A character on a line: a picture of the line feed, and any other as it is.
+fn in_line(character: char) -> char
+    ensures { result ≡ in_line character }
+{
+    if character == '\n' {
+        '\u{240A}'
+    } else {
+        character
+    }
+}
+
+/// A text on one line, in which nothing steers the terminal.
+fn on_one_line(alloc: Global, text: &str) -> Result<String, OutOfMemory>
+    ensures { IfOk result (λ line. string_bytes line ≡ on_one_line text.now) }
+{
+    let clean = cleaned(alloc, text)?;
+    let mut line = String::new(alloc);
+    for character in clean.chars() {
+        line.push(in_line(character))?;
+    }
+    Ok(line)
+}
+
+/// A text on one line, between quotes.
+fn quoted(alloc: Global, text: &str) -> Result<String, OutOfMemory>
+    ensures { IfOk result (λ line. string_bytes line ≡ quoted text.now) }
+{
+    let text = on_one_line(alloc, text)?;
+    Ok(format!(in alloc; "\"{text}\"")?)
+}
+
+/// How many bytes two texts begin with alike.
+fn common(a: &[u8], b: &[u8]) -> usize
+    ensures { result ≡ common_prefix_len (λ x y. x == y) a.now b.now }
+{
+    let mut at = 0;
+    while at < a.len() && at < b.len() && a[at] == b[at] {
+        at += 1;
+    }
+    at
+}
+
+/// How many bytes the name of an option and a word begin with alike.
+fn alike(word: &str, option: OptionName) -> usize
+    ensures { result ≡ alike word.now option }
+{
+    common(option.name().as_bytes(), word.as_bytes())
+}
+
+/// Of two options that which begins more like a word, and of equals the first.
+fn nearer(word: &str, best: OptionName, option: OptionName) -> OptionName
+    ensures { result ≡ nearer word.now best option }
+{
+    if alike(word, best) < alike(word, option) {
+        option
+    } else {
+        best
+    }
+}
+
+/// Of some options that which begins most like a word: of several the first, and another one where none begins more like it.
+fn nearest_of(word: &str, best: OptionName, options: &[OptionName]) -> OptionName
+    ensures { result ≡ fold (nearer word.now) best options.now }
+{
+    let mut best = best;
+    for option in options {
+        best = nearer(word, best, *option);
+    }
+    best
+}
+
+/// The option that begins most like a word: of several the first.
+#[tactic(auto, unfolding(crate::specs::Said::nearest))]
+fn nearest(word: &str) -> OptionName
+    ensures { result ≡ nearest word.now }
+{
+    let options = OptionName::all();
+    nearest_of(word, OptionName::Style, &options)
+}
+
+/// What the value of an option may be.
+#[tactic(auto, unfolding(crate::specs::Said::values))]
+fn values(option: OptionName) -> &'static str
+    ensures { result.now ≡ values option }
+{
+    match option {
+        OptionName::Style => "the name of a style, which --styles shows",
+        OptionName::Separator => "one character of ASCII, but no quote and no line end",
+        OptionName::Title => "a text without a line feed",
+        OptionName::Footer => "a text without a line feed",
+        OptionName::Left => "numbers of columns from 1 on, as 1,3-5",
+        OptionName::Center => "numbers of columns from 1 on, as 1,3-5",
+        OptionName::Right => "numbers of columns from 1 on, as 1,3-5",
+        OptionName::Width => "a number from 1 on",
+        OptionName::Color => "always or never",
+        OptionName::FrameColor => "black, red, green, yellow, blue, magenta, cyan or white",
+        _ => "nothing",
+    }
+}
+
+/// What is said of a word that names no option.
+fn said_of_unknown(alloc: Global, word: &str) -> Result<String, OutOfMemory>
+    ensures { IfOk result (λ text. string_bytes text ≡ said_of_unknown word.now) }
+{
+    let name = on_one_line(alloc, word)?;
+    let near = nearest(word).name();
+    Ok(format!(in alloc; "{name} is no option ({near} is the nearest; --help shows them)")?)
+}
+
+/// What is said of an option without its value.
+fn said_of_no_value(alloc: Global, option: OptionName) -> Result<String, OutOfMemory>
+    ensures { IfOk result (λ text. string_bytes text ≡ said_of_no_value option) }
+{
+    let name = option.name();
+    let value = values(option);
+    Ok(format!(in alloc; "{name} has no value ({value})")?)
+}
+
+/// What is said of a word that is no value of the option before it.
+fn said_of_bad_value(alloc: Global, word: &str, option: OptionName) -> Result<String, OutOfMemory>
+    ensures { IfOk result (λ text. string_bytes text ≡ said_of_bad_value word.now option) }
+{
+    let given = quoted(alloc, word)?;
+    let name = option.name();
+    let value = values(option);
+    Ok(format!(in alloc; "{given} is no value of {name} ({value})")?)
+}
+
+/// What is said of a second file.
+fn said_of_second_file(alloc: Global, word: &str) -> Result<String, OutOfMemory>
+    ensures { IfOk result (λ text. string_bytes text ≡ said_of_second_file word.now) }
+{
+    let given = quoted(alloc, word)?;
+    Ok(format!(in alloc; "{given} is a second file (one file is read, or standard input)")?)
+}
+
+/// What is said of words.
+fn said_of_words(
+    alloc: Global,
+    words: &[String],
+    refusal: WordsError,
+) -> Result<String, OutOfMemory>
+    ensures { IfOk result (λ text. string_bytes text ≡ said_of_words (map string_bytes words.now) refusal) }
+{
+    match refusal {
+        WordsError::UnknownOption { word: n } => said_of_unknown(alloc, word(words, n)),
+        WordsError::NoValue { option } => said_of_no_value(alloc, option),
+        WordsError::BadValue { option, word: n } => {
+            said_of_bad_value(alloc, word(words, n), option)
+        }
+        WordsError::SecondFile { word: n } => said_of_second_file(alloc, word(words, n)),
+    }
+}
+
+/// What is said where memory was refused.
+fn out_of_memory(alloc: Global) -> Result<String, OutOfMemory>
+    ensures { IfOk result (λ text. string_bytes text ≡ out_of_memory) }
+{
+    Ok(String::from_str(alloc, "memory was refused (give less of the input)")?)
+}
+
+/// What is said of words that can't be read.
+fn said_of_given(alloc: Global, refusal: GivenError) -> Result<String, OutOfMemory>
+    ensures { IfOk result (λ text. string_bytes text ≡ said_of_given refusal) }
+{
+    match refusal {
+        GivenError::Unreadable { word } => {
+            let word = word.saturating_add(1);
+            Ok(format!(in alloc;
+                "word {word} is not UTF-8, or has more than 4096 bytes (give a shorter text)"
+            )?)
+        }
+        GivenError::OutOfMemory => out_of_memory(alloc),
+    }
+}
+
+/// What is said of an input.
+fn said_of_input(alloc: Global, refusal: InputError) -> Result<String, OutOfMemory>
+    ensures { IfOk result (λ text. string_bytes text ≡ said_of_input refusal) }
+{
+    match refusal {
+        InputError::ReadFailed => {
+            Ok(String::from_str(alloc, "the input can't be read (is it a file?)")?)
+        }
+        InputError::TooLong => {
+            Ok(format!(in alloc; "the input has more than {INPUT_LIMIT} bytes (give less of it)")?)
+        }
+        InputError::NotUtf8 { line, byte } => {
+            Ok(format!(in alloc;
+                "line {line} is not UTF-8 at its byte {byte} (convert the input to UTF-8)"
+            )?)
+        }
+        InputError::OpenQuote { row } => {
+            Ok(format!(in alloc;
+                "row {row} has a cell that begins with a quote, which nothing ends (end it with a quote)"
+            )?)
+        }
+        InputError::OutOfMemory => out_of_memory(alloc),
+    }
+}
+
+/// What rows are called: rows in CSV, and else lines.
+fn unit(is_csv: bool) -> &'static str
+    ensures { result.now ≡ unit is_csv }
+{
+    if is_csv { "row" } else { "line" }
+}
+
+/// What is said of rows of unlike length.
+fn said_of_rows(
+    alloc: Global,
+    is_csv: bool,
+    row: usize,
+    cells: usize,
+    columns: usize,
+) -> Result<String, OutOfMemory>
+    ensures { IfOk result (λ text. string_bytes text ≡ said_of_rows is_csv row cells columns) }
+{
+    let unit = unit(is_csv);
+    let row = row.saturating_add(1);
+    Ok(format!(in alloc;
+        "{unit} {row} has {cells} cells where {unit} 1 has {columns} (--fill fills them)"
+    )?)
+}
+
+/// What is said of a file that can't be opened.
+fn said_of_file(alloc: Global, name: &str) -> Result<String, OutOfMemory>
+    ensures { IfOk result (λ text. string_bytes text ≡ said_of_file name.now) }
+{
+    let name = quoted(alloc, name)?;
+    Ok(format!(in alloc; "{name} can't be opened (name a file that is there and may be read)")?)
+}
+
+/// What is said where the output can't be written.
+fn write_failed(alloc: Global) -> Result<String, OutOfMemory>
+    ensures { IfOk result (λ text. string_bytes text ≡ write_failed) }
+{
+    Ok(String::from_str(
+        alloc,
+        "the output can't be written (is it closed, or full?)",
+    )?)
+}
+
+/// What a refusal says, in one line, over these words: what is wrong, and what helps.
+pub fn said(
+    alloc: Global,
+    words: &[String],
+    is_csv: bool,
+    refusal: ViewError,
+) -> Result<String, OutOfMemory>
+    ensures { IfOk result (λ text. string_bytes text ≡ said (map string_bytes words.now) is_csv refusal) }
+{
+    match refusal {
+        ViewError::Given { refusal } => said_of_given(alloc, refusal),
+        ViewError::Words { refusal } => said_of_words(alloc, words, refusal),
+        ViewError::OpenFailed { word: n } => said_of_file(alloc, word(words, n)),
+        ViewError::Input { refusal } => said_of_input(alloc, refusal),
+        ViewError::UnequalRows {
+            row,
+            cells,
+            columns,
+        } => said_of_rows(alloc, is_csv, row, cells, columns),
+        ViewError::OutOfMemory => out_of_memory(alloc),
+        ViewError::WriteFailed => write_failed(alloc),
+    }
+}

@@ -1,0 +1,210 @@
+//! What `tabled_view` does with its words, an input and an output: a picture for each option, drawn by hand, and each refusal with its text and
+//! its status.
+
+use std::alloc::{AllocError, Global};
+use std::io::Cursor;
+use std::test::Fail;
+use tabled_request::{GivenError, Side, Surroundings, all_sides};
+use tabled_viewing::{ViewError, run, said, understood};
+
+/// A terminal that takes UTF-8 and colors.
+const TERMINAL: Surroundings = Surroundings {
+    takes_utf8: true,
+    forbids_color: false,
+    columns: Some(13),
+};
+
+/// One that takes neither.
+const PLAIN: Surroundings = Surroundings {
+    takes_utf8: false,
+    forbids_color: true,
+    columns: None,
+};
+
+/// Words that are given between bars.
+fn words_of(alloc: Global, given: &str) -> Result<Vec<String>, AllocError> {
+    let mut words = Vec::new(alloc);
+    if given.is_empty() {
+        return Ok(words);
+    }
+    for word in given.split('|') {
+        words.push(String::from_str(alloc, word)?)?;
+    }
+    Ok(words)
+}
+
+/// What the program returns over these words and this input, and what it writes.
+fn viewed(
+    alloc: Global,
+    words: &[String],
+    around: Surroundings,
+    input: &[u8],
+    output: &mut Vec<u8>,
+) -> Result<(), ViewError> {
+    let request = understood(words)?;
+    run(alloc, request, words, around, &mut Cursor::new(input), output)
+}
+
+/// Whether the program writes this text.
+fn shows(alloc: Global, words: &str, around: Surroundings, input: &str, text: &str) -> Result<bool, Fail> {
+    let words = words_of(alloc, words)?;
+    let mut written = Vec::new(alloc);
+    let returned = viewed(alloc, &words, around, input.as_bytes(), &mut written);
+    Ok(returned.is_ok() && written.as_slice() == text.as_bytes())
+}
+
+/// Whether the program writes nothing and ends with this status, and says this.
+fn refuses(alloc: Global, words: &str, input: &[u8], status: u8, text: &str) -> Result<bool, Fail> {
+    let is_csv = words.contains("--csv");
+    let words = words_of(alloc, words)?;
+    let mut written = Vec::new(alloc);
+    match viewed(alloc, &words, TERMINAL, input, &mut written) {
+        Ok(()) => Ok(false),
+        Err(refusal) => {
+            let says = said(alloc, &words, is_csv, refusal)?;
+            Ok(written.is_empty() && refusal.status() == status && says.as_str() == text)
+        }
+    }
+}
+
+/// Words, an input and the table that is drawn of it.
+static PICTURES: [(&str, &str, &str); 25] = [
+    ("", "a\tb\n1\t22\n", "╭───┬────╮\n│ a │  b │\n├───┼────┤\n│ 1 │ 22 │\n╰───┴────╯\n"),
+    ("", "", ""),
+    ("--title|x", "", ""),
+    ("", "é\t漢字\r\n👩‍💻\tb\r\n", "╭────┬──────╮\n│ é  │ 漢字 │\n├────┼──────┤\n│ 👩‍💻 │ b    │\n╰────┴──────╯\n"),
+    ("--style|psql", "a\tb\nc\td\n", " a | b \n---+---\n c | d \n"),
+    ("--style|ascii|--separator|:", "a:b\tc\n", "+---+-----+\n| a | b␉c |\n+---+-----+\n"),
+    ("--style|psql|--csv", "a,\"b, \"\"c\"\"\"\n\"d\ne\",f", " a | b, \"c\" \n---+--------\n d | f      \n e |        \n"),
+    ("--style|psql|--csv|--separator|;", "a;b\n", " a | b \n---+---\n"),
+    ("--style|psql|--header", "1\n2\n", " 1 \n---\n 2 \n"),
+    ("--style|psql|--no-header", "1\n2\n", " 1 \n 2 \n"),
+    ("--style|psql|--no-header", "n\n22\n", " n  \n 22 \n"),
+    ("--style|psql", "name\tn\tm\na\t1\t-\nb\t200\t2\nc\t\t3\n", " name |   n | m \n------+-----+---\n a    |   1 | - \n b    | 200 | 2 \n c    |     | 3 \n"),
+    ("--style|psql|--no-numbers", "n\n22\n1\n", " n  \n----\n 22 \n 1  \n"),
+    ("--style|psql|--right|1,3|--center|2", "a\tb\tc\n111\t222\t333\n", "   a |  b  |   c \n-----+-----+-----\n 111 | 222 | 333 \n"),
+    ("--style|psql|--left|1-2", "a\tb\n1\t22\n10\t2\n", " a  | b  \n----+----\n 1  | 22 \n 10 | 2  \n"),
+    ("--title|ab", "abc\tdef\n", "╭─── ab ────╮\n│ abc │ def │\n╰─────┴─────╯\n"),
+    ("--footer|Größe", "abc\tdef\n", "╭─────┬─────╮\n│ abc │ def │\n╰── Größe ──╯\n"),
+    ("--style|psql|--title|over|--footer|below", "a\tb\n", "over\n a | b \n---+---\nbelow\n"),
+    ("--title|a title that is too long", "a\n", "a title that is too long\n╭───╮\n│ a │\n╰───╯\n"),
+    ("--style|sharp|--title|漢字", "abcdef\n", "漢字\n┌────────┐\n│ abcdef │\n└────────┘\n"),
+    ("--style|psql|--width|9", "a\tb c d e\n", " a | b c \n   | d e \n---+-----\n"),
+    ("--style|psql|--width|9|--truncate", "a\tbcdef\n", " a | b.. \n---+-----\n"),
+    ("--style|psql|--width|9|--truncate|--wrap", "a\tb c d e\n", " a | b c \n   | d e \n---+-----\n"),
+    ("--style|psql|--terminal", "a\tb c d e f g h\n", " a | b c d e \n   | f g h   \n---+---------\n"),
+    ("--style|psql|--fill", "a\tb\nc\n\nd\te\tf\n", " a | b |   \n---+---+---\n c |   |   \n   |   |   \n d | e | f \n"),
+];
+
+#[test]
+fn each_option_has_its_picture(rt: HostRuntime) -> Result<(), Fail> {
+    for (words, input, text) in PICTURES.iter() {
+        assert!(rt; shows(rt.alloc(), words, TERMINAL, input, text)?, "{words} of {input:?}");
+    }
+    Ok(())
+}
+
+#[test]
+fn the_style_is_what_the_terminal_takes(rt: HostRuntime) -> Result<(), Fail> {
+    let drawn = "+---+\n| a |\n+---+\n";
+    assert!(rt; shows(rt.alloc(), "", PLAIN, "a\n", drawn)?);
+    assert!(rt; shows(rt.alloc(), "--terminal", PLAIN, "a\n", drawn)?);
+    Ok(())
+}
+
+#[test]
+fn texts_are_cleaned_unless_raw(rt: HostRuntime) -> Result<(), Fail> {
+    let input = "a\u{1b}[2Jb\u{202e}\n";
+    assert!(rt; shows(rt.alloc(), "--style|empty|--title|\u{1b}c", TERMINAL, input, "␛c\n a␛[2Jb\u{fffd} \n")?);
+    assert!(rt; shows(rt.alloc(), "--style|empty|--raw", TERMINAL, "\u{1b}[1mb\n", " \u{1b}[1mb \n")?);
+    Ok(())
+}
+
+#[test]
+fn colors_are_drawn_where_they_are_wanted(rt: HostRuntime) -> Result<(), Fail> {
+    let words = "--style|psql|--color|always";
+    let bold = " \u{1b}[1ma\u{1b}[22m \n---\n b \n c \n";
+    let plain = " a \n---\n b \n c \n";
+    assert!(rt; shows(rt.alloc(), words, TERMINAL, "a\nb\nc\n", bold)?);
+    assert!(rt; shows(rt.alloc(), words, PLAIN, "a\nb\nc\n", plain)?);
+    assert!(rt; shows(rt.alloc(), "--style|psql|--stripes|--frame-color|red", TERMINAL, "a\nb\nc\n", plain)?);
+    let striped = " \u{1b}[1ma\u{1b}[22m \n---\n\u{1b}[100m b \u{1b}[49m\n c \n";
+    assert!(rt; shows(rt.alloc(), "--style|psql|--color|always|--stripes", TERMINAL, "a\nb\nc\n", striped)?);
+    assert!(rt; shows(rt.alloc(), "--style|markdown|--no-header|--color|always|--frame-color|red", TERMINAL, "a\n", "\u{1b}[31m|\u{1b}[39m a \u{1b}[31m|\u{1b}[39m\n")?);
+    Ok(())
+}
+
+/// Words, an input, and the status and the text of its refusal.
+static REFUSALS: [(&str, &[u8], u8, &str); 17] = [
+    ("", b"a\tb\tc\td\ne\tf\n", 3, "line 2 has 2 cells where line 1 has 4 (--fill fills them)"),
+    ("", b"a\n\tb\n", 3, "line 2 has 2 cells where line 1 has 1 (--fill fills them)"),
+    ("--csv", b"a,\"b\nc\"\nd\n", 3, "row 2 has 1 cells where row 1 has 2 (--fill fills them)"),
+    ("", b"a\nb\xff\n", 4, "line 2 is not UTF-8 at its byte 2 (convert the input to UTF-8)"),
+    ("--csv", b"a\n\"b\n", 4, "row 2 has a cell that begins with a quote, which nothing ends (end it with a quote)"),
+    ("--widht|3", b"\xff", 2, "--widht is no option (--width is the nearest; --help shows them)"),
+    ("-x", b"", 2, "-x is no option (--style is the nearest; --help shows them)"),
+    ("--csv|--title", b"", 2, "--title has no value (a text without a line feed)"),
+    ("--style|fancy", b"\xff", 2, "\"fancy\" is no value of --style (the name of a style, which --styles shows)"),
+    ("--separator|ab", b"", 2, "\"ab\" is no value of --separator (one character of ASCII, but no quote and no line end)"),
+    ("--right|0", b"", 2, "\"0\" is no value of --right (numbers of columns from 1 on, as 1,3-5)"),
+    ("--width|0", b"", 2, "\"0\" is no value of --width (a number from 1 on)"),
+    ("--color|auto", b"", 2, "\"auto\" is no value of --color (always or never)"),
+    ("--frame-color|pink", b"", 2, "\"pink\" is no value of --frame-color (black, red, green, yellow, blue, magenta, cyan or white)"),
+    ("--footer|a\nb", b"", 2, "\"a␊b\" is no value of --footer (a text without a line feed)"),
+    ("a|b", b"", 2, "\"b\" is a second file (one file is read, or standard input)"),
+    ("--left|", b"", 2, "\"\" is no value of --left (numbers of columns from 1 on, as 1,3-5)"),
+];
+
+#[test]
+fn each_refusal_says_what_and_where(rt: HostRuntime) -> Result<(), Fail> {
+    for (words, input, status, text) in REFUSALS.iter() {
+        assert!(rt; refuses(rt.alloc(), words, input, *status, text)?, "{words} of {input:?}");
+    }
+    Ok(())
+}
+
+#[test]
+fn other_refusals_have_their_texts(rt: HostRuntime) -> Result<(), Fail> {
+    let words = words_of(rt.alloc(), "data.tsv")?;
+    let unreadable = GivenError::Unreadable { word: 0 };
+    for (refusal, status, text) in [
+        (ViewError::Given { refusal: unreadable }, 2, "word 1 is not UTF-8, or has more than 4096 bytes (give a shorter text)"),
+        (ViewError::OpenFailed { word: 0 }, 1, "\"data.tsv\" can't be opened (name a file that is there and may be read)"),
+        (ViewError::OutOfMemory, 1, "memory was refused (give less of the input)"),
+        (ViewError::WriteFailed, 1, "the output can't be written (is it closed, or full?)"),
+    ] {
+        let says = said(rt.alloc(), &words, false, refusal)?;
+        assert!(rt; refusal.status() == status && says.as_str() == text, "{text}");
+    }
+    Ok(())
+}
+
+#[test]
+fn the_program_tells_of_itself(rt: HostRuntime) -> Result<(), Fail> {
+    assert!(rt; shows(rt.alloc(), "--csv|--version|no file", TERMINAL, "\"", "tabled_view 0.1.0\n")?);
+    let words = words_of(rt.alloc(), "--styles")?;
+    let mut written = Vec::new(rt.alloc());
+    assert!(rt; viewed(rt.alloc(), &words, TERMINAL, b"\xff", &mut written).is_ok());
+    let begins = "empty\n name  since \n C     1972  \n Lisp  1960  \n\nblank\n name   since \n";
+    assert!(rt; written.as_slice().starts_with(begins.as_bytes()));
+    let words = words_of(rt.alloc(), "--help")?;
+    let mut written = Vec::new(rt.alloc());
+    assert!(rt; viewed(rt.alloc(), &words, TERMINAL, b"", &mut written).is_ok());
+    assert!(rt; written.as_slice().starts_with(b"usage: tabled_view [OPTIONS] [FILE]\n"));
+    Ok(())
+}
+
+#[test]
+fn each_column_stands_at_its_side(rt: HostRuntime) -> Result<(), Fail> {
+    let words = words_of(rt.alloc(), "--right|2|--center|3")?;
+    let request = understood(&words);
+    assert!(rt; request.is_ok());
+    let Ok(request) = request else { return Ok(()) };
+    let mut rows = Vec::new(rt.alloc());
+    rows.push(words_of(rt.alloc(), "a|b|c|d")?)?;
+    rows.push(words_of(rt.alloc(), "e|f|g|1")?)?;
+    let sides = all_sides(rt.alloc(), request, &words, &rows)?;
+    let each = [Side::Left, Side::Right, Side::Center, Side::Right];
+    assert!(rt; sides.as_slice() == each.as_slice());
+    Ok(())
+}
