@@ -6,9 +6,11 @@
 mod cell_color;
 mod colorization;
 mod exact;
+mod joined;
 mod pattern;
 mod turns;
 
 pub use cell_color::CellColor;
 pub use colorization::Colorization;
 pub use exact::ExactColorization;
+pub use joined::JoinedColor;

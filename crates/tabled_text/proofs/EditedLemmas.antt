@@ -17,7 +17,7 @@ use Rattle.tabled_text.proofs.EqualRows.{same_count, equal_by}
 -- ---- as many cells in each row
 
 -- rows of so many cells, counted from elsewhere
-none-shift : (columns start other : ℕ) (rows : Table) → first_unequal columns start rows ≡ None → first_unequal columns other rows ≡ None
+pub none-shift : (columns start other : ℕ) (rows : Table) → first_unequal columns start rows ≡ None → first_unequal columns other rows ≡ None
 none-shift columns start other [] none = refl
 none-shift columns start other (cells ∷ rows) none =
     let parts = equal_by columns start cells rows _ refl none in
@@ -26,7 +26,7 @@ none-shift columns start other (cells ∷ rows) none =
     ∙ none-shift columns (start + 1) (other + 1) rows parts.1
 
 -- a row of so many cells before such rows
-none-before : (columns start : ℕ) (row : List (List ℕ)) (rows : Table) → length row ≡ columns → first_unequal columns (start + 1) rows ≡ None → first_unequal columns start (row ∷ rows) ≡ None
+pub none-before : (columns start : ℕ) (row : List (List ℕ)) (rows : Table) → length row ≡ columns → first_unequal columns (start + 1) rows ≡ None → first_unequal columns start (row ∷ rows) ≡ None
 none-before columns start row rows same none =
     ap (λ n. if n == columns then first_unequal columns (start + 1) rows else Some start) same
     ∙ ap (λ (b : Bool). if b then first_unequal columns (start + 1) rows else Some start) (let alike : (columns == columns) ≡ true = grind (arith, nat_tests) in alike)
@@ -82,7 +82,7 @@ fold-start : (a n : ℕ) (ns : List ℕ) → fold max (max a n) ns ≡ max (fold
 fold-start a n [] = refl
 fold-start a n (m ∷ ns) = ap (λ k. fold max k ns) (let moved : max (max a n) m ≡ max (max a m) n = omega arith in moved) ∙ fold-start (max a m) n ns
 
-greatest-insert : (ns : List ℕ) (at n : ℕ) → greatest (insert ns at n) ≡ max (greatest ns) n
+pub greatest-insert : (ns : List ℕ) (at n : ℕ) → greatest (insert ns at n) ≡ max (greatest ns) n
 greatest-insert ns at n =
     fold-append max 0 (take at ns) (n ∷ drop at ns)
     ∙ fold-start (fold max 0 (take at ns)) n (drop at ns)

@@ -12,3 +12,6 @@ pub mod Totals
 pub mod EditedLemmas
 pub mod NumericLemmas
 pub mod SpanLemmas
+pub mod ColumnLemmas
+pub mod TextLemmas
+pub mod PanelLemmas

@@ -113,3 +113,16 @@ one_high [] some each = absurd (omega (arith, some))
 one_high (text ∷ row) some each =
     sym (ap (λ n. fold max (max 0 n) (map height_asked row)) (each 0 (omega arith))
     ∙ ones row (λ col within. each (suc col) (omega (arith, within))))
+
+-- ---- the texts of a column
+
+-- what the first of some texts ask for at most, and one more
+pub greatest_more : {Z : Type 0} (asked : List ℕ → ℕ) (column : List (String Z)) (at old new : ℕ) (text : String Z)
+    → old ≡ greatest (map asked (take at (map string_bytes column))) → at < length column → text ≡ get_or column at text → new ≡ max old (asked (string_bytes text))
+    → new ≡ greatest (map asked (take (at + 1) (map string_bytes column)))
+greatest_more asked column at old new text made within read is =
+    let all = map string_bytes column in
+    is ∙ ap (λ n. max n (asked (string_bytes text))) made
+    ∙ ap (λ (found : List ℕ). max (greatest (map asked (take at all))) (asked found)) (sym (cell_at column at text within read))
+    ∙ sym (fold-max-more 0 (map asked (take at all)) (asked (cell all at)))
+    ∙ ap greatest (sym (map-append asked (take at all) (cell all at ∷ [])) ∙ ap (map asked) (sym (take_more all at [] (rw length-map within))))

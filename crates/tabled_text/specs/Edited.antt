@@ -1,5 +1,5 @@
--- Rows that are put into a table of texts.
-use Rattle.std.specs.Prelude.{ℕ, max, ◌==◌, ◌||◌, Bool, List, [], map, length, slice_index, slice_index_or, slice_set}
+-- Rows that are put into a table of texts, and texts that are replaced.
+use Rattle.std.specs.Prelude.{ℕ, max, ◌==◌, ◌||◌, Bool, Option, List, [], map, length, slice_get, slice_index, slice_index_or, slice_set}
 use Rattle.tabled_object.specs.Entities.{below}
 use Rattle.tabled_printing.specs.Texts.{Table}
 use Rattle.tabled_text.specs.Sizes.{cell, column_count, width_asked}
@@ -15,3 +15,7 @@ widths_with widths row = map (λ col. max (slice_index widths col) (width_asked 
 -- a table with another text in a cell, if it has that cell
 abbrev pub text_set : ℕ → ℕ → List ℕ → Table → Table
 text_set row col text table = slice_set table row (slice_set (slice_index_or table row []) col text)
+
+-- the text of a cell, if a table has that cell
+abbrev pub text_at : ℕ → ℕ → Table → Option (List ℕ)
+text_at row col table = slice_get (slice_index_or table row []) col

@@ -5,5 +5,6 @@ pub mod TextTable
 pub mod Changed
 pub mod Fitted
 pub mod Edited
+pub mod EditedColumns
 pub mod Numeric
 pub mod Panels

@@ -7,7 +7,7 @@ use Rattle.tabled_printing.specs.declared.print_error.PrintError.TheVariants as 
 use Rattle.std.specs.declared.io.ErrorKind.{ErrorKind}
 use Rattle.std.specs.declared.io.ErrorKind.TheVariants as io
 use Rattle.tabled_text.specs.declared.table_error.TableError.{TableError}
-use Rattle.tabled_text.specs.declared.table_error.TableError.TheVariants.{OutOfMemory, UnequalRows, Print, Write, UnknownStyle}
+use Rattle.tabled_text.specs.declared.table_error.TableError.TheVariants.{OutOfMemory, UnequalRows, UnequalColumn, Print, Write, UnknownStyle}
 
 -- what a refusal of the printer is for a table of texts: one for memory stays one for memory
 abbrev pub of_printer : PrintError → TableError
@@ -26,6 +26,7 @@ unequal table row = UnequalRows row (length (slice_index_or table row [])) (colu
 abbrev pub kind_of : TableError → ErrorKind
 kind_of OutOfMemory = io.OutOfMemory
 kind_of (UnequalRows row cells columns) = io.InvalidInput
+kind_of (UnequalColumn column cells rows) = io.InvalidInput
 kind_of (Print refused) = io.InvalidInput
 kind_of Write = io.Uncategorized
 kind_of UnknownStyle = io.InvalidInput

@@ -5,6 +5,7 @@
 
 mod changing;
 mod display;
+mod edited;
 mod fitting;
 mod measure;
 mod numeric;

@@ -1,10 +1,11 @@
 //! How large the cells of a table are.
 
-ghost use Rattle.std.specs.Prelude.{◌≡◌, ◌+◌, ◌<◌, ℕ, true, max, map, slice_index, EachIndex, IfOk, OnOk, replicate, string_bytes};
+ghost use Rattle.std.specs.Prelude.{◌≡◌, ◌+◌, ◌<◌, ℕ, true, length, max, map, slice_index, EachIndex, IfOk, OnOk, replicate, string_bytes};
 ghost use Rattle.tabled_object.specs.Entities.{below};
 ghost use Rattle.tabled_printing.specs.Texts.{texts, pieces, width_of_text};
 ghost use Rattle.tabled_text.specs.Edited.{widths_with};
-ghost use Rattle.tabled_text.specs.Sizes.{cell, greatest, column_count, unequal_row, width_asked, height_asked, padded_width, padded_height, column_widths, row_height, row_heights};
+ghost use Rattle.tabled_text.specs.EditedColumns.{heights_with};
+ghost use Rattle.tabled_text.specs.Sizes.{cell, greatest, column_count, column_width, unequal_row, width_asked, height_asked, padded_width, padded_height, column_widths, row_height, row_heights};
 
 use std::alloc::{AllocError, Global};
 use tabled_border::OutOfMemory;
@@ -159,7 +160,7 @@ fn height_asked(text: &str) -> usize
 }
 
 /// How high a row is.
-fn row_height(row: &[String]) -> usize
+pub(crate) fn row_height(row: &[String]) -> usize
     ensures { result ≡ row_height (map string_bytes row.now) }
 {
     row.iter()
@@ -223,4 +224,54 @@ pub(crate) fn sizes_of(alloc: Global, rows: &[Vec<String>]) -> Result<FixedDimen
         heights.push(height_of(row, widths.len(), are_lines))?;
     }
     Ok(FixedDimension::new(widths, heights))
+}
+
+/// How wide a column is. Refused where no number says it.
+pub(crate) fn column_width(rows: &[Vec<String>], col: usize) -> Result<usize, OutOfMemory>
+    ensures { IfOk result (λ width. width ≡ column_width (texts rows.now) col) }
+{
+    let mut width: usize = 0;
+    for row in rows {
+        let found = measure_at(row, col)?;
+        width = width.max(found.width);
+    }
+    Ok(width)
+}
+
+/// How wide a column of these texts is. Refused where no number says it.
+pub(crate) fn width_of_texts(column: &[String]) -> Result<usize, OutOfMemory>
+    ensures { IfOk result (λ width. width ≡ greatest (map width_asked (map string_bytes column.now))) }
+{
+    let mut width: usize = 0;
+    for text in column {
+        let found = measure(text.as_str())?;
+        width = width.max(found.width);
+    }
+    Ok(width)
+}
+
+/// How high rows are with a column more, of which as many as it has texts are looked at.
+pub(crate) fn heights_with(
+    alloc: Global,
+    heights: &[usize],
+    column: &[String],
+) -> Result<Vec<usize>, OutOfMemory>
+    ensures { IfOk result (λ higher. higher.items ≡ heights_with heights.now (map string_bytes column.now)) }
+{
+    let mut higher = Vec::with_capacity(alloc, column.len())?;
+    for (row, text) in column.iter().enumerate() {
+        let before = heights.get(row).copied().unwrap_or(0);
+        higher.push(before.max(height_asked(text.as_str())))?;
+    }
+    Ok(higher)
+}
+
+/// Measures how high rows are.
+pub(crate) fn measure_heights(heights: &mut [usize], rows: &[Vec<String>])
+    requires { length heights.old ≡ length rows.now }
+    ensures { heights.new ≡ row_heights (texts rows.now) }
+{
+    for row in 0..rows.len() {
+        heights[row] = row_height(&rows[row]);
+    }
 }

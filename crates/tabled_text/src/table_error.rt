@@ -28,6 +28,15 @@ pub enum TableError {
         /// How many row 0 has.
         columns: usize,
     },
+    /// A column has more or fewer cells than there are rows.
+    UnequalColumn {
+        /// The index at which it was to stand, counted from 0.
+        column: usize,
+        /// How many cells it has.
+        cells: usize,
+        /// How many rows there are.
+        rows: usize,
+    },
     /// The printer refused the table, and not for memory: for a table of texts, as a span is set.
     Print(PrintError),
     /// The writer failed that the text was written to.
@@ -46,6 +55,14 @@ impl fmt::Display for TableError {
                 cells,
                 columns,
             } => write!(f, "row {row} has {cells} cells where row 0 has {columns}"),
+            TableError::UnequalColumn {
+                column,
+                cells,
+                rows,
+            } => write!(
+                f,
+                "column {column} has {cells} cells where there are {rows} rows"
+            ),
             TableError::Print(refused) => write!(f, "{refused}"),
             TableError::Write => f.write_str("the writer failed"),
             TableError::UnknownStyle => write!(f, "{UnknownStyle}"),
@@ -55,7 +72,7 @@ impl fmt::Display for TableError {
 
 impl Error for TableError {}
 
-/// So that a program that reads and writes takes a refusal by `?`. The numbers of an unequal row are not kept.
+/// So that a program that reads and writes takes a refusal by `?`. The numbers of an unequal row or column are not kept.
 impl From<TableError> for io::Error {
     ghost from_gives = { λ refused error. error_kind error ≡ kind_of refused };
 
@@ -65,6 +82,10 @@ impl From<TableError> for io::Error {
             TableError::UnequalRows { .. } => io::Error::new(
                 ErrorKind::InvalidInput,
                 "a row does not have as many cells as row 0",
+            ),
+            TableError::UnequalColumn { .. } => io::Error::new(
+                ErrorKind::InvalidInput,
+                "a column does not have as many cells as there are rows",
             ),
             TableError::Print(_) => io::Error::new(
                 ErrorKind::InvalidInput,

@@ -11,11 +11,13 @@ ghost use Rattle.tabled_text.specs.Sizes.{column_widths, row_heights};
 ghost use Rattle.tabled_text.specs.TextTable.{lent_rows};
 
 mod columns;
+mod edited_columns;
 mod limits;
 mod making;
 mod panels;
 mod rows;
 mod spans;
+mod texts;
 
 use crate::TableError;
 use crate::measure::{column_count, sizes_of, unequal_row};

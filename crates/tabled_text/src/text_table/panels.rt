@@ -1,6 +1,6 @@
 //! Rows over all columns, above the others and below them.
 
-ghost use Rattle.std.specs.Prelude.{◌≡◌, ◌+◌, ◌-◌, ◌∷◌, [], replicate, true, length, map, string_bytes, IfOk, OnOk, OnErr, IsOkUnless};
+ghost use Rattle.std.specs.Prelude.{◌≡◌, ◌+◌, ◌-◌, ◌∷◌, [], replicate, true, false, Err, length, map, string_bytes, IfOk, OnOk, OnErr, IsOkUnless};
 ghost use Rattle.std.specs.List.{insert};
 ghost use Rattle.tabled_object.specs.Entities.{position};
 ghost use Rattle.tabled_configuration.specs.Colored.{Changes};
@@ -41,6 +41,7 @@ impl TextTable {
         ensures same_texts { OnErr result (self.new.texts ≡ self.old.texts) }
         ensures same_config { OnErr result (self.new.config ≡ self.old.config) }
         ensures fits { goes_in (panel text.now self.old.texts) self.old.texts ≡ true → IsOkUnless result Refusal.OutOfMemory }
+        ensures unequal { goes_in (panel text.now self.old.texts) self.old.texts ≡ false → result ≡ Err (Refusal.UnequalRows 0 1 0) }
     {
         self.insert_panel(0, text)
     }
@@ -62,6 +63,7 @@ impl TextTable {
         ensures same_texts { OnErr result (self.new.texts ≡ self.old.texts) }
         ensures same_config { OnErr result (self.new.config ≡ self.old.config) }
         ensures fits { goes_in (panel text.now self.old.texts) self.old.texts ≡ true → IsOkUnless result Refusal.OutOfMemory }
+        ensures unequal { goes_in (panel text.now self.old.texts) self.old.texts ≡ false → result ≡ Err (Refusal.UnequalRows (length self.old.texts) 1 0) }
     {
         let last = self.shape.rows;
         self.insert_panel(last, text)
@@ -74,9 +76,18 @@ impl TextTable {
         ensures same_texts { OnErr result (self.new.texts ≡ self.old.texts) }
         ensures same_config { OnErr result (self.new.config ≡ self.old.config) }
         ensures fits { goes_in (panel text.now self.old.texts) self.old.texts ≡ true → IsOkUnless result Refusal.OutOfMemory }
+        ensures unequal { goes_in (panel text.now self.old.texts) self.old.texts ≡ false → result ≡ Err (Refusal.UnequalRows index 1 0) }
     {
+        let Shape { rows, cols } = self.shape;
+        if rows != 0 && cols == 0 {
+            return Err(TableError::UnequalRows {
+                row: index,
+                cells: 1,
+                columns: 0,
+            });
+        }
         let alloc = self.config().config().allocator();
-        let row = panel_of(alloc, text, self.shape.cols.max(1))?;
+        let row = panel_of(alloc, text, cols.max(1))?;
         let config = self.spanned_by(index)?;
         self.insert_row(index, row)?;
         drop(mem::replace(&mut *self.config, config));
