@@ -23,9 +23,10 @@ use Rattle.tabled_highlight.specs.Highlighting.{highlight_events}
 use Rattle.tabled_colorization.specs.Joined.{cells_joined}
 use Rattle.tabled_colorization.specs.Turns.{colorization, exact_colorization}
 use Rattle.tabled_settings.specs.declared.sides.Sides.{Sides as Four}
-use Rattle.tabled_formatting.specs.Formatting.{Justifying, alignment_set, strategy_set, trim_set, justification_set, padding_set}
-use Rattle.tabled_formatting.specs.Margins.{margin_colored, shadow_set}
+use Rattle.tabled_formatting.specs.Formatting.{Justifying, alignment_set, strategy_set, trim_set, justification_set, padding_given, padding_set}
+use Rattle.tabled_formatting.specs.Margins.{margin_colored, margin_given, shadow_set}
 use Rattle.tabled_correction.specs.Correction.{correction_events}
+use Rattle.tabled_correction.specs.Span.{span_events}
 use Rattle.tabled_options.specs.LineChar.{line_char_events}
 use Rattle.tabled_options.specs.LineText.{text_events}
 use Rattle.tabled_options.specs.NamedLine.{row_line}
@@ -35,6 +36,7 @@ use Rattle.tabled_kinds.specs.declared.kinds.BorderKinds.{BorderKinds}
 use Rattle.tabled_kinds.specs.declared.kinds.LineKinds.{LineKinds}
 use Rattle.tabled_kinds.specs.declared.kinds.ColorKinds.{ColorKinds}
 use Rattle.tabled_kinds.specs.declared.kinds.TextKinds.{TextKinds}
+use Rattle.tabled_kinds.specs.declared.kinds.RoomKinds.{RoomKinds}
 use Rattle.tabled_kinds.specs.declared.kinds.OtherBorders.{OtherBorders}
 use Rattle.tabled_kinds.specs.declared.kinds.OtherSettings.{OtherSettings}
 use Rattle.tabled_kinds.specs.declared.kinds.OtherTargets.{OtherTargets}
@@ -96,6 +98,15 @@ text_options kinds =
     ∷ (λ before. justification_set kinds.justification (Cell 1 0))
     ∷ []
 
+-- options for the margin, for padding, and for the span of the first cell
+abbrev pub room_options : RoomKinds → ℕ × ℕ → List Step
+room_options kinds shape =
+    (λ before. margin_given kinds.margin)
+    ∷ (λ before. padding_given kinds.padding Global)
+    ∷ (λ before. padding_given kinds.inner (Row 1))
+    ∷ (λ before. span_events kinds.span shape (Cell 0 0))
+    ∷ []
+
 -- options for borders at their other targets, and the frame of the table removed
 abbrev pub other_borders : OtherBorders → ℕ × ℕ → List Step
 other_borders kinds shape =
@@ -136,7 +147,8 @@ first_targets kinds texts =
     border_options kinds.borders shape
     ++ (line_options kinds.lines texts
     ++ (color_options kinds.colors shape
-    ++ text_options kinds.texts))
+    ++ (text_options kinds.texts
+    ++ room_options kinds.rooms shape)))
 
 -- those that have a second target, at that one
 abbrev pub other_targets : OtherTargets → ℕ × ℕ → List Step

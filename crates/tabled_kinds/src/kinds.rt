@@ -3,7 +3,7 @@
 
 ghost use Rattle.std.specs.Prelude.{◌≡◌, length, OnOk};
 ghost use Rattle.tabled_text.specs.Sizes.{column_count};
-ghost use Rattle.tabled_kinds.specs.EveryKind.{style_options, edge_options, border_options, line_options, color_options, text_options, first_targets, other_borders, other_colors, whole_colors, other_settings, other_targets, options, InTurn};
+ghost use Rattle.tabled_kinds.specs.EveryKind.{style_options, edge_options, border_options, line_options, color_options, text_options, room_options, first_targets, other_borders, other_colors, whole_colors, other_settings, other_targets, options, InTurn};
 
 use tabled::TextTable;
 use tabled::grid::config::{Border as CellBorder, Borders, Entity, OutOfMemory};
@@ -12,8 +12,8 @@ use tabled::settings::object::{Cell, Column, FirstRow, Row};
 use tabled::settings::style::{BorderColor, EmptyBorder, LineChar, LineText, On, ReadyStyle};
 use tabled::settings::themes::{BorderCorrection, Colorization, ExactColorization};
 use tabled::settings::{
-    Alignment, Border, CellColor, Color, Highlight, JoinedColor, Justification, MarginColor,
-    PaddingColor, Shadow, Style, Theme,
+    Alignment, Border, CellColor, Color, Highlight, JoinedColor, Justification, Margin,
+    MarginColor, Padding, PaddingColor, Shadow, Span, Style, Theme,
 };
 
 /// Options for the borders of a table and of its cells.
@@ -76,6 +76,19 @@ pub struct TextKinds {
     pub justification: Justification,
 }
 
+/// Options for how much room the cells and the table have.
+#[derive(Drop)]
+pub struct RoomKinds {
+    /// The margin around the table.
+    pub margin: Margin,
+    /// The padding of all cells.
+    pub padding: Padding,
+    /// That of row 1.
+    pub inner: Padding,
+    /// Over how many columns or rows the first cell spans.
+    pub span: Span,
+}
+
 /// Options for borders at their other targets: on a table where above they are on cells, and on cells where they are on a table.
 #[derive(Drop)]
 pub struct OtherBorders {
@@ -119,6 +132,8 @@ pub struct Kinds {
     pub colors: ColorKinds,
     /// Those for texts.
     pub texts: TextKinds,
+    /// Those for rooms.
+    pub rooms: RoomKinds,
 }
 
 /// Those kinds that have a second target, at that one.
@@ -158,11 +173,13 @@ pub fn every_first_target(table: &mut TextTable, kinds: Kinds) -> Result<(), Out
         lines,
         colors,
         texts,
+        rooms,
     } = kinds;
     every_border(table, borders)?;
     every_line(table, lines)?;
     every_color(table, colors)?;
-    every_text(table, texts)
+    every_text(table, texts)?;
+    every_room(table, rooms)
 }
 
 /// Applies those kinds that have a second target, at that one.
@@ -278,6 +295,18 @@ pub fn every_text(table: &mut TextTable, kinds: TextKinds) -> Result<(), OutOfMe
     table.apply_to(&Entity::Row(0), &kinds.strategy)?;
     table.apply_to(&Entity::Column(1), &kinds.trim)?;
     table.apply_to(&Entity::Cell(1, 0), &kinds.justification)
+}
+
+/// Applies options for the rooms of cells, and for the margin.
+pub fn every_room(table: &mut TextTable, kinds: RoomKinds) -> Result<(), OutOfMemory>
+    ensures steps { OnOk result (InTurn (room_options kinds (length table.old.texts, column_count table.old.texts)) table.old.config table.new.config) }
+    ensures texts { table.new.texts ≡ table.old.texts }
+    ensures sizes { table.new.sizes ≡ table.old.sizes }
+{
+    table.apply(kinds.margin)?;
+    table.apply(kinds.padding)?;
+    table.apply_to(&Entity::Row(1), &kinds.inner)?;
+    table.apply_to(&Entity::Cell(0, 0), &kinds.span)
 }
 
 /// Applies options for borders at their other targets, and at last removes the frame of the table.

@@ -4,7 +4,7 @@ use Rattle.tabled_object.specs.declared.dimension.FixedDimension.{FixedDimension
 use Rattle.tabled_grid.proofs.Seen.{on_ok}
 use Rattle.tabled_printing.specs.Texts.{Table}
 use Rattle.tabled_text.specs.Sizes.{column_count}
-use Rattle.tabled_kinds.specs.EveryKind.{border_options, line_options, color_options, text_options}
+use Rattle.tabled_kinds.specs.EveryKind.{border_options, line_options, color_options, text_options, room_options}
 use Rattle.tabled_kinds.proofs.Turns.{nothing_yet, then_those}
 use Rattle.tabled_kinds.proofs.kinds.every_first_target.Goals as goal
 
@@ -20,10 +20,13 @@ returns-clause-steps c =
     let sizes_2 = c.every_border.ensures.sizes in
     let sizes_3 = c.every_line.ensures.sizes ∙ sizes_2 in
     let sizes_4 = c.every_color.ensures.sizes ∙ sizes_3 in
-    on_ok c.every_text.result (λ last.
-    then_those (λ t s. text_options kinds.texts) _ texts _ sizes _ start.config _ _ texts_4 sizes_4
+    let texts_5 = c.every_text.ensures.texts ∙ texts_4 in
+    let sizes_5 = c.every_text.ensures.sizes ∙ sizes_4 in
+    on_ok c.every_room.result (λ last.
+    then_those (λ t s. room_options kinds.rooms (length t, column_count t)) _ texts _ sizes _ start.config _ _ texts_5 sizes_5
+    (then_those (λ t s. text_options kinds.texts) _ texts _ sizes _ start.config _ _ texts_4 sizes_4
     (then_those (λ t s. color_options kinds.colors (length t, column_count t)) _ texts _ sizes _ start.config _ _ texts_3 sizes_3
     (then_those (λ t s. line_options kinds.lines t) _ texts _ sizes _ start.config _ _ texts_2 sizes_2
     (then_those (λ t s. border_options kinds.borders (length t, column_count t)) _ texts _ sizes _ start.config _ _ refl refl (nothing_yet start.config) c.in_ok-every_border.ensures.steps)
-    c.in_ok-every_line.ensures.steps) c.in_ok-every_color.ensures.steps)
-    last) c.every_text.ensures.steps
+    c.in_ok-every_line.ensures.steps) c.in_ok-every_color.ensures.steps) c.in_ok-every_text.ensures.steps)
+    last) c.every_room.ensures.steps
