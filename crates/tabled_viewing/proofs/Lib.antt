@@ -1,6 +1,8 @@
 pub mod Results
 pub mod Applied
 pub mod OnLines
+pub mod Narrow
+pub mod Widths
 pub mod Faults
 pub mod Pages
 pub mod Views

@@ -1,18 +1,17 @@
 -- What is written for an input: its table as a request asks for it.
-use Rattle.std.specs.Prelude.{◌≡◌, ℕ, ◌-◌, Bool, ◌&&◌, ◌||◌, nat_lt, if◌then◌else◌, List, [], ◌∷◌, ◌++◌, codes, length, is_none, is_some, Option, Some, None}
+use Rattle.std.specs.Prelude.{◌≡◌, ℕ, ◌-◌, ◌≤◌, Bool, true, false, ◌&&◌, ◌||◌, nat_lt, nat_le, if◌then◌else◌, List, [], ◌∷◌, ◌++◌, codes, length, is_none, is_some, Option, Some, None}
+use Rattle.std.specs.List.{list_all}
 use Rattle.tabled_clean.specs.Steering.{cleaned}
 use Rattle.tabled_width.specs.declared.limit.Overflow.{Overflow}
-use Rattle.tabled_width.specs.Limited.{limited}
-use Rattle.tabled_width.specs.CutOff.{truncated}
-use Rattle.tabled_width.specs.Rows.{wrapped_words}
+use Rattle.tabled_width.specs.declared.limit.Overflow.TheVariants.{Wrap, WrapWords, Truncate}
 use Rattle.tabled_configuration.specs.Configuration.{ConfigEvent, borders_replaced}
 use Rattle.tabled_painting.specs.PaintedTable.{colored_text}
-use Rattle.tabled_printing.specs.Texts.{Table}
+use Rattle.tabled_printing.specs.Texts.{Table, pieces, width_of_text}
 use Rattle.tabled_style.specs.declared.ready_style.ReadyStyle.{ReadyStyle}
 use Rattle.tabled_style.specs.Named.{shown, ready_applied}
 use Rattle.tabled_builder.specs.Records.{filled}
-use Rattle.tabled_text.specs.Changed.{cells_changed, each_text}
-use Rattle.tabled_text.specs.Fitted.{IsFitted, frame_width}
+use Rattle.tabled_text.specs.Changed.{CellsArePrintable, cells_changed, each_text}
+use Rattle.tabled_text.specs.Fitted.{IsFitted, frame_width, least_width}
 use Rattle.tabled_text.specs.TextTable.{painted, text_of}
 use Rattle.tabled_input.specs.Input.{rows_in}
 use Rattle.tabled_request.specs.Sides.{sides_of}
@@ -41,8 +40,9 @@ drawn request style rows =
 
 -- how texts are kept within a width: they are cut off before two dots, or they go on in further lines, cut at their spaces
 abbrev pub IsKeptBy : Bool → Overflow → Type 0
-IsKeptBy cuts_off how =
-    (width : ℕ) (text : List ℕ) → limited how width text ≡ (if cuts_off then truncated width (codes "..") text else wrapped_words width text)
+IsKeptBy cuts_off Wrap = ⊥
+IsKeptBy cuts_off WrapWords = cuts_off ≡ false
+IsKeptBy cuts_off (Truncate suffix) = (cuts_off ≡ true) × (suffix.now ≡ codes "..")
 
 -- the texts of a table, kept so narrow that the table takes no more than so many columns of the terminal, as far as that can be
 abbrev pub IsKeptWithin : Bool → ℕ → List ConfigEvent → Table → Table → Type 0
@@ -85,10 +85,19 @@ events_of request style words is_colored texts table =
     (captioned request style words (drawn request style (length texts)) table ++ aligned 0 (sides_of request words texts))
     ++ colored_if is_colored request table
 
+-- no line of a page is wider than asked for: so it is where its texts are of printable ASCII, where nothing stands above and below its table, and
+-- no color in it, and where its table can be so narrow
+abbrev pub FitsWidth : Request → ReadyStyle → Surroundings → Table → List ℕ → Type 0
+FitsWidth request style around texts text =
+    (width : ℕ) → width_asked request around ≡ Some width → request.title ≡ None → request.footer ≡ None → is_colored request around ≡ false
+    → CellsArePrintable texts → least_width 1 (drawn request style (length texts)) texts ≤ width
+    → (lines : List ℕ) × (text ≡ lines ++ 10 ∷ []) × (list_all (λ line. nat_le (width_of_text line) width) (pieces lines) ≡ true)
+
 -- the page of a table of these texts
 pub record IsPage (request : Request) (style : ReadyStyle) (words : List (List ℕ)) (around : Surroundings) (texts : Table) (text : List ℕ) : Type 0 where
   pub table : Table
   pub within : IsWithin request.cuts_off (width_asked request around) (drawn request style (length texts)) texts table
+  pub fits : FitsWidth request style around texts text
   pub text_is : text ≡ page request style words (is_colored request around) (events_of request style words (is_colored request around) texts table) table
 
 -- what is written for rows: nothing where there is none

@@ -1,13 +1,18 @@
 //! The table of a request, with its style, within its width.
 
-ghost use Rattle.std.specs.Prelude.{◌≡◌, ◌≢◌, ◌⊎◌, [], List, None, Some, length, option_map, if◌then◌else◌, IfErr, IfOk, OnOk};
+ghost use Rattle.std.specs.Prelude.{◌≡◌, ◌≢◌, ◌≤◌, ◌⊎◌, ◌-◌, ℕ, true, [], List, None, Some, length, option_map, if◌then◌else◌, IfErr, IfOk, OnOk};
 ghost use Rattle.tabled_clean.specs.Steering.{cleaned};
 ghost use Rattle.tabled_configuration.specs.Colored.{Shows};
 ghost use Rattle.tabled_configuration.specs.Configuration.{ConfigEvent};
 ghost use Rattle.tabled_configuration.specs.Configuration as borders;
 ghost use Rattle.tabled_printing.specs.Texts.{texts};
-ghost use Rattle.tabled_text.specs.Changed.{cells_changed, each_text};
+ghost use Rattle.tabled_painting.specs.Widths.{text_width};
+ghost use Rattle.tabled_text.specs.Cells.{leaves_sizes, margin_set};
+ghost use Rattle.tabled_text.specs.Changed.{CellsArePrintable, cells_changed, each_text};
+ghost use Rattle.tabled_text.specs.Fitted.{IsFitted, frame_width, least_width};
 ghost use Rattle.tabled_text.specs.Sizes.{unequal_row};
+ghost use Rattle.tabled_text.specs.TextTable.{look_of};
+ghost use Rattle.tabled_width.specs.Limited.{ends_printable};
 ghost use Rattle.tabled_viewing.specs.Asked.{width_asked};
 ghost use Rattle.tabled_viewing.specs.Refusal.{fault_of_rows, unequal};
 ghost use Rattle.tabled_viewing.specs.View.{IsKeptWithin, IsWithin, drawn, has_header_line, rows_asked, texts_asked};
@@ -114,23 +119,39 @@ fn draw(table: &mut TextTable, request: Request, style: ReadyStyle) -> Result<()
     table.apply(style.borders())
 }
 
+/// Keeps the table within so many columns of the terminal, by what is done with lines that are too wide.
+fn fit_by(table: &mut TextTable, width: usize, how: Overflow<'_>) -> Result<(), OutOfMemory>
+    requires { ends_printable how ≡ true }
+    ensures texts { (events : List ConfigEvent) → borders.Shows events table.old.config.spanned
+        → OnOk result (IsFitted how.entry 1 (width - frame_width events table.old.texts) table.old.texts table.new.texts) }
+    ensures fits { (events : List ConfigEvent) → borders.Shows events table.old.config.spanned → leaves_sizes events ≡ true → CellsArePrintable table.old.texts → least_width 1 events table.old.texts ≤ width
+        → OnOk result (text_width (look_of events table.new.texts) (margin_set events) ≤ width) }
+    ensures config { table.new.config ≡ table.old.config }
+{
+    table.fit(width, how)
+}
+
 /// Keeps the table within so many columns of the terminal: its texts are cut off before two dots, or go on in further lines, cut at their
 /// spaces.
 fn keep_within(table: &mut TextTable, cuts_off: bool, width: usize) -> Result<(), OutOfMemory>
     ensures texts { (events : List ConfigEvent) → borders.Shows events table.old.config.spanned
         → OnOk result (IsKeptWithin cuts_off width events table.old.texts table.new.texts) }
+    ensures fits { (events : List ConfigEvent) → borders.Shows events table.old.config.spanned → leaves_sizes events ≡ true → CellsArePrintable table.old.texts → least_width 1 events table.old.texts ≤ width
+        → OnOk result (text_width (look_of events table.new.texts) (margin_set events) ≤ width) }
     ensures config { table.new.config ≡ table.old.config }
 {
     if cuts_off {
-        return table.fit(width, Overflow::Truncate(".."));
+        return fit_by(table, width, Overflow::Truncate(".."));
     }
-    table.fit(width, Overflow::WrapWords)
+    fit_by(table, width, Overflow::WrapWords)
 }
 
 /// Keeps the table within a width, if there is one.
 fn fit(table: &mut TextTable, cuts_off: bool, width: Option<usize>) -> Result<(), OutOfMemory>
     ensures texts { (events : List ConfigEvent) → borders.Shows events table.old.config.spanned
         → OnOk result (IsWithin cuts_off width events table.old.texts table.new.texts) }
+    ensures fits { (events : List ConfigEvent) (most : ℕ) → borders.Shows events table.old.config.spanned → width ≡ Some most → leaves_sizes events ≡ true → CellsArePrintable table.old.texts
+        → least_width 1 events table.old.texts ≤ most → OnOk result (text_width (look_of events table.new.texts) (margin_set events) ≤ most) }
     ensures config { table.new.config ≡ table.old.config }
 {
     match width {
@@ -149,6 +170,8 @@ pub(crate) fn frame(
     requires { Shows [] table.old.config }
     ensures config { OnOk result (Shows (drawn request style (length table.old.texts)) table.new.config) }
     ensures within { OnOk result (IsWithin request.cuts_off (width_asked request around) (drawn request style (length table.old.texts)) table.old.texts table.new.texts) }
+    ensures fits { (most : ℕ) → width_asked request around ≡ Some most → CellsArePrintable table.old.texts → least_width 1 (drawn request style (length table.old.texts)) table.old.texts ≤ most
+        → OnOk result (text_width (look_of (drawn request style (length table.old.texts)) table.new.texts) (margin_set (drawn request style (length table.old.texts))) ≤ most) }
 {
     draw(table, request, style)?;
     fit(table, request.cuts_off, width_asked(request, around))

@@ -1,11 +1,14 @@
 //! The text that is written for rows.
 
-ghost use Rattle.std.specs.Prelude.{◌≡◌, ◌≢◌, ◌⊎◌, ◌++◌, ℕ, [], ◌∷◌, List, None, Some, map, string_bytes, IfErr, IfOk, OnOk};
+ghost use Rattle.std.specs.Prelude.{◌≡◌, ◌≢◌, ◌⊎◌, ◌++◌, ℕ, [], ◌∷◌, List, None, Some, true, false, map, string_bytes, IfErr, IfOk, OnOk};
 ghost use Rattle.tabled_configuration.specs.Colored.{Shows};
 ghost use Rattle.tabled_configuration.specs.Configuration.{ConfigEvent};
 ghost use Rattle.tabled_painting.specs.PaintedTable.{colored_text};
+ghost use Rattle.tabled_painting.specs.Widths.{text_width};
+ghost use Rattle.tabled_printing.specs.Columns.{IsRectangle, WritesNarrow};
 ghost use Rattle.tabled_printing.specs.Texts.{texts};
-ghost use Rattle.tabled_text.specs.TextTable.{painted, text_of};
+ghost use Rattle.tabled_text.specs.Cells.{leaves_sizes, margin_set};
+ghost use Rattle.tabled_text.specs.TextTable.{look_of, painted, text_of};
 ghost use Rattle.tabled_request.specs.Sides.{sides_of};
 ghost use Rattle.tabled_viewing.specs.Captions.{beside, caption};
 ghost use Rattle.tabled_viewing.specs.Refusal.{fault_of_rows};
@@ -72,7 +75,9 @@ fn put_footer(
 
 /// The text of a table without colors.
 fn plain_text(table: &TextTable) -> Result<String, OutOfMemory>
-    ensures { (events : List ConfigEvent) → Shows events table.now.config → IfOk result (λ text. string_bytes text ≡ text_of events table.now.texts) }
+    ensures text { (events : List ConfigEvent) → Shows events table.now.config → IfOk result (λ text. string_bytes text ≡ text_of events table.now.texts) }
+    ensures rectangle { (events : List ConfigEvent) → Shows events table.now.config → WritesNarrow events → leaves_sizes events ≡ true
+        → IfOk result (λ text. IsRectangle (text_width (look_of events table.now.texts) (margin_set events)) (string_bytes text)) }
 {
     match table.to_text() {
         Ok(text) => Ok(text),
@@ -92,7 +97,9 @@ fn colored_text(table: &TextTable) -> Result<String, OutOfMemory>
 
 /// The text of a table, in color or not.
 fn written(table: &TextTable, is_colored: bool) -> Result<String, OutOfMemory>
-    ensures { (events : List ConfigEvent) → Shows events table.now.config → IfOk result (λ text. string_bytes text ≡ written is_colored events table.now.texts) }
+    ensures text { (events : List ConfigEvent) → Shows events table.now.config → IfOk result (λ text. string_bytes text ≡ written is_colored events table.now.texts) }
+    ensures rectangle { is_colored ≡ false → (events : List ConfigEvent) → Shows events table.now.config → WritesNarrow events → leaves_sizes events ≡ true
+        → IfOk result (λ text. IsRectangle (text_width (look_of events table.now.texts) (margin_set events)) (string_bytes text)) }
 {
     if is_colored {
         return colored_text(table);

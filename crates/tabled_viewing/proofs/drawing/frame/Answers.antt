@@ -1,9 +1,12 @@
 -- The style, and then the width.
-use Rattle.std.proofs.Common.{ℕ, Option, length, sym, subst}
+use Rattle.std.proofs.Common.{◌≤◌, ℕ, Option, length, sym, subst, ◌∙◌}
 use Rattle.tabled_configuration.specs.Colored.{Colored, Shows}
 use Rattle.tabled_grid.proofs.Seen.{on_ok}
 use Rattle.tabled_printing.specs.Texts.{Table}
+use Rattle.tabled_text.specs.Changed.{CellsArePrintable}
+use Rattle.tabled_text.specs.Fitted.{least_width}
 use Rattle.tabled_viewing.specs.View.{IsWithin, drawn}
+use Rattle.tabled_viewing.proofs.OnLines.{leaves, nothing_drawn}
 use Rattle.tabled_viewing.proofs.Results.{on_any}
 use Rattle.tabled_viewing.proofs.drawing.frame.Goals as goal
 
@@ -18,3 +21,11 @@ returns-clause-within c =
     subst (λ (width : Option ℕ). IsWithin c.args.request.cuts_off width events c.args.table.now.texts c.fit.new.table.texts) c.width_asked.ensures
     (subst (λ (texts : Table). IsWithin c.args.request.cuts_off c.width_asked.result events texts c.fit.new.table.texts) c.in_ok-draw.ensures.texts within))
     (c.fit.ensures.texts events c.in_ok-draw.ensures.config.spanned_shown)
+
+pub returns-clause-fits : goal.returns-clause-fits
+returns-clause-fits c = λ most asked printable few.
+    let events = drawn c.args.request c.args.style (length c.args.table.now.texts) in
+    let same = c.in_ok-draw.ensures.texts in
+    c.fit.ensures.fits events most c.in_ok-draw.ensures.config.spanned_shown (c.width_asked.ensures ∙ asked)
+    (leaves events (nothing_drawn c.args.request c.args.style (length c.args.table.now.texts))) (subst CellsArePrintable (sym same) printable)
+    (subst (λ (texts : Table). least_width 1 events texts ≤ most) (sym same) few)
