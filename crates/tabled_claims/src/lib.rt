@@ -28,4 +28,5 @@ pub mod store;
 pub mod styles;
 pub mod tables;
 pub mod texts;
+pub mod viewing;
 pub mod worked;
