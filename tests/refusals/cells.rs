@@ -8,7 +8,8 @@ use tabled_color::BorderColor;
 use tabled_config::{CellOption, ColoredConfig, modify};
 use tabled_grid::{Entity, Offset, OutOfMemory, Shape};
 use tabled_options::{
-    Alignment, AlignmentStrategy, CellColor, Justification, LineChar, Padding, Span, TrimStrategy,
+    Alignment, AlignmentStrategy, CellColor, JoinedColor, Justification, LineChar, Padding, Span,
+    TrimStrategy,
 };
 use tabled_style::{Border, EmptyBorder};
 
@@ -56,7 +57,7 @@ fn filling(alloc: Global) -> Result<Justification, OutOfMemory> {
 }
 
 /// The options of settings.
-pub(crate) fn settings() -> [Named; 11] {
+pub(crate) fn settings() -> [Named; 13] {
     [
         (
             "<Alignment as CellOption<R, ColoredConfig>>::change",
@@ -97,6 +98,14 @@ pub(crate) fn settings() -> [Named; 11] {
         (
             "<CellColor as CellOption<R, ColoredConfig>>::change",
             |turn| on_a_row(turn, |alloc| color(alloc).map(CellColor::new)),
+        ),
+        (
+            "<JoinedColor as CellOption<R, ColoredConfig>>::change",
+            |turn| on_a_row(turn, |alloc| color(alloc).map(JoinedColor::new)),
+        ),
+        (
+            "<JoinedColor as CellOption<R, ColoredConfig>>::change (the first)",
+            |turn| on_a_bare_row(turn, |alloc| color(alloc).map(JoinedColor::new)),
         ),
         (
             "<Span as CellOption<R, ColoredConfig>>::change",

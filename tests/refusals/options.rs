@@ -12,8 +12,8 @@ use tabled_grid::{
 };
 use tabled_options::{
     Alignment, AlignmentStrategy, BorderCorrection, CellColor, Colorization, ExactColorization,
-    Highlight, Justification, LineText, Margin, MarginColor, Padding, PaddingColor, Shadow,
-    TrimStrategy,
+    Highlight, JoinedColor, Justification, LineText, Margin, MarginColor, Padding, PaddingColor,
+    Shadow, TrimStrategy,
 };
 use tabled_style::{Border, EmptyBorder, HorizontalLine, ReadyStyle, Style};
 use tabled_theme::Theme;
@@ -57,7 +57,7 @@ where
 }
 
 /// The options of settings.
-pub(crate) fn settings() -> [Named; 13] {
+pub(crate) fn settings() -> [Named; 14] {
     [
         (
             "<Alignment as TableOption<R, ColoredConfig, D>>::change",
@@ -108,6 +108,10 @@ pub(crate) fn settings() -> [Named; 13] {
         (
             "<CellColor as TableOption<R, ColoredConfig, D>>::change",
             |turn| with(turn, |alloc| color(alloc).map(CellColor::new)),
+        ),
+        (
+            "<JoinedColor as TableOption<R, ColoredConfig, D>>::change",
+            |turn| with(turn, |alloc| color(alloc).map(JoinedColor::new)),
         ),
         (
             "<Colorization as TableOption<R, ColoredConfig, D>>::change",

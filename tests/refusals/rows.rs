@@ -58,18 +58,18 @@ fn table(alloc: Global) -> Result<TextTable, OutOfMemory> {
     made.map_err(|_refused| OutOfMemory)
 }
 
-/// What becomes of a table that is changed so that it has so many rows.
+/// What becomes of a table that is changed so that it has so many rows, and so many columns.
 fn changed(
     turn: &mut Turn,
     change: fn(&mut TextTable, Vec<String>) -> bool,
-    after: usize,
+    after: (usize, usize),
 ) -> Result<Outcome, OutOfMemory> {
     let mut table = table(turn.alloc())?;
     let row = pair(turn.alloc())?;
     turn.spend();
     let returned = if change(&mut table, row) { Ok(()) } else { Err(OutOfMemory) };
-    let is_as_before = table.shape().rows == 2 && table.texts()[0].len() == 2;
-    Ok(Outcome::of(returned, table.shape().rows == after, is_as_before))
+    let (rows, cols) = (table.shape().rows, table.texts()[0].len());
+    Ok(Outcome::of(returned, (rows, cols) == after, (rows, cols) == (2, 2)))
 }
 
 /// What becomes of records that are changed so that there are so many, and so many columns.
@@ -102,17 +102,35 @@ fn roomy(
 }
 
 /// The calls on tables and records.
-pub(crate) fn tables() -> [Named; 16] {
+pub(crate) fn tables() -> [Named; 21] {
     [
         ("TextTable::of", |turn| {
             turn.spend();
             Ok(Outcome::of_value(TextTable::of(turn.alloc(), [(1, 2)].as_slice()).map(|table| table.shape().rows == 2)))
         }),
-        ("TextTable::push_row", |turn| changed(turn, |table, row| table.push_row(row).is_ok(), 3)),
-        ("TextTable::insert_row", |turn| changed(turn, |table, row| table.insert_row(0, row).is_ok(), 3)),
-        ("TextTable::remove_row", |turn| changed(turn, |table, _row| table.remove_row(0).is_ok(), 1)),
-        ("TextTable::insert_title", |turn| changed(turn, |table, _row| table.insert_title("e").is_ok(), 3)),
-        ("TextTable::insert_footer", |turn| changed(turn, |table, _row| table.insert_footer("e").is_ok(), 3)),
+        ("TextTable::push_row", |turn| changed(turn, |table, row| table.push_row(row).is_ok(), (3, 2))),
+        ("TextTable::insert_row", |turn| changed(turn, |table, row| table.insert_row(0, row).is_ok(), (3, 2))),
+        ("TextTable::remove_row", |turn| changed(turn, |table, _row| table.remove_row(0).is_ok(), (1, 2))),
+        ("TextTable::push_column", |turn| changed(turn, |table, column| table.push_column(column).is_ok(), (2, 3))),
+        ("TextTable::insert_column", |turn| changed(turn, |table, column| table.insert_column(0, column).is_ok(), (2, 3))),
+        ("TextTable::insert_column (into no rows)", |turn| {
+            let mut table = TextTable::new(turn.alloc(), &[]).map_err(|_refused| OutOfMemory)?;
+            let column = pair(turn.alloc())?;
+            turn.spend();
+            let returned = table.insert_column(0, column);
+            let rows = table.texts().len();
+            Ok(Outcome::of(returned.map_err(|_refused| OutOfMemory), rows == 2, rows == 0))
+        }),
+        ("TextTable::remove_column", |turn| changed(turn, |table, _row| table.remove_column(0).is_ok(), (2, 1))),
+        ("TextTable::set_text", |turn| {
+            let mut table = table(turn.alloc())?;
+            turn.spend();
+            let returned = table.set_text(Position::new(0, 0), "text").map(|_former| ());
+            let (is_set, is_as_before) = (table.texts()[0][0].as_str() == "text", table.texts()[0][0].as_str() == "a");
+            Ok(Outcome::of(returned, is_set, is_as_before))
+        }),
+        ("TextTable::insert_title", |turn| changed(turn, |table, _row| table.insert_title("e").is_ok(), (3, 2))),
+        ("TextTable::insert_footer", |turn| changed(turn, |table, _row| table.insert_footer("e").is_ok(), (3, 2))),
         ("TextTable::align_numbers", |turn| {
             let mut table = TextTable::new(turn.alloc(), &[&["1", "2"]]).map_err(|_refused| OutOfMemory)?;
             turn.spend();

@@ -6,7 +6,7 @@ pub mod style;
 pub mod themes;
 
 pub use tabled_color::Color;
-pub use tabled_colorization::CellColor;
+pub use tabled_colorization::{CellColor, JoinedColor};
 pub use tabled_config::{CellOption, TableOption, modify};
 pub use tabled_correction::Span;
 pub use tabled_formatting::{

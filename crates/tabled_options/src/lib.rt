@@ -17,7 +17,7 @@ mod written;
 
 pub use line_char::LineChar;
 pub use line_text::LineText;
-pub use tabled_colorization::{CellColor, Colorization, ExactColorization};
+pub use tabled_colorization::{CellColor, Colorization, ExactColorization, JoinedColor};
 pub use tabled_correction::{BorderCorrection, Span};
 pub use tabled_formatting::{
     Alignment, AlignmentStrategy, Justification, Margin, MarginColor, Padding, PaddingColor,
