@@ -5,7 +5,7 @@ ghost use Rattle.tabled_object.specs.declared.entity.Entity.TheVariants as cells
 
 use tabled_border::{ANSIStr, AnsiText, Border as GridBorder};
 use tabled_color::{BorderColor, Color};
-use tabled_colorization::{CellColor, Colorization, ExactColorization};
+use tabled_colorization::{CellColor, Colorization, ExactColorization, JoinedColor};
 use tabled_compact::{CompactConfig, CompactMultilineConfig};
 use tabled_configuration::{CellOption, ColoredConfig, Configured, TableOption};
 use tabled_correction::{BorderCorrection, Span};
@@ -59,6 +59,7 @@ pub fn no_sizes_after_what_stands_in_cells<O, Data, Dims>(
     trim: &TrimStrategy,
     color: &Color,
     ground: &CellColor,
+    joined: &JoinedColor,
     filling: &Justification,
     outline: &Highlight<O>,
 )
@@ -75,6 +76,8 @@ where
     ensures color_on_cells { ⟦<Color as CellOption<Data, ColoredConfig>>⟧.hinted color.now ≡ None }
     ensures ground { ⟦<CellColor as TableOption<Data, ColoredConfig, Dims>>⟧.hinted ground.now ≡ None }
     ensures ground_on_cells { ⟦<CellColor as CellOption<Data, ColoredConfig>>⟧.hinted ground.now ≡ None }
+    ensures joined { ⟦<JoinedColor as TableOption<Data, ColoredConfig, Dims>>⟧.hinted joined.now ≡ None }
+    ensures joined_on_cells { ⟦<JoinedColor as CellOption<Data, ColoredConfig>>⟧.hinted joined.now ≡ None }
     ensures filling { ⟦<Justification as TableOption<Data, ColoredConfig, Dims>>⟧.hinted filling.now ≡ None }
     ensures filling_on_cells { ⟦<Justification as CellOption<Data, ColoredConfig>>⟧.hinted filling.now ≡ None }
     ensures outline { ⟦<Highlight<O> as TableOption<Data, ColoredConfig, Dims>>⟧.hinted outline.now ≡ None }

@@ -19,7 +19,7 @@ ghost use Rattle.tabled_settings.specs.declared.sides.Sides.{Sides as Four};
 use std::alloc::Global;
 use tabled_border::{ANSIStr, Keep, OutOfMemory};
 use tabled_color::{BorderColor, Color};
-use tabled_colorization::{CellColor, Colorization, ExactColorization};
+use tabled_colorization::{CellColor, Colorization, ExactColorization, JoinedColor};
 use tabled_correction::Span;
 use tabled_formatting::{
     Alignment, Justification, Margin, MarginColor, Padding, PaddingColor, Shadow,
@@ -418,6 +418,13 @@ pub fn color_for_cells(color: Color) -> CellColor
     ensures { result ≡ color }
 {
     CellColor::new(color)
+}
+
+/// One that is joined onto the colors of cells.
+pub fn color_to_join(color: Color) -> JoinedColor
+    ensures { result ≡ color }
+{
+    JoinedColor::new(color)
 }
 
 /// Colors for what an object lists, in turn.

@@ -7,7 +7,8 @@ ghost use Rattle.tabled_configuration.specs.Colored.{Changes, Shows};
 ghost use Rattle.tabled_printing.specs.Texts.{texts};
 ghost use Rattle.tabled_rows.specs.Rows.{HasRoom, column_put, filled_to, row_texts};
 ghost use Rattle.tabled_rows.specs.Spelled.{IsRow};
-ghost use Rattle.tabled_text.specs.Edited.{goes_in};
+ghost use Rattle.tabled_text.specs.Edited.{goes_in, text_at, text_set};
+ghost use Rattle.tabled_text.specs.EditedColumns.{column_at, column_goes_in, with_column as column_in, without_column};
 ghost use Rattle.tabled_text.specs.Numeric.{at_right, numeric_columns};
 ghost use Rattle.tabled_text.specs.Panels.{IsSpannedBy, panel, panel_columns};
 ghost use Rattle.tabled_text.specs.Sizes.{column_count};
@@ -16,6 +17,7 @@ ghost use Rattle.tabled_text.specs.declared.table_error.TableError.{TableError a
 use std::alloc::Global;
 use tabled_border::OutOfMemory;
 use tabled_builder::Builder;
+use tabled_object::Position;
 use tabled_rows::{Tabled, fill_rows, put_column, remove_column, reserve_column};
 use tabled_text::{TableError, TextTable};
 
@@ -62,6 +64,62 @@ pub fn row_taken_out(
     table.remove_row(index)
 }
 
+/// A column that goes in stands at its index; any other is refused, with both counts, and changes nothing.
+pub fn column_put_into_a_table(
+    table: &mut TextTable,
+    index: usize,
+    column: Vec<String>,
+) -> Result<(), TableError>
+    ensures texts { OnOk result (table.new.texts ≡ column_in index (map string_bytes column.items) table.old.texts) }
+    ensures config { table.new.config ≡ table.old.config }
+    ensures err { OnErr result (table.new.texts ≡ table.old.texts) }
+    ensures fits { column_goes_in (map string_bytes column.items) table.old.texts ≡ true → IsOkUnless result Refusal.OutOfMemory }
+    ensures unequal { column_goes_in (map string_bytes column.items) table.old.texts ≡ false → result ≡ Err (Refusal.UnequalColumn (min index (column_count table.old.texts)) (length column.items) (length table.old.texts)) }
+{
+    table.insert_column(index, column)
+}
+
+/// One that is pushed stands after the last one.
+pub fn column_pushed_onto_a_table(
+    table: &mut TextTable,
+    column: Vec<String>,
+) -> Result<(), TableError>
+    ensures texts { OnOk result (table.new.texts ≡ column_in (column_count table.old.texts) (map string_bytes column.items) table.old.texts) }
+    ensures config { table.new.config ≡ table.old.config }
+    ensures err { OnErr result (table.new.texts ≡ table.old.texts) }
+    ensures fits { column_goes_in (map string_bytes column.items) table.old.texts ≡ true → IsOkUnless result Refusal.OutOfMemory }
+    ensures unequal { column_goes_in (map string_bytes column.items) table.old.texts ≡ false → result ≡ Err (Refusal.UnequalColumn (column_count table.old.texts) (length column.items) (length table.old.texts)) }
+{
+    table.push_column(column)
+}
+
+/// A column that is taken out is given, if it stood there, and the others stay.
+pub fn column_taken_out_of_a_table(
+    table: &mut TextTable,
+    index: usize,
+) -> Result<Option<Vec<String>>, OutOfMemory>
+    ensures texts { OnOk result (table.new.texts ≡ without_column index table.old.texts) }
+    ensures column { IfOk result (λ column. option_map (λ cells. map string_bytes cells.items) column ≡ column_at index table.old.texts) }
+    ensures config { table.new.config ≡ table.old.config }
+    ensures err { OnErr result (table.new.texts ≡ table.old.texts) }
+{
+    table.remove_column(index)
+}
+
+/// A text that is replaced is given, if its cell is there, and all others stay.
+pub fn text_replaced(
+    table: &mut TextTable,
+    position: Position,
+    text: &str,
+) -> Result<Option<String>, OutOfMemory>
+    ensures texts { OnOk result (table.new.texts ≡ text_set position.row position.col text.now table.old.texts) }
+    ensures former { IfOk result (λ former. option_map string_bytes former ≡ text_at position.row position.col table.old.texts) }
+    ensures config { table.new.config ≡ table.old.config }
+    ensures err { OnErr result (table.new.texts ≡ table.old.texts) }
+{
+    table.set_text(position, text)
+}
+
 /// The columns of numbers stand at the right, and nothing else changes; where memory is refused, the first ones of them.
 pub fn numbers_aligned(table: &mut TextTable, headings: usize) -> Result<(), OutOfMemory>
     ensures config { OnOk result (Changes (at_right (numeric_columns headings table.old.texts)) table.old.config table.new.config) }
@@ -79,6 +137,7 @@ pub fn title_put_in(table: &mut TextTable, text: &str) -> Result<(), TableError>
     ensures same_texts { OnErr result (table.new.texts ≡ table.old.texts) }
     ensures same_config { OnErr result (table.new.config ≡ table.old.config) }
     ensures fits { goes_in (panel text.now table.old.texts) table.old.texts ≡ true → IsOkUnless result Refusal.OutOfMemory }
+    ensures unequal { goes_in (panel text.now table.old.texts) table.old.texts ≡ false → result ≡ Err (Refusal.UnequalRows 0 1 0) }
 {
     table.insert_title(text)
 }
@@ -90,6 +149,7 @@ pub fn footer_put_in(table: &mut TextTable, text: &str) -> Result<(), TableError
     ensures same_texts { OnErr result (table.new.texts ≡ table.old.texts) }
     ensures same_config { OnErr result (table.new.config ≡ table.old.config) }
     ensures fits { goes_in (panel text.now table.old.texts) table.old.texts ≡ true → IsOkUnless result Refusal.OutOfMemory }
+    ensures unequal { goes_in (panel text.now table.old.texts) table.old.texts ≡ false → result ≡ Err (Refusal.UnequalRows (length table.old.texts) 1 0) }
 {
     table.insert_footer(text)
 }
