@@ -694,6 +694,45 @@ fn row_put_in_is_drawn(rt: HostRuntime) -> Result<(), Fail> {
 }
 
 #[test]
+fn column_put_in_is_drawn(rt: HostRuntime) -> Result<(), Fail> {
+    let text = values::column_put_in(rt.alloc())?;
+    let picture = "
+ name | age | city 
+------+-----+------
+ Bob  | 7   | Oslo 
+";
+    assert!(rt; is_picture(text.as_str(), picture));
+    Ok(())
+}
+
+#[test]
+fn text_replaced_is_drawn(rt: HostRuntime) -> Result<(), Fail> {
+    let text = values::text_replaced(rt.alloc())?;
+    let picture = "
+ name | age   
+------+-------
+ Bob  | eight 
+";
+    assert!(rt; is_picture(text.as_str(), picture));
+    Ok(())
+}
+
+#[test]
+fn bold_row_on_its_ground_is_drawn(rt: HostRuntime) -> Result<(), Fail> {
+    let text = values::bold_row_on_its_ground(rt.alloc())?;
+    let picture = "
+╭──────┬─────╮     ╭──────┬─────╮
+│ name │ age │     │BBBBBB│BBBBB│
+├──────┼─────┤     ├──────┼─────┤
+│ Bob  │ 7   │     │gggggg│ggggg│
+╰──────┴─────╯     ╰──────┴─────╯
+";
+    let colors = [("[1", 'B'), ("[42", 'g')];
+    assert!(rt; is_in_color(rt.alloc(), text.as_str(), picture, &colors)?);
+    Ok(())
+}
+
+#[test]
 fn first_row_on_a_ground_is_drawn(rt: HostRuntime) -> Result<(), Fail> {
     let text = values::first_row_on_a_ground(rt.alloc())?;
     let picture = "

@@ -11,6 +11,7 @@ pub mod cells;
 pub mod colors;
 pub mod columns;
 pub mod formats;
+pub mod joined_colors;
 pub mod lists;
 pub mod objects;
 pub mod options;

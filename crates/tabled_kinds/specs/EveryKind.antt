@@ -2,6 +2,7 @@
 use Rattle.std.specs.Prelude.{ℕ, List, [], ◌∷◌, ◌++◌, length, slice_index}
 use Rattle.tabled_border.specs.declared.border.Border.{Border}
 use Rattle.tabled_object.specs.declared.entity.Entity.TheVariants.{Global, Row, Column, Cell}
+use Rattle.tabled_object.specs.Entities.{cells_of}
 use Rattle.tabled_settings.specs.Setting.{write_of}
 use Rattle.tabled_configuration.specs.Configuration.{ConfigEvent, borders_replaced, all_writes}
 use Rattle.tabled_configuration.specs.Colored.{Colored, Changes, by_cell_color}
@@ -19,6 +20,7 @@ use Rattle.tabled_style.specs.Named.{ready_applied}
 use Rattle.tabled_theme.specs.Shown.{ThemeShown}
 use Rattle.tabled_theme.specs.Events.{theme_applied}
 use Rattle.tabled_highlight.specs.Highlighting.{highlight_events}
+use Rattle.tabled_colorization.specs.Joined.{cells_joined}
 use Rattle.tabled_colorization.specs.Turns.{colorization, exact_colorization}
 use Rattle.tabled_settings.specs.declared.sides.Sides.{Sides as Four}
 use Rattle.tabled_formatting.specs.Formatting.{Justifying, alignment_set, strategy_set, trim_set, justification_set, padding_set}
@@ -111,13 +113,21 @@ other_colors color padding justification =
     ∷ (λ before. by_cell_color (write_of Global (texts_of color)))
     ∷ []
 
-abbrev pub other_settings : OtherSettings → List Step
-other_settings kinds =
+-- those that color whole cells, of which the second reads the colors before it
+abbrev pub whole_colors : Shade → Shade → ℕ × ℕ → List Step
+whole_colors whole joined shape =
+    (λ before. entities_colored ((Row 1, texts_of whole) ∷ []))
+    ∷ (λ before. entities_colored (cells_joined joined before.cell_colors (cells_of (Column 0) shape.0 shape.1)))
+    ∷ []
+
+abbrev pub other_settings : OtherSettings → ℕ × ℕ → List Step
+other_settings kinds shape =
     other_colors kinds.color kinds.padding kinds.justification
+    ++ (whole_colors kinds.whole kinds.joined shape
     ++ (λ before. alignment_set kinds.alignment (Column 0))
     ∷ (λ before. strategy_set kinds.strategy Global)
     ∷ (λ before. trim_set kinds.trim Global)
-    ∷ []
+    ∷ [])
 
 -- one of each kind, on a table of these texts
 abbrev pub first_targets : Kinds → Table → List Step
@@ -130,7 +140,7 @@ first_targets kinds texts =
 
 -- those that have a second target, at that one
 abbrev pub other_targets : OtherTargets → ℕ × ℕ → List Step
-other_targets others shape = other_borders others.borders shape ++ other_settings others.settings
+other_targets others shape = other_borders others.borders shape ++ other_settings others.settings shape
 
 -- all of them, and at last a correction for the spans that are set
 abbrev pub options : Kinds → OtherTargets → Table → List Step

@@ -3,7 +3,7 @@
 
 ghost use Rattle.std.specs.Prelude.{◌≡◌, length, OnOk};
 ghost use Rattle.tabled_text.specs.Sizes.{column_count};
-ghost use Rattle.tabled_kinds.specs.EveryKind.{style_options, edge_options, border_options, line_options, color_options, text_options, first_targets, other_borders, other_colors, other_settings, other_targets, options, InTurn};
+ghost use Rattle.tabled_kinds.specs.EveryKind.{style_options, edge_options, border_options, line_options, color_options, text_options, first_targets, other_borders, other_colors, whole_colors, other_settings, other_targets, options, InTurn};
 
 use tabled::TextTable;
 use tabled::grid::config::{Border as CellBorder, Borders, Entity, OutOfMemory};
@@ -12,8 +12,8 @@ use tabled::settings::object::{Cell, Column, FirstRow, Row};
 use tabled::settings::style::{BorderColor, EmptyBorder, LineChar, LineText, On, ReadyStyle};
 use tabled::settings::themes::{BorderCorrection, Colorization, ExactColorization};
 use tabled::settings::{
-    Alignment, Border, Color, Highlight, Justification, MarginColor, PaddingColor, Shadow, Style,
-    Theme,
+    Alignment, Border, CellColor, Color, Highlight, JoinedColor, Justification, MarginColor,
+    PaddingColor, Shadow, Style, Theme,
 };
 
 /// Options for the borders of a table and of its cells.
@@ -96,6 +96,10 @@ pub struct OtherSettings {
     pub padding: PaddingColor<Color>,
     /// What fills all cells beside their texts.
     pub justification: Justification,
+    /// The color of row 1, with its fillings and its padding.
+    pub whole: CellColor,
+    /// What is joined onto the color that each cell of column 0 has then.
+    pub joined: JoinedColor,
     /// How the texts of column 0 are aligned.
     pub alignment: Alignment,
     /// Whether the lines of all texts are aligned by themselves.
@@ -290,7 +294,7 @@ pub fn every_other_border(table: &mut TextTable, kinds: OtherBorders) -> Result<
 
 /// Applies options for cells at their other targets.
 pub fn every_other_setting(table: &mut TextTable, kinds: OtherSettings) -> Result<(), OutOfMemory>
-    ensures steps { OnOk result (InTurn (other_settings kinds) table.old.config table.new.config) }
+    ensures steps { OnOk result (InTurn (other_settings kinds (length table.old.texts, column_count table.old.texts)) table.old.config table.new.config) }
     ensures texts { table.new.texts ≡ table.old.texts }
     ensures sizes { table.new.sizes ≡ table.old.sizes }
 {
@@ -298,11 +302,14 @@ pub fn every_other_setting(table: &mut TextTable, kinds: OtherSettings) -> Resul
         color,
         padding,
         justification,
+        whole,
+        joined,
         alignment,
         strategy,
         trim,
     } = kinds;
     every_other_color(table, color, padding, justification)?;
+    every_whole_color(table, whole, joined)?;
     table.apply_to(&Entity::Column(0), &alignment)?;
     table.apply(strategy)?;
     table.apply(trim)
@@ -322,4 +329,18 @@ fn every_other_color(
     table.apply_to(&Entity::Row(0), &padding)?;
     table.apply(justification)?;
     table.apply(color)
+}
+
+/// Applies those that color whole cells.
+fn every_whole_color(
+    table: &mut TextTable,
+    whole: CellColor,
+    joined: JoinedColor,
+) -> Result<(), OutOfMemory>
+    ensures steps { OnOk result (InTurn (whole_colors whole joined (length table.old.texts, column_count table.old.texts)) table.old.config table.new.config) }
+    ensures texts { table.new.texts ≡ table.old.texts }
+    ensures sizes { table.new.sizes ≡ table.old.sizes }
+{
+    table.apply_to(&Entity::Row(1), &whole)?;
+    table.apply_to(&Entity::Column(0), &joined)
 }

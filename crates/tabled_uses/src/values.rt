@@ -2,10 +2,11 @@
 
 use std::alloc::Global;
 use tabled::builder::Builder;
+use tabled::grid::config::{OutOfMemory, Position};
 use tabled::settings::object::Rows;
-use tabled::settings::{CellColor, Color, Style};
+use tabled::settings::themes::Colorization;
+use tabled::settings::{CellColor, Color, JoinedColor, Style};
 use tabled::{TableError, Tabled, TextTable};
-use tabled_border::OutOfMemory;
 use tabled_rows::row;
 
 #[derive(Drop)]
@@ -59,11 +60,40 @@ pub fn row_put_in(alloc: Global) -> Result<String, TableError> {
     Ok(table.to_text()?)
 }
 
+/// A column that is put into a table.
+pub fn column_put_in(alloc: Global) -> Result<String, TableError> {
+    let rows: &[&[&str]] = &[&["name", "age"], &["Bob", "7"]];
+    let mut table = TextTable::new(alloc, rows)?;
+    table.with(Style::psql())?;
+    table.push_column(row![in alloc; "city", "Oslo"]?)?;
+    Ok(table.to_text()?)
+}
+
+/// A text that is replaced in a table.
+pub fn text_replaced(alloc: Global) -> Result<String, TableError> {
+    let rows: &[&[&str]] = &[&["name", "age"], &["Bob", "7"]];
+    let mut table = TextTable::new(alloc, rows)?;
+    table.with(Style::psql())?;
+    table.set_text(Position::new(1, 1), "eight")?;
+    Ok(table.to_text()?)
+}
+
 /// The first row on a ground from line to line.
 pub fn first_row_on_a_ground(alloc: Global) -> Result<String, TableError> {
     let rows: &[&[&str]] = &[&["name", "age"], &["Bob", "7"]];
     let mut table = TextTable::new(alloc, rows)?;
     table.with(Style::rounded())?;
     table.modify(Rows::first(), CellColor::new(Color::BG_BLUE))?;
+    Ok(table.to_ansi()?)
+}
+
+/// Rows on grounds of their own, the first of which is bold too.
+pub fn bold_row_on_its_ground(alloc: Global) -> Result<String, TableError> {
+    let rows: &[&[&str]] = &[&["name", "age"], &["Bob", "7"]];
+    let mut table = TextTable::new(alloc, rows)?;
+    table.with(Style::rounded())?;
+    let grounds = vec![in alloc; Color::BG_BLUE, Color::BG_GREEN]?;
+    table.with(Colorization::rows(grounds))?;
+    table.modify(Rows::first(), JoinedColor::new(Color::BOLD))?;
     Ok(table.to_ansi()?)
 }

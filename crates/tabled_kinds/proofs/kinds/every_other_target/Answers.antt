@@ -15,6 +15,6 @@ returns-clause-steps c =
     let texts : Table = start.texts in
     let sizes : FixedDimension = start.sizes in
     on_ok c.every_other_setting.result (λ last.
-    then_those (λ t s. other_settings others.settings) _ texts _ sizes _ start.config _ _ c.every_other_border.ensures.texts c.every_other_border.ensures.sizes
+    then_those (λ t s. other_settings others.settings (length t, column_count t)) _ texts _ sizes _ start.config _ _ c.every_other_border.ensures.texts c.every_other_border.ensures.sizes
     (then_those (λ t s. other_borders others.borders (length t, column_count t)) _ texts _ sizes _ start.config _ _ refl refl (nothing_yet start.config) c.in_ok-every_other_border.ensures.steps)
     last) c.every_other_setting.ensures.steps
