@@ -126,15 +126,15 @@ other_colors color padding justification =
 
 -- those that color whole cells, of which the second reads the colors before it
 abbrev pub whole_colors : Shade → Shade → ℕ × ℕ → List Step
-whole_colors ground joined shape =
-    (λ before. entities_colored ((Row 1, texts_of ground) ∷ []))
+whole_colors whole joined shape =
+    (λ before. entities_colored ((Row 1, texts_of whole) ∷ []))
     ∷ (λ before. entities_colored (cells_joined joined before.cell_colors (cells_of (Column 0) shape.0 shape.1)))
     ∷ []
 
 abbrev pub other_settings : OtherSettings → ℕ × ℕ → List Step
 other_settings kinds shape =
     other_colors kinds.color kinds.padding kinds.justification
-    ++ (whole_colors kinds.ground kinds.joined shape
+    ++ (whole_colors kinds.whole kinds.joined shape
     ++ (λ before. alignment_set kinds.alignment (Column 0))
     ∷ (λ before. strategy_set kinds.strategy Global)
     ∷ (λ before. trim_set kinds.trim Global)

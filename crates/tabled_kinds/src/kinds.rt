@@ -110,7 +110,7 @@ pub struct OtherSettings {
     /// What fills all cells beside their texts.
     pub justification: Justification,
     /// The color of row 1, with its fillings and its padding.
-    pub ground: CellColor,
+    pub whole: CellColor,
     /// What is joined onto the color that each cell of column 0 has then.
     pub joined: JoinedColor,
     /// How the texts of column 0 are aligned.
@@ -331,14 +331,14 @@ pub fn every_other_setting(table: &mut TextTable, kinds: OtherSettings) -> Resul
         color,
         padding,
         justification,
-        ground,
+        whole,
         joined,
         alignment,
         strategy,
         trim,
     } = kinds;
     every_other_color(table, color, padding, justification)?;
-    every_whole_color(table, ground, joined)?;
+    every_whole_color(table, whole, joined)?;
     table.apply_to(&Entity::Column(0), &alignment)?;
     table.apply(strategy)?;
     table.apply(trim)
@@ -363,13 +363,13 @@ fn every_other_color(
 /// Applies those that color whole cells.
 fn every_whole_color(
     table: &mut TextTable,
-    ground: CellColor,
+    whole: CellColor,
     joined: JoinedColor,
 ) -> Result<(), OutOfMemory>
-    ensures steps { OnOk result (InTurn (whole_colors ground joined (length table.old.texts, column_count table.old.texts)) table.old.config table.new.config) }
+    ensures steps { OnOk result (InTurn (whole_colors whole joined (length table.old.texts, column_count table.old.texts)) table.old.config table.new.config) }
     ensures texts { table.new.texts ≡ table.old.texts }
     ensures sizes { table.new.sizes ≡ table.old.sizes }
 {
-    table.apply_to(&Entity::Row(1), &ground)?;
+    table.apply_to(&Entity::Row(1), &whole)?;
     table.apply_to(&Entity::Column(0), &joined)
 }

@@ -28,7 +28,7 @@ returns-clause-steps c =
     then_one (λ t s before. trim_set kinds.trim Global) _ texts _ sizes _ start.config _ _ texts_5 sizes_5
     (then_one (λ t s before. strategy_set kinds.strategy Global) _ texts _ sizes _ start.config _ _ texts_4 sizes_4
     (then_those (λ t s. (λ before. alignment_set kinds.alignment (Column 0)) ∷ []) _ texts _ sizes _ start.config _ _ texts_3 sizes_3
-    (then_those (λ t s. whole_colors kinds.ground kinds.joined (length t, column_count t)) _ texts _ sizes _ start.config _ _ texts_2 sizes_2
+    (then_those (λ t s. whole_colors kinds.whole kinds.joined (length t, column_count t)) _ texts _ sizes _ start.config _ _ texts_2 sizes_2
     (then_those (λ t s. other_colors kinds.color kinds.padding kinds.justification) _ texts _ sizes _ start.config _ _ refl refl
     (nothing_yet start.config)
     c.in_ok-every_other_color.ensures.steps)

@@ -19,7 +19,7 @@ returns-clause-steps c =
     let sizes : FixedDimension = start.sizes in
     on_ok c.apply_to-2.result (λ last.
     then_those (λ t s. (λ before. entities_colored (cells_joined c.args.joined before.cell_colors (cells_of (Column 0) (length t) (column_count t)))) ∷ []) _ texts _ sizes _ start.config _ _ c.apply_to.ensures.texts c.apply_to.ensures.sizes
-    (then_those (λ t s. (λ before. entities_colored ((Row 1, texts_of c.args.ground) ∷ [])) ∷ []) _ texts _ sizes _ start.config _ _ refl refl
+    (then_those (λ t s. (λ before. entities_colored ((Row 1, texts_of c.args.whole) ∷ [])) ∷ []) _ texts _ sizes _ start.config _ _ refl refl
     (nothing_yet start.config)
     c.in_ok-apply_to.ensures.config)
     last) c.apply_to-2.ensures.config
