@@ -84,13 +84,8 @@ fn end(clean: &mut String, is_held: bool) -> Result<(), OutOfMemory>
     Ok(())
 }
 
-/// A text in which nothing steers a terminal. A carriage return before a line feed is left out. In the place of each other character
-/// that steers stands the picture of its control character, from U+2400 on, or U+FFFD; the rest is as it was. Memory may be refused.
-///
-/// ```text
-/// a, ESC, [31m    a␛[31m
-/// ```
-pub fn cleaned(alloc: Global, text: &str) -> Result<String, OutOfMemory>
+/// What stands in the place of a text, written character by character.
+fn written(alloc: Global, text: &str) -> Result<String, OutOfMemory>
     ensures { IfOk result (λ clean. string_bytes clean ≡ cleaned text.now) }
 {
     let mut clean = String::new(alloc);
@@ -100,4 +95,19 @@ pub fn cleaned(alloc: Global, text: &str) -> Result<String, OutOfMemory>
     }
     end(&mut clean, is_held)?;
     Ok(clean)
+}
+
+/// A text in which nothing steers a terminal. A carriage return before a line feed is left out. In the place of each other character
+/// that steers stands the picture of its control character, from U+2400 on, or U+FFFD; the rest is as it was. Memory may be refused.
+///
+/// ```text
+/// a, ESC, [31m    a␛[31m
+/// ```
+pub fn cleaned(alloc: Global, text: &str) -> Result<String, OutOfMemory>
+    ensures { IfOk result (λ clean. string_bytes clean ≡ cleaned text.now) }
+{
+    if is_clean(text) {
+        return Ok(String::from_str(alloc, text)?);
+    }
+    written(alloc, text)
 }

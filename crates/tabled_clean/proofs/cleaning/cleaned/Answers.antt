@@ -1,13 +1,7 @@
--- All characters are written.
-use Rattle.std.proofs.Common.{◌++◌, [], false, sym, ap, ◌∙◌, map-id, append-nil}
-use Rattle.std.proofs.lemmas.Iterator.{YieldsList-from_chars}
-use Rattle.std.proofs.lemmas.Iterator.Consumers.{YieldsList-end}
-use Rattle.tabled_clean.specs.Steering.{going_on, cleaned}
+-- A clean text stays as it is.
+use Rattle.std.proofs.Common.{sym, ◌∙◌}
+use Rattle.tabled_clean.proofs.SteeringLemmas.{clean_stays}
 use Rattle.tabled_clean.proofs.cleaning.cleaned.Goals as goal
 
-pub returns : goal.returns
-unfolding cleaned
-returns c =
-    let all = YieldsList-end (YieldsList-from_chars c.args.text.now c.utf8.text cc) c.loop-character.yielded _ c.loop-character.yielded_by _ _ c.in-None.is c.next.ensures.steps in
-    c.in_ok-end.ensures ∙ c.loop-character.invariant [] ∙ ap (λ bs. going_on bs false (c.loop-character.yielded ++ [])) c.new-clean.ensures.bytes
-    ∙ ap (λ cs. going_on [] false (cs ++ [])) (sym (map-id c.loop-character.yielded) ∙ all.0) ∙ ap (λ cs. going_on [] false cs) (append-nil _)
+pub returns-then-is_clean : goal.returns-then-is_clean
+returns-then-is_clean c = c.in_ok-from_str.ensures.ok ∙ sym (clean_stays c.args.text.now c.utf8.text (sym c.is_clean.ensures ∙ c.if-is_clean.true))
