@@ -3,8 +3,8 @@
 use std::alloc::{AllocError, Global};
 use std::test::Fail;
 use tabled_request::{
-    FrameColor, OptionName, Request, Shows, WordsError, are_columns, names_column, number_of,
-    read_words,
+    FrameColor, OptionName, Request, Shows, WordsError, are_cells, are_columns, names_cell,
+    names_column, number_of, read_words,
 };
 
 /// Words that are given.
@@ -74,6 +74,9 @@ fn options_with_values_are_read(rt: HostRuntime) -> Result<(), Fail> {
         ("--color", "always", Request { has_color: true, ..none }),
         ("--color", "never", none),
         ("--frame-color", "cyan", Request { frame_color: Some(FrameColor::Cyan), ..none }),
+        ("--outline", "2:3,4:*", Request { outline: Some(1), ..none }),
+        ("--mark", "a\nb", Request { mark: Some(1), ..none }),
+        ("--mark", "", Request { mark: Some(1), ..none }),
     ] {
         assert!(rt; asked(rt.alloc(), &[option, value])? == Ok(request), "{option} {value}");
     }
@@ -117,6 +120,15 @@ fn wrong_words_are_refused(rt: HostRuntime) -> Result<(), Fail> {
         (&["--width", "wide"], bad(OptionName::Width, 1)),
         (&["--color", "auto"], bad(OptionName::Color, 1)),
         (&["--frame-color", "Red"], bad(OptionName::FrameColor, 1)),
+        (&["--outline", "2"], bad(OptionName::Outline, 1)),
+        (&["--outline", ""], bad(OptionName::Outline, 1)),
+        (&["--outline", "2:3,"], bad(OptionName::Outline, 1)),
+        (&["--outline", "0:1"], bad(OptionName::Outline, 1)),
+        (&["--outline", "1:0"], bad(OptionName::Outline, 1)),
+        (&["--outline", "1:2:3"], bad(OptionName::Outline, 1)),
+        (&["--outline", "**:1"], bad(OptionName::Outline, 1)),
+        (&["--outline", "1-2:1"], bad(OptionName::Outline, 1)),
+        (&["--csv", "--mark"], WordsError::NoValue { option: OptionName::Mark }),
     ];
     for (words, refusal) in cases {
         assert!(rt; asked(rt.alloc(), words)? == Err(*refusal), "{words:?}");
@@ -134,4 +146,23 @@ fn columns_and_numbers_are_named(rt: HostRuntime) {
     }
     assert!(rt; !names_column("1-99999999999", 1_000_000_000) && names_column("1-99999999999", 999_999_998));
     assert!(rt; number_of("007") == Some(7) && number_of("").is_none() && number_of("1x").is_none());
+}
+
+#[test]
+fn cells_are_named(rt: HostRuntime) {
+    for (word, named) in [
+        ("1:1", ["+--", "---"]),
+        ("2:*", ["---", "+++"]),
+        ("*:3", ["--+", "--+"]),
+        ("*:*", ["+++", "+++"]),
+        ("1:2,2:03,7:7", ["-+-", "--+"]),
+    ] {
+        assert!(rt; are_cells(word), "{word}");
+        for (row, signs) in named.iter().enumerate() {
+            for (col, sign) in signs.bytes().enumerate() {
+                assert!(rt; names_cell(word, row, col) == (sign == b'+'), "{word} {row} {col}");
+            }
+        }
+    }
+    assert!(rt; names_cell("1:99999999999", 0, 999_999_998) && !names_cell("1:99999999999", 0, 999_999_999));
 }

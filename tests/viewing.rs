@@ -134,8 +134,33 @@ fn colors_are_drawn_where_they_are_wanted(rt: HostRuntime) -> Result<(), Fail> {
     Ok(())
 }
 
+/// Words, an input and its table, with an outline around some of its cells.
+static OUTLINES: [(&str, &str, &str); 13] = [
+    ("--style|sharp|--outline|2:2", "a\tb\nc\td\n", "┌───┬───┐\n│ a │ b │\n├───┏━━━┓\n│ c ┃ d ┃\n└───┗━━━┛\n"),
+    ("--style|modern|--outline|1:*,*:1", "a\tb\nc\td\n", "┏━━━━━━━┓\n┃ a │ b ┃\n┃───┏━━━┛\n┃ c ┃ d │\n┗━━━┛───┘\n"),
+    ("--style|psql|--outline|2:1,9:9", "a\tb\nc\td\n", "  a | b \n#####---\n# c # d \n#####   \n"),
+    ("--style|psql|--outline|9:9", "a\tb\nc\td\n", " a | b \n---+---\n c | d \n"),
+    ("--style|psql|--width|10|--outline|1:1", "a\tb c d e\n", "#####     \n# a # b c \n#   # d e \n#####-----\n"),
+    ("--style|ascii|--mark|x", "x\ty\nz\tx\n", "#####---+\n# x # y |\n#########\n| z # x #\n+---#####\n"),
+    ("--style|sharp|--mark|x", "x\ty\nz\tx\n", "┏━━━┓───┐\n┃ x ┃ y │\n┗━━━╋━━━┓\n│ z ┃ x ┃\n└───┗━━━┛\n"),
+    ("--style|ascii|--csv|--fill|--mark|", "a,b\nc\n", "+---+---+\n| a | b |\n+---#####\n| c #   #\n+---#####\n"),
+    ("--style|ascii|--no-header|--mark|a␛b", "a\u{1b}b\n", "#######\n# a␛b #\n#######\n"),
+    ("--style|ascii|--no-header|--truncate|--width|9|--mark|abcdefgh", "abcdefgh\n", "#########\n# abc.. #\n#########\n"),
+    ("--style|ascii|--mark|X", "x\n", "+---+\n| x |\n+---+\n"),
+    ("--style|sharp|--mark|d|--outline|1:1", "a\tb\nc\td\n", "┏━━━┓───┐\n┃ a ┃ b │\n┗━━━┏━━━┓\n│ c ┃ d ┃\n└───┗━━━┛\n"),
+    ("--style|sharp|--title|ab|--outline|1:*", "abc\tdef\n", "┏━━━ ab ━━━━┓\n┃ abc │ def ┃\n┗━━━━━━━━━━━┛\n"),
+];
+
+#[test]
+fn outlines_stand_around_cells(rt: HostRuntime) -> Result<(), Fail> {
+    for (words, input, text) in OUTLINES.iter() {
+        assert!(rt; shows(rt.alloc(), words, TERMINAL, input, text)?, "{words} of {input:?}");
+    }
+    Ok(())
+}
+
 /// Words, an input, and the status and the text of its refusal.
-static REFUSALS: [(&str, &[u8], u8, &str); 17] = [
+static REFUSALS: [(&str, &[u8], u8, &str); 20] = [
     ("", b"a\tb\tc\td\ne\tf\n", 3, "line 2 has 2 cells where line 1 has 4 (--fill fills them)"),
     ("", b"a\n\tb\n", 3, "line 2 has 2 cells where line 1 has 1 (--fill fills them)"),
     ("--csv", b"a,\"b\nc\"\nd\n", 3, "row 2 has 1 cells where row 1 has 2 (--fill fills them)"),
@@ -151,6 +176,9 @@ static REFUSALS: [(&str, &[u8], u8, &str); 17] = [
     ("--color|auto", b"", 2, "\"auto\" is no value of --color (always or never)"),
     ("--frame-color|pink", b"", 2, "\"pink\" is no value of --frame-color (black, red, green, yellow, blue, magenta, cyan or white)"),
     ("--footer|a\nb", b"", 2, "\"a␊b\" is no value of --footer (a text without a line feed)"),
+    ("--outline|2", b"\xff", 2, "\"2\" is no value of --outline (rows and columns from 1 on, or * for all, as 2:3,4:*)"),
+    ("--outline|1:1,0:*", b"", 2, "\"1:1,0:*\" is no value of --outline (rows and columns from 1 on, or * for all, as 2:3,4:*)"),
+    ("--mark", b"", 2, "--mark has no value (the text of cells)"),
     ("a|b", b"", 2, "\"b\" is a second file (one file is read, or standard input)"),
     ("--left|", b"", 2, "\"\" is no value of --left (numbers of columns from 1 on, as 1,3-5)"),
 ];

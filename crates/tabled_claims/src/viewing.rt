@@ -52,7 +52,7 @@ pub fn page_of_the_request<R: Read, W: Write>(
 /// No line of a page is wider than asked for, where its texts are of printable ASCII, nothing stands above or below its table, it has no
 /// color, and its table can be so narrow.
 pub fn no_line_is_wider()
-    ensures { (request : Asked) (style : Named) (words : List (List ℕ)) (around : Told) (texts : Table) (text : List ℕ) → IsPage request style words around texts text → FitsWidth request style around texts text }
+    ensures { (request : Asked) (style : Named) (words : List (List ℕ)) (around : Told) (texts : Table) (text : List ℕ) → IsPage request style words around texts text → FitsWidth request style words around texts text }
 {}
 
 /// Where the program is asked about itself it writes exactly what it says of itself, and reads nothing.

@@ -1,5 +1,6 @@
 pub mod Options
 pub mod Numerals
+pub mod Cells
 pub mod Columns
 pub mod Words
 pub mod Sides

@@ -8,7 +8,7 @@ use Rattle.tabled_request.specs.declared.options.OptionName.TheVariants as optio
 abbrev pub all_options : List OptionName
 all_options =
     option.Style ∷ option.Separator ∷ option.Csv ∷ option.Header ∷ option.NoHeader ∷ option.Title ∷ option.Footer ∷ option.Left ∷ option.Center ∷ option.Right ∷ option.NoNumbers ∷ option.Width
-    ∷ option.Wrap ∷ option.Truncate ∷ option.Terminal ∷ option.Color ∷ option.Stripes ∷ option.FrameColor ∷ option.Fill ∷ option.Raw ∷ option.Help ∷ option.Version ∷ option.Styles ∷ []
+    ∷ option.Wrap ∷ option.Truncate ∷ option.Terminal ∷ option.Color ∷ option.Stripes ∷ option.FrameColor ∷ option.Outline ∷ option.Mark ∷ option.Fill ∷ option.Raw ∷ option.Help ∷ option.Version ∷ option.Styles ∷ []
 
 -- the word that names an option
 unfoldable pub name_of : OptionName → List ℕ
@@ -30,6 +30,8 @@ name_of option.Terminal = codes "--terminal"
 name_of option.Color = codes "--color"
 name_of option.Stripes = codes "--stripes"
 name_of option.FrameColor = codes "--frame-color"
+name_of option.Outline = codes "--outline"
+name_of option.Mark = codes "--mark"
 name_of option.Fill = codes "--fill"
 name_of option.Raw = codes "--raw"
 name_of option.Help = codes "--help"
@@ -56,6 +58,8 @@ takes_value option.Terminal = false
 takes_value option.Color = true
 takes_value option.Stripes = false
 takes_value option.FrameColor = true
+takes_value option.Outline = true
+takes_value option.Mark = true
 takes_value option.Fill = false
 takes_value option.Raw = false
 takes_value option.Help = false

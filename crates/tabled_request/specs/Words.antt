@@ -13,6 +13,7 @@ use Rattle.tabled_request.specs.declared.request.Shows.TheVariants as shows
 use Rattle.tabled_request.specs.declared.words.Reading.{Reading}
 use Rattle.tabled_request.specs.Options.{option_named, takes_value}
 use Rattle.tabled_request.specs.Numerals.{number_of}
+use Rattle.tabled_request.specs.Cells.{are_cells}
 use Rattle.tabled_request.specs.Columns.{are_columns}
 
 -- what no words ask for
@@ -36,6 +37,8 @@ first_request = record {
   has_color = false;
   has_stripes = false;
   frame_color = None;
+  outline = None;
+  mark = None;
   fills = false;
   is_raw = false;
 }
@@ -97,6 +100,8 @@ with_value option.Right n word request = if are_columns word then Some (record r
 with_value option.Width n word request = option_map (λ width. record request { width = Some width }) (is_width (number_of word))
 with_value option.Color n word request = option_map (λ choice. record request { has_color = choice }) (choice_named word)
 with_value option.FrameColor n word request = option_map (λ color. record request { frame_color = Some color }) (color_named word)
+with_value option.Outline n word request = if are_cells word then Some (record request { outline = Some n }) else None
+with_value option.Mark n word request = Some (record request { mark = Some n })
 with_value other n word request = None
 
 -- a word that an option waited for

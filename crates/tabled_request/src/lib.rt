@@ -3,6 +3,7 @@
 //! `docs/DEFINITIONS.md` explains the words of the contracts.
 #![tactic(auto)]
 
+mod cells;
 mod columns;
 mod error;
 mod given;
@@ -13,6 +14,7 @@ mod sides;
 mod surroundings;
 mod words;
 
+pub use cells::{are_cells, names_cell};
 pub use columns::{are_columns, names_column};
 pub use error::WordsError;
 pub use given::{GivenError, all_words};

@@ -42,6 +42,10 @@ pub enum OptionName {
     Stripes,
     /// The color of borders.
     FrameColor,
+    /// Cells by their rows and columns, with an outline around them.
+    Outline,
+    /// A text, with an outline around each cell that has it.
+    Mark,
     /// Short rows are filled with empty cells.
     Fill,
     /// Texts are left as they are.
@@ -56,7 +60,7 @@ pub enum OptionName {
 
 impl OptionName {
     /// All options.
-    pub fn all() -> [OptionName; 23]
+    pub fn all() -> [OptionName; 25]
         ensures { result ≡ all_options }
     {
         [
@@ -78,6 +82,8 @@ impl OptionName {
             OptionName::Color,
             OptionName::Stripes,
             OptionName::FrameColor,
+            OptionName::Outline,
+            OptionName::Mark,
             OptionName::Fill,
             OptionName::Raw,
             OptionName::Help,
@@ -110,6 +116,8 @@ impl OptionName {
             OptionName::Color => "--color",
             OptionName::Stripes => "--stripes",
             OptionName::FrameColor => "--frame-color",
+            OptionName::Outline => "--outline",
+            OptionName::Mark => "--mark",
             OptionName::Fill => "--fill",
             OptionName::Raw => "--raw",
             OptionName::Help => "--help",
@@ -141,6 +149,8 @@ impl OptionName {
             OptionName::Color => true,
             OptionName::Stripes => false,
             OptionName::FrameColor => true,
+            OptionName::Outline => true,
+            OptionName::Mark => true,
             OptionName::Fill => false,
             OptionName::Raw => false,
             OptionName::Help => false,

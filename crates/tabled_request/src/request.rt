@@ -87,6 +87,10 @@ pub struct Request {
     pub has_stripes: bool,
     /// The color of borders.
     pub frame_color: Option<FrameColor>,
+    /// The word that names the cells with an outline around them.
+    pub outline: Option<usize>,
+    /// The word that is the text of the cells with an outline around them.
+    pub mark: Option<usize>,
     /// Whether short rows are filled with empty cells.
     pub fills: bool,
     /// Whether texts are left as they are.
@@ -117,6 +121,8 @@ impl Request {
             has_color: false,
             has_stripes: false,
             frame_color: None,
+            outline: None,
+            mark: None,
             fills: false,
             is_raw: false,
         }

@@ -5,6 +5,7 @@ ghost use Rattle.std.specs.List.{list_any};
 ghost use Rattle.tabled_request.specs.Numerals.{number_of};
 ghost use Rattle.tabled_request.specs.Words.{choice_named, file_taken, is_line, is_width, option_taken, request_of, separator_named, value_taken, with_option, with_value, word_at, word_taken};
 
+use crate::cells::are_cells;
 use crate::columns::are_columns;
 use crate::error::WordsError;
 use crate::numerals::number_of;
@@ -111,6 +112,8 @@ fn with_value(option: OptionName, n: usize, word: &str, request: Request) -> Opt
         OptionName::Width => request.width = Some(is_width(number_of(word))?),
         OptionName::Color => request.has_color = choice_named(word)?,
         OptionName::FrameColor => request.frame_color = Some(FrameColor::from_name(word)?),
+        OptionName::Outline if are_cells(word) => request.outline = Some(n),
+        OptionName::Mark => request.mark = Some(n),
         _ => return None,
     }
     Some(request)

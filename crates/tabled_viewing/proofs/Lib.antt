@@ -2,6 +2,7 @@ pub mod Results
 pub mod Applied
 pub mod OnLines
 pub mod Narrow
+pub mod Outlined
 pub mod Widths
 pub mod Faults
 pub mod Pages

@@ -97,7 +97,7 @@ no_characters : (fs : List (Event Texts)) → characters_of (by_colors fs) ≡ [
 no_characters [] = refl
 no_characters (f ∷ fs) = no_characters fs
 
-characters_written : (es : List (Event ℕ)) (fs : List (Event Texts)) → characters_of (by_characters es ++ by_colors fs) ≡ es
+pub characters_written : (es : List (Event ℕ)) (fs : List (Event Texts)) → characters_of (by_characters es ++ by_colors fs) ≡ es
 characters_written [] fs = no_characters fs
 characters_written (e ∷ es) fs = ap (λ rest. e ∷ rest) (characters_written es fs)
 

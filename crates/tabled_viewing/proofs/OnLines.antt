@@ -61,7 +61,7 @@ nothing_by_colors : (fs : List (Event Texts)) → settings_of (by_colors fs) ≡
 nothing_by_colors [] = refl
 nothing_by_colors (f ∷ fs) = nothing_by_colors fs
 
-nothing_by_both : (es : List (Event ℕ)) (fs : List (Event Texts)) → settings_of (by_characters es ++ by_colors fs) ≡ []
+pub nothing_by_both : (es : List (Event ℕ)) (fs : List (Event Texts)) → settings_of (by_characters es ++ by_colors fs) ≡ []
 nothing_by_both [] fs = nothing_by_colors fs
 nothing_by_both (e ∷ es) fs = nothing_by_both es fs
 
@@ -98,8 +98,8 @@ nothing_on_line is_drawn before table line (Some text) = either (is_drawn && has
     either true = nothing_written before table text line
     either false = refl
 
-pub nothing_titled : (request : Request) (style : ReadyStyle) (words : List (List ℕ)) (rows : ℕ) (table : Table)
-    → settings_of (titled request style words (drawn request style rows) table) ≡ []
-nothing_titled request style words rows table =
-    filter_map-append setting_event (drawn request style rows) (on_line (draws_above style) (drawn request style rows) table 0 (caption request words request.title))
-    ∙ (λ i. nothing_drawn request style rows i ++ nothing_on_line (draws_above style) (drawn request style rows) table 0 (caption request words request.title) i)
+pub nothing_titled : (request : Request) (style : ReadyStyle) (words : List (List ℕ)) (before : List ConfigEvent) (table : Table) → settings_of before ≡ []
+    → settings_of (titled request style words before table) ≡ []
+nothing_titled request style words before table nothing =
+    filter_map-append setting_event before (on_line (draws_above style) before table 0 (caption request words request.title))
+    ∙ (λ i. nothing i ++ nothing_on_line (draws_above style) before table 0 (caption request words request.title) i)

@@ -17,7 +17,8 @@ use Rattle.tabled_request.specs.Sides.{sides_of}
 use Rattle.tabled_viewing.specs.Asked.{is_colored, width_asked}
 use Rattle.tabled_viewing.specs.Captions.{beside, caption}
 use Rattle.tabled_viewing.specs.Colors.{aligned, colored_if}
-use Rattle.tabled_viewing.specs.View.{FitsWidth, IsPage, IsViewOfRows, IsWithin, captioned, drawn, draws_above, draws_below, texts_asked, written}
+use Rattle.tabled_viewing.specs.View.{FitsWidth, IsPage, IsViewOfRows, IsWithin, captioned, draws_above, draws_below, framed, texts_asked, written}
+use Rattle.tabled_viewing.proofs.Outlined.{framed_narrow, nothing_framed}
 use Rattle.tabled_viewing.proofs.Widths.{after_leaves, after_narrow, lines_within, plain_events, same_width}
 
 module _ (request : Request) (style : ReadyStyle) (words : List (List ℕ)) (around : Surroundings) where
@@ -33,12 +34,12 @@ module _ (request : Request) (style : ReadyStyle) (words : List (List ℕ)) (aro
 module _ (request : Request) (style : ReadyStyle) (words : List (List ℕ)) (around : Surroundings) (texts : Table) where
   -- the parts of a page, each by the table and the events that it was made by
   pub page_by_parts : (table first second third : Table) (sides : List Side) (in_color : Bool) (above below text whole : List ℕ)
-      → IsWithin request.cuts_off (width_asked request around) (drawn request style (length texts)) texts table
+      → IsWithin request.cuts_off (width_asked request around) (framed request style words texts) texts table
       → first ≡ table → second ≡ table → third ≡ table → sides ≡ sides_of request words texts → in_color ≡ is_colored request around
       → above ≡ beside (draws_above style) table (caption request words request.title)
       → below ≡ beside (draws_below style) first (caption request words request.footer)
-      → text ≡ written in_color ((captioned request style words (drawn request style (length texts)) first ++ aligned 0 sides) ++ colored_if in_color request second) third
-      → whole ≡ above ++ (text ++ 10 ∷ []) ++ below → FitsWidth request style around texts whole
+      → text ≡ written in_color ((captioned request style words (framed request style words texts) first ++ aligned 0 sides) ++ colored_if in_color request second) third
+      → whole ≡ above ++ (text ++ 10 ∷ []) ++ below → FitsWidth request style words around texts whole
       → IsPage request style words around texts whole
   page_by_parts table first second third sides in_color above below text whole within one two three by_sides by_color over under middle all fits = record {
     table = table;
@@ -47,30 +48,30 @@ module _ (request : Request) (style : ReadyStyle) (words : List (List ℕ)) (aro
     text_is =
         all ∙ (λ i. over i ++ (middle i ++ 10 ∷ []) ++ under i)
         ∙ (λ i. beside (draws_above style) table (caption request words request.title)
-        ++ (written (by_color i) ((captioned request style words (drawn request style (length texts)) (one i) ++ aligned 0 (by_sides i)) ++ colored_if (by_color i) request (two i)) (three i) ++ 10 ∷ [])
+        ++ (written (by_color i) ((captioned request style words (framed request style words texts) (one i) ++ aligned 0 (by_sides i)) ++ colored_if (by_color i) request (two i)) (three i) ++ 10 ∷ [])
         ++ beside (draws_below style) (one i) (caption request words request.footer));
   }
 
   -- it fits its width, where its table in its style does
   pub page_fits : (table first second third : Table) (sides : List Side) (in_color : Bool) (above below lent text whole : List ℕ)
-      → ((width : ℕ) → width_asked request around ≡ Some width → CellsArePrintable texts → least_width 1 (drawn request style (length texts)) texts ≤ width
-      → text_width (look_of (drawn request style (length texts)) table) (margin_set (drawn request style (length texts))) ≤ width)
+      → ((width : ℕ) → width_asked request around ≡ Some width → CellsArePrintable texts → least_width 1 (framed request style words texts) texts ≤ width
+      → text_width (look_of (framed request style words texts) table) (margin_set (framed request style words texts)) ≤ width)
       → third ≡ table → in_color ≡ is_colored request around
       → above ≡ beside (draws_above style) table (caption request words request.title)
       → below ≡ beside (draws_below style) first (caption request words request.footer)
       → lent ≡ text → whole ≡ above ++ (lent ++ 10 ∷ []) ++ below
-      → (let events = (captioned request style words (drawn request style (length texts)) first ++ aligned 0 sides) ++ colored_if in_color request second in
+      → (let events = (captioned request style words (framed request style words texts) first ++ aligned 0 sides) ++ colored_if in_color request second in
       in_color ≡ false → WritesNarrow events → leaves_sizes events ≡ true → IsRectangle (text_width (look_of events third) (margin_set events)) text)
-      → FitsWidth request style around texts whole
+      → FitsWidth request style words around texts whole
   page_fits table first second third sides in_color above below lent text whole fits three by_color over under same_text all even = λ width asked untitled unfooted plain printable few.
-      let before : List ConfigEvent = drawn request style (length texts) in
+      let before : List ConfigEvent = framed request style words texts in
       let events : List ConfigEvent = (captioned request style words before first ++ aligned 0 sides) ++ colored_if in_color request second in
       let uncolored : in_color ≡ false = by_color ∙ plain in
-      let are : events ≡ before ++ aligned 0 sides = plain_events request style words (length texts) sides in_color first second untitled unfooted uncolored in
+      let are : events ≡ before ++ aligned 0 sides = plain_events request style words before sides in_color first second untitled unfooted uncolored in
       let rectangle : IsRectangle (text_width (look_of events third) (margin_set events)) text =
-      even uncolored (ap (λ es. list_all is_narrow_write (characters_of es)) are ∙ after_narrow request style (length texts) sides) (ap leaves_sizes are ∙ after_leaves request style (length texts) sides) in
+      even uncolored (ap (λ es. list_all is_narrow_write (characters_of es)) are ∙ after_narrow before sides (framed_narrow request style words texts)) (ap leaves_sizes are ∙ after_leaves before sides (nothing_framed request style words texts)) in
       let same : text_width (look_of events third) (margin_set events) ≡ text_width (look_of before table) (margin_set before) =
-      (λ i. text_width (look_of (are i) (three i)) (margin_set (are i))) ∙ same_width request style (length texts) sides table in
+      (λ i. text_width (look_of (are i) (three i)) (margin_set (are i))) ∙ same_width before sides table (nothing_framed request style words texts) in
       let most = fits width asked printable few in
       let nothing_above : above ≡ [] = over ∙ ap (λ number. beside (draws_above style) table (caption request words number)) untitled in
       let nothing_below : below ≡ [] = under ∙ ap (λ number. beside (draws_below style) first (caption request words number)) unfooted in (

@@ -30,9 +30,7 @@ use Rattle.tabled_viewing.specs.Captions.{caption, on_line}
 use Rattle.tabled_object.specs.declared.entity.Entity.TheVariants.{Column}
 use Rattle.tabled_formatting.specs.Formatting.{alignment_set}
 use Rattle.tabled_viewing.specs.Colors.{aligned, alignment_at, colored_if}
-use Rattle.tabled_viewing.specs.View.{captioned, drawn, draws_above, draws_below}
-use Rattle.tabled_viewing.proofs.Narrow.{drawn_narrow}
-use Rattle.tabled_viewing.proofs.OnLines.{nothing_drawn}
+use Rattle.tabled_viewing.specs.View.{captioned, draws_above, draws_below}
 
 -- ---- alignments are no borders, no spans, no padding and no margin
 
@@ -82,10 +80,7 @@ look_by characters colors (rows, cols) widths heights = record {
   color = λ place. value (replay colors) (rows, cols) (edge_size widths heights place) place;
 }
 
-module _ (request : Request) (style : ReadyStyle) (rows : ℕ) (sides : List Side) where
-  abbrev before : List ConfigEvent
-  before = drawn request style rows
-
+module _ (before : List ConfigEvent) (sides : List Side) where
   abbrev after : List ConfigEvent
   after = before ++ aligned 0 sides
 
@@ -95,33 +90,32 @@ module _ (request : Request) (style : ReadyStyle) (rows : ℕ) (sides : List Sid
   same_colors : colors_of after ≡ colors_of before
   same_colors = filter_map-append color_event before (aligned 0 sides) ∙ ap (λ es. colors_of before ++ es) (no_colors 0 sides) ∙ append-nil (colors_of before)
 
-  only_aligned : settings_of after ≡ settings_of (aligned 0 sides)
-  only_aligned = filter_map-append setting_event before (aligned 0 sides) ∙ ap (λ es. es ++ settings_of (aligned 0 sides)) (nothing_drawn request style rows)
+  only_aligned : settings_of before ≡ [] → settings_of after ≡ settings_of (aligned 0 sides)
+  only_aligned nothing = filter_map-append setting_event before (aligned 0 sides) ∙ ap (λ es. es ++ settings_of (aligned 0 sides)) nothing
 
-  sizes : SameSizes first_settings (settings_set after)
-  sizes = subst (λ es. SameSizes first_settings (settings_after first_settings es)) (sym only_aligned) (same_sizes first_settings 0 sides)
+  sizes : settings_of before ≡ [] → SameSizes first_settings (settings_set after)
+  sizes nothing = subst (λ es. SameSizes first_settings (settings_after first_settings es)) (sym (only_aligned nothing)) (same_sizes first_settings 0 sides)
 
-  pub same_width : (table : Table) → text_width (look_of after table) (margin_set after) ≡ text_width (look_of before table) (margin_set before)
-  same_width table =
-      let margin : margin_set after ≡ margin_set before = sizes.margin ∙ sym (ap (λ es. (settings_after first_settings es).margin) (nothing_drawn request style rows)) in
+  pub same_width : (table : Table) → settings_of before ≡ [] → text_width (look_of after table) (margin_set after) ≡ text_width (look_of before table) (margin_set before)
+  same_width table nothing =
+      let margin : margin_set after ≡ margin_set before = (sizes nothing).margin ∙ sym (ap (λ es. (settings_after first_settings es).margin) nothing) in
       λ i. text_width (look_by (same_characters i) (same_colors i) (length table, column_count table) (slice_index (column_widths table)) (slice_index (row_heights table))) (margin i)
 
-  pub after_narrow : WritesNarrow after
-  after_narrow = ap (list_all is_narrow_write) same_characters ∙ drawn_narrow request style rows
+  pub after_narrow : WritesNarrow before → WritesNarrow after
+  after_narrow narrow = ap (list_all is_narrow_write) same_characters ∙ narrow
 
-  pub after_leaves : leaves_sizes after ≡ true
-  after_leaves =
-      let none : len (settings_set after).column_spans ≡ 0 = ap len sizes.columns ∙ len-empty _ _ in
-      let others : len (settings_set after).row_spans ≡ 0 = ap len sizes.rows ∙ len-empty _ _ in
-      let unpadded : keeps_first_padding (settings_set after).cells.padding ≡ true = ap keeps_first_padding sizes.padding in
+  pub after_leaves : settings_of before ≡ [] → leaves_sizes after ≡ true
+  after_leaves nothing =
+      let none : len (settings_set after).column_spans ≡ 0 = ap len (sizes nothing).columns ∙ len-empty _ _ in
+      let others : len (settings_set after).row_spans ≡ 0 = ap len (sizes nothing).rows ∙ len-empty _ _ in
+      let unpadded : keeps_first_padding (settings_set after).cells.padding ≡ true = ap keeps_first_padding (sizes nothing).padding in
       λ i. ((none i == 0) && (others i == 0)) && unpadded i
 
 -- ---- all events, where there is no caption and no color
 
-pub plain_events : (request : Request) (style : ReadyStyle) (words : List (List ℕ)) (rows : ℕ) (sides : List Side) (in_color : Bool) (first second : Table) → request.title ≡ None → request.footer ≡ None → in_color ≡ false
-    → (captioned request style words (drawn request style rows) first ++ aligned 0 sides) ++ colored_if in_color request second ≡ drawn request style rows ++ aligned 0 sides
-plain_events request style words rows sides in_color first second untitled unfooted plain =
-    let before = drawn request style rows in
+pub plain_events : (request : Request) (style : ReadyStyle) (words : List (List ℕ)) (before : List ConfigEvent) (sides : List Side) (in_color : Bool) (first second : Table) → request.title ≡ None → request.footer ≡ None → in_color ≡ false
+    → (captioned request style words before first ++ aligned 0 sides) ++ colored_if in_color request second ≡ before ++ aligned 0 sides
+plain_events request style words before sides in_color first second untitled unfooted plain =
     (λ i. (((before ++ on_line (draws_above style) before first 0 (caption request words (untitled i)))
     ++ on_line (draws_below style) (before ++ on_line (draws_above style) before first 0 (caption request words (untitled i))) first (length first) (caption request words (unfooted i)))
     ++ aligned 0 sides) ++ colored_if (plain i) request second)

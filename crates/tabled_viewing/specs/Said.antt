@@ -56,6 +56,8 @@ values option.Right = codes "numbers of columns from 1 on, as 1,3-5"
 values option.Width = codes "a number from 1 on"
 values option.Color = codes "always or never"
 values option.FrameColor = codes "black, red, green, yellow, blue, magenta, cyan or white"
+values option.Outline = codes "rows and columns from 1 on, or * for all, as 2:3,4:*"
+values option.Mark = codes "the text of cells"
 values other = codes "nothing"
 
 -- of a word that names no option, of an option without its value, of a word that is no value of an option, and of a second file

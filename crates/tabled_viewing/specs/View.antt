@@ -20,6 +20,7 @@ use Rattle.tabled_request.specs.declared.surroundings.Surroundings.{Surroundings
 use Rattle.tabled_viewing.specs.Asked.{cells_asked, style_asked, width_asked, is_colored}
 use Rattle.tabled_viewing.specs.Captions.{beside, caption, on_line}
 use Rattle.tabled_viewing.specs.Colors.{aligned, colored_if}
+use Rattle.tabled_viewing.specs.Outlines.{outlines}
 
 -- the texts of the table of some rows: filled with empty ones, if they are to be, and cleaned, unless they are to be left as they are
 abbrev pub rows_asked : Request → Table → Table
@@ -37,6 +38,10 @@ has_header_line request style rows = request.has_header && (nat_lt 1 rows || is_
 abbrev pub drawn : Request → ReadyStyle → ℕ → List ConfigEvent
 drawn request style rows =
     if has_header_line request style rows then ready_applied style else borders_replaced (shown style).borders [] []
+
+-- the borders of a table: its style as it is drawn, and then the outlines around some of its cells
+abbrev pub framed : Request → ReadyStyle → List (List ℕ) → Table → List ConfigEvent
+framed request style words table = drawn request style (length table) ++ outlines request style words table
 
 -- how texts are kept within a width: they are cut off before two dots, or they go on in further lines, cut at their spaces
 abbrev pub IsKeptBy : Bool → Overflow → Type 0
@@ -79,25 +84,25 @@ page request style words is_colored events table =
     ++ (written is_colored events table ++ 10 ∷ [])
     ++ beside (draws_below style) table (caption request words request.footer)
 
--- all that is written for the table: the style with its captions, the sides at which its cells stand, and the colors
+-- all that is written for the table: the style with its outlines and its captions, the sides at which its cells stand, and the colors
 abbrev pub events_of : Request → ReadyStyle → List (List ℕ) → Bool → Table → Table → List ConfigEvent
 events_of request style words is_colored texts table =
-    (captioned request style words (drawn request style (length texts)) table ++ aligned 0 (sides_of request words texts))
+    (captioned request style words (framed request style words texts) table ++ aligned 0 (sides_of request words texts))
     ++ colored_if is_colored request table
 
 -- no line of a page is wider than asked for: so it is where its texts are of printable ASCII, where nothing stands above and below its table, and
 -- no color in it, and where its table can be so narrow
-abbrev pub FitsWidth : Request → ReadyStyle → Surroundings → Table → List ℕ → Type 0
-FitsWidth request style around texts text =
+abbrev pub FitsWidth : Request → ReadyStyle → List (List ℕ) → Surroundings → Table → List ℕ → Type 0
+FitsWidth request style words around texts text =
     (width : ℕ) → width_asked request around ≡ Some width → request.title ≡ None → request.footer ≡ None → is_colored request around ≡ false
-    → CellsArePrintable texts → least_width 1 (drawn request style (length texts)) texts ≤ width
+    → CellsArePrintable texts → least_width 1 (framed request style words texts) texts ≤ width
     → (lines : List ℕ) × (text ≡ lines ++ 10 ∷ []) × (list_all (λ line. nat_le (width_of_text line) width) (pieces lines) ≡ true)
 
 -- the page of a table of these texts
 pub record IsPage (request : Request) (style : ReadyStyle) (words : List (List ℕ)) (around : Surroundings) (texts : Table) (text : List ℕ) : Type 0 where
   pub table : Table
-  pub within : IsWithin request.cuts_off (width_asked request around) (drawn request style (length texts)) texts table
-  pub fits : FitsWidth request style around texts text
+  pub within : IsWithin request.cuts_off (width_asked request around) (framed request style words texts) texts table
+  pub fits : FitsWidth request style words around texts text
   pub text_is : text ≡ page request style words (is_colored request around) (events_of request style words (is_colored request around) texts table) table
 
 -- what is written for rows: nothing where there is none

@@ -1,6 +1,6 @@
 //! The table of a request, with its style, within its width.
 
-ghost use Rattle.std.specs.Prelude.{◌≡◌, ◌≢◌, ◌≤◌, ◌⊎◌, ◌-◌, ℕ, true, [], List, None, Some, length, option_map, if◌then◌else◌, IfErr, IfOk, OnOk};
+ghost use Rattle.std.specs.Prelude.{◌≡◌, ◌≢◌, ◌≤◌, ◌⊎◌, ◌-◌, ℕ, true, [], List, None, Some, length, map, option_map, string_bytes, if◌then◌else◌, IfErr, IfOk, OnOk};
 ghost use Rattle.tabled_clean.specs.Steering.{cleaned};
 ghost use Rattle.tabled_configuration.specs.Colored.{Shows};
 ghost use Rattle.tabled_configuration.specs.Configuration.{ConfigEvent};
@@ -15,11 +15,12 @@ ghost use Rattle.tabled_text.specs.TextTable.{look_of};
 ghost use Rattle.tabled_width.specs.Limited.{ends_printable};
 ghost use Rattle.tabled_viewing.specs.Asked.{width_asked};
 ghost use Rattle.tabled_viewing.specs.Refusal.{fault_of_rows, unequal};
-ghost use Rattle.tabled_viewing.specs.View.{IsKeptWithin, IsWithin, drawn, has_header_line, rows_asked, texts_asked};
+ghost use Rattle.tabled_viewing.specs.View.{IsKeptWithin, IsWithin, drawn, framed, has_header_line, rows_asked, texts_asked};
 ghost use Rattle.tabled_viewing.specs.declared.error.ViewError.TheVariants as refusals;
 
 use crate::asked::width_asked;
 use crate::error::ViewError;
+use crate::outlines::outline;
 use std::alloc::Global;
 use tabled_border::OutOfMemory;
 use tabled_builder::Builder;
@@ -160,19 +161,38 @@ fn fit(table: &mut TextTable, cuts_off: bool, width: Option<usize>) -> Result<()
     }
 }
 
-/// Draws the table in a style, and keeps it within its width.
-pub(crate) fn frame(
+/// Draws the table in a style, with the outlines that are asked for.
+fn draw_borders(
     table: &mut TextTable,
+    alloc: Global,
     request: Request,
     style: ReadyStyle,
+    words: &[String],
+) -> Result<(), OutOfMemory>
+    requires { Shows [] table.old.config }
+    ensures config { OnOk result (Shows (framed request style (map string_bytes words.now) table.old.texts) table.new.config) }
+    ensures texts { table.new.texts ≡ table.old.texts }
+{
+    draw(table, request, style)?;
+    outline(table, alloc, request, style, words)
+}
+
+/// Draws the table in a style, with the outlines that are asked for, and keeps it within its width.
+pub(crate) fn frame(
+    table: &mut TextTable,
+    alloc: Global,
+    request: Request,
+    style: ReadyStyle,
+    words: &[String],
     around: Surroundings,
 ) -> Result<(), OutOfMemory>
     requires { Shows [] table.old.config }
-    ensures config { OnOk result (Shows (drawn request style (length table.old.texts)) table.new.config) }
-    ensures within { OnOk result (IsWithin request.cuts_off (width_asked request around) (drawn request style (length table.old.texts)) table.old.texts table.new.texts) }
-    ensures fits { (most : ℕ) → width_asked request around ≡ Some most → CellsArePrintable table.old.texts → least_width 1 (drawn request style (length table.old.texts)) table.old.texts ≤ most
-        → OnOk result (text_width (look_of (drawn request style (length table.old.texts)) table.new.texts) (margin_set (drawn request style (length table.old.texts))) ≤ most) }
+    ensures config { OnOk result (Shows (framed request style (map string_bytes words.now) table.old.texts) table.new.config) }
+    ensures within { OnOk result (IsWithin request.cuts_off (width_asked request around) (framed request style (map string_bytes words.now) table.old.texts) table.old.texts table.new.texts) }
+    ensures fits { let events = framed request style (map string_bytes words.now) table.old.texts in
+        (most : ℕ) → width_asked request around ≡ Some most → CellsArePrintable table.old.texts → least_width 1 events table.old.texts ≤ most
+        → OnOk result (text_width (look_of events table.new.texts) (margin_set events) ≤ most) }
 {
-    draw(table, request, style)?;
+    draw_borders(table, alloc, request, style, words)?;
     fit(table, request.cuts_off, width_asked(request, around))
 }

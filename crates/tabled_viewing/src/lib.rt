@@ -8,6 +8,7 @@ mod captions;
 mod colors;
 mod drawing;
 mod error;
+mod outlines;
 mod page;
 mod program;
 mod saying;

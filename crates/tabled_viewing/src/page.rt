@@ -1,18 +1,18 @@
 //! The text that is written for rows.
 
-ghost use Rattle.std.specs.Prelude.{◌≡◌, ◌≢◌, ◌⊎◌, ◌++◌, ℕ, [], ◌∷◌, List, None, Some, true, false, map, string_bytes, IfErr, IfOk, OnOk};
+ghost use Rattle.std.specs.Prelude.{◌≡◌, ◌≢◌, ◌⊎◌, ◌++◌, [], ◌∷◌, List, None, Some, true, false, map, string_bytes, IfErr, IfOk, OnOk};
 ghost use Rattle.tabled_configuration.specs.Colored.{Shows};
 ghost use Rattle.tabled_configuration.specs.Configuration.{ConfigEvent};
 ghost use Rattle.tabled_painting.specs.PaintedTable.{colored_text};
 ghost use Rattle.tabled_painting.specs.Widths.{text_width};
 ghost use Rattle.tabled_printing.specs.Columns.{IsRectangle, WritesNarrow};
-ghost use Rattle.tabled_printing.specs.Texts.{texts};
+ghost use Rattle.tabled_printing.specs.Texts.{Table, texts};
 ghost use Rattle.tabled_text.specs.Cells.{leaves_sizes, margin_set};
 ghost use Rattle.tabled_text.specs.TextTable.{look_of, painted, text_of};
 ghost use Rattle.tabled_request.specs.Sides.{sides_of};
 ghost use Rattle.tabled_viewing.specs.Captions.{beside, caption};
 ghost use Rattle.tabled_viewing.specs.Refusal.{fault_of_rows};
-ghost use Rattle.tabled_viewing.specs.View.{IsPage, IsViewOfRows, captioned, draws_above, draws_below, drawn, titled, written};
+ghost use Rattle.tabled_viewing.specs.View.{IsPage, IsViewOfRows, captioned, draws_above, draws_below, framed, titled, written};
 ghost use Rattle.tabled_viewing.specs.declared.error.ViewError.TheVariants as refusals;
 
 use crate::asked::is_colored;
@@ -46,8 +46,8 @@ fn put_title(
     style: ReadyStyle,
     words: &[String],
 ) -> Result<String, OutOfMemory>
-    ensures config { (rows : ℕ) → Shows (drawn request style rows) table.old.config
-        → OnOk result (Shows (titled request style (map string_bytes words.now) (drawn request style rows) table.old.texts) table.new.config) }
+    ensures config { (given : Table) → Shows (framed request style (map string_bytes words.now) given) table.old.config
+        → OnOk result (Shows (titled request style (map string_bytes words.now) (framed request style (map string_bytes words.now) given) table.old.texts) table.new.config) }
     ensures above { IfOk result (λ above. string_bytes above ≡ beside (draws_above style) table.old.texts (caption request (map string_bytes words.now) request.title)) }
     ensures texts { table.new.texts ≡ table.old.texts }
 {
@@ -63,8 +63,8 @@ fn put_footer(
     style: ReadyStyle,
     words: &[String],
 ) -> Result<String, OutOfMemory>
-    ensures config { (rows : ℕ) → Shows (titled request style (map string_bytes words.now) (drawn request style rows) table.old.texts) table.old.config
-        → OnOk result (Shows (captioned request style (map string_bytes words.now) (drawn request style rows) table.old.texts) table.new.config) }
+    ensures config { (given : Table) → Shows (titled request style (map string_bytes words.now) (framed request style (map string_bytes words.now) given) table.old.texts) table.old.config
+        → OnOk result (Shows (captioned request style (map string_bytes words.now) (framed request style (map string_bytes words.now) given) table.old.texts) table.new.config) }
     ensures below { IfOk result (λ below. string_bytes below ≡ beside (draws_below style) table.old.texts (caption request (map string_bytes words.now) request.footer)) }
     ensures texts { table.new.texts ≡ table.old.texts }
 {
@@ -132,7 +132,7 @@ fn page_of_table(
 {
     let mut table = table;
     let sides = sides_of(&table, alloc, request, words)?;
-    frame(&mut table, request, style, around)?;
+    frame(&mut table, alloc, request, style, words, around)?;
     let above = put_title(&mut table, alloc, request, style, words)?;
     let below = put_footer(&mut table, alloc, request, style, words)?;
     let in_color = is_colored(request, around);

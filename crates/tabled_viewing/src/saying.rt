@@ -117,6 +117,8 @@ fn values(option: OptionName) -> &'static str
         OptionName::Width => "a number from 1 on",
         OptionName::Color => "always or never",
         OptionName::FrameColor => "black, red, green, yellow, blue, magenta, cyan or white",
+        OptionName::Outline => "rows and columns from 1 on, or * for all, as 2:3,4:*",
+        OptionName::Mark => "the text of cells",
         _ => "nothing",
     }
 }

@@ -32,6 +32,8 @@ Reads rows of cells from FILE, or from standard input, and writes them as a tabl
   --center COLUMNS       in the middle
   --right COLUMNS        at the right
   --no-numbers           columns of numbers stand as the others, and not at the right
+  --outline CELLS        an outline around these cells, by row and column from 1 on, as 2:3,4:* (* is all)
+  --mark TEXT            an outline around each cell that has this text
   --width N              within N columns of the terminal
   --terminal             within as many columns as COLUMNS says
   --wrap, --truncate     what is too wide goes on in further lines, or is cut off

@@ -1,8 +1,8 @@
 -- What was done to the table one after the other.
-use Rattle.std.proofs.Common.{length, map, string_bytes, sym, subst, ◌∙◌}
+use Rattle.std.proofs.Common.{map, string_bytes, sym, subst, ◌∙◌}
 use Rattle.tabled_configuration.specs.Colored.{Shows}
 use Rattle.tabled_printing.specs.Texts.{Table}
-use Rattle.tabled_viewing.specs.View.{captioned, drawn, titled}
+use Rattle.tabled_viewing.specs.View.{captioned, framed, titled}
 use Rattle.tabled_viewing.proofs.Pages.{page_by_parts, page_fits}
 use Rattle.tabled_viewing.proofs.Results.{if_ok}
 use Rattle.tabled_viewing.proofs.page.page_of_table.Goals as goal
@@ -17,10 +17,10 @@ returns c =
     let first = c.in_ok-above.ensures.texts in
     let second = c.in_ok-below.ensures.texts ∙ first in
     let third = c.in_ok-place_and_color.ensures.texts ∙ second in
-    let title = c.in_ok-above.ensures.config (length texts) c.in_ok-frame.ensures.config in
-    let footer = c.in_ok-below.ensures.config (length texts)
-    (subst (λ (now : Table). Shows (titled request style words (drawn request style (length texts)) now) c.put_title.new.table.config) (sym first) title) in
-    let all = c.in_ok-place_and_color.ensures.config (captioned request style words (drawn request style (length texts)) c.put_title.new.table.texts) footer in
+    let title = c.in_ok-above.ensures.config texts c.in_ok-frame.ensures.config in
+    let footer = c.in_ok-below.ensures.config texts
+    (subst (λ (now : Table). Shows (titled request style words (framed request style words texts) now) c.put_title.new.table.config) (sym first) title) in
+    let all = c.in_ok-place_and_color.ensures.config (captioned request style words (framed request style words texts) c.put_title.new.table.texts) footer in
     if_ok c.joined.result (λ page is.
     page_by_parts request style words c.args.around texts table c.put_title.new.table.texts c.put_footer.new.table.texts c.place_and_color.new.table.texts
     _ _ _ _ _ _ c.in_ok-frame.ensures.within first second third (c.deref.ensures.value ∙ c.in_ok-sides.ensures) c.is_colored-in_color.ensures

@@ -1,0 +1,11 @@
+-- Each part is tried.
+use Rattle.std.proofs.Common.{rules, tests, lit<}
+use Rattle.std.proofs.lemmas.Iterator.Search.{all_from_yields_List}
+use Rattle.std.proofs.lemmas.Iterator.Splits.{YieldsList-from_str_split}
+use Rattle.tabled_request.specs.Cells.{are_cells, is_cell}
+use Rattle.tabled_request.proofs.cells.are_cells.Goals as goal
+
+pub returns : goal.returns
+unfolding are_cells
+returns c =
+    all_from_yields_List is_cell _ _ _ c.all.ensures.ran (YieldsList-from_str_split 44 c.args.word.now (lit< tt) (cc) (cc) (cc)) (λ x b q k. search (rules, tests))
