@@ -4,6 +4,7 @@
 use std::alloc::{AllocError, Global};
 use std::io::Cursor;
 use std::test::Fail;
+use tabled_input::InputError;
 use tabled_request::{GivenError, Side, Surroundings, all_sides};
 use tabled_viewing::{ViewError, run, said, understood};
 
@@ -198,6 +199,8 @@ fn other_refusals_have_their_texts(rt: HostRuntime) -> Result<(), Fail> {
     for (refusal, status, text) in [
         (ViewError::Given { refusal: unreadable }, 2, "word 1 is not UTF-8, or has more than 4096 bytes (give a shorter text)"),
         (ViewError::OpenFailed { word: 0 }, 1, "\"data.tsv\" can't be opened (name a file that is there and may be read)"),
+        (ViewError::Input { refusal: InputError::ReadFailed }, 1, "the input can't be read (is it a file?)"),
+        (ViewError::Input { refusal: InputError::TooLong }, 5, "the input has more than 268435456 bytes (give less of it)"),
         (ViewError::OutOfMemory, 1, "memory was refused (give less of the input)"),
         (ViewError::WriteFailed, 1, "the output can't be written (is it closed, or full?)"),
     ] {

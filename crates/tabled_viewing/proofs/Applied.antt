@@ -19,7 +19,7 @@ use Rattle.tabled_color.specs.Coloring.{entity_colored}
 use Rattle.tabled_printing.specs.Texts.{Table}
 use Rattle.tabled_text.specs.Sizes.{column_count}
 use Rattle.tabled_request.specs.declared.request.FrameColor.{FrameColor}
-use Rattle.tabled_viewing.specs.Colors.{aligned, alignment_at, frame_colored, shade_of}
+use Rattle.tabled_viewing.specs.Colors.{aligned, aligned_column, frame_colored, shade_of}
 
 -- an option applied to entities in turn, of which each makes its own events
 pub in_turn : (events : Entity → List ConfigEvent) (members : List Entity) (made : List ConfigEvent) (old new : Colored)
@@ -28,29 +28,29 @@ in_turn events members made old new by =
     subst (λ es. Changes es old new) (all_unread Changes events members made old new by)
     (by_all_events Changes none_change both_change (map (λ member _. events member) members) made old new by)
 
--- the cells of one column put at a side
-pub column_aligned : (alignment : Alignment) (here : Side) (index col : ℕ) (made : List ConfigEvent) (old new : Colored) → alignment ≡ alignment_at here → index ≡ col
+-- the cells of one column get an alignment
+pub column_set : (alignment given : Alignment) (index col : ℕ) (made : List ConfigEvent) (old new : Colored) → alignment ≡ given → index ≡ col
     → MakesInTurn Changes (map (λ member _. alignment_set alignment member) (Column index ∷ [])) made old new
-    → Changes (alignment_set (alignment_at here) (Column col)) old new
-column_aligned alignment here index col made old new is at by =
+    → Changes (alignment_set given (Column col)) old new
+column_set alignment given index col made old new is at by =
     subst (λ es. Changes es old new) (append-nil (alignment_set alignment (Column index)) ∙ (λ i. alignment_set (is i) (Column (at i))))
     (in_turn (alignment_set alignment) (Column index ∷ []) made old new by)
 
 -- one column more
 aligned-append : (col : ℕ) (first : List Side) (here : Side)
-    → aligned col (first ++ here ∷ []) ≡ aligned col first ++ alignment_set (alignment_at here) (Column (col + length first))
+    → aligned col (first ++ here ∷ []) ≡ aligned col first ++ aligned_column here (col + length first)
 unfolding aligned
 aligned-append col [] here =
-    append-nil (alignment_set (alignment_at here) (Column col))
-    ∙ ap (λ n. alignment_set (alignment_at here) (Column n)) (let same : col ≡ col + 0 = omega arith in same)
+    append-nil (aligned_column here col)
+    ∙ ap (λ n. aligned_column here n) (let same : col ≡ col + 0 = omega arith in same)
 aligned-append col (side ∷ first) here =
-    ap (λ rest. alignment_set (alignment_at side) (Column col) ++ rest) (aligned-append (col + 1) first here)
-    ∙ sym (append_assoc (alignment_set (alignment_at side) (Column col)) (aligned (col + 1) first) (alignment_set (alignment_at here) (Column (col + 1 + length first))))
-    ∙ ap (λ n. (alignment_set (alignment_at side) (Column col) ++ aligned (col + 1) first) ++ alignment_set (alignment_at here) (Column n))
+    ap (λ rest. aligned_column side col ++ rest) (aligned-append (col + 1) first here)
+    ∙ sym (append_assoc (aligned_column side col) (aligned (col + 1) first) (aligned_column here (col + 1 + length first)))
+    ∙ ap (λ n. (aligned_column side col ++ aligned (col + 1) first) ++ aligned_column here n)
     (let same : col + 1 + length first ≡ col + suc (length first) = omega arith in same)
 
 pub one_column_more : (sides : List Side) (col : ℕ) (d : Side) (old between new : Colored) → col < length sides
-    → Changes (aligned 0 (take col sides)) old between → Changes (alignment_set (alignment_at (get_or sides col d)) (Column col)) between new
+    → Changes (aligned 0 (take col sides)) old between → Changes (aligned_column (get_or sides col d) col) between new
     → Changes (aligned 0 (take (col + 1) sides)) old new
 one_column_more sides col d old between new inside before last =
     let here : Side = get_or sides col d in
@@ -60,8 +60,8 @@ one_column_more sides col d old between new inside before last =
     let count : 0 + length (take col sides) ≡ col = omega (arith, length-take-le col sides (omega (arith, inside))) in
     subst (λ es. Changes es old new)
     (sym (ap (aligned 0) front ∙ aligned-append 0 (take col sides) here
-    ∙ ap (λ n. aligned 0 (take col sides) ++ alignment_set (alignment_at here) (Column n)) count))
-    (both_change (aligned 0 (take col sides)) (alignment_set (alignment_at here) (Column col)) old between new before last)
+    ∙ ap (λ n. aligned 0 (take col sides) ++ aligned_column here n) count))
+    (both_change (aligned 0 (take col sides)) (aligned_column here col) old between new before last)
 
 pub no_column : (old : Colored) (sides : List Side) → Changes (aligned 0 (take 0 sides)) old old
 unfolding aligned

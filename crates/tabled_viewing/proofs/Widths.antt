@@ -29,7 +29,7 @@ use Rattle.tabled_request.specs.declared.sides.Side.TheVariants as side
 use Rattle.tabled_viewing.specs.Captions.{caption, on_line}
 use Rattle.tabled_object.specs.declared.entity.Entity.TheVariants.{Column}
 use Rattle.tabled_formatting.specs.Formatting.{alignment_set}
-use Rattle.tabled_viewing.specs.Colors.{aligned, alignment_at, colored_if}
+use Rattle.tabled_viewing.specs.Colors.{aligned, aligned_column, colored_if}
 use Rattle.tabled_viewing.specs.View.{captioned, draws_above, draws_below}
 
 -- ---- alignments are no borders, no spans, no padding and no margin
@@ -58,14 +58,12 @@ record SameSizes (old new : TableSettings) : Type 0 where
 same_sizes : (settings : TableSettings) (col : ℕ) (sides : List Side) → SameSizes settings (settings_after settings (settings_of (aligned col sides)))
 unfolding aligned
 same_sizes settings col [] = record { margin = refl; columns = refl; rows = refl; padding = refl }
-same_sizes settings col (side.Left ∷ sides) =
-    let rest = same_sizes (settings_after settings (settings_of (alignment_set (alignment_at side.Left) (Column col)))) (col + 1) sides in
-    record { margin = rest.margin; columns = rest.columns; rows = rest.rows; padding = rest.padding }
+same_sizes settings col (side.Left ∷ sides) = same_sizes settings (col + 1) sides
 same_sizes settings col (side.Center ∷ sides) =
-    let rest = same_sizes (settings_after settings (settings_of (alignment_set (alignment_at side.Center) (Column col)))) (col + 1) sides in
+    let rest = same_sizes (settings_after settings (settings_of (aligned_column side.Center col))) (col + 1) sides in
     record { margin = rest.margin; columns = rest.columns; rows = rest.rows; padding = rest.padding }
 same_sizes settings col (side.Right ∷ sides) =
-    let rest = same_sizes (settings_after settings (settings_of (alignment_set (alignment_at side.Right) (Column col)))) (col + 1) sides in
+    let rest = same_sizes (settings_after settings (settings_of (aligned_column side.Right col))) (col + 1) sides in
     record { margin = rest.margin; columns = rest.columns; rows = rest.rows; padding = rest.padding }
 
 -- how a table looks, by the events of its borders

@@ -14,7 +14,6 @@ use Rattle.tabled_color.specs.Coloring.{entity_colored}
 use Rattle.tabled_colorization.specs.Turns.{colorization}
 use Rattle.tabled_colorization.specs.declared.pattern.Pattern.TheVariants.{Rows}
 use Rattle.tabled_formatting.specs.Formatting.{alignment_set}
-use Rattle.tabled_formatting.specs.declared.alignment.Alignment.{Alignment}
 use Rattle.tabled_formatting.specs.declared.alignment.Alignment.TheVariants.{Horizontal}
 use Rattle.tabled_printing.specs.Texts.{Table}
 use Rattle.tabled_text.specs.Sizes.{column_count}
@@ -24,16 +23,16 @@ use Rattle.tabled_request.specs.declared.request.FrameColor.TheVariants as color
 use Rattle.tabled_request.specs.declared.sides.Side.{Side}
 use Rattle.tabled_request.specs.declared.sides.Side.TheVariants as side
 
--- the alignment that puts a cell at a side
-abbrev pub alignment_at : Side → Alignment
-alignment_at side.Left = Horizontal horizontal.Left
-alignment_at side.Center = Horizontal horizontal.Center
-alignment_at side.Right = Horizontal horizontal.Right
+-- the cells of a column put at a side: at the left they stand where nothing is set
+abbrev pub aligned_column : Side → ℕ → List ConfigEvent
+aligned_column side.Left col = []
+aligned_column side.Center col = alignment_set (Horizontal horizontal.Center) (Column col)
+aligned_column side.Right col = alignment_set (Horizontal horizontal.Right) (Column col)
 
 -- the cells of columns put at their sides, from the column of that number on
 unfoldable pub aligned : ℕ → List Side → List ConfigEvent
 aligned col [] = []
-aligned col (here ∷ more) = alignment_set (alignment_at here) (Column col) ++ aligned (col + 1) more
+aligned col (here ∷ more) = aligned_column here col ++ aligned (col + 1) more
 
 -- the code of a terminal for characters of a color
 abbrev pub code_of : FrameColor → List ℕ

@@ -1,13 +1,11 @@
 //! Where cells stand, and the colors of a table.
 
 ghost use Rattle.std.specs.Prelude.{◌≡◌, ◌++◌, [], ◌∷◌, List, if◌then◌else◌, IfOk, OnOk};
-ghost use Rattle.tabled_object.specs.declared.entity.Entity.TheVariants as cells;
 ghost use Rattle.tabled_configuration.specs.Colored.{Changes, Shows};
 ghost use Rattle.tabled_configuration.specs.Configuration.{ConfigEvent};
 ghost use Rattle.tabled_color.specs.BorderColors.{full_border};
 ghost use Rattle.tabled_colorization.specs.declared.pattern.Pattern.TheVariants as pattern;
-ghost use Rattle.tabled_formatting.specs.Formatting.{alignment_set};
-ghost use Rattle.tabled_viewing.specs.Colors.{aligned, alignment_at, bold, colored, colored_if, emboldened, frame_colored, gray, plain, shade_of, striped};
+ghost use Rattle.tabled_viewing.specs.Colors.{aligned, bold, colored, colored_if, aligned_column, emboldened, frame_colored, gray, plain, shade_of, striped};
 
 use std::alloc::Global;
 use tabled_border::OutOfMemory;
@@ -18,23 +16,16 @@ use tabled_object::{Columns, Rows, Segment};
 use tabled_request::{FrameColor, Request, Side};
 use tabled_text::TextTable;
 
-/// The alignment that puts a cell at a side.
-fn alignment_at(side: Side) -> Alignment
-    ensures { result ≡ alignment_at side }
-{
-    match side {
-        Side::Left => Alignment::left(),
-        Side::Center => Alignment::center(),
-        Side::Right => Alignment::right(),
-    }
-}
-
-/// Puts the cells of a column at a side.
+/// Puts the cells of a column at a side; at the left they stand where nothing is set.
 fn align_column(table: &mut TextTable, col: usize, side: Side) -> Result<(), OutOfMemory>
-    ensures config { OnOk result (Changes (alignment_set (alignment_at side) (cells.Column col)) table.old.config table.new.config) }
+    ensures config { OnOk result (Changes (aligned_column side col) table.old.config table.new.config) }
     ensures texts { table.new.texts ≡ table.old.texts }
 {
-    table.apply_to(&Columns::one(col), &alignment_at(side))
+    match side {
+        Side::Left => Ok(()),
+        Side::Center => table.apply_to(&Columns::one(col), &Alignment::center()),
+        Side::Right => table.apply_to(&Columns::one(col), &Alignment::right()),
+    }
 }
 
 /// Puts the cells of each column where they stand.
