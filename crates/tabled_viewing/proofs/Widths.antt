@@ -27,8 +27,6 @@ use Rattle.tabled_request.specs.declared.request.Request.{Request}
 use Rattle.tabled_request.specs.declared.sides.Side.{Side}
 use Rattle.tabled_request.specs.declared.sides.Side.TheVariants as side
 use Rattle.tabled_viewing.specs.Captions.{caption, on_line}
-use Rattle.tabled_object.specs.declared.entity.Entity.TheVariants.{Column}
-use Rattle.tabled_formatting.specs.Formatting.{alignment_set}
 use Rattle.tabled_viewing.specs.Colors.{aligned, aligned_column, colored_if}
 use Rattle.tabled_viewing.specs.View.{captioned, draws_above, draws_below}
 

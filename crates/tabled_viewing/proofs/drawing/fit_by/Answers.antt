@@ -1,5 +1,5 @@
 -- Printable texts can be kept within any share.
-use Rattle.std.proofs.Common.{◌==◌, ◌-◌, ◌≤◌, Bool, if◌then◌else◌, subst}
+use Rattle.std.proofs.Common.{◌-◌, ◌≤◌, Bool, if◌then◌else◌, subst}
 use Rattle.std.specs.Cmp.{first_so}
 use Rattle.tabled_grid.proofs.Seen.{on_ok}
 use Rattle.tabled_painting.specs.Widths.{text_width}
