@@ -36,7 +36,7 @@ use Rattle.tabled_printing.specs.LinePieces.{pieces_of, piece_size, crossing_of,
 use Rattle.tabled_printing.specs.Marks.{mark_of}
 use Rattle.tabled_printing.specs.Picture.{Look, Shown, look, mark_at}
 use Rattle.tabled_printing.specs.Beside.{plain_mark, plain_side, mark_beside, mark_if_drawn}
-use Rattle.tabled_printing.specs.Sides.{side_at, index_of, AreSides}
+use Rattle.tabled_printing.specs.Sides.{side_at, AreSides}
 use Rattle.tabled_printing.specs.Viewed.{with_colors_if}
 use Rattle.tabled_printing.proofs.LineLemmas.{piece_marks}
 use Rattle.tabled_printing.proofs.LookLemmas.{own_plain, own_plain_color_if, own_crossing, own_crossing_color_if}
@@ -242,35 +242,30 @@ side_more g xs ys x n m same pushed made is =
     ∙ (λ i. (made ∙ ap (λ k. map g (below k)) same) i ++ is i ∷ []) ∙ sym (map-range_with_len_more g 0 n n (omega arith))
 
 -- one by one
-pub listed_sides : (cfg : Configuration) (wanted : Bool) (shape : ℕ × ℕ) (marks : List (Option Mark)) (by_rank : Bool) (end c : ℕ) → by_rank ≡ false
-    → map (option_map mark_of) marks ≡ map (plain_side cfg wanted shape) (below (shape.1 + 1)) → c ≤ shape.1 → option_map mark_of (get_or marks (index_of by_rank end c) None) ≡ plain_side cfg wanted shape c
-listed_sides cfg wanted shape marks by_rank end c listed are within =
-    ap (λ b. option_map mark_of (get_or marks (index_of b end c) None)) listed
-    ∙ read_mapped mark_of marks c
+pub listed_sides : (cfg : Configuration) (wanted : Bool) (shape : ℕ × ℕ) (marks : List (Option Mark)) (c : ℕ)
+    → map (option_map mark_of) marks ≡ map (plain_side cfg wanted shape) (below (shape.1 + 1)) → c ≤ shape.1 → option_map mark_of (get_or marks c None) ≡ plain_side cfg wanted shape c
+listed_sides cfg wanted shape marks c are within =
+    read_mapped mark_of marks c
     ∙ ap (λ xs. get_or xs c None) are ∙ get_or-map-range_with_len (plain_side cfg wanted shape) 0 (shape.1 + 1) c c None (omega (arith, within)) (omega arith)
 
 -- or by rank
-pub ranked_sides : (cfg : Configuration) (wanted : Bool) (shape : ℕ × ℕ) (marks : List (Option Mark)) (by_rank : Bool) (c : ℕ) → by_rank ≡ true → NoneForPlaces cfg wanted Vertical → NoneForLines cfg wanted Vertical
-    → map (option_map mark_of) marks ≡ plain_side cfg wanted shape 0 ∷ plain_side cfg wanted shape 1 ∷ plain_side cfg wanted shape shape.1 ∷ [] → c ≤ shape.1
-    → option_map mark_of (get_or marks (index_of by_rank shape.1 c) None) ≡ plain_side cfg wanted shape c
-ranked_sides cfg wanted shape marks by_rank c ranked places lines are within =
-    ap (λ b. option_map mark_of (get_or marks (index_of b shape.1 c) None)) ranked
-    ∙ read_mapped mark_of marks (index_of true shape.1 c)
-    ∙ ap (λ xs. get_or xs (index_of true shape.1 c) None) are
-    ∙ by_number (c == 0) (c == shape.1) refl refl
+pub ranked_sides : (cfg : Configuration) (wanted : Bool) (shape : ℕ × ℕ) (one two end : Option Mark) (c : ℕ) → NoneForPlaces cfg wanted Vertical → NoneForLines cfg wanted Vertical
+    → option_map mark_of one ≡ plain_side cfg wanted shape 0 → option_map mark_of two ≡ plain_side cfg wanted shape 1 → option_map mark_of end ≡ plain_side cfg wanted shape shape.1 → c ≤ shape.1
+    → option_map mark_of (if c == 0 then one else if c == shape.1 then end else two) ≡ plain_side cfg wanted shape c
+ranked_sides cfg wanted shape one two end c places lines is_first is_inner is_end within = by_number (c == 0) (c == shape.1) refl refl
   where
     by_number : (at_first at_last : Bool) → (c == 0) ≡ at_first → (c == shape.1) ≡ at_last
-        → get_or (plain_side cfg wanted shape 0 ∷ plain_side cfg wanted shape 1 ∷ plain_side cfg wanted shape shape.1 ∷ []) (if at_first then 0 else if at_last then 2 else 1) None ≡ plain_side cfg wanted shape c
+        → option_map mark_of (if at_first then one else if at_last then end else two) ≡ plain_side cfg wanted shape c
     by_number true at_last is_zero ends =
         let same : c ≡ 0 = grind (arith, nat_tests) in
-        ap (plain_side cfg wanted shape) (sym same)
+        is_first ∙ ap (plain_side cfg wanted shape) (sym same)
     by_number false true is_zero ends =
         let same : c ≡ shape.1 = grind (arith, nat_tests) in
-        ap (plain_side cfg wanted shape) (sym same)
+        is_end ∙ ap (plain_side cfg wanted shape) (sym same)
     by_number false false is_zero ends =
         let some : 0 < c = grind (arith, nat_tests) in
         let less : c < shape.1 = grind (arith, nat_tests) in
-        side_as_second cfg wanted shape places lines c some less
+        is_inner ∙ side_as_second cfg wanted shape places lines c some less
 
 -- a line is drawn where it has a mark
 there : {A B : Type 0} (f : A → B) (found : Option A) → is_some (option_map f found) ≡ is_some found

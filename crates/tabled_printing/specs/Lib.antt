@@ -7,6 +7,7 @@ pub mod Marks
 pub mod Alike
 pub mod Sinks
 pub mod Beside
+pub mod SideMarks
 pub mod Sides
 pub mod Viewed
 pub mod TextOrder

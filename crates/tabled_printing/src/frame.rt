@@ -18,7 +18,6 @@ ghost use Rattle.tabled_printing.specs.Sinks.{Put};
 
 use crate::alike::{has_none_for_lines, has_none_for_places};
 use crate::mark::{mark_seen, plain_mark};
-use crate::print::printed_as;
 use crate::sink::Sink;
 use crate::walk::Walk;
 use crate::{Mark, Run, Sides};
@@ -260,25 +259,9 @@ impl<'a, 'b, D: Dimension> Frame<'a, 'b, D> {
         walk.put_all(sink, probes)
     }
 
-    /// How many bytes the characters of the vertical lines take beside one line of text, at least or nearly so. It saturates.
+    /// How many bytes the characters of the vertical lines take beside one line of text of the first row. It saturates.
     pub fn side_bytes(&self) -> usize {
-        let (_, cols) = self.shape;
-        let mut bytes = self.bytes_at(cols);
-        for col in 0..cols {
-            bytes = bytes.saturating_add(self.bytes_at(col));
-        }
-        bytes
-    }
-
-    /// How many bytes the character of one of them takes.
-    fn bytes_at(&self, col: usize) -> usize
-        requires { col ≤ self.now.shape.1 }
-    {
-        match self.sides.at(col) {
-            Some(mark) if self.has_alike_sides => printed_as(mark.shown).len_utf8(),
-            Some(_) => 1,
-            None => 0,
-        }
+        self.sides.bytes()
     }
 
     /// How many columns the table is long with its lines. Refused where no number says it.

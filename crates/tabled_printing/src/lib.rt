@@ -28,5 +28,5 @@ pub use print::{join_lines, print_plain};
 pub use print_error::PrintError;
 pub use repeat::{push_spaces_before, push_times};
 pub use seen::{Seen, character_seen, color_seen, headline, line_seen};
-pub use sides::Sides;
+pub use sides::{SideMarks, Sides};
 pub use sink::Sink;

@@ -6,28 +6,37 @@ ghost use Rattle.tabled_object.specs.Entities.{below};
 ghost use Rattle.tabled_printing.specs.Alike.{NoneForPlaces, NoneForLines};
 ghost use Rattle.tabled_printing.specs.Marks.{mark_of};
 ghost use Rattle.tabled_printing.specs.Beside.{plain_side};
+ghost use Rattle.tabled_printing.specs.SideMarks.{mark_count};
 
 use crate::Mark;
 use crate::mark::plain_mark;
+use crate::print::printed_as;
 use tabled_border::OutOfMemory;
 use tabled_configuration::SpannedConfig;
 use tabled_grid::{LineOf, Place};
 use tabled_kept::Probes;
 
-/// What vertical lines show beside rows: a mark for each line that is drawn, and none for one that is not.
+/// The marks of vertical lines beside rows: for each line that is drawn one, and none for one that is not.
+#[derive(Debug, Drop)]
+pub enum SideMarks<'a> {
+    /// That of the first line, that of those between, which look alike, and that of the last one.
+    ByRank(Option<Mark<'a>>, Option<Mark<'a>>, Option<Mark<'a>>),
+    /// That of each line.
+    Each(Vec<Option<Mark<'a>>>),
+}
+
+/// What vertical lines show beside rows.
 #[derive(Debug, Drop)]
 pub struct Sides<'a> {
-    /// That of each line; or of the first one, of those between, and of the last one.
-    pub marks: Vec<Option<Mark<'a>>>,
-    /// Whether those between the first and the last one look alike, and have one mark.
-    pub by_rank: bool,
+    /// Their marks.
+    pub marks: SideMarks<'a>,
     /// The number of the last line.
     pub last: usize,
-    ghost counted: { length marks.items ≡ (if by_rank then 3 else last + 1) },
+    ghost counted: { mark_count (last + 1) marks ≡ last + 1 },
 }
 
 impl<'a> Sides<'a> {
-    ghost use Rattle.tabled_printing.specs.Sides.{AreSides, side_at, index_of};
+    ghost use Rattle.tabled_printing.specs.Sides.{AreSides, side_at};
 
     /// What is kept for each line without its offsets, beside the first row of a table.
     pub(crate) fn of(
@@ -43,38 +52,17 @@ impl<'a> Sides<'a> {
     {
         let (_, last) = shape;
         if by_rank {
-            let marks = first_inner_last(cfg, shape, with_colors)?;
-            return Ok(Sides {
-                marks,
-                by_rank,
-                last,
-            });
+            let first = side(cfg, shape, 0, with_colors);
+            let inner = side(cfg, shape, 1, with_colors);
+            let end = side(cfg, shape, last, with_colors);
+            let marks = SideMarks::ByRank(first, inner, end);
+            return Ok(Sides { marks, last });
         }
         let marks = one_by_one(cfg, shape, with_colors)?;
         Ok(Sides {
-            marks,
-            by_rank,
+            marks: SideMarks::Each(marks),
             last,
         })
-    }
-
-    /// Where the mark of a line stands.
-    #[inline(always)]
-    fn index(&self, col: usize) -> usize
-        requires { col ≤ self.now.last }
-        ensures value { result ≡ index_of self.now.by_rank self.now.last col }
-        ensures within { result < length self.now.marks.items }
-    {
-        if !self.by_rank {
-            return col;
-        }
-        if col == 0 {
-            0
-        } else if col == self.last {
-            2
-        } else {
-            1
-        }
     }
 
     /// The mark of a line, if it is drawn.
@@ -83,8 +71,43 @@ impl<'a> Sides<'a> {
         requires { col ≤ self.now.last }
         ensures { result ≡ side_at self.now col }
     {
-        self.marks[self.index(col)]
+        match &self.marks {
+            SideMarks::Each(marks) => marks[col],
+            SideMarks::ByRank(first, _, _) if col == 0 => *first,
+            SideMarks::ByRank(_, _, last) if col == self.last => *last,
+            SideMarks::ByRank(_, inner, _) => *inner,
+        }
     }
+
+    /// How many bytes the characters of all lines take beside one line of text. It saturates.
+    pub(crate) fn bytes(&self) -> usize {
+        match &self.marks {
+            SideMarks::ByRank(first, inner, last) => {
+                let between = bytes_of(inner).saturating_mul(self.last.saturating_sub(1));
+                bytes_of(first)
+                    .saturating_add(between)
+                    .saturating_add(bytes_of(last))
+            }
+            SideMarks::Each(marks) => bytes_of_each(marks),
+        }
+    }
+}
+
+/// How many bytes the character of a line takes.
+fn bytes_of(mark: &Option<Mark>) -> usize {
+    match mark {
+        Some(mark) => printed_as(mark.shown).len_utf8(),
+        None => 0,
+    }
+}
+
+/// How many bytes the characters of lines take. It saturates.
+fn bytes_of_each(marks: &[Option<Mark>]) -> usize {
+    let mut bytes = 0usize;
+    for mark in marks {
+        bytes = bytes.saturating_add(bytes_of(mark));
+    }
+    bytes
 }
 
 /// What is kept for a line beside the first row, if it is drawn.
@@ -102,22 +125,6 @@ fn side<'a>(
     }
     let place = Place::Vertical { row: 0, col, at: 0 };
     Some(plain_mark(cfg, shape, place, with_colors, probes))
-}
-
-/// The marks of the first line, of the one after it, and of the last one.
-fn first_inner_last<'a>(
-    cfg: &'a SpannedConfig,
-    shape: (usize, usize),
-    with_colors: bool,
-) -> Result<Vec<Option<Mark<'a>>>, OutOfMemory>
-    ensures { IfOk result (λ marks. map (option_map mark_of) marks.items
-        ≡ plain_side cfg.now with_colors shape 0 ∷ plain_side cfg.now with_colors shape 1 ∷ plain_side cfg.now with_colors shape shape.1 ∷ []) }
-{
-    let mut marks = Vec::with_capacity(cfg.allocator(), 3)?;
-    marks.push(side(cfg, shape, 0, with_colors))?;
-    marks.push(side(cfg, shape, 1, with_colors))?;
-    marks.push(side(cfg, shape, shape.1, with_colors))?;
-    Ok(marks)
 }
 
 /// The marks of all lines.

@@ -235,8 +235,7 @@ module _ {T : Type 0} where
       ∙ (λ i. none_filtered (same_entity Global) (λ other. not (same_entity event.0 other.0)) since has i || (each.0 i || false))) each.1
 
   -- a list of which none is one of all cells was put in a row
-  pub put_in_a_row : (live : Live T) (since events shown : List (EntityEvent T)) (tested : Bool) → has_event Global live.since ≡ false → since ≡ put_each live.since events → tested ≡ has_event Global shown → shown ≡ events → tested ≡ false
+  pub put_in_a_row : (live : Live T) (since events : List (EntityEvent T)) → has_event Global live.since ≡ false → since ≡ put_each live.since events → has_event Global events ≡ false
       → (has_event Global since ≡ false) × (record live { since = since } ≡ after_all live events)
-  put_in_a_row live since events shown tested has put test lent none =
-      let no : has_event Global events ≡ false = sym (test ∙ ap (has_event Global) lent) ∙ none in
-      (ap (has_event Global) put ∙ none_global live.since events has no, (λ i. record live { since = put i }) ∙ sym (after_all-put_each live events no))
+  put_in_a_row live since events has put none =
+      (ap (has_event Global) put ∙ none_global live.since events has none, (λ i. record live { since = put i }) ∙ sym (after_all-put_each live events none))

@@ -84,12 +84,11 @@ impl CellSettings {
         ensures trim_horizontal { IfOk result (λ copies. copies.2 ≡ self.now.trim_horizontal) }
         ensures trim_vertical { IfOk result (λ copies. copies.3 ≡ self.now.trim_vertical) }
     {
-        Ok((
-            self.alignment_horizontal.keep(alloc)?,
-            self.alignment_vertical.keep(alloc)?,
-            self.trim_horizontal.keep(alloc)?,
-            self.trim_vertical.keep(alloc)?,
-        ))
+        let (horizontal, vertical) =
+            kept_both(alloc, &self.alignment_horizontal, &self.alignment_vertical)?;
+        let (trim_horizontal, trim_vertical) =
+            kept_both(alloc, &self.trim_horizontal, &self.trim_vertical)?;
+        Ok((horizontal, vertical, trim_horizontal, trim_vertical))
     }
 
     /// Copies of how lines are aligned, of what fills a cell, and of the colors.
@@ -100,14 +99,25 @@ impl CellSettings {
         ensures padding { IfOk result (λ copies. copies.3 ≡ self.now.padding) }
         ensures padding_color { IfOk result (λ copies. copies.4 ≡ self.now.padding_color) }
     {
-        Ok((
-            self.line_alignment.keep(alloc)?,
-            self.justification.keep(alloc)?,
-            self.justification_color.keep(alloc)?,
-            self.padding.keep(alloc)?,
-            self.padding_color.keep(alloc)?,
-        ))
+        let (lines, fill) = kept_both(alloc, &self.line_alignment, &self.justification)?;
+        let (fill_color, padding) = kept_both(alloc, &self.justification_color, &self.padding)?;
+        let padding_color = self.padding_color.keep(alloc)?;
+        Ok((lines, fill, fill_color, padding, padding_color))
     }
+}
+
+/// Copies of two maps.
+fn kept_both<T: Keep, U: Keep>(
+    alloc: Global,
+    map: &EntityMap<T>,
+    other: &EntityMap<U>,
+) -> Result<(EntityMap<T>, EntityMap<U>), OutOfMemory>
+    ensures map { IfOk result (λ copies. copies.0 ≡ map.now) }
+    ensures other { IfOk result (λ copies. copies.1 ≡ other.now) }
+{
+    let copy = map.keep(alloc)?;
+    let other_copy = other.keep(alloc)?;
+    Ok((copy, other_copy))
 }
 
 impl Keep for CellSettings {

@@ -1,6 +1,6 @@
 //! Lists of writes and removals, in three maps.
 
-ghost use Rattle.std.specs.Prelude.{◌≡◌, IfOk, OnOk, OnErr};
+ghost use Rattle.std.specs.Prelude.{◌≡◌, false, IsTrue, IfOk, OnOk, OnErr};
 ghost use Rattle.tabled_object.specs.declared.entity.Entity.TheVariants.{Global as AllCells};
 ghost use Rattle.tabled_settings.specs.Live.{after, after_all, has_event};
 
@@ -34,23 +34,45 @@ impl<T> EntityMap<T> {
         ensures second_err { OnErr result (second.new ≡ second.old) }
         ensures third_err { OnErr result (third.new ≡ third.old) }
     {
-        if any_of_all(&events) || any_of_all(&second_events) || any_of_all(&third_events) {
-            let first = self.changed(alloc, events)?;
-            let other = second.changed(alloc, second_events)?;
-            let last = third.changed(alloc, third_events)?;
-            drop(mem::replace(self, first));
-            drop(mem::replace(second, other));
-            drop(mem::replace(third, last));
-            return Ok(());
+        if none_of_all(&events, &second_events, &third_events) {
+            return self.put_three(alloc, events, second, second_events, third, third_events);
         }
-        self.since.put_three_lists(
-            alloc,
-            events,
-            &mut second.since,
-            second_events,
-            &mut third.since,
-            third_events,
-        )?;
+        let first = self.changed(alloc, events)?;
+        let (other, last) =
+            changed_both(alloc, second, second_events, third, third_events)?;
+        drop(mem::replace(self, first));
+        drop(mem::replace(second, other));
+        drop(mem::replace(third, last));
+        Ok(())
+    }
+
+    /// The same, where no event is one of all cells.
+    fn put_three<U, V>(
+        &mut self,
+        alloc: Global,
+        events: Vec<(Entity, Option<T>)>,
+        second: &mut EntityMap<U>,
+        second_events: Vec<(Entity, Option<U>)>,
+        third: &mut EntityMap<V>,
+        third_events: Vec<(Entity, Option<V>)>,
+    ) -> Result<(), OutOfMemory>
+    where
+        T: Drop,
+        U: Drop,
+        V: Drop,
+        requires first { has_event AllCells events.items ≡ false }
+        requires second { has_event AllCells second_events.items ≡ false }
+        requires third { has_event AllCells third_events.items ≡ false }
+        ensures ok { OnOk result (self.new ≡ after_all self.old events.items) }
+        ensures second_ok { OnOk result (second.new ≡ after_all second.old second_events.items) }
+        ensures third_ok { OnOk result (third.new ≡ after_all third.old third_events.items) }
+        ensures err { OnErr result (self.new ≡ self.old) }
+        ensures second_err { OnErr result (second.new ≡ second.old) }
+        ensures third_err { OnErr result (third.new ≡ third.old) }
+    {
+        let (seconds, thirds) = (&mut second.since, &mut third.since);
+        let firsts = &mut self.since;
+        firsts.put_three_lists(alloc, events, seconds, second_events, thirds, third_events)?;
         Ok(())
     }
 
@@ -79,6 +101,38 @@ impl<T> EntityMap<T> {
             None => self.remove(entity),
         }
     }
+}
+
+/// Copies of two maps, in each of which the writes and removals of a list are made.
+fn changed_both<T, U>(
+    alloc: Global,
+    map: &EntityMap<T>,
+    events: Vec<(Entity, Option<T>)>,
+    other: &EntityMap<U>,
+    other_events: Vec<(Entity, Option<U>)>,
+) -> Result<(EntityMap<T>, EntityMap<U>), OutOfMemory>
+where
+    T: Keep + Drop,
+    U: Keep + Drop,
+    ensures map { IfOk result (λ copies. copies.0 ≡ after_all map.now events.items) }
+    ensures other { IfOk result (λ copies. copies.1 ≡ after_all other.now other_events.items) }
+{
+    let copy = map.changed(alloc, events)?;
+    let other_copy = other.changed(alloc, other_events)?;
+    Ok((copy, other_copy))
+}
+
+/// Whether no event of three lists is one of all cells.
+fn none_of_all<T, U, V>(
+    events: &[(Entity, Option<T>)],
+    second_events: &[(Entity, Option<U>)],
+    third_events: &[(Entity, Option<V>)],
+) -> bool
+    ensures first { IsTrue result → has_event AllCells events.now ≡ false }
+    ensures second { IsTrue result → has_event AllCells second_events.now ≡ false }
+    ensures third { IsTrue result → has_event AllCells third_events.now ≡ false }
+{
+    !any_of_all(events) && !any_of_all(second_events) && !any_of_all(third_events)
 }
 
 /// Whether an event is one of all cells.

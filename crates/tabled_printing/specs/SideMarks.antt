@@ -1,0 +1,15 @@
+-- The marks of vertical lines, one by one or by rank.
+use Rattle.std.specs.Prelude.{ℕ, ◌==◌, if◌then◌else◌, Option, None, length, slice_index_or}
+use Rattle.tabled_printing.specs.declared.mark.Mark.{Mark}
+use Rattle.tabled_printing.specs.declared.sides.SideMarks.{SideMarks}
+use Rattle.tabled_printing.specs.declared.sides.SideMarks.TheVariants.{ByRank, Each}
+
+-- of lines 0 to `last` line c has its own mark, or that of the first one, of those between, or of the last one
+abbrev pub mark_kept : ℕ → SideMarks → ℕ → Option Mark
+mark_kept last (ByRank first inner end) c = if c == 0 then first else if c == last then end else inner
+mark_kept last (Each marks) c = slice_index_or marks.items c None
+
+-- how many there are of that many lines, counted where each line has its own
+abbrev pub mark_count : ℕ → SideMarks → ℕ
+mark_count lines (ByRank first inner end) = lines
+mark_count lines (Each marks) = length marks.items
