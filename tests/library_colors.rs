@@ -1,4 +1,4 @@
-//! The sample of colors and settings of docs/LIBRARY.md, call for call.
+//! Colors and settings, which are read as they were written.
 
 use std::alloc::Global;
 use std::test::Fail;
@@ -25,7 +25,7 @@ fn sample(alloc: Global) -> Result<ColoredConfig, OutOfMemory> {
     Ok(cfg)
 }
 
-/// What a place shows in the drawing of docs/LIBRARY.md: `r` for red, a dot for no color.
+/// What a place shows: `r` for red, a dot for no color.
 fn drawn(cfg: &ColoredConfig, place: Place) -> char {
     match cfg.config().color_at(place, (1, 2), 3, &mut Probes::new()) {
         Some(color) => {
