@@ -29,12 +29,7 @@ fn cut(line: &str, separator: u8) -> Option<(&str, &str)>
 }
 
 /// The cells of a line, which is cut at a character of ASCII, copied. Room is made for the given number at first.
-fn pieces(
-    alloc: Global,
-    line: &str,
-    separator: u8,
-    room: usize,
-) -> Result<Vec<String>, AllocError>
+fn pieces(alloc: Global, line: &str, separator: u8, room: usize) -> Result<Vec<String>, AllocError>
     requires { separator < 128 }
     ensures { IfOk result (λ cells. map string_bytes cells.items ≡ slice_split (λ b. b == separator) line.now) }
 {
