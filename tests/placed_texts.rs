@@ -40,6 +40,56 @@ fn the_middle_leaves_more_behind(rt: HostRuntime) -> Result<(), Fail> {
     Ok(())
 }
 
+/// Three columns, of which the second stands in the middle and the third at the right.
+fn by_columns(alloc: Global) -> Result<TextTable, TableError> {
+    let rows: &[&[&str]] = &[
+        &["name", "kinds", "grams"],
+        &["tea", "leaf", "95"],
+        &["café", "a\nbc", "7"],
+    ];
+    let mut table = TextTable::new(alloc, rows)?;
+    table.with(Style::ascii())?;
+    table.modify(Columns::one(1), Alignment::center())?;
+    table.modify(Columns::one(2), Alignment::right())?;
+    Ok(table)
+}
+
+#[test]
+fn columns_stand_where_they_are_told_to(rt: HostRuntime) -> Result<(), Fail> {
+    let table = by_columns(rt.alloc())?;
+    let picture = "
++------+-------+-------+
+| name | kinds | grams |
++------+-------+-------+
+| tea  | leaf  |    95 |
++------+-------+-------+
+| café |  a    |     7 |
+|      |  bc   |       |
++------+-------+-------+
+";
+    assert!(rt; is_picture(table.to_text()?.as_str(), picture));
+    Ok(())
+}
+
+#[test]
+fn a_row_stands_elsewhere_than_its_columns(rt: HostRuntime) -> Result<(), Fail> {
+    let mut table = by_columns(rt.alloc())?;
+    table.modify(Rows::one(1), Alignment::left())?;
+    table.modify(Columns::one(0), Alignment::right())?;
+    let picture = "
++------+-------+-------+
+| name | kinds | grams |
++------+-------+-------+
+|  tea | leaf  | 95    |
++------+-------+-------+
+| café |  a    |     7 |
+|      |  bc   |       |
++------+-------+-------+
+";
+    assert!(rt; is_picture(table.to_text()?.as_str(), picture));
+    Ok(())
+}
+
 #[test]
 fn the_lower_right_is_filled_from_the_other_side(rt: HostRuntime) -> Result<(), Fail> {
     let mut table = uneven(rt.alloc())?;

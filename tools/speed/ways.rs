@@ -43,7 +43,7 @@ fn go(table: &mut TextTable, way: &str) -> Result<(), TableError> {
         table.modify(Cell::new(0, 0), LineChar::vertical('│', Offset::Start(0)))?;
     }
     if way == "cells set" {
-        table.modify(Segment::all(), Alignment::center())?;
+        table.modify(Segment::all(), Alignment::bottom())?;
     }
     Ok(())
 }

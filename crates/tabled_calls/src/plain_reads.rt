@@ -99,11 +99,11 @@ pub fn has_lines<M: Meter>(cfg: &SpannedConfig<M>, line: LineOf, probes: &mut M)
     )
 }
 
-/// Whether nothing is set for some cells alone.
-pub fn has_alike_cells(cfg: &SpannedConfig) -> bool
+/// Whether nothing is set for some cells alone, but where the texts of columns stand between left and right.
+pub fn has_alike_rows(cfg: &SpannedConfig) -> bool
     ensures { IsTrue result ↔ AreAlike cfg.now.settings.cells }
 {
-    cfg.has_alike_cells()
+    cfg.has_alike_rows()
 }
 
 /// Whether a custom horizontal line of characters, or one of colors, stands at an index.

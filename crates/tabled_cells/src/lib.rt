@@ -8,5 +8,5 @@ mod placement;
 mod trim;
 
 pub use filling::{LineParts, aligned, line_parts, widest};
-pub use placement::{Placement, fill_shown, lines_above};
+pub use placement::{Placement, fill_shown, free_before, lines_above};
 pub use trim::show_lines;

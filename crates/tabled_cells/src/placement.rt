@@ -48,8 +48,9 @@ impl Placement {
 }
 
 /// How much of what is free in a line stands before the text.
-pub(crate) fn free_before(alignment: AlignmentHorizontal, free: usize) -> usize
-    ensures { result ≡ parts.free_before alignment free }
+pub fn free_before(alignment: AlignmentHorizontal, free: usize) -> usize
+    ensures value { result ≡ parts.free_before alignment free }
+    ensures within { result ≤ free }
 {
     match alignment {
         AlignmentHorizontal::Left => 0,

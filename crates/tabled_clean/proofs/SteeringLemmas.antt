@@ -1,12 +1,14 @@
 -- Characters that steer, and texts without them.
-use Rattle.std.proofs.Common.{◌≡◌, ◌==◌, ℕ, ◌+◌, ◌<◌, ◌≤◌, Bool, true, false, not, ◌&&◌, ◌||◌, nat_lt, nat_le, if◌then◌else◌, cond, ◌/◌, ◌%◌, List, [], ◌∷◌, ◌++◌, chars, encode_utf8, encode_utf8_all, lit≤, append_assoc, append-nil, refl, sym, ap, ◌∙◌, arith}
+use Rattle.std.proofs.Common.{◌≡◌, ◌==◌, ℕ, ◌+◌, ◌<◌, ◌≤◌, Bool, true, false, not, ◌&&◌, ◌||◌, nat_lt, nat_le, if◌then◌else◌, cond, ◌/◌, ◌%◌, List, [], ◌∷◌, ◌++◌, get_or, chars, encode_utf8, encode_utf8_all, lit≤, append_assoc, append-nil, refl, sym, ap, ◌∙◌, arith}
 use Rattle.std.specs.List.{list_all}
 use Rattle.std.specs.Str.{IsUtf8}
-use Rattle.std.proofs.lemmas.Str.{chars-encodes, chars-nil, scalars-chars, encodes-chars}
+use Rattle.std.proofs.lemmas.Str.{chars-IsAscii, chars-encodes, chars-nil, scalars-chars, encodes-chars}
 use Rattle.std.proofs.lemmas.List.Folds.{list_all-append}
+use Rattle.std.proofs.lemmas.List.Sums.{AllPass-from_list_all}
+use Rattle.std.proofs.lemmas.Str.Ascii.{IsAscii-from_all}
 use lib.Utf8.{scalar, scalars, low_scalar, encode}
 use Rattle.std.proofs.lemmas.Bool.Decides.{nat_tests}
-use Rattle.tabled_clean.specs.Steering.{steers, picture, shown_for, begins_with_line_feed, without_steering, cleaned, is_clean, going_on}
+use Rattle.tabled_clean.specs.Steering.{steers, picture, shown_for, begins_with_line_feed, without_steering, cleaned, is_clean, is_printable, going_on}
 
 -- characters above all that steer
 pub above : (c : ℕ) → 0x2400 ≤ c → steers c ≡ false
@@ -163,6 +165,25 @@ empty_is_clean = ap (list_all (λ c. not (steers c))) chars-nil
 pub clean_stays : (text : List ℕ) → IsUtf8 text → is_clean text ≡ true → cleaned text ≡ text
 unfolding cleaned
 clean_stays text u e = ap encode_utf8_all (stays (chars text) e) ∙ encodes-chars text u
+
+quiet_byte : (byte : ℕ) → is_printable byte ≡ true → not (steers byte) ≡ true
+unfolding steers
+quiet_byte byte e = grind (arith, nat_tests)
+
+below_128 : (byte : ℕ) → is_printable byte ≡ true → byte < 128
+below_128 byte e = grind (arith, nat_tests)
+
+all_quiet : (text : List ℕ) → list_all is_printable text ≡ true → list_all (λ byte. not (steers byte)) text ≡ true
+all_quiet [] e = refl
+all_quiet (byte ∷ text) e =
+    let rest = all_quiet text (rest_of (is_printable byte) (list_all is_printable text) e) in
+    both_true (not (steers byte)) _ (quiet_byte byte (first_of (is_printable byte) (list_all is_printable text) e)) rest
+
+-- a text of printable ASCII is clean
+pub printable_is_clean : (text : List ℕ) → list_all is_printable text ≡ true → is_clean text ≡ true
+printable_is_clean text e =
+    let pass = AllPass-from_list_all is_printable text e in
+    ap (list_all (λ c. not (steers c))) (chars-IsAscii text (IsAscii-from_all text (λ k d within. below_128 (get_or text k d) (pass k d within)))) ∙ all_quiet text e
 
 pub clean_twice : (text : List ℕ) → IsUtf8 text → cleaned (cleaned text) ≡ cleaned text
 unfolding cleaned

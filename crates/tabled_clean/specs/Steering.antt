@@ -44,6 +44,10 @@ without_steering (c ∷ more) =
 unfoldable pub cleaned : List ℕ → List ℕ
 cleaned text = encode_utf8_all (without_steering (chars text))
 
+-- whether a byte is a printable character of ASCII
+abbrev pub is_printable : ℕ → Bool
+is_printable byte = is_between 32 126 byte
+
 -- whether no character of a text steers
 abbrev pub is_clean : List ℕ → Bool
 is_clean text = list_all (λ c. not (steers c)) (chars text)

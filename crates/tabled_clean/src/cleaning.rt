@@ -1,7 +1,8 @@
 //! Control characters, marks of directions and separators, and what is shown in their places.
 
 ghost use Rattle.std.specs.Prelude.{◌≡◌, ◌∷◌, [], ℕ, List, false, IfOk, OnOk, string_bytes};
-ghost use Rattle.tabled_clean.specs.Steering.{steers, shown_for, going_on, cleaned, is_clean};
+ghost use Rattle.std.specs.List.{list_all};
+ghost use Rattle.tabled_clean.specs.Steering.{steers, shown_for, going_on, cleaned, is_clean, is_printable};
 
 use std::alloc::Global;
 use tabled_border::OutOfMemory;
@@ -40,11 +41,23 @@ fn shown_for(character: char) -> char
     }
 }
 
+/// Whether a text has printable characters of ASCII alone.
+fn is_printable(text: &str) -> bool
+    ensures { result ≡ list_all is_printable text.now }
+{
+    // no early end, so that several bytes are tested at once
+    let mut all = true;
+    for byte in text.as_bytes() {
+        all &= (b' '..=b'~').contains(byte);
+    }
+    all
+}
+
 /// Whether no character of a text steers a terminal.
 pub fn is_clean(text: &str) -> bool
     ensures { result ≡ is_clean text.now }
 {
-    text.chars().all(|character| !steers(character))
+    is_printable(text) || text.chars().all(|character| !steers(character))
 }
 
 /// Writes a carriage return that was held back, unless a line feed comes next.

@@ -1,3 +1,4 @@
+pub mod Columns
 pub mod Entities
 pub mod Lasting
 pub mod Leaving

@@ -38,3 +38,8 @@ same_entity _ _ = false
 
 abbrev pub is_global : Entity → Bool
 is_global entity = same_entity entity Global
+
+-- whether an entity is one column
+abbrev pub is_column : Entity → Bool
+is_column (Column col) = true
+is_column _ = false

@@ -4,7 +4,7 @@ ghost use Rattle.std.specs.Prelude.{◌≡◌, ◌↔◌, ◌++◌, ◌∷◌, [
 ghost use Rattle.std.specs.List.{last_or};
 ghost use Rattle.std.specs.Cmp.Lexicographic.{pointwise};
 ghost use Rattle.tabled_settings.specs.Setting.{covering};
-ghost use Rattle.tabled_settings.specs.Live.{without, has_event};
+ghost use Rattle.tabled_settings.specs.Live.{are_of_columns, without, has_event};
 ghost use Rattle.tabled_settings.specs.Same.{same_event};
 
 mod both;
@@ -86,6 +86,13 @@ impl<T> LastEvents<T> {
         let of_cell = slots::place_of(&self.places, Entity::Cell(row, col));
         let place = slots::later(of_cell, slots::later(of_row, of_column));
         slots::value_at(&self.slots, place)
+    }
+
+    /// Whether each of them is an event of a column.
+    pub(crate) fn has_columns_alone(&self) -> bool
+        ensures { result ≡ are_of_columns self.now }
+    {
+        slots::are_of_columns(&self.slots)
     }
 
     /// Whether both have the same events in the same order.

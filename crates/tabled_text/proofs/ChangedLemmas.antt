@@ -28,6 +28,18 @@ pub cells_at : (change : ℕ → ℕ → List ℕ → List ℕ) (table : Table) 
 unfolding cells_changed
 cells_at change table row inside = get_or-map-range_with_len (λ r. row_changed (change r) (get_or table r [])) 0 (length table) row row [] inside (omega arith)
 
+-- cells of which each stays
+row_stays : (change : ℕ → List ℕ → List ℕ) (row : List (List ℕ)) → ((col : ℕ) → col < length row → change col (get_or row col []) ≡ get_or row col []) → row_changed change row ≡ row
+unfolding row_changed
+row_stays change row stay = sym (fill_by_all (λ col. change col (get_or row col [])) row (length row) [] refl (λ col inside. sym (stay col inside)))
+
+pub cells_stay : (change : ℕ → ℕ → List ℕ → List ℕ) (table : Table)
+    → ((row col : ℕ) → row < length table → col < length (get_or table row []) → change row col (get_or (get_or table row []) col []) ≡ get_or (get_or table row []) col []) → cells_changed change table ≡ table
+unfolding cells_changed
+cells_stay change table stay =
+    sym (fill_by_all (λ row. row_changed (change row) (get_or table row [])) table (length table) [] refl
+    (λ row inside. sym (row_stays (change row) (get_or table row []) (λ col within. stay row col inside within))))
+
 -- what is made of each cell, and holds of the empty text, holds of what each cell says then
 module _ (P : List ℕ → Type 0) (nothing : P []) where
   in_row : (change : ℕ → List ℕ → List ℕ) (row : List (List ℕ)) (col : ℕ) → P (change col (get_or row col [])) → P (get_or (row_changed change row) col [])

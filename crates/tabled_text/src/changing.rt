@@ -1,7 +1,8 @@
 //! Texts of a table in the place of others.
 
 ghost use Rattle.std.specs.Prelude.{◌≡◌, ℕ, List, map, string_bytes, IfOk};
-ghost use Rattle.tabled_clean.specs.Steering.{cleaned};
+ghost use Rattle.std.specs.List.{list_all};
+ghost use Rattle.tabled_clean.specs.Steering.{cleaned, is_clean};
 ghost use Rattle.tabled_printing.specs.Texts.{texts};
 ghost use Rattle.tabled_width.specs.Tabs.{tabs_expanded};
 ghost use Rattle.tabled_text.specs.Changed.{row_changed, cells_changed, each_text, texts_of_cells, within, texts_of_columns};
@@ -9,7 +10,7 @@ ghost use Rattle.tabled_text.specs.Changed.{row_changed, cells_changed, each_tex
 use std::alloc::Global;
 use std::collections::BTreeSet;
 use tabled_border::OutOfMemory;
-use tabled_clean::cleaned;
+use tabled_clean::{cleaned, is_clean};
 use tabled_object::{Entity, Position, is_covered};
 use tabled_width::{Overflow, TextLimit, tabs_expanded};
 
@@ -113,6 +114,20 @@ impl Change for LimitedColumns<'_, '_> {
             None => Ok(String::from_str(alloc, text)?),
         }
     }
+}
+
+/// Whether nothing in the cells of a row steers a terminal.
+fn is_clean_row(cells: &[String]) -> bool
+    ensures { result ≡ list_all is_clean (map string_bytes cells.now) }
+{
+    cells.iter().all(|text| is_clean(text.as_str()))
+}
+
+/// Whether nothing in the cells of rows steers a terminal.
+pub(crate) fn are_clean(rows: &[Vec<String>]) -> bool
+    ensures { result ≡ list_all (list_all is_clean) (texts rows.now) }
+{
+    rows.iter().all(|cells| is_clean_row(cells))
 }
 
 /// The cells of a row, each changed.

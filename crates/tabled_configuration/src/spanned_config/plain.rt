@@ -20,13 +20,13 @@ impl SpannedConfig {
         self.characters.plain_at(place, shape).copied()
     }
 
-    /// Whether nothing was set for the cells of an entity but `Global` since something was set for all, so that all cells have the
-    /// same settings.
-    pub fn has_alike_cells(&self) -> bool
+    /// Whether nothing was set for the cells of an entity but `Global` since something was set for all, and where texts stand between
+    /// the left and the right side at most for columns too; so that all rows have the same settings.
+    pub fn has_alike_rows(&self) -> bool
         ensures { IsTrue result ↔ AreAlike self.now.settings.cells }
     {
         let cells = &self.settings.cells;
-        cells.alignment_horizontal.is_empty()
+        cells.alignment_horizontal.has_columns_alone()
             && cells.alignment_vertical.is_empty()
             && cells.trim_horizontal.is_empty()
             && cells.trim_vertical.is_empty()

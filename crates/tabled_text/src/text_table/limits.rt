@@ -12,7 +12,9 @@ ghost use Rattle.tabled_text.specs.Sizes.{column_count};
 ghost use Rattle.tabled_text.specs.TextTable.{look_printed};
 
 use super::TextTable;
-use crate::changing::{Cleaning, ExpandedTabs, LimitedCells, LimitedColumns, changed_rows};
+use crate::changing::{
+    Cleaning, ExpandedTabs, LimitedCells, LimitedColumns, are_clean, changed_rows,
+};
 use crate::fitting::{frame_width, least_for_texts, room_for_texts, texts_asked};
 use tabled_border::OutOfMemory;
 use tabled_object::{Object, Shape, listed_entities};
@@ -34,6 +36,9 @@ impl TextTable {
         ensures config { self.new.config ≡ self.old.config }
         ensures err { OnErr result (self.new ≡ self.old) }
     {
+        if are_clean(&self.cells) {
+            return Ok(());
+        }
         let alloc = self.config().config().allocator();
         let cells = changed_rows(alloc, &Cleaning, &self.cells)?;
         self.set_cells(cells)
