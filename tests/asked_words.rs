@@ -3,8 +3,8 @@
 use std::alloc::{AllocError, Global};
 use std::test::Fail;
 use tabled_request::{
-    FrameColor, OptionName, Request, Shows, WordsError, are_cells, are_columns, names_cell,
-    names_column, number_of, read_words,
+    FrameColor, OptionName, Request, Shows, WordsError, are_cells, are_columns, are_named,
+    named_cells, names_column, number_of, read_words,
 };
 
 /// Words that are given.
@@ -149,7 +149,7 @@ fn columns_and_numbers_are_named(rt: HostRuntime) {
 }
 
 #[test]
-fn cells_are_named(rt: HostRuntime) {
+fn cells_are_named(rt: HostRuntime) -> Result<(), Fail> {
     for (word, named) in [
         ("1:1", ["+--", "---"]),
         ("2:*", ["---", "+++"]),
@@ -158,11 +158,14 @@ fn cells_are_named(rt: HostRuntime) {
         ("1:2,2:03,7:7", ["-+-", "--+"]),
     ] {
         assert!(rt; are_cells(word), "{word}");
+        let read = named_cells(rt.alloc(), word)?;
         for (row, signs) in named.iter().enumerate() {
             for (col, sign) in signs.bytes().enumerate() {
-                assert!(rt; names_cell(word, row, col) == (sign == b'+'), "{word} {row} {col}");
+                assert!(rt; are_named(&read, row, col) == (sign == b'+'), "{word} {row} {col}");
             }
         }
     }
-    assert!(rt; names_cell("1:99999999999", 0, 999_999_998) && !names_cell("1:99999999999", 0, 999_999_999));
+    let read = named_cells(rt.alloc(), "1:99999999999")?;
+    assert!(rt; are_named(&read, 0, 999_999_998) && !are_named(&read, 0, 999_999_999));
+    Ok(())
 }

@@ -9,5 +9,5 @@ mod read;
 mod rows;
 
 pub use error::InputError;
-pub use read::INPUT_LIMIT;
+pub use read::{INPUT_LIMIT, read_input};
 pub use rows::{Cells, read_rows};

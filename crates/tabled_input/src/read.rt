@@ -1,4 +1,4 @@
-//! How the input is read: whole, up to a limit.
+//! How an input is read: whole, up to a limit.
 
 ghost use Rattle.std.specs.Prelude.{◌≡◌, ◌+◌, ◌<◌, ◌≤◌, ◌⊎◌, ◌++◌, ℕ, List, true, false, length, vec_len, IfOk, IfErr, OnOk, IfSome, IsErrOf};
 ghost use Rattle.std.specs.Io.KnownBytes.{Consumes, IsAtEnd};
@@ -7,7 +7,7 @@ use crate::error::InputError;
 use std::alloc::{AllocError, Global};
 use std::io::Read;
 
-/// The most bytes that an input may have.
+/// The most bytes that an input of rows may have.
 pub const INPUT_LIMIT: usize = 268_435_456;
 
 /// How many bytes are asked for at a time.
@@ -43,20 +43,24 @@ fn read_more<R: Read>(
     Ok(count == 0)
 }
 
-/// Reads all that there is, and at most one byte past the limit.
-pub fn read_input<R: Read>(alloc: Global, reader: &mut R) -> Result<Vec<u8>, InputError>
+/// Reads all that there is, and at most one byte past a limit.
+pub fn read_input<R: Read>(
+    alloc: Global,
+    limit: usize,
+    reader: &mut R,
+) -> Result<Vec<u8>, InputError>
     ensures whole { IfOk result (λ input. Consumes (R.remaining reader.old) (R.remaining reader.new) input.items) }
     ensures end { OnOk result (IsAtEnd (R.remaining reader.new)) }
-    ensures within { IfOk result (λ input. vec_len input ≤ INPUT_LIMIT) }
-    ensures too_long { IsErrOf result InputError.TooLong → IfSome (R.remaining reader.old) (λ input. INPUT_LIMIT < length input) }
+    ensures within { IfOk result (λ input. vec_len input ≤ limit) }
+    ensures too_long { IsErrOf result InputError.TooLong → IfSome (R.remaining reader.old) (λ input. limit < length input) }
     ensures one_past { (taken : List ℕ) × Consumes (R.remaining reader.old) (R.remaining reader.new) taken
-        × (length taken ≤ INPUT_LIMIT + 1) }
+        × (length taken ≤ limit + 1) }
     ensures faults { IfErr result (λ e. (e ≡ InputError.ReadFailed) ⊎ (e ≡ InputError.TooLong) ⊎ (e ≡ InputError.OutOfMemory)) }
 {
     let mut room = chunk(alloc)?;
     let mut input = Vec::new(alloc);
-    while input.len() <= INPUT_LIMIT {
-        let most = CHUNK_SIZE.min(INPUT_LIMIT + 1 - input.len());
+    while input.len() <= limit {
+        let most = (CHUNK_SIZE - 1).min(limit - input.len()) + 1;
         if read_more(reader, &mut room[..most], &mut input)? {
             return Ok(input);
         }

@@ -83,6 +83,6 @@ pub fn read_rows<R: Read>(
     ensures refused { IfErr result (λ e. (e ≡ Refusal.OutOfMemory) ⊎ (e ≡ Refusal.ReadFailed) ⊎ IfSome (R.remaining input.old) (λ bytes. fault_of cells bytes ≡ Some e)) }
     ensures at_most { (taken : List ℕ) × Consumes (R.remaining input.old) (R.remaining input.new) taken × (length taken ≤ INPUT_LIMIT + 1) }
 {
-    let bytes = read_input(alloc, input)?;
+    let bytes = read_input(alloc, INPUT_LIMIT, input)?;
     rows_of_bytes(alloc, cells, &bytes)
 }

@@ -5,4 +5,3 @@ pub mod Lines
 pub mod NoSpans
 pub mod OneLine
 pub mod Pages
-pub mod Reading

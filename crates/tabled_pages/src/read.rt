@@ -1,47 +1,15 @@
 //! How the input is read: whole, up to a limit.
 
-ghost use Rattle.std.specs.Prelude.{◌≡◌, ◌+◌, ◌<◌, ◌≤◌, ◌⊎◌, ◌++◌, ℕ, List, true, false, length, vec_len, IfOk, IfErr, OnOk, IfSome, IsErrOf};
+ghost use Rattle.std.specs.Prelude.{◌≡◌, ◌+◌, ◌<◌, ◌≤◌, ◌⊎◌, ℕ, List, length, vec_len, IfOk, IfErr, OnOk, IfSome, IsErrOf};
 ghost use Rattle.std.specs.Io.KnownBytes.{Consumes, IsAtEnd};
 
 use crate::error::ShowError;
-use std::alloc::{AllocError, Global};
+use std::alloc::Global;
 use std::io::Read;
+use tabled_input::InputError;
 
 /// The most bytes that an input may have.
 pub const INPUT_LIMIT: usize = 16_777_216;
-
-/// How many bytes are asked for at a time.
-const CHUNK_SIZE: usize = 65_536;
-
-/// Room for the bytes of one read.
-fn chunk(alloc: Global) -> Result<Vec<u8>, AllocError>
-    ensures { IfOk result (λ room. vec_len room ≡ CHUNK_SIZE) }
-{
-    vec![in alloc; 0u8; CHUNK_SIZE]
-}
-
-/// Reads once, as much as there is room for, and appends what came. Returns whether nothing came, at
-/// the end of the reader. A read that returns any fault has failed.
-fn read_more<R: Read>(
-    reader: &mut R,
-    room: &mut [u8],
-    input: &mut Vec<u8>,
-) -> Result<bool, ShowError>
-    requires { 0 < length room.old }
-    ensures taken { (taken : List ℕ) × Consumes (R.remaining reader.old) (R.remaining reader.new) taken
-        × (length taken ≤ length room.old) × OnOk result (input.new.items ≡ input.old.items ++ taken) }
-    ensures more { result ≡ Ok false → vec_len input.old < vec_len input.new }
-    ensures end { result ≡ Ok true → IsAtEnd (R.remaining reader.new) }
-    ensures idle { result ≡ Ok true → vec_len input.new ≡ vec_len input.old }
-    ensures faults { IfErr result (λ e. (e ≡ ShowError.ReadFailed) ⊎ (e ≡ ShowError.OutOfMemory)) }
-{
-    let count = match reader.read(room) {
-        Ok(count) => count,
-        Err(_) => return Err(ShowError::ReadFailed),
-    };
-    input.extend_from_slice(&room[..count])?;
-    Ok(count == 0)
-}
 
 /// Reads all that there is, and at most one byte past the limit.
 pub fn read_input<R: Read>(alloc: Global, reader: &mut R) -> Result<Vec<u8>, ShowError>
@@ -53,13 +21,11 @@ pub fn read_input<R: Read>(alloc: Global, reader: &mut R) -> Result<Vec<u8>, Sho
         × (length taken ≤ INPUT_LIMIT + 1) }
     ensures faults { IfErr result (λ e. (e ≡ ShowError.ReadFailed) ⊎ (e ≡ ShowError.TooLong) ⊎ (e ≡ ShowError.OutOfMemory)) }
 {
-    let mut room = chunk(alloc)?;
-    let mut input = Vec::new(alloc);
-    while input.len() <= INPUT_LIMIT {
-        let most = CHUNK_SIZE.min(INPUT_LIMIT + 1 - input.len());
-        if read_more(reader, &mut room[..most], &mut input)? {
-            return Ok(input);
-        }
+    match tabled_input::read_input(alloc, INPUT_LIMIT, reader) {
+        Ok(input) => Ok(input),
+        Err(InputError::ReadFailed) => Err(ShowError::ReadFailed),
+        Err(InputError::TooLong) => Err(ShowError::TooLong),
+        Err(InputError::OutOfMemory) => Err(ShowError::OutOfMemory),
+        Err(_) => unreachable!("an input is only read"),
     }
-    Err(ShowError::TooLong)
 }

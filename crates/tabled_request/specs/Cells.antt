@@ -1,9 +1,11 @@
 -- Cells that words name, by a row and a column, each a number from 1 on or a star.
-use Rattle.std.specs.Prelude.{ℕ, ◌+◌, Bool, false, ◌==◌, ◌&&◌, ◌||◌, nat_le, List, codes, Option, Some, None}
+use Rattle.std.specs.Prelude.{ℕ, ◌+◌, Bool, false, ◌==◌, ◌&&◌, ◌||◌, nat_le, List, codes, map, Option, Some, None}
 use Rattle.std.specs.List.{list_all, list_any, before_first, after_first, slice_split}
 use Rattle.std.specs.Str.{bytes_eq}
 use Rattle.tabled_request.specs.Columns.{is_comma}
 use Rattle.tabled_request.specs.Numerals.{number_of}
+use Rattle.tabled_request.specs.declared.cells.NamedCells.{NamedCells}
+use Rattle.tabled_request.specs.declared.cells.Part.{Part}
 
 abbrev pub is_colon : ℕ → Bool
 is_colon b = b == 58
@@ -21,22 +23,31 @@ is_next (Some number) n = number == n + 1
 abbrev pub is_part : List ℕ → Bool
 is_part word = bytes_eq word (codes "*") || is_from_one (number_of word)
 
--- whether it stands for the row or the column of that number, counted from 0
-abbrev pub part_has : List ℕ → ℕ → Bool
-part_has word n = bytes_eq word (codes "*") || is_next (number_of word) n
+abbrev pub part_of : List ℕ → Part
+part_of word = record { is_all = bytes_eq word (codes "*"); number = number_of word }
+
+-- whether the row or the column of that number, counted from 0, is one of them
+abbrev pub has : Part → ℕ → Bool
+has part n = part.is_all || is_next part.number n
 
 -- whether a part of a word names cells: by a row and a column with a colon between them
 unfoldable pub is_cell : List ℕ → Bool
 is_cell part = is_part (before_first is_colon part) && is_part (after_first is_colon part)
 
--- whether it names a cell, its row and its column counted from 0
-unfoldable pub part_names : List ℕ → ℕ → ℕ → Bool
-part_names part row col = part_has (before_first is_colon part) row && part_has (after_first is_colon part) col
+-- the cells that it names: those in these rows and these columns
+unfoldable pub cells_of : List ℕ → NamedCells
+cells_of part = record { rows = part_of (before_first is_colon part); cols = part_of (after_first is_colon part) }
 
 -- whether each part of a word names cells
 unfoldable pub are_cells : List ℕ → Bool
 are_cells word = list_all is_cell (slice_split is_comma word)
 
--- whether some part of a word names a cell
+-- whether some part of a word names a cell, its row and its column counted from 0
+abbrev pub named_cells : List ℕ → List NamedCells
+named_cells word = map cells_of (slice_split is_comma word)
+
+abbrev pub are_named : List NamedCells → ℕ → ℕ → Bool
+are_named named row col = list_any (λ cells. has cells.rows row && has cells.cols col) named
+
 unfoldable pub names_cell : List ℕ → ℕ → ℕ → Bool
-names_cell word row col = list_any (λ part. part_names part row col) (slice_split is_comma word)
+names_cell word row col = are_named (named_cells word) row col

@@ -1,11 +1,12 @@
 //! Cells that words name.
 
-ghost use Rattle.std.specs.Prelude.{◌≡◌, codes};
+ghost use Rattle.std.specs.Prelude.{◌≡◌, codes, IfOk};
 ghost use Rattle.std.specs.List.{before_first, after_first};
 ghost use Rattle.std.specs.Str.{bytes_eq};
-ghost use Rattle.tabled_request.specs.Cells.{are_cells, is_cell, is_colon, is_from_one, is_next, is_part, names_cell, part_has, part_names};
+ghost use Rattle.tabled_request.specs.Cells.{are_cells, are_named, cells_of, has, is_cell, is_colon, is_from_one, is_next, is_part, named_cells, part_of};
 
 use crate::numerals::number_of;
+use std::alloc::{AllocError, Global};
 
 /// Whether a word is a star, which stands for all rows or all columns.
 fn is_star(word: &str) -> bool
@@ -41,11 +42,39 @@ fn is_part(word: &str) -> bool
     is_star(word) || is_from_one(number_of(word))
 }
 
-/// Whether a word stands for the row or the column of that number, counted from 0.
-fn part_has(word: &str, n: usize) -> bool
-    ensures { result ≡ part_has word.now n }
-{
-    is_star(word) || is_next(number_of(word), n)
+/// What a word stands for, of all rows or all columns.
+#[derive(Clone, Copy, Debug, PartialEq, Eq)]
+pub struct Part {
+    /// All of them.
+    is_all: bool,
+    /// The one of this number, counted from 1.
+    number: Option<usize>,
+}
+
+impl Part {
+    /// What a word stands for.
+    fn of(word: &str) -> Part
+        ensures { result ≡ part_of word.now }
+    {
+        Part {
+            is_all: is_star(word),
+            number: number_of(word),
+        }
+    }
+
+    /// Whether the row or the column of that number, counted from 0, is one of them.
+    fn has(&self, n: usize) -> bool
+        ensures { result ≡ has self.now n }
+    {
+        self.is_all || is_next(self.number, n)
+    }
+}
+
+/// The cells that a part of a word names: those in these rows and these columns.
+#[derive(Clone, Copy, Debug, PartialEq, Eq)]
+pub struct NamedCells {
+    rows: Part,
+    cols: Part,
 }
 
 /// What stands before the first colon of a text, and what stands after it; without one the whole text, and nothing.
@@ -68,13 +97,16 @@ fn is_cell(part: &str) -> bool
     is_part(row) && is_part(col)
 }
 
-/// Whether a part of a word names a cell.
-#[tactic(auto, unfolding(crate::specs::Cells::part_names))]
-fn part_names(part: &str, row: usize, col: usize) -> bool
-    ensures { result ≡ part_names part.now row col }
+/// The cells that a part of a word names.
+#[tactic(auto, unfolding(crate::specs::Cells::cells_of))]
+fn cells_of(part: &str) -> NamedCells
+    ensures { result ≡ cells_of part.now }
 {
     let (rows, cols) = cut(part);
-    part_has(rows, row) && part_has(cols, col)
+    NamedCells {
+        rows: Part::of(rows),
+        cols: Part::of(cols),
+    }
 }
 
 /// Whether each part of a word, between commas, names cells: by a row and a column with a colon between them, each a number from 1 on, or a
@@ -85,9 +117,22 @@ pub fn are_cells(word: &str) -> bool
     word.split(',').all(|part| is_cell(part))
 }
 
-/// Whether some part of a word names a cell, whose row and column are counted from 0 here.
-pub fn names_cell(word: &str, row: usize, col: usize) -> bool
-    ensures { result ≡ names_cell word.now row col }
+/// The cells that each part of a word names, between commas.
+pub fn named_cells(alloc: Global, word: &str) -> Result<Vec<NamedCells>, AllocError>
+    ensures { IfOk result (λ named. named.items ≡ named_cells word.now) }
 {
-    word.split(',').any(|part| part_names(part, row, col))
+    let mut named = Vec::new(alloc);
+    for part in word.split(',') {
+        named.push(cells_of(part))?;
+    }
+    Ok(named)
+}
+
+/// Whether some part of a word names a cell, whose row and column are counted from 0 here.
+pub fn are_named(named: &[NamedCells], row: usize, col: usize) -> bool
+    ensures { result ≡ are_named named.now row col }
+{
+    named
+        .iter()
+        .any(|cells| cells.rows.has(row) && cells.cols.has(col))
 }

@@ -14,7 +14,7 @@ mod sides;
 mod surroundings;
 mod words;
 
-pub use cells::{are_cells, names_cell};
+pub use cells::{NamedCells, are_cells, are_named, named_cells};
 pub use columns::{are_columns, names_column};
 pub use error::WordsError;
 pub use given::{GivenError, all_words};

@@ -3,13 +3,14 @@
 ghost use Rattle.std.specs.Prelude.{◌≡◌, [], Some, None, map, option_map, string_bytes, IfOk, OnOk};
 ghost use Rattle.tabled_configuration.specs.Colored.{Changes};
 ghost use Rattle.tabled_printing.specs.Texts.{texts};
+ghost use Rattle.tabled_request.specs.Cells.{named_cells};
 ghost use Rattle.tabled_viewing.specs.Outlines.{chooses, chosen, draws_boxes, line_of, outlined, outlines, text_at, touch_of};
 
 use std::alloc::Global;
 use tabled_border::OutOfMemory;
 use tabled_highlight::Highlight;
 use tabled_object::{Entity, Position};
-use tabled_request::{Request, names_cell, word_at};
+use tabled_request::{NamedCells, Request, are_named, named_cells, word_at};
 use tabled_style::{Border, On, ReadyStyle};
 use tabled_text::TextTable;
 
@@ -35,12 +36,20 @@ fn text_at(rows: &[Vec<String>], pos: Position) -> &str
     }
 }
 
-/// Whether a word chooses a cell of a table.
-fn chooses(rows: &[Vec<String>], how: Choosing, word: &str, pos: Position) -> bool
+/// Whether a word chooses a cell of a table; `named` are the cells that it names.
+#[tactic(auto, unfolding(tabled_request::specs::Cells::names_cell))]
+fn chooses(
+    rows: &[Vec<String>],
+    how: Choosing,
+    word: &str,
+    named: &[NamedCells],
+    pos: Position,
+) -> bool
+    requires { named.now ≡ named_cells word.now }
     ensures { result ≡ chooses how word.now (texts rows.now) pos }
 {
     match how {
-        Choosing::ByPlace => names_cell(word, pos.row, pos.col),
+        Choosing::ByPlace => are_named(named, pos.row, pos.col),
         Choosing::ByText => text_at(rows, pos) == word,
     }
 }
@@ -54,10 +63,11 @@ fn chosen(
 ) -> Result<Vec<Entity>, OutOfMemory>
     ensures { IfOk result (λ cells. cells.items ≡ chosen how word.now table.now.texts) }
 {
+    let named = named_cells(alloc, word)?;
     let mut cells = Vec::new(alloc);
     let shape = table.shape();
     for pos in Entity::Global.iter(shape.rows, shape.cols) {
-        if chooses(table.texts(), how, word, pos) {
+        if chooses(table.texts(), how, word, &named, pos) {
             cells.push(Entity::Cell(pos.row, pos.col))?;
         }
     }
