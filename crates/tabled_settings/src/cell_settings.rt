@@ -84,10 +84,16 @@ impl CellSettings {
         ensures trim_horizontal { IfOk result (λ copies. copies.2 ≡ self.now.trim_horizontal) }
         ensures trim_vertical { IfOk result (λ copies. copies.3 ≡ self.now.trim_vertical) }
     {
-        let (horizontal, vertical) =
-            kept_both(alloc, &self.alignment_horizontal, &self.alignment_vertical)?;
-        let (trim_horizontal, trim_vertical) =
-            kept_both(alloc, &self.trim_horizontal, &self.trim_vertical)?;
+        let (horizontal, vertical) = kept_both(
+            alloc,
+            &self.alignment_horizontal,
+            &self.alignment_vertical,
+        )?;
+        let (trim_horizontal, trim_vertical) = kept_both(
+            alloc,
+            &self.trim_horizontal,
+            &self.trim_vertical,
+        )?;
         Ok((horizontal, vertical, trim_horizontal, trim_vertical))
     }
 

@@ -38,8 +38,7 @@ impl<T> EntityMap<T> {
             return self.put_three(alloc, events, second, second_events, third, third_events);
         }
         let first = self.changed(alloc, events)?;
-        let (other, last) =
-            changed_both(alloc, second, second_events, third, third_events)?;
+        let (other, last) = changed_both(alloc, second, second_events, third, third_events)?;
         drop(mem::replace(self, first));
         drop(mem::replace(second, other));
         drop(mem::replace(third, last));
