@@ -1,12 +1,14 @@
--- Cells for which nothing is set: that all are such cells, and how such a one is painted.
-use Rattle.std.proofs.Common.{◌≡◌, ℕ, ◌+◌, ◌-◌, Bool, true, false, if◌then◌else◌, Option, None, List, [], ◌∷◌, ◌++◌, map, length, refl, sym, ap, subst, ◌∙◌, arith, lit<, option_map, encode_utf8, nat_lt}
+-- Bare cells: that all are such cells, and how such a one is painted.
+use Rattle.std.proofs.Common.{◌≡◌, ℕ, ◌+◌, ◌-◌, Bool, true, false, if◌then◌else◌, Option, None, List, [], ◌∷◌, ◌++◌, map, length, refl, sym, ap, subst, ◌∙◌, arith, option_map, nat_lt}
 use Rattle.std.specs.Prelude.{slice_index_or}
 use Rattle.std.specs.List.{list_all}
-use Rattle.std.proofs.lemmas.List.{append-nil, append_assoc, map-append}
-use Rattle.std.proofs.lemmas.Str.{encode_ascii}
+use Rattle.std.proofs.lemmas.List.{append_assoc, length-map, map-append}
+use Rattle.std.proofs.lemmas.List.FromFn.{get_or-map-range_with_len, length-range_with_len}
 use Rattle.tabled_border.specs.Texts.{Texts}
 use Rattle.tabled_object.specs.declared.entity.Entity.TheVariants.{Global}
 use Rattle.tabled_object.specs.declared.position.Position.{Position}
+use Rattle.tabled_object.specs.Entities.{below}
+use Rattle.tabled_settings.proofs.Columns.{value_of_column}
 use Rattle.tabled_settings.specs.Setting.{write_of, setting}
 use Rattle.tabled_settings.specs.Live.{Live, value_at}
 use Rattle.tabled_settings.specs.declared.alignment.AlignmentHorizontal.{AlignmentHorizontal}
@@ -16,17 +18,17 @@ use Rattle.tabled_settings.specs.declared.sides.Sides.{Sides}
 use Rattle.tabled_settings.specs.Padding.{first_padding}
 use Rattle.tabled_configuration.specs.AlikeCells.{AreAlike}
 use Rattle.tabled_printing.specs.Texts.{pieces, width_of_text}
-use Rattle.tabled_printing.proofs.TimesLemmas.{times_both, times_spaces}
+use Rattle.tabled_printing.proofs.TimesLemmas.{times_both}
 use Rattle.tabled_cells.specs.declared.filling.LineParts.{LineParts}
 use Rattle.tabled_cells.specs.declared.placement.Placement.{Placement}
-use Rattle.tabled_cells.specs.Placed.{padding_shown, times, free_before, free_above, fill_of, line_parts, aligned_width}
+use Rattle.tabled_cells.specs.Placed.{padding_shown, times, free_before, free_above, fill_of, greatest, line_parts, aligned_width}
 use Rattle.tabled_cells.specs.Placements.{placement_at}
 use Rattle.tabled_width.specs.Texts.{is_printable}
 use Rattle.tabled_cells.specs.Trimmed.{without_ends, is_space, is_blank, line_shown, lines_shown}
 use Rattle.tabled_cells.proofs.Printing.{one_piece, printable_width}
 use Rattle.tabled_painting.specs.Painted.{Painted, paint}
 use Rattle.tabled_painting.specs.CellLines.{Coloring, coloring_at, painted_line, cell_line}
-use Rattle.tabled_painting.specs.BareCells.{IsBareCell, AreBare, at_left}
+use Rattle.tabled_painting.specs.BareCells.{IsBareCell, AllAreBare, AreBare, bare_text, side_of}
 
 -- ---- all cells
 
@@ -39,10 +41,22 @@ value_alike live a b none =
 abbrev cell_at : ℕ → ℕ → Position
 cell_at r c = record { row = r; col = c }
 
-placement_alike : (settings : CellSettings) (r c : ℕ) → AreAlike settings → placement_at settings 0 0 ≡ placement_at settings r c
+-- a placement with another side
+abbrev at_side : AlignmentHorizontal → Placement → Placement
+at_side side how = record {
+  alignment_horizontal = side;
+  alignment_vertical = how.alignment_vertical;
+  trim_horizontal = how.trim_horizontal;
+  trim_vertical = how.trim_vertical;
+  line_alignment = how.line_alignment;
+  justification = how.justification;
+  padding = how.padding;
+}
+
+placement_alike : (settings : CellSettings) (r c : ℕ) → AreAlike settings → at_side (side_of settings c) (placement_at settings 0 0) ≡ placement_at settings r c
 unfolding placement_at
 placement_alike settings r c alike = λ i. record {
-  alignment_horizontal = value_alike settings.alignment_horizontal (cell_at 0 0) (cell_at r c) alike.alignment_horizontal i;
+  alignment_horizontal = value_of_column settings.alignment_horizontal 0 r c alike.alignment_horizontal i;
   alignment_vertical = value_alike settings.alignment_vertical (cell_at 0 0) (cell_at r c) alike.alignment_vertical i;
   trim_horizontal = value_alike settings.trim_horizontal (cell_at 0 0) (cell_at r c) alike.trim_horizontal i;
   trim_vertical = value_alike settings.trim_vertical (cell_at 0 0) (cell_at r c) alike.trim_vertical i;
@@ -62,17 +76,43 @@ coloring_alike settings colors r c alike none = λ i. record {
   padding = value_alike settings.padding_color (cell_at 0 0) (cell_at r c) alike.padding_color i;
 }
 
-pub all_bare : (settings : CellSettings) (colors : Option (Live Texts)) → AreAlike settings → colors ≡ None → IsBareCell (placement_at settings 0 0) (coloring_at settings colors 0 0) → AreBare settings colors
+-- such a cell, which stands where it stands
+abbrev IsBare : Placement → Coloring → Type 0
+IsBare how coloring = IsBareCell how.alignment_horizontal how coloring
+
+elsewhere : (side : AlignmentHorizontal) (how : Placement) (coloring : Coloring) → IsBare how coloring → IsBareCell side (at_side side how) coloring
+elsewhere side how coloring is = record {
+  stands = refl;
+  top = is.top;
+  whole_lines = is.whole_lines;
+  all_lines = is.all_lines;
+  spaces = is.spaces;
+  padding = is.padding;
+  text = is.text;
+  fill = is.fill;
+  before = is.before;
+  after = is.after;
+}
+
+pub all_bare : (settings : CellSettings) (colors : Option (Live Texts)) → AreAlike settings → colors ≡ None → IsBare (placement_at settings 0 0) (coloring_at settings colors 0 0) → AllAreBare settings colors
 all_bare settings colors alike none first r c =
-    subst (λ how. IsBareCell how (coloring_at settings colors r c)) (placement_alike settings r c alike)
-    (subst (IsBareCell (placement_at settings 0 0)) (coloring_alike settings colors r c alike none) first)
+    let side = side_of settings c in
+    subst (λ how. IsBareCell side how (coloring_at settings colors r c)) (placement_alike settings r c alike)
+    (subst (IsBareCell side (at_side side (placement_at settings 0 0))) (coloring_alike settings colors r c alike none) (elsewhere side (placement_at settings 0 0) (coloring_at settings colors 0 0) first))
 
 -- what was read of the first one
 pub first_bare : (settings : CellSettings) (colors : Option (Live Texts)) (read : CellSettings) (row col : ℕ) (how : Placement) (coloring : Coloring) → read ≡ settings → row ≡ 0 → col ≡ 0
-    → how ≡ placement_at read row col → coloring ≡ coloring_at settings colors row col → IsBareCell how coloring → IsBareCell (placement_at settings 0 0) (coloring_at settings colors 0 0)
+    → how ≡ placement_at read row col → coloring ≡ coloring_at settings colors row col → IsBare how coloring → IsBare (placement_at settings 0 0) (coloring_at settings colors 0 0)
 first_bare settings colors read row col how coloring same at_row at_col placed colored =
-    subst (λ how. IsBareCell how coloring → IsBareCell (placement_at settings 0 0) (coloring_at settings colors 0 0)) (sym (placed ∙ (λ i. placement_at (same i) (at_row i) (at_col i))))
-    (subst (IsBareCell (placement_at settings 0 0)) (colored ∙ (λ i. coloring_at settings colors (at_row i) (at_col i))))
+    subst (λ how. IsBare how coloring → IsBare (placement_at settings 0 0) (coloring_at settings colors 0 0)) (sym (placed ∙ (λ i. placement_at (same i) (at_row i) (at_col i))))
+    (subst (IsBare (placement_at settings 0 0)) (colored ∙ (λ i. coloring_at settings colors (at_row i) (at_col i))))
+
+-- the sides that are known, one for each column
+pub known_sides : (settings : CellSettings) (colors : Option (Live Texts)) (count : ℕ) (sides : List AlignmentHorizontal) → AllAreBare settings colors → sides ≡ map (side_of settings) (below count) → AreBare settings colors sides
+known_sides settings colors count sides bare are r c none inside =
+    let long : length sides ≡ count = ap length are ∙ length-map (below count) (side_of settings) ∙ length-range_with_len 0 count in
+    subst (λ side. IsBareCell side (placement_at settings r c) (coloring_at settings colors r c))
+    (sym (ap (λ list. slice_index_or list c none) are ∙ get_or-map-range_with_len (side_of settings) 0 count c c none (omega arith) (omega arith))) (bare r c)
 
 -- ---- such a cell
 
@@ -80,13 +120,13 @@ either_same : (b : Bool) (n : ℕ) → (if b then n else n) ≡ n
 either_same true n = refl
 either_same false n = refl
 
-painted_in_turn : (xs ys zs : List ℕ) → paint None xs ++ paint None ys ++ paint None zs ≡ paint None (xs ++ ys ++ zs)
-painted_in_turn xs ys zs =
-    let uncolored : ℕ → ℕ × Option Texts = λ byte. (byte, None) in
-    let first : paint None xs ++ paint None ys ≡ paint None (xs ++ ys) = sym (map-append uncolored xs ys) in
-    ap (λ front. front ++ paint None zs) first ∙ sym (map-append uncolored (xs ++ ys) zs)
+painted_in_turn : (first before text after last : List ℕ) → paint None first ++ paint None before ++ paint None text ++ paint None after ++ paint None last ≡ paint None (first ++ before ++ text ++ after ++ last)
+painted_in_turn first before text after last = simp map-append
 
-module _ (how : Placement) (colors : Coloring) (is : IsBareCell how colors) (width height : ℕ) (text : List ℕ) (printable : list_all is_printable text ≡ true) where
+one_greatest : (n : ℕ) → greatest (n ∷ []) ≡ n
+one_greatest n = omega arith
+
+module _ (side : AlignmentHorizontal) (how : Placement) (colors : Coloring) (is : IsBareCell side how colors) (width height : ℕ) (text : List ℕ) (printable : list_all is_printable text ≡ true) where
   shown : lines_shown how text ≡ text ∷ []
   unfolding lines_shown
   shown =
@@ -94,34 +134,48 @@ module _ (how : Placement) (colors : Coloring) (is : IsBareCell how colors) (wid
       ∙ ap (map (line_shown how)) (one_piece text printable)
       ∙ ap (λ b. (if b then without_ends is_space text else text) ∷ []) is.whole_lines
 
+  abbrev free : ℕ
+  free = width - 2 - length text
+
+  abbrev before : ℕ
+  before = free_before side free
+
   abbrev after : ℕ
-  after = width - 2 - length text
+  after = free - before
 
-  parts : (aligned : ℕ) → line_parts how width aligned text ≡ record { before = 0; after = after; fill = 32 }
+  as_one : (b : Bool) → (if b then width_of_text text else greatest (width_of_text text ∷ [])) ≡ length text
+  as_one true = printable_width text printable
+  as_one false = one_greatest (width_of_text text) ∙ printable_width text printable
+
+  parts : (aligned : ℕ) → aligned ≡ length text → line_parts how width aligned text ≡ record { before = before; after = after; fill = 32 }
   unfolding line_parts
-  parts aligned =
+  parts aligned long =
       let room : Sides Indent → ℕ = λ padding. width - padding.left.size - padding.right.size in
-      let before : Sides Indent → AlignmentHorizontal → ℕ = λ padding side. free_before side (room padding - aligned) in
-      let made : Sides Indent → AlignmentHorizontal → ℕ → ℕ → LineParts = λ padding side character wide. record {
-        before = before padding side;
-        after = room padding - before padding side - wide;
-        fill = fill_of padding character width (before padding side) (room padding - before padding side - wide) text;
+      let ahead : Sides Indent → AlignmentHorizontal → ℕ → ℕ = λ padding place wide. free_before place (room padding - wide) in
+      let made : Sides Indent → AlignmentHorizontal → ℕ → ℕ → ℕ → LineParts = λ padding place character wide of_text. record {
+        before = ahead padding place wide;
+        after = room padding - ahead padding place wide - of_text;
+        fill = fill_of padding character width (ahead padding place wide) (room padding - ahead padding place wide - of_text) text;
       } in
-      let of : ℕ → ℕ → LineParts = λ rest character. record { before = 0; after = rest; fill = character } in
-      let rest : width - 1 - 1 - 0 - length text ≡ after = omega arith in
-      ap (λ padding. made padding how.alignment_horizontal how.justification (width_of_text text)) is.padding
-      ∙ ap (λ side. made first_padding side how.justification (width_of_text text)) is.left
-      ∙ ap (λ character. made first_padding AlignmentHorizontal.Left character (width_of_text text)) is.spaces
-      ∙ ap (made first_padding AlignmentHorizontal.Left 32) (printable_width text printable)
-      ∙ ap (of (width - 1 - 1 - 0 - length text)) (either_same _ 32)
-      ∙ ap (λ n. of n 32) rest
+      let of : ℕ → ℕ → ℕ → LineParts = λ first rest character. record { before = first; after = rest; fill = character } in
+      let all : width - 1 - 1 - length text ≡ free = omega arith in
+      let rest : width - 1 - 1 - before - length text ≡ after = omega arith in
+      ap (λ padding. made padding how.alignment_horizontal how.justification aligned (width_of_text text)) is.padding
+      ∙ ap (λ place. made first_padding place how.justification aligned (width_of_text text)) is.stands
+      ∙ ap (λ character. made first_padding side character aligned (width_of_text text)) is.spaces
+      ∙ (λ i. made first_padding side 32 (long i) (printable_width text printable i))
+      ∙ (λ i. of (free_before side (all i)) (width - 1 - 1 - free_before side (all i) - length text) (fill_of first_padding 32 width (free_before side (all i)) (width - 1 - 1 - free_before side (all i) - length text) text))
+      ∙ ap (of before (width - 1 - 1 - before - length text)) (either_same _ 32)
+      ∙ ap (λ n. of before n 32) rest
 
-  spaces_after : times (after + 1) 32 ≡ times after 32 ++ 32 ∷ []
-  spaces_after = times_both after 1 32 ∙ ap (λ bs. times after 32 ++ bs) (append-nil (encode_utf8 32) ∙ encode_ascii 32 (lit< tt))
+  spaces_around : times 1 32 ++ times before 32 ++ text ++ times after 32 ++ times 1 32 ≡ bare_text side width text
+  spaces_around =
+      append_assoc (times 1 32 ++ times before 32 ++ text) (times after 32) (times 1 32)
+      ∙ (λ i. sym (times_both 1 before 32) i ++ text ++ sym (times_both after 1 32) i)
 
-  line : (aligned : ℕ) → painted_line how colors width aligned text ≡ paint None (at_left width text)
+  line : (aligned : ℕ) → aligned ≡ length text → painted_line how colors width aligned text ≡ paint None (bare_text side width text)
   unfolding painted_line
-  line aligned =
+  line aligned long =
       let whole : Sides Indent → Option Texts → Option Texts → Option Texts → Option Texts → LineParts → Painted =
       λ padding left fill middle right of. paint left (times padding.left.size padding.left.fill) ++ paint fill (times of.before of.fill) ++ paint middle text ++ paint fill (times of.after of.fill)
       ++ paint right (times padding.right.size padding.right.fill) in
@@ -130,10 +184,9 @@ module _ (how : Placement) (colors : Coloring) (is : IsBareCell how colors) (wid
       ∙ ap (λ fill. whole first_padding None fill colors.text colors.padding.right (line_parts how width aligned text)) is.fill
       ∙ ap (λ middle. whole first_padding None None middle colors.padding.right (line_parts how width aligned text)) is.text
       ∙ ap (λ right. whole first_padding None None None right (line_parts how width aligned text)) is.after
-      ∙ ap (whole first_padding None None None None) (parts aligned)
-      ∙ (λ i. paint None (times_spaces 1 i) ++ [] ++ paint None text ++ paint None (times after 32) ++ paint None (times_spaces 1 i))
-      ∙ ap (λ rest. paint None (32 ∷ []) ++ rest) (painted_in_turn text (times after 32) (32 ∷ []))
-      ∙ ap (λ bs. paint None (32 ∷ bs)) (append_assoc text (times after 32) (32 ∷ []) ∙ ap (λ bs. text ++ bs) (sym spaces_after))
+      ∙ ap (whole first_padding None None None None) (parts aligned long)
+      ∙ painted_in_turn (times 1 32) (times before 32) text (times after 32) (times 1 32)
+      ∙ ap (paint None) spaces_around
 
   -- line 0 of it, where that many lines stand above the text
   abbrev by_place : ℕ → Painted
@@ -143,10 +196,10 @@ module _ (how : Placement) (colors : Coloring) (is : IsBareCell how colors) (wid
       if nat_lt (0 - above) (length (text ∷ [])) then painted_line how colors width (aligned_width how (text ∷ []) own) own else
       paint colors.padding.bottom (times width how.padding.bottom.fill)
 
-  pub bare_cell : paint None (at_left width text) ≡ cell_line how colors width height (lines_shown how text) 0
+  pub bare_cell : paint None (bare_text side width text) ≡ cell_line how colors width height (lines_shown how text) 0
   unfolding cell_line
   bare_cell =
       sym (ap (λ lines. cell_line how colors width height lines 0) shown
       ∙ ap (λ (padding : Sides Indent). by_place (padding.top.size + free_above how.alignment_vertical (height - padding.top.size - padding.bottom.size - 1))) is.padding
-      ∙ ap (λ side. by_place (0 + free_above side (height - 0 - 0 - 1))) is.top
-      ∙ line (aligned_width how (text ∷ []) text))
+      ∙ ap (λ place. by_place (0 + free_above place (height - 0 - 0 - 1))) is.top
+      ∙ line (aligned_width how (text ∷ []) text) (as_one how.line_alignment))

@@ -4,7 +4,7 @@ ghost use Rattle.std.specs.Prelude.{◌≡◌, ◌++◌, ◌∷◌, [], None, On
 ghost use Rattle.tabled_printing.specs.Marks.{mark_of};
 ghost use Rattle.tabled_printing.specs.Sinks.{anything};
 ghost use Rattle.tabled_cells.specs.Placed.{times};
-ghost use Rattle.tabled_painting.specs.BareCells.{at_left};
+ghost use Rattle.tabled_painting.specs.BareCells.{bare_text};
 ghost use Rattle.tabled_painting.specs.Painted.{paint};
 ghost use Rattle.tabled_painting.specs.PaintedTable.{side_painted};
 ghost use Rattle.tabled_painting.specs.InColor.{Paints, between, prefix_of, suffix_of, color_if};
@@ -12,7 +12,9 @@ ghost use Rattle.tabled_painting.specs.Put as put;
 
 use std::alloc::{AllocError, Global};
 use tabled_border::{ANSIBuf, OutOfMemory};
+use tabled_cells::free_before;
 use tabled_printing::{Mark, Run, Sink, push_spaces_before, push_times};
+use tabled_settings::AlignmentHorizontal;
 
 /// A text that painted lines are written into, one after another, and the color of what was written last.
 #[derive(Drop)]
@@ -156,22 +158,24 @@ impl<'a> Painter<'a> {
         Ok(())
     }
 
-    /// Writes a text at the left of a column between spaces without color: one before it, and after it as many as the column has
-    /// room for, but at least one; and then a side, if there is one. The text takes as many terminal columns as it has bytes.
+    /// Writes a text in a column between spaces without color: at least one before it and one after it, and as many more as the column
+    /// has room for, where its alignment wants them; and then a side, if there is one. The text takes as many terminal columns as it has bytes.
     #[inline(always)]
-    pub(crate) fn push_at_left(
+    pub(crate) fn push_bare(
         &mut self,
+        alignment: AlignmentHorizontal,
         width: usize,
         text: &str,
         side: Option<Mark<'a>>,
     ) -> Result<(), AllocError>
-        ensures { OnOk result (Paints (paint None (at_left width text.now) ++ side_painted (option_map mark_of side.entry)) self.old self.new) }
+        ensures { OnOk result (Paints (paint None (bare_text alignment width text.now) ++ side_painted (option_map mark_of side.entry)) self.old self.new) }
     {
         let free = width.saturating_sub(2).saturating_sub(text.len());
+        let before = free_before(alignment, free);
         self.begin(None)?;
-        self.text.push(' ')?;
+        push_times(&mut self.text, before + 1, ' ')?;
         self.text.push_str(text)?;
-        self.push_spaces(free + 1, side)
+        self.push_spaces(free - before + 1, side)
     }
 
     /// Writes the given number of spaces, and then a side, if there is one, after what has no color.

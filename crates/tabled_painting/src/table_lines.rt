@@ -17,7 +17,7 @@ ghost use Rattle.tabled_painting.specs.BareCells.{AreBare};
 ghost use Rattle.tabled_painting.specs.Between.{IsBetweenRows};
 
 use crate::alike::first_plain_line;
-use crate::bare_cells::has_bare_cells;
+use crate::bare_cells::bare_columns;
 use crate::cell_lines::CellLines;
 use crate::page::Page;
 use crate::{CellColors, Painter};
@@ -28,6 +28,7 @@ use tabled_configuration::{ColorMap, ColoredConfig};
 use tabled_kept::Probes;
 use tabled_object::{Dimension, FixedDimension, Position};
 use tabled_printing::{Frame, Mark};
+use tabled_settings::AlignmentHorizontal;
 use tabled_width::is_printable;
 
 /// From how many rows on it pays to keep what stands between them.
@@ -39,11 +40,11 @@ pub(crate) struct TableLines<'a, 'b> {
     pub(crate) frame: Frame<'a, 'b, FixedDimension>,
     /// The colors of cells.
     pub(crate) colors: &'a ColorMap,
-    /// Whether nothing is set for cells.
-    bare_cells: bool,
+    /// Where the texts of each column stand, where all cells are bare; else of none.
+    bare_columns: Vec<AlignmentHorizontal>,
     /// A horizontal line between two rows as it is written, with its line feed, where all of them but custom ones look alike.
     between: Option<String>,
-    ghost are_bare: { bare_cells ≡ true → AreBare frame.cfg.now.settings.cells colors.now },
+    ghost are_bare: { AreBare frame.cfg.now.settings.cells colors.now bare_columns.items },
     ghost is_between: { ForSome between (λ text. IsBetweenRows frame (string_bytes text)) },
 }
 
@@ -68,13 +69,13 @@ impl<'a, 'b> TableLines<'a, 'b> {
         ensures with_colors { IfOk result (λ lines. lines.frame.with_colors ≡ with_colors) }
     {
         let (config, colors) = (cfg.config(), cfg.get_colors());
-        let bare_cells = has_bare_cells(config, colors);
+        let bare_columns = bare_columns(config, colors, shape.1)?;
         let frame = Frame::new(config, sizes, shape, with_colors)?;
         let between = line_between(config.allocator(), &frame)?;
         Ok(TableLines {
             frame,
             colors,
-            bare_cells,
+            bare_columns,
             between,
         })
     }
@@ -170,9 +171,12 @@ impl<'a, 'b> TableLines<'a, 'b> {
         ensures painted { OnOk result (Paints (row_cell self.now position.row position.col text.now 0 ++ side_painted (option_map mark_of side.entry)) painter.old painter.new) }
         ensures kept { is_low ≡ false → OnOk result ((at : ℕ) → map (line_of at) cells.new.items ≡ map (line_of at) cells.old.items ++ row_cell self.now position.row position.col text.now at ∷ []) }
     {
-        if is_low && self.bare_cells && is_printable(text) {
+        if is_low
+            && let Some(alignment) = self.bare_columns.get(position.col)
+            && is_printable(text)
+        {
             let width = self.frame.dims.get_width(position.col);
-            painter.push_at_left(width, text, side)?;
+            painter.push_bare(*alignment, width, text, side)?;
             return Ok(());
         }
         self.paint_set(painter, position, text, cells, is_low)?;

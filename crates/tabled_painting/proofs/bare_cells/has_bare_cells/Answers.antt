@@ -15,6 +15,6 @@ pub returns : goal.returns
 returns c holds =
     let settings = c.args.cfg.now.settings.cells in
     let colors = c.args.colors.now in
-    all_bare settings colors (c.has_alike_cells.ensures.0 c.if-not-has_alike_cells.false) (c.is_empty.ensures.0 c.if-not-is_empty.false)
+    all_bare settings colors (c.has_alike_rows.ensures.0 c.if-not-has_alike_rows.false) (c.is_empty.ensures.0 c.if-not-is_empty.false)
     (first_bare settings colors settings c.new-first.result.row c.new-first.result.col c.of-how.result (coloring_of c.of.result)
     refl c.new-first.ensures.row c.new-first.ensures.col c.of-how.ensures c.of.ensures (c.is_bare.ensures holds))
