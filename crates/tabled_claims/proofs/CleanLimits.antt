@@ -1,13 +1,11 @@
 -- Texts of which no character steers stay so where they are kept within a number of terminal columns.
-use Rattle.std.proofs.Common.{◌≡◌, ◌==◌, ℕ, ◌+◌, ◌<◌, zero, suc, Bool, true, false, not, if◌then◌else◌, List, [], ◌∷◌, ◌++◌, map, replicate, get_or, chars, encode_utf8_all, refl, sym, ap, subst, ◌∙◌, lit<}
+use Rattle.std.proofs.Common.{◌≡◌, ◌==◌, ℕ, ◌+◌, ◌<◌, zero, suc, Bool, true, false, not, if◌then◌else◌, List, [], ◌∷◌, ◌++◌, map, replicate, get_or, chars, encode_utf8_all, refl, sym, ap, ◌∙◌, lit<}
 use Rattle.std.specs.List.{All, concat, flat_map, list_all, join_with_byte, slice_split}
-use Rattle.std.specs.Str.{IsUtf8}
 use Rattle.std.proofs.Math.Utf8.{scalar, scalars}
 use Rattle.std.proofs.lemmas.Bool.{and_parts, and_from, not_from_false}
 use Rattle.std.proofs.lemmas.List.Elements.{All-nil, All-cons, All-head, All-tail, All-append, All-map}
 use Rattle.std.proofs.lemmas.List.Folds.{list_all-append}
-use Rattle.std.proofs.lemmas.List.Splits.{join_with_byte-slice_split}
-use Rattle.std.proofs.lemmas.Str.{chars-append, chars-encodes, chars_from_encodes, encodes-append, scalars-chars, chars-IsAscii, IsUtf8-append, IsUtf8-nil, IsUtf8-from_ascii}
+use Rattle.std.proofs.lemmas.Str.{chars-append, chars-encodes, chars_from_encodes, encodes-append, scalars-chars, chars-IsAscii, IsUtf8-append, IsUtf8-nil}
 use Rattle.std.proofs.lemmas.Str.Ascii.{IsAscii-nil, IsAscii-cons}
 use Rattle.tabled_clean.specs.Steering.{IsCleanText, steers, is_clean}
 use Rattle.tabled_width.specs.Clusters.{clusters, clusters_of}
@@ -18,7 +16,6 @@ use Rattle.tabled_width.specs.Texts.{fits, pieces}
 use Rattle.tabled_width.specs.declared.limit.Overflow.{Overflow}
 use Rattle.tabled_width.specs.declared.limit.Overflow.TheVariants.{Wrap, WrapWords, Truncate}
 use Rattle.tabled_width.proofs.ClusterLemmas.{concat_clusters}
-use Rattle.tabled_width.proofs.PieceFacts.{all_texts}
 use Rattle.tabled_claims.specs.Clean.{EndsClean}
 use Rattle.tabled_claims.proofs.CleanCharacters.{feed_steers, space_steers}
 use Rattle.tabled_claims.proofs.CleanTexts.{ascii_text, split_clean}

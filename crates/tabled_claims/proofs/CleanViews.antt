@@ -1,13 +1,13 @@
 -- Nothing steers in a page whose texts were cleaned.
-use Rattle.std.proofs.Common.{◌≡◌, ℕ, ◌+◌, ◌-◌, zero, suc, Bool, true, false, not, ◌&&◌, ◌||◌, nat_lt, if◌then◌else◌, IfSome, option_map, Option, Some, None, List, [], ◌∷◌, ◌++◌, map, length, replicate, get_or, chars, codes, refl, sym, ap, subst, ◌∙◌, arith, lit<}
-use Rattle.std.specs.List.{All, list_all, slice_get}
+use Rattle.std.proofs.Common.{◌≡◌, ℕ, ◌+◌, ◌-◌, zero, suc, Bool, true, false, ◌&&◌, nat_lt, if◌then◌else◌, IfSome, option_map, Option, Some, None, List, [], ◌∷◌, ◌++◌, length, replicate, get_or, chars, refl, sym, ap, subst, ◌∙◌, arith, lit<}
+use Rattle.std.specs.List.{All, slice_get}
 use Rattle.std.specs.Str.{IsUtf8}
 use Rattle.std.proofs.Math.Utf8.{low_scalar, scalar, scalars}
 use Rattle.std.proofs.lemmas.Bool.{and_from, and_parts}
 use Rattle.std.proofs.lemmas.Bool.Decides.{nat_tests}
 use Rattle.std.proofs.lemmas.List.Elements.{All-nil, All-cons, All-head, All-tail, All-append, All-map}
 use Rattle.std.proofs.lemmas.Str.{scalars-chars, IsUtf8-nil}
-use Rattle.tabled_clean.specs.Steering.{IsCleanText, begins_with_line_feed, cleaned, is_clean, picture, shown_for, steers, without_steering}
+use Rattle.tabled_clean.specs.Steering.{IsCleanText, cleaned, is_clean, picture, shown_for, steers, without_steering}
 use Rattle.tabled_clean.proofs.SteeringLemmas.{cleaned_is_clean}
 use Rattle.tabled_width.specs.declared.limit.Overflow.{Overflow}
 use Rattle.tabled_width.specs.declared.limit.Overflow.TheVariants.{Wrap, WrapWords, Truncate}
@@ -20,7 +20,7 @@ use Rattle.tabled_style.specs.declared.ready_style.ReadyStyle.{ReadyStyle}
 use Rattle.tabled_options.specs.NamedLine.{row_line}
 use Rattle.tabled_builder.specs.Records.{columns, filled}
 use Rattle.tabled_text.specs.Changed.{CellsAreClean, cells_changed, each_text, texts_of_columns, within}
-use Rattle.tabled_text.specs.Fitted.{IsFitted, frame_width, shares}
+use Rattle.tabled_text.specs.Fitted.{frame_width, shares}
 use Rattle.tabled_text.specs.Sizes.{cell, column_count}
 use Rattle.tabled_text.specs.TextTable.{look_of, text_of}
 use Rattle.tabled_text.proofs.ChangedLemmas.{in_cells}
@@ -38,7 +38,7 @@ use Rattle.tabled_viewing.specs.Outlines.{chosen, draws_boxes, line_of, outlined
 use Rattle.tabled_viewing.specs.View.{IsKeptBy, IsPage, IsView, IsViewOfRows, IsWithin, captioned, drawn, draws_above, draws_below, events_of, framed, has_header_line, page, rows_asked, texts_asked, titled}
 use Rattle.tabled_claims.specs.Clean.{EndsClean, WritesClean, is_clean_border, is_clean_if_given, is_quiet}
 use Rattle.tabled_claims.proofs.Characters.{outline_writes, text_writes}
-use Rattle.tabled_claims.proofs.CleanCharacters.{feed_steers, space_steers}
+use Rattle.tabled_claims.proofs.CleanCharacters.{space_steers}
 use Rattle.tabled_claims.proofs.CleanLimits.{clean_both, clean_nil, clean_one, limited_clean}
 use Rattle.tabled_claims.proofs.CleanPictures.{text_quiet}
 use Rattle.tabled_claims.proofs.CleanTexts.{Quiet, Quiet-append, Quiet-feed, Quiet-text, quiet_clean}

@@ -1,12 +1,12 @@
 -- The cells of an input are texts where it is one.
-use Rattle.std.proofs.Common.{◌≡◌, ◌==◌, ◌&&◌, ℕ, ◌+◌, ◌-◌, ◌<◌, ◌≤◌, zero, suc, nat_lt, Bool, true, false, if◌then◌else◌, List, [], ◌∷◌, ◌++◌, map, take, length, replicate, get_or, chars, encode_utf8, lit<, append-nil, refl, sym, ap, subst, ◌∙◌, arith, ⊎_elim}
+use Rattle.std.proofs.Common.{◌≡◌, ◌==◌, ◌&&◌, ℕ, ◌-◌, ◌<◌, ◌≤◌, nat_lt, Bool, true, false, if◌then◌else◌, List, [], ◌∷◌, ◌++◌, take, length, get_or, chars, encode_utf8, lit<, append-nil, refl, sym, subst, arith, ⊎_elim}
 use Rattle.std.specs.List.{All, slice_split}
 use Rattle.std.specs.Str.{IsUtf8}
 use Rattle.std.specs.Str.Lines.{lines, lines_of_parts, strip_carriage_return}
 use Rattle.std.proofs.Math.Utf8.{scalar, scalars}
 use Rattle.std.proofs.lemmas.Bool.{and_parts, and_from, cases_lt, eqb-true, ltb-true}
 use Rattle.std.proofs.lemmas.List.{get_or_past}
-use Rattle.std.proofs.lemmas.List.Elements.{All-nil, All-cons, All-head, All-tail, All-append, All-map}
+use Rattle.std.proofs.lemmas.List.Elements.{All-nil, All-cons, All-head, All-tail, All-map}
 use Rattle.std.proofs.lemmas.Str.{scalars-chars, IsUtf8-append, IsUtf8-nil, IsUtf8-take, IsCharBoundary-before_ascii}
 use Rattle.tabled_csv.specs.Lines.{cut_at, separated}
 use Rattle.tabled_csv.specs.Quoted.{begins_with_line_feed, cell_before, csv_rows, left_at, letter_before, nothing_left, row_before, step_at, without_returns}
