@@ -37,7 +37,7 @@ use Rattle.tabled_claims.specs.Clean.{WritesClean}
 use Rattle.tabled_text.specs.Changed.{CellsAreClean}
 use Rattle.tabled_claims.proofs.CleanCharacters.{space_steers, fill_steers}
 use Rattle.tabled_claims.proofs.CleanBorders.{borders_steer}
-use Rattle.tabled_claims.proofs.CleanTexts.{Quiet, Quiet-one, Quiet-nil, Quiet-append, Quiet-text, Quiet-times, Quiet-space, Quiet-joined, quiet_clean, shown_clean}
+use Rattle.tabled_claims.proofs.CleanTexts.{Quiet, Quiet-one, Quiet-nil, Quiet-append, Quiet-text, Quiet-times, Quiet-joined, quiet_clean, shown_clean}
 
 -- ---- painted lines
 

@@ -1,6 +1,6 @@
 -- Texts of characters of which none steers, their lines, and what is trimmed of these.
-use Rattle.std.proofs.Common.{◌≡◌, ◌==◌, ℕ, ◌+◌, ◌-◌, zero, suc, Bool, true, false, not, if◌then◌else◌, List, [], ◌∷◌, ◌++◌, map, length, reverse, replicate, get_or, take, chars, encode_utf8, encode_utf8_all, refl, sym, ap, subst, ◌∙◌, arith, lit<, length-append}
-use Rattle.std.specs.List.{list_all, All, join_with_byte}
+use Rattle.std.proofs.Common.{◌≡◌, ◌==◌, ℕ, ◌+◌, ◌-◌, ◌<◌, zero, suc, Bool, true, false, not, if◌then◌else◌, List, [], ◌∷◌, ◌++◌, map, length, reverse, replicate, get_or, take, chars, encode_utf8, encode_utf8_all, refl, sym, ap, subst, ◌∙◌, arith, lit<, length-append}
+use Rattle.std.specs.List.{list_all, All, join_with_byte, slice_split}
 use Rattle.std.specs.Str.{IsUtf8}
 use Rattle.std.proofs.lemmas.Bool.{and_parts, and_from, eqb-true, not-true, not_from_false}
 use Rattle.std.proofs.lemmas.List.{get_or_at, get_or-reverse, take_at, length-reverse, reverse-append, reverse-reverse}
@@ -54,11 +54,8 @@ times_quiet (suc count) c e = and_from (not (steers c)) (none_steers (replicate 
 pub Quiet-times : (count c : ℕ) → steers c ≡ false → Quiet (times count c)
 Quiet-times count c e = Quiet-encoded (replicate count c) (times_quiet count c e)
 
-feed_text : IsUtf8 (10 ∷ [])
-feed_text = IsUtf8-from_ascii (10 ∷ []) (IsAscii-cons 10 [] (lit< tt) IsAscii-nil)
-
-space_text : IsUtf8 (32 ∷ [])
-space_text = IsUtf8-from_ascii (32 ∷ []) (IsAscii-cons 32 [] (lit< tt) IsAscii-nil)
+pub ascii_text : (c : ℕ) → c < 128 → IsUtf8 (c ∷ [])
+ascii_text c low = IsUtf8-from_ascii (c ∷ []) (IsAscii-cons c [] low IsAscii-nil)
 
 encoded_feed : encode_utf8_all (10 ∷ []) ≡ 10 ∷ []
 encoded_feed = encodes-IsAscii (10 ∷ []) (IsAscii-cons 10 [] (lit< tt) IsAscii-nil)
@@ -66,7 +63,7 @@ encoded_feed = encodes-IsAscii (10 ∷ []) (IsAscii-cons 10 [] (lit< tt) IsAscii
 encoded_space : encode_utf8_all (32 ∷ []) ≡ 32 ∷ []
 encoded_space = encodes-IsAscii (32 ∷ []) (IsAscii-cons 32 [] (lit< tt) IsAscii-nil)
 
-Quiet-feed : Quiet (10 ∷ [])
+pub Quiet-feed : Quiet (10 ∷ [])
 Quiet-feed = subst Quiet encoded_feed (Quiet-one 10 feed_steers)
 
 pub Quiet-space : Quiet (32 ∷ [])
@@ -102,25 +99,27 @@ clean_parts xs ys u clean =
     and_parts (is_clean xs) (is_clean ys)
     (sym (list_all-append (λ c. not (steers c)) (chars xs) (chars ys)) ∙ sym (ap (list_all (λ c. not (steers c))) (chars-append xs ys u)) ∙ clean)
 
-parts_of_joined : (lines : List (List ℕ)) → All IsUtf8 lines → is_clean (join_with_byte 10 lines) ≡ true → All IsCleanText lines
-parts_of_joined [] texts clean = All-nil IsCleanText
-parts_of_joined (line ∷ []) texts clean = All-cons IsCleanText line [] (All-head IsUtf8 line [] texts, clean) (All-nil IsCleanText)
-parts_of_joined (line ∷ next ∷ lines) texts clean =
-    let own = All-head IsUtf8 line (next ∷ lines) texts in
-    let parts = clean_parts line (10 ∷ join_with_byte 10 (next ∷ lines)) own clean in
-    let rest = (clean_parts (10 ∷ []) (join_with_byte 10 (next ∷ lines)) feed_text parts.1).1 in
-    All-cons IsCleanText line (next ∷ lines) (own, parts.0) (parts_of_joined (next ∷ lines) (All-tail IsUtf8 line (next ∷ lines) texts) rest)
+-- the parts of a text between separators
+module _ (separator : ℕ) (low : separator < 128) where
+  parts_of_joined : (parts : List (List ℕ)) → All IsUtf8 parts → is_clean (join_with_byte separator parts) ≡ true → All IsCleanText parts
+  parts_of_joined [] texts clean = All-nil IsCleanText
+  parts_of_joined (part ∷ []) texts clean = All-cons IsCleanText part [] (All-head IsUtf8 part [] texts, clean) (All-nil IsCleanText)
+  parts_of_joined (part ∷ next ∷ parts) texts clean =
+      let own = All-head IsUtf8 part (next ∷ parts) texts in
+      let both = clean_parts part (separator ∷ join_with_byte separator (next ∷ parts)) own clean in
+      let rest = (clean_parts (separator ∷ []) (join_with_byte separator (next ∷ parts)) (ascii_text separator low) both.1).1 in
+      All-cons IsCleanText part (next ∷ parts) (own, both.0) (parts_of_joined (next ∷ parts) (All-tail IsUtf8 part (next ∷ parts) texts) rest)
 
-pieces_clean : (text : List ℕ) → IsCleanText text → All IsCleanText (pieces text)
-pieces_clean text clean =
-    parts_of_joined (pieces text) (all_texts 10 (lit< tt) text clean.0) (ap is_clean (join_with_byte-slice_split 10 text) ∙ clean.1)
+  pub split_clean : (text : List ℕ) → IsCleanText text → All IsCleanText (slice_split (λ byte. byte == separator) text)
+  split_clean text clean =
+      parts_of_joined (slice_split (λ byte. byte == separator) text) (all_texts separator low text clean.0) (ap is_clean (join_with_byte-slice_split separator text) ∙ clean.1)
 
 -- ---- what is trimmed
 
 space_off : (b : ℕ) (bs : List ℕ) → (b == 32) ≡ true → IsCleanText (b ∷ bs) → IsCleanText bs
 space_off b bs is clean =
     let spaced : IsCleanText (32 ∷ bs) = subst (λ n. IsCleanText (n ∷ bs)) (eqb-true b 32 is) clean in
-    (IsUtf8-drop (32 ∷ bs) 1 spaced.0 (IsCharBoundary-after_ascii (32 ∷ bs) 0 spaced.0 (omega arith) (lit< tt)), (clean_parts (32 ∷ []) bs space_text spaced.1).1)
+    (IsUtf8-drop (32 ∷ bs) 1 spaced.0 (IsCharBoundary-after_ascii (32 ∷ bs) 0 spaced.0 (omega arith) (lit< tt)), (clean_parts (32 ∷ []) bs (ascii_text 32 (lit< tt)) spaced.1).1)
 
 spaces_off : (line : List ℕ) → IsCleanText line → IsCleanText (without_first is_space line)
 spaces_off [] clean = clean
@@ -175,4 +174,4 @@ pub shown_clean : (how : Placement) (text : List ℕ) → IsCleanText text → A
 unfolding lines_shown
 shown_clean how text clean =
     lines_clean how.trim_vertical (map (line_shown how) (pieces text))
-    (All-map IsCleanText (line_shown how) (pieces text) (λ k d within. line_clean how.trim_horizontal (get_or (pieces text) k d) (pieces_clean text clean k d within)))
+    (All-map IsCleanText (line_shown how) (pieces text) (λ k d within. line_clean how.trim_horizontal (get_or (pieces text) k d) (split_clean 10 (lit< tt) text clean k d within)))

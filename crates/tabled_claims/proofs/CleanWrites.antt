@@ -1,6 +1,6 @@
 -- Events that write characters of which none steers, and fill cells with none.
 use Rattle.std.proofs.Common.{◌≡◌, ℕ, Bool, true, false, cond, filter_map, unwrap_or, Option, Some, None, List, [], ◌∷◌, ◌++◌, refl, sym, ap, ◌∙◌}
-use Rattle.std.specs.Prelude.{filter, option_and_then}
+use Rattle.std.specs.Prelude.{option_and_then}
 use Rattle.std.specs.List.{last_or, list_all}
 use Rattle.std.proofs.lemmas.Bool.{not-true}
 use Rattle.std.proofs.lemmas.List.Elements.{filter-append, filter_map-append}

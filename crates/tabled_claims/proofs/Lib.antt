@@ -14,3 +14,6 @@ pub mod CleanTexts
 pub mod CleanPictures
 pub mod Fitted
 pub mod Stops
+pub mod CleanLimits
+pub mod ReadTexts
+pub mod CleanViews

@@ -1,7 +1,8 @@
 -- A ready style writes narrow characters alone, of which none steers.
-use Rattle.std.proofs.Common.{◌≡◌, ◌&&◌, ℕ, Bool, true, List, [], ◌∷◌, ◌++◌, refl}
+use Rattle.std.proofs.Common.{◌≡◌, ◌&&◌, ℕ, Bool, true, List, [], ◌∷◌, ◌++◌, refl, sym, ◌∙◌}
 use Rattle.std.specs.List.{list_all}
 use Rattle.std.proofs.lemmas.Bool.{and_from, and_parts}
+use Rattle.std.proofs.lemmas.List.Folds.{list_all-append}
 use Rattle.tabled_clean.specs.Steering.{steers}
 use Rattle.unicode_width.proofs.Computing.{unicode_width}
 use Rattle.tabled_grid.specs.declared.event.Event.{Event}
@@ -128,6 +129,18 @@ ready_narrow style = narrow_style (shown style) (plain_shown style)
 
 pub ready_clean : (style : ReadyStyle) → WritesClean (ready_applied style)
 ready_clean style = clean_style (shown style) (plain_shown style)
+
+-- without its lines at single rows it writes less
+pub class_clean : (style : ReadyStyle) → WritesClean (borders_replaced (shown style).borders [] [])
+unfolding borders_replaced horizontal_lines_put vertical_lines_put
+class_clean style =
+    let own = shown style in
+    let lines = horizontal_lines_put own.horizontals ++ vertical_lines_put own.verticals in
+    let all = all_less is_plain is_quiet (λ c h. (and_parts (is_narrow c) (is_quiet c) h).1) (writes_of_style own) (plain_shown style) in
+    clean_only (borders_replaced own.borders [] [])
+    (only_both is_quiet (erase every_site ∷ class_record_set own.borders) (erase every_site ∷ [])
+    (and_parts (list_all (is_passing_write is_quiet) lines) (list_all (is_passing_write is_quiet) (class_record_set own.borders))
+    (sym (list_all-append (is_passing_write is_quiet) lines (class_record_set own.borders)) ∙ all)).1)
 
 pub rounded_narrow : WritesNarrow (style_applied rounded)
 rounded_narrow = narrow_style rounded rounded_plain

@@ -1,8 +1,10 @@
 -- Options that write nothing that steers a terminal.
 use Rattle.std.specs.Prelude.{◌≡◌, ℕ, Bool, true, false, not, Option, List}
 use Rattle.std.specs.List.{filter_map, list_all}
-use Rattle.tabled_clean.specs.Steering.{steers}
+use Rattle.tabled_clean.specs.Steering.{IsCleanText, steers}
 use Rattle.tabled_border.specs.declared.border.Border.{Border}
+use Rattle.tabled_width.specs.declared.limit.Overflow.{Overflow}
+use Rattle.tabled_width.specs.declared.limit.Overflow.TheVariants.{Wrap, WrapWords, Truncate}
 use Rattle.tabled_object.specs.declared.position.Position.{Position}
 use Rattle.tabled_settings.specs.CellSettings.{justification_event}
 use Rattle.tabled_settings.specs.Live.{value_at}
@@ -49,6 +51,12 @@ fills_of events = filter_map justification_event (filter_map cell_event (setting
 pub record WritesClean (events : List ConfigEvent) : Type 0 where
   pub borders : list_all is_clean_write (characters_of events) ≡ true
   pub filling : (position : Position) → steers (value_at (cells_set events).justification position) ≡ false
+
+-- nothing steers in what is written after a line that is too wide, if anything is
+abbrev pub EndsClean : Overflow → Type 0
+EndsClean Wrap = Unit {0}
+EndsClean WrapWords = Unit {0}
+EndsClean (Truncate suffix) = IsCleanText suffix.now
 
 -- a configuration shows events that write narrow characters alone, none of which steers, and that let no cell span or have padding
 abbrev pub ShowsPlainly : Configuration → Type 0

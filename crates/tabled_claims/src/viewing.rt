@@ -2,6 +2,9 @@
 
 ghost use Rattle.std.specs.Prelude.{◌≡◌, ◌≢◌, ◌⊎◌, ◌≤◌, ◌+◌, ℕ, List, Ok, Err, None, Some, true, false, length, map, string_bytes, IfErr, IfOk, IfSome, IsErrOf, OnOk};
 ghost use Rattle.std.specs.Io.KnownBytes.{Appends, Consumes, IsAtEnd, Keeps};
+ghost use Rattle.std.specs.List.{All};
+ghost use Rattle.std.specs.Str.{IsUtf8};
+ghost use Rattle.tabled_clean.specs.Steering.{is_clean};
 ghost use Rattle.tabled_input.specs.declared.error.InputError.TheVariants as input_refusals;
 ghost use Rattle.tabled_request.specs.Words.{request_of};
 ghost use Rattle.tabled_request.specs.declared.error.WordsError.{WordsError as Wrong};
@@ -9,7 +12,7 @@ ghost use Rattle.tabled_request.specs.declared.request.Request.{Request as Asked
 ghost use Rattle.tabled_request.specs.declared.surroundings.Surroundings.{Surroundings as Told};
 ghost use Rattle.tabled_printing.specs.Texts.{Table};
 ghost use Rattle.tabled_style.specs.declared.ready_style.ReadyStyle.{ReadyStyle as Named};
-ghost use Rattle.tabled_viewing.specs.Asked.{is_about_itself, style_asked};
+ghost use Rattle.tabled_viewing.specs.Asked.{is_about_itself, is_colored, style_asked};
 ghost use Rattle.tabled_viewing.specs.Itself.{told_of_itself};
 ghost use Rattle.tabled_viewing.specs.Refusal.{fault_of, status_of};
 ghost use Rattle.tabled_viewing.specs.Said.{said};
@@ -53,6 +56,13 @@ pub fn page_of_the_request<R: Read, W: Write>(
 /// color, and its table can be so narrow.
 pub fn no_line_is_wider()
     ensures { (request : Asked) (style : Named) (words : List (List ℕ)) (around : Told) (texts : Table) (text : List ℕ) → IsPage request style words around texts text → FitsWidth request style words around texts text }
+{}
+
+/// Nothing in a page steers the terminal, whatever the input and the words say, where texts are not to be left as they are and there is no
+/// color: no character of its cells, of its title and its footer, or of what is drawn around them.
+pub fn page_steers_nothing()
+    ensures { (request : Asked) (words : List (List ℕ)) (around : Told) (input text : List ℕ) → request.is_raw ≡ false → is_colored request around ≡ false
+        → All IsUtf8 words → IsUtf8 input → IsView request words around input text → is_clean text ≡ true }
 {}
 
 /// Where the program is asked about itself it writes exactly what it says of itself, and reads nothing.
