@@ -107,12 +107,23 @@ fn written(table: &TextTable, is_colored: bool) -> Result<String, OutOfMemory>
     plain_text(table)
 }
 
-/// A text and a line feed, between what stands above and what stands below.
-fn joined(above: String, text: &str, below: &str) -> Result<String, OutOfMemory>
-    ensures { IfOk result (λ page. string_bytes page ≡ string_bytes above ++ (text.now ++ 10 ∷ []) ++ below.now) }
+/// A text behind another one, which is copied only where there is one.
+fn behind(above: String, text: String) -> Result<String, OutOfMemory>
+    ensures { IfOk result (λ page. string_bytes page ≡ string_bytes above ++ string_bytes text) }
 {
+    if above.is_empty() {
+        return Ok(text);
+    }
     let mut page = above;
-    page.push_str(text)?;
+    page.push_str(text.as_str())?;
+    Ok(page)
+}
+
+/// A text and a line feed, between what stands above and what stands below.
+fn joined(above: String, text: String, below: &str) -> Result<String, OutOfMemory>
+    ensures { IfOk result (λ page. string_bytes page ≡ string_bytes above ++ (string_bytes text ++ 10 ∷ []) ++ below.now) }
+{
+    let mut page = behind(above, text)?;
     page.push('\n')?;
     page.push_str(below)?;
     Ok(page)
@@ -138,7 +149,7 @@ fn page_of_table(
     let in_color = is_colored(request, around);
     place_and_color(&mut table, alloc, request, &sides, in_color)?;
     let text = written(&table, in_color)?;
-    joined(above, text.as_str(), below.as_str())
+    joined(above, text, below.as_str())
 }
 
 /// The text that is written for rows: nothing where there is none.

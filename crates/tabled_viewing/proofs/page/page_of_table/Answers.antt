@@ -1,5 +1,5 @@
 -- What was done to the table one after the other.
-use Rattle.std.proofs.Common.{map, string_bytes, sym, subst, ◌∙◌}
+use Rattle.std.proofs.Common.{map, string_bytes, refl, sym, subst, ◌∙◌}
 use Rattle.tabled_configuration.specs.Colored.{Shows}
 use Rattle.tabled_printing.specs.Texts.{Table}
 use Rattle.tabled_viewing.specs.View.{captioned, framed, titled}
@@ -24,9 +24,9 @@ returns c =
     if_ok c.joined.result (λ page is.
     page_by_parts request style words c.args.around texts table c.put_title.new.table.texts c.put_footer.new.table.texts c.place_and_color.new.table.texts
     _ _ _ _ _ _ c.in_ok-frame.ensures.within first second third (c.deref.ensures.value ∙ c.in_ok-sides.ensures) c.is_colored-in_color.ensures
-    c.in_ok-above.ensures.above (c.as_str-2.ensures.value ∙ c.in_ok-below.ensures.below) (c.as_str.ensures.value ∙ c.in_ok-text.ensures.text _ all) is
+    c.in_ok-above.ensures.above (c.as_str.ensures.value ∙ c.in_ok-below.ensures.below) (c.in_ok-text.ensures.text _ all) is
     (page_fits request style words c.args.around texts table c.put_title.new.table.texts c.put_footer.new.table.texts c.place_and_color.new.table.texts
     _ _ _ _ _ (string_bytes c.in_ok-text.text) _ c.in_ok-frame.ensures.fits third c.is_colored-in_color.ensures
-    c.in_ok-above.ensures.above (c.as_str-2.ensures.value ∙ c.in_ok-below.ensures.below) c.as_str.ensures.value is
+    c.in_ok-above.ensures.above (c.as_str.ensures.value ∙ c.in_ok-below.ensures.below) refl is
     (λ plain narrow none. c.in_ok-text.ensures.rectangle plain _ all narrow none)))
     c.joined.ensures
