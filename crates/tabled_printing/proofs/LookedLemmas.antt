@@ -1,20 +1,22 @@
--- What a horizontal line shows where the class record alone decides it.
+-- What a line shows where the class record alone decides it.
 use Rattle.std.proofs.Common.{◌≡◌, ◌∙◌, ℕ, ◌<◌, ◌≤◌, Bool, true, false, None, Option, if◌then◌else◌, sym, ap, arith}
 use Rattle.std.proofs.lemmas.Bool.Decides.{nat_tests}
 use Rattle.tabled_border.specs.Texts.{Texts}
 use Rattle.tabled_grid.specs.declared.borders.Borders.{Borders}
 use Rattle.tabled_grid.specs.declared.lines.HorizontalLine.{HorizontalLine}
+use Rattle.tabled_grid.specs.declared.lines.VerticalLine.{VerticalLine}
 use Rattle.tabled_grid.specs.declared.place.Place.{Place}
 use Rattle.tabled_grid.specs.declared.place.LineOf.{LineOf}
 use Rattle.tabled_grid.specs.declared.place.Rank.{Rank}
 use Rattle.tabled_grid.specs.declared.place.Rank.TheVariants.{Last as last}
 use Rattle.tabled_grid.specs.declared.site.Class.TheVariants.{Crossings as crossings}
-use Rattle.tabled_grid.specs.Borders.{horizontal_of}
+use Rattle.tabled_grid.specs.Borders.{horizontal_of, vertical_of}
 use Rattle.tabled_grid.specs.ClassAlone.{ShowsClasses}
 use Rattle.tabled_grid.specs.Site.{rank, class_value}
 use Rattle.tabled_grid.specs.State.{state_at}
 use Rattle.tabled_grid.specs.Value.{has_spot, plain_value}
 use Rattle.tabled_configuration.specs.Configuration.{Configuration}
+use Rattle.tabled_printing.specs.Along.{is_empty}
 use Rattle.tabled_printing.specs.LinePieces.{has_line}
 use Rattle.tabled_printing.specs.Picture.{Shown}
 use Rattle.tabled_printing.specs.Beside.{plain_mark}
@@ -61,3 +63,14 @@ module _ (cfg : Configuration) (wanted : Bool) (shape : ℕ × ℕ) (row : ℕ) 
   last_looks =
       marked _ _ (ap (λ look. look.right) line_is ∙ ap (λ r. class_value (crossings (rank shape.0 row) r) cfg.characters.class_record) (sym (last_one shape.1 (has_cols shape row there)))
       ∙ sym (shows shape (Place.Cross row shape.1) (crossing_there shape row shape.1 there (omega arith))))
+
+-- and a vertical line beside the first row
+side_there : (shape : ℕ × ℕ) (c : ℕ) → is_empty shape ≡ false → c ≤ shape.1 → has_spot shape (Place.Vertical 0 c 0) ≡ true
+side_there shape c any within = grind (arith, nat_tests)
+
+pub side_looks : (cfg : Configuration) (wanted : Bool) (shape : ℕ × ℕ) (c : ℕ) → wanted ≡ false → is_empty shape ≡ false → c ≤ shape.1 → ShowsClasses cfg.characters
+    → (class : Borders ℕ) → class ≡ cfg.characters.class_record → (place : Rank) → place ≡ rank shape.1 c → (line : VerticalLine ℕ) → line ≡ vertical_of place class
+    → ◌≡◌ {A = Shown} (line.main, None) (plain_mark cfg wanted shape (Place.Vertical 0 c 0))
+side_looks cfg wanted shape c plain any within shows class its place ranked line are =
+    mark_by _ _ _ _ (ap (λ look. look.main) (are ∙ (λ i. vertical_of (ranked i) (its i))) ∙ sym (shows shape (Place.Vertical 0 c 0) (side_there shape c any within)))
+    (uncolored wanted (plain_value (state_at cfg.colors) shape (Place.Vertical 0 c 0)) plain)

@@ -1,11 +1,13 @@
 //! What vertical lines show beside rows, made once for a table.
 
-ghost use Rattle.std.specs.Prelude.{◌≡◌, ◌≤◌, ◌<◌, ◌+◌, true, if◌then◌else◌, [], ◌∷◌, IfOk, length, map, option_map};
+ghost use Rattle.std.specs.Prelude.{◌≡◌, ◌≤◌, ◌+◌, true, false, IfOk, map, option_map};
 ghost use Rattle.tabled_grid.specs.declared.site.Direction.TheVariants.{Vertical};
 ghost use Rattle.tabled_object.specs.Entities.{below};
 ghost use Rattle.tabled_printing.specs.Alike.{NoneForPlaces, NoneForLines};
 ghost use Rattle.tabled_printing.specs.Marks.{mark_of};
-ghost use Rattle.tabled_printing.specs.Beside.{plain_side};
+ghost use Rattle.tabled_grid.specs.declared.place.Place.{Place as Spot};
+ghost use Rattle.tabled_printing.specs.Along.{is_empty};
+ghost use Rattle.tabled_printing.specs.Beside.{plain_mark, plain_side};
 ghost use Rattle.tabled_printing.specs.SideMarks.{mark_count};
 
 use crate::Mark;
@@ -13,7 +15,7 @@ use crate::mark::plain_mark;
 use crate::print::printed_as;
 use tabled_border::OutOfMemory;
 use tabled_configuration::SpannedConfig;
-use tabled_grid::{LineOf, Place};
+use tabled_grid::{LineOf, Place, Rank};
 use tabled_kept::Probes;
 
 /// The marks of vertical lines beside rows: for each line that is drawn one, and none for one that is not.
@@ -45,6 +47,7 @@ impl<'a> Sides<'a> {
         with_colors: bool,
         by_rank: bool,
     ) -> Result<Self, OutOfMemory>
+        requires shape { is_empty shape ≡ false }
         requires places { by_rank ≡ true → NoneForPlaces cfg.now with_colors Vertical }
         requires lines { by_rank ≡ true → NoneForLines cfg.now with_colors Vertical }
         ensures sides { IfOk result (AreSides cfg.now with_colors shape) }
@@ -110,21 +113,40 @@ fn bytes_of_each(marks: &[Option<Mark>]) -> usize {
     bytes
 }
 
-/// What is kept for a line beside the first row, if it is drawn.
+/// What is kept for a line without its offsets, beside the first row. Where the class record alone decides that, it is read off there.
+fn mark_beside<'a>(
+    cfg: &'a SpannedConfig,
+    shape: (usize, usize),
+    col: usize,
+    with_colors: bool,
+) -> Mark<'a>
+    requires shape { is_empty shape ≡ false }
+    requires col { col ≤ shape.1 }
+    ensures { mark_of result ≡ plain_mark cfg.now with_colors shape (Spot.Vertical 0 col 0) }
+{
+    let probes = &mut Probes::new();
+    if !with_colors && let Some(class) = cfg.class_alone(probes) {
+        return Mark::uncolored(class.vertical_line(Rank::of(col, shape.1)).main);
+    }
+    let place = Place::Vertical { row: 0, col, at: 0 };
+    plain_mark(cfg, shape, place, with_colors, probes)
+}
+
+/// The same, if the line is drawn.
 fn side<'a>(
     cfg: &'a SpannedConfig,
     shape: (usize, usize),
     col: usize,
     with_colors: bool,
 ) -> Option<Mark<'a>>
+    requires shape { is_empty shape ≡ false }
+    requires col { col ≤ shape.1 }
     ensures { option_map mark_of result ≡ plain_side cfg.now with_colors shape col }
 {
-    let probes = &mut Probes::new();
-    if !cfg.draws(LineOf::Vertical(col), shape.1, probes) {
+    if !cfg.draws(LineOf::Vertical(col), shape.1, &mut Probes::new()) {
         return None;
     }
-    let place = Place::Vertical { row: 0, col, at: 0 };
-    Some(plain_mark(cfg, shape, place, with_colors, probes))
+    Some(mark_beside(cfg, shape, col, with_colors))
 }
 
 /// The marks of all lines.
@@ -133,6 +155,7 @@ fn one_by_one<'a>(
     shape: (usize, usize),
     with_colors: bool,
 ) -> Result<Vec<Option<Mark<'a>>>, OutOfMemory>
+    requires { is_empty shape ≡ false }
     ensures { IfOk result (λ marks. map (option_map mark_of) marks.items ≡ map (plain_side cfg.now with_colors shape) (below (shape.1 + 1))) }
 {
     let (_, last) = shape;

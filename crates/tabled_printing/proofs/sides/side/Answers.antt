@@ -14,5 +14,5 @@ returns-then-not-draws c =
 pub returns : goal.returns
 returns c =
     let drawn = sym (own_drawn c.args.cfg.now c.args.shape.1 (LineOf.Vertical c.args.col) c.draws.result c.draws.ensures.drawn) ∙ c.if-not-draws.false in
-    ap Some c.plain_mark.ensures.mark
+    ap Some c.mark_beside.ensures
     ∙ sym (ap (λ b. if b then Some (plain_mark c.args.cfg.now c.args.with_colors c.args.shape (Place.Vertical 0 c.args.col 0)) else None) drawn)
