@@ -1,11 +1,9 @@
 -- Cell texts: bytes that are cut at line feeds, and how wide they are on a terminal.
 pub use Rattle.tabled_width.specs.Texts.{pieces, width_of_text}
-use Rattle.std.specs.Prelude.{◌≡◌, ℕ, false, ◌==◌, List, ◌++◌, map, length, take, replicate, chars, encode_utf8_all, MatchResult, Result}
-use Rattle.std.specs.List.{slice_split}
+use Rattle.std.specs.Prelude.{◌≡◌, ℕ, List, ◌++◌, map, length, take, replicate, encode_utf8_all, MatchResult, Result}
 use Rattle.std.specs.String.{string_bytes}
 use Rattle.std.specs.declared.string.String.{String}
 use Rattle.std.specs.declared.vec.Vec.{Vec}
-use Rattle.unicode_width.specs.Width.{str_width}
 
 -- a table's texts: the bytes of each cell, row by row
 abbrev pub Table : Type 0
