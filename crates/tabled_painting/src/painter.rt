@@ -1,6 +1,6 @@
 //! Writes painted lines.
 
-ghost use Rattle.std.specs.Prelude.{◌≡◌, ◌++◌, ◌∷◌, [], None, OnOk, option_copied, option_map, string_bytes};
+ghost use Rattle.std.specs.Prelude.{◌≡◌, ◌+◌, ◌++◌, ◌∷◌, [], None, OnOk, option_copied, option_map, string_bytes};
 ghost use Rattle.tabled_printing.specs.Marks.{mark_of};
 ghost use Rattle.tabled_printing.specs.Sinks.{anything};
 ghost use Rattle.tabled_cells.specs.Placed.{times};
@@ -15,6 +15,20 @@ use tabled_border::{ANSIBuf, OutOfMemory};
 use tabled_cells::free_before;
 use tabled_printing::{Mark, Run, Sink, push_spaces_before, push_times};
 use tabled_settings::AlignmentHorizontal;
+
+/// Writes a space after the given number of others. At the left of a column it is the only one, and written by itself.
+#[inline(always)]
+fn push_before(text: &mut String, count: usize) -> Result<(), AllocError>
+    ensures { OnOk result (string_bytes text.new ≡ string_bytes text.old ++ times (1 + count) 32) }
+{
+    if count == 0 {
+        text.push(' ')?;
+        return Ok(());
+    }
+    push_times(text, count, ' ')?;
+    text.push(' ')?;
+    Ok(())
+}
 
 /// A text that painted lines are written into, one after another, and the color of what was written last.
 #[derive(Drop)]
@@ -173,7 +187,7 @@ impl<'a> Painter<'a> {
         let free = width.saturating_sub(2).saturating_sub(text.len());
         let before = free_before(alignment, free);
         self.begin(None)?;
-        push_times(&mut self.text, before + 1, ' ')?;
+        push_before(&mut self.text, before)?;
         self.text.push_str(text)?;
         self.push_spaces(free - before + 1, side)
     }

@@ -28,7 +28,6 @@ returns c =
     let free : c.saturating_sub-free.result ≡ c.args.width - 2 - length text = omega (arith, c.saturating_sub.ensures, c.saturating_sub-free.ensures) in
     let ahead : before ≡ free_before alignment (c.args.width - 2 - length text) = c.free_before-before.ensures.value ∙ ap (free_before alignment) free in
     let begun = string_bytes c.begin.new.self.text in
-    let one_more : before + 1 ≡ 1 + before = omega arith in
     let front : Painted = paint None (times (1 + before) 32 ++ text) in
     let last : ℕ = c.saturating_sub-free.result - before + 1 in
     let spaces : Painted = paint None (times last 32) in
@@ -41,5 +40,5 @@ returns c =
     ∙ (λ i. paint None (times (1 + ahead i) 32 ++ text ++ times (free i - ahead i + 1) 32))))
     (paints_both front (spaces ++ side) c.args.self.now _ c.push_spaces.new.self
     (paints_begun None (times (1 + before) 32 ++ text) c.args.self.now c.begin.new.self _ (some_spaces before text) c.in_ok-begin.ensures.text c.in_ok-begin.ensures.color c.begin.ensures.same_colors
-    (c.in_ok-push_str.ensures.bytes ∙ ap (λ bs. bs ++ text) (c.in_ok-push_times.ensures.ok ∙ ap (λ n. begun ++ times n 32) one_more) ∙ append_assoc begun (times (1 + before) 32) text) refl refl)
+    (c.in_ok-push_str.ensures.bytes ∙ ap (λ bs. bs ++ text) c.in_ok-push_before.ensures ∙ append_assoc begun (times (1 + before) 32) text) refl refl)
     painted))
