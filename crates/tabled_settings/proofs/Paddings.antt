@@ -5,7 +5,7 @@ use Rattle.tabled_object.specs.declared.entity.Entity.TheVariants.{Global}
 use Rattle.tabled_object.specs.declared.position.Position.{Position}
 use Rattle.tabled_settings.specs.declared.indent.Indent.{Indent}
 use Rattle.tabled_settings.specs.declared.sides.Sides.{Sides}
-use Rattle.tabled_settings.specs.Setting.{EntityEvent, write_of, setting}
+use Rattle.tabled_settings.specs.Setting.{write_of, setting}
 use Rattle.tabled_settings.specs.Live.{Live, value_at}
 use Rattle.tabled_settings.specs.Padding.{spaces, first_padding, is_spaces, is_first_padding, keeps_first_padding}
 

@@ -9,7 +9,6 @@ use Rattle.tabled_border.specs.Texts.{Texts}
 use Rattle.tabled_settings.specs.declared.alignment.AlignmentHorizontal.TheVariants as horizontal
 use Rattle.tabled_settings.specs.declared.alignment.AlignmentVertical.TheVariants as vertical
 use Rattle.tabled_settings.specs.declared.sides.Sides.{Sides}
-use Rattle.tabled_settings.specs.declared.indent.Indent.{Indent}
 use Rattle.tabled_settings.specs.declared.cell_settings.CellSettings.{CellSettings}
 use Rattle.tabled_settings.specs.contracts.alignment.AlignmentHorizontalPartialEq.TheImpl.{eq-value as same_horizontal}
 use Rattle.tabled_settings.specs.contracts.alignment.AlignmentVerticalPartialEq.TheImpl.{eq-value as same_vertical}

@@ -4,7 +4,7 @@ ghost use Rattle.std.specs.Prelude.{◌≡◌, ◌↔◌, ◌++◌, ◌∷◌, [
 ghost use Rattle.std.specs.List.{last_or};
 ghost use Rattle.std.specs.Cmp.Lexicographic.{pointwise};
 ghost use Rattle.tabled_settings.specs.Setting.{covering};
-ghost use Rattle.tabled_settings.specs.Live.{are_of_columns, without, has_event};
+ghost use Rattle.tabled_settings.specs.Live.{are_of_columns, are_of_rows, without, has_event};
 ghost use Rattle.tabled_settings.specs.Same.{same_event};
 
 mod both;
@@ -93,6 +93,13 @@ impl<T> LastEvents<T> {
         ensures { result ≡ are_of_columns self.now }
     {
         slots::are_of_columns(&self.slots)
+    }
+
+    /// Whether each of them is an event of a row.
+    pub(crate) fn has_rows_alone(&self) -> bool
+        ensures { result ≡ are_of_rows self.now }
+    {
+        slots::are_of_rows(&self.slots)
     }
 
     /// Whether both have the same events in the same order.
