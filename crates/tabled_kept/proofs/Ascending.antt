@@ -1,6 +1,6 @@
 -- Entries whose keys ascend.
 use Rattle.std.proofs.Common.{◌≡◌, Bool, ◌&&◌, List, [], ◌∷◌, ◌++◌, length, refl, sym, ap, subst, ◌∙◌, append_assoc, arith, Ordering, Less}
-use Rattle.std.specs.Cmp.{IsTotalOrder}
+use Rattle.std.specs.Cmp.{IsTotalOrder, eq_by_cmp_equiv}
 use Rattle.std.specs.List.{AllByRecursion}
 use Rattle.std.specs.List.Sorted.{IsStrictlySortedBy}
 use Rattle.std.specs.Ordering.{ordering_reverse, match_ordering, eq_by_cmp}
@@ -8,9 +8,12 @@ use Rattle.std.specs.Cmp.Lexicographic.{pointwise}
 use Rattle.std.specs.FinMap as map
 use Rattle.std.specs.FinMap.Entries.{by_order}
 use Rattle.std.specs.Map.{keys_of}
-use Rattle.std.specs.BTreeMap.{insert_entry}
+use Rattle.std.specs.BTreeMap.{BTreeMap, IsFromIterResult, insert_entry}
+use Rattle.std.proofs.lemmas.Map.Keys.{IsDistinct-from_sorted}
+use Rattle.std.proofs.lemmas.Map.Made.{update_all_none}
 use Rattle.tabled_kept.specs.Table.{table}
 use Rattle.tabled_kept.specs.Same.{same_map}
+use Rattle.tabled_kept.proofs.Tables.{get-table}
 
 -- what holds of all keys holds of the one in the middle
 in_the_middle : {K X : Type 0} (P : K → Type 0) (es : List (K × X)) (k : K) (v : X) (rest : List (K × X)) → AllByRecursion P (keys_of (es ++ (k, v) ∷ rest)) → P k
@@ -64,3 +67,11 @@ table-entries o m h = map.same_entries_map _ _ (entries-table o (map.entries m) 
 pub same-table : {K X : Type 0} {R : K → K → Ordering} → IsTotalOrder R → (D : K → K → Bool) (E : X → X → Bool) → ((x y : K) → D x y ≡ eq_by_cmp R x y) → (es fs : List (K × X)) → IsStrictlySortedBy R (keys_of es) → IsStrictlySortedBy R (keys_of fs) → pointwise (λ a b. D a.0 b.0 && E a.1 b.1) es fs ≡ same_map E (table R es) (table R fs)
 same-table {R = R} o D E ties es fs ascend ascend' =
     λ i. pointwise (λ a b. ties a.0 b.0 i && E a.1 b.1) (sym (entries-table o es ascend) i) (sym (entries-table o fs ascend') i)
+
+-- an ordered map that is made of entries in order has those entries
+pub entries_made : {K X : Type 0} {R : K → K → Ordering} → IsTotalOrder R → map.IsAntisymmetric R → (es : List (K × X)) → IsStrictlySortedBy R (keys_of es) → (made : BTreeMap K X) → IsFromIterResult R es made → made.entries ≡ es
+entries_made {R = R} o exact es ascend made from =
+    sym (entries-table o made.entries from.1)
+    ∙ ap map.entries (map.same_map o exact _ _ (λ q.
+    get-table o exact made.entries q ∙ from.0 q ∙ update_all_none (eq_by_cmp_equiv o) (eq_by_cmp R) (λ x y. refl) es q (IsDistinct-from_sorted R (keys_of es) ascend) ∙ sym (get-table o exact es q)))
+    ∙ entries-table o es ascend

@@ -2,7 +2,8 @@
 
 ghost use Rattle.std.specs.Prelude.{◌≡◌, ◌<◌, ◌^◌, OnOk, OnErr, IfOk, None, option_copied};
 ghost use Rattle.std.specs.FinMap as map;
-ghost use Rattle.std.specs.BTreeMap.{insert_entry};
+ghost use Rattle.std.specs.List.Sorted.{IsStrictlySortedBy};
+ghost use Rattle.std.specs.Map.{keys_of};
 ghost use Rattle.tabled_kept.specs.Table.{table};
 ghost use Rattle.tabled_kept.specs.Same.{same_map};
 ghost use Rattle.tabled_kept.specs.Probing.{IsCounted, IsRaised};
@@ -129,24 +130,22 @@ fn copy_of<K: Key, V: Keep>(
 ) -> Result<BTreeMap<K, V>, OutOfMemory>
     ensures { IfOk result (λ copy. copy.entries ≡ entries.now.entries) }
 {
-    let mut copy = BTreeMap::new(alloc);
+    let mut copies = Vec::with_capacity(alloc, entries.len())?;
     for (key, value) in entries {
-        put_copy(&mut copy, *key, value, alloc)?;
+        copies.push((*key, value.keep(alloc)?))?;
     }
-    Ok(copy)
+    map_of(copies, alloc)
 }
 
-/// Puts a copy of a value under a key.
-pub(crate) fn put_copy<K: Key, V: Keep>(
-    entries: &mut BTreeMap<K, V>,
-    key: K,
-    value: &V,
+/// The ordered map of entries in rising order, made at once and without a search. Its memory comes from `alloc`.
+pub(crate) fn map_of<K: Key, V: Drop>(
+    entries: Vec<(K, V)>,
     alloc: Global,
-) -> Result<(), OutOfMemory>
-    ensures { OnOk result (entries.new.entries ≡ insert_entry K.cmp entries.old.entries key value.now) }
+) -> Result<BTreeMap<K, V>, OutOfMemory>
+    requires { IsStrictlySortedBy K.cmp (keys_of entries.items) }
+    ensures { IfOk result (λ made. made.entries ≡ entries.items) }
 {
-    entries.insert(key, value.keep(alloc)?)?;
-    Ok(())
+    Ok(BTreeMap::from_iter(alloc, entries)?)
 }
 
 impl<K: Key, V: Keep> Keep for Entries<K, V> {

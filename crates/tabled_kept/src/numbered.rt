@@ -9,7 +9,7 @@ ghost use Rattle.std.specs.Iterator.{YieldsFirstBy, item_count};
 ghost use Rattle.tabled_kept.specs.Table.{table};
 
 use crate::counted_map::CountedMap;
-use crate::entries::{Entries, put_copy};
+use crate::entries::{Entries, map_of};
 use std::alloc::Global;
 use std::collections::BTreeMap;
 use std::collections::btree_map::Iter;
@@ -123,10 +123,10 @@ impl<V> CountedMap<usize, V> {
         V: Keep,
         ensures { IfOk result (λ copy. table nat_cmp copy.entries ≡ table nat_cmp self.now) }
     {
-        let mut copy = BTreeMap::new(alloc);
+        let mut copies = Vec::new(alloc);
         for (number, value) in self.iter() {
-            put_copy(&mut copy, number, value, alloc)?;
+            copies.push((number, value.keep(alloc)?))?;
         }
-        Ok(copy)
+        map_of(copies, alloc)
     }
 }

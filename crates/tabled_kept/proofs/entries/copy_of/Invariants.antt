@@ -3,4 +3,4 @@ use Rattle.tabled_kept.proofs.entries.copy_of.Given as goal
 
 -- what is copied and what is left are the entries
 abbrev pub invariant-loop-key : goal.invariant-loop-key
-invariant-loop-key g l = l.copy.entries ++ l.key-iterator ≡ l.entries.entries
+invariant-loop-key g l = l.copies.items ++ l.key-iterator ≡ l.entries.entries

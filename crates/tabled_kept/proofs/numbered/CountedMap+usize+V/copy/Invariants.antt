@@ -5,4 +5,4 @@ use Rattle.tabled_kept.proofs.numbered.CountedMap+usize+V.copy.Given as goal
 
 -- what is copied and what is left are the entries
 abbrev pub invariant-loop-number : goal.invariant-loop-number
-invariant-loop-number g l = l.copy.entries ++ l.number-iterator ≡ map.entries (table nat_cmp l.self)
+invariant-loop-number g l = l.copies.items ++ l.number-iterator ≡ map.entries (table nat_cmp l.self)
