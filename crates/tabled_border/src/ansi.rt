@@ -14,6 +14,7 @@ use std::cmp::Ordering;
 use std::fmt;
 use std::hash::{Hash, Hasher};
 use std::marker::Model;
+use std::sync::Arc;
 
 /// A value that writes a text before and a text after what it is wrapped around.
 pub trait ANSIFmt {
@@ -45,13 +46,13 @@ pub trait AnsiText {
         ensures { result.now ≡ suffix_text self.now };
 }
 
-/// A color that owns its texts.
+/// A color that owns its texts, together with its copies: these share them.
 ///
 /// Two colors are equal where their texts are. Colors are ordered by prefix, then by suffix.
 #[derive(Drop)]
 pub struct ANSIBuf {
     /// Its texts, or none where both are empty.
-    texts: Option<Box<OwnedTexts>>,
+    texts: Option<Arc<OwnedTexts>>,
 }
 
 /// The two texts of a color.
@@ -95,7 +96,7 @@ impl ANSIBuf {
             suffix: String::from_str(alloc, suffix)?,
         };
         Ok(ANSIBuf {
-            texts: Some(Box::new(alloc, texts)?),
+            texts: Some(Arc::new(alloc, texts)?),
         })
     }
 
@@ -131,12 +132,18 @@ impl ANSIBuf {
 }
 
 impl Keep for ANSIBuf {
-    /// A copy of the color with its texts. The empty color takes no memory.
-    fn keep(&self, alloc: Global) -> Result<Self, OutOfMemory>
+    /// A copy of the color, which shares its texts and takes no memory beside itself. It is refused where no number says how many copies
+    /// there are; the empty color never is.
+    fn keep(&self, _alloc: Global) -> Result<Self, OutOfMemory>
         ensures copy { IfOk result (λ copy. copy ≡ self.now) }
         ensures empty { self.now.prefix ≡ [] → self.now.suffix ≡ [] → IsOk result }
     {
-        ANSIBuf::new(alloc, self.get_prefix(), self.get_suffix())
+        match &self.texts {
+            Some(texts) if !self.is_empty() => Ok(ANSIBuf {
+                texts: Some(texts.clone()?),
+            }),
+            _ => Ok(ANSIBuf { texts: None }),
+        }
     }
 }
 
