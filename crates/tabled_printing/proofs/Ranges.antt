@@ -95,18 +95,25 @@ or_second : (a b : Bool) → b ≡ true → (a || b) ≡ true
 or_second true b h = refl
 or_second false b h = h
 
+-- a character of ASCII or of the box drawings is narrow, and so is one that is wide in an East Asian context
+pub soon_narrow : (c : ℕ) → (is_in_range 0x20 0x7E c || is_in_range 0x2500 0x259F c) ≡ true → is_narrow c ≡ true
+soon_narrow c passed =
+    ⊎_elim (λ ascii. let sides = both_sides 32 126 c ascii in ascii_narrow c sides.0 sides.1)
+    (λ boxes. let sides = both_sides 0x2500 0x259F c boxes in box_drawing_narrow c sides.0 sides.1)
+    (or_cases (is_in_range 0x20 0x7E c) (is_in_range 0x2500 0x259F c) passed)
+
+pub high_narrow : (c : ℕ) → (nat_lt 0xA0 c && is_ambiguous_kind (kind c)) ≡ true → is_narrow c ≡ true
+high_narrow c passed =
+    let parts = and_parts (nat_lt 0xA0 c) (is_ambiguous_kind (kind c)) passed in
+    or_second (is_in_range 0x20 0x7E c) _ (and_from _ _ parts.0 (ambiguous_narrow (kind c) parts.1))
+
 -- each character that draws plainly is narrow
 pub plainly_narrow : (c : ℕ) → draws_plainly c ≡ true → is_narrow c ≡ true
 plainly_narrow c passed =
-    ⊎_elim (λ ascii. let sides = both_sides 32 126 c ascii in ascii_narrow c sides.0 sides.1)
-    (λ other. ⊎_elim (λ boxes. let sides = both_sides 0x2500 0x259F c boxes in box_drawing_narrow c sides.0 sides.1) high
+    ⊎_elim (λ ascii. soon_narrow c (ap (λ b. b || is_in_range 0x2500 0x259F c) ascii))
+    (λ other. ⊎_elim (λ boxes. soon_narrow c (or_second (is_in_range 0x20 0x7E c) _ boxes)) (high_narrow c)
     (or_cases (is_in_range 0x2500 0x259F c) (nat_lt 0xA0 c && is_ambiguous_kind (kind c)) other))
     (or_cases (is_in_range 0x20 0x7E c) (is_in_range 0x2500 0x259F c || (nat_lt 0xA0 c && is_ambiguous_kind (kind c))) passed)
-  where
-    high : (nat_lt 0xA0 c && is_ambiguous_kind (kind c)) ≡ true → is_narrow c ≡ true
-    high h =
-        let parts = and_parts (nat_lt 0xA0 c) (is_ambiguous_kind (kind c)) h in
-        or_second (is_in_range 0x20 0x7E c) _ (and_from _ _ parts.0 (ambiguous_narrow (kind c) parts.1))
 
 -- ---- how the kind is told by the two widths
 

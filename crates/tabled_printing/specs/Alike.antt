@@ -1,6 +1,8 @@
 -- Where nothing is kept for single places, or for single lines: so lines, and the places along a line, look alike.
-use Rattle.std.specs.Prelude.{◌≡◌, Bool, true}
+use Rattle.std.specs.Prelude.{◌≡◌, ℕ, Bool, true, false}
+use Rattle.tabled_grid.specs.declared.borders.Borders.{Borders}
 use Rattle.tabled_grid.specs.declared.site.Direction.{Direction}
+use Rattle.tabled_grid.specs.ClassAlone.{ShowsClasses}
 use Rattle.tabled_grid.specs.State.{State, HasNoCells, HasNoOffsets, HasNoLines}
 use Rattle.tabled_configuration.specs.Configuration.{Configuration}
 
@@ -17,3 +19,9 @@ pub record NoneForPlaces (cfg : Configuration) (wanted : Bool) (d : Direction) :
 pub record NoneForLines (cfg : Configuration) (wanted : Bool) (d : Direction) : Type 0 where
   pub characters : HasNoLines d cfg.characters
   pub colors : wanted ≡ true → HasNoLines d cfg.colors
+
+-- no colors are wanted, and this class record of the configuration alone decides which characters show
+pub record ClassDecides (cfg : Configuration) (wanted : Bool) (class : Borders ℕ) : Type 0 where
+  pub no_colors : wanted ≡ false
+  pub is_its : class ≡ cfg.characters.class_record
+  pub shows : ShowsClasses cfg.characters

@@ -1,11 +1,13 @@
-//! Whether nothing is kept for single places, or for single lines, so that what they show need not be looked up for each.
+//! Whether nothing is kept for single places, or for single lines, or but for classes, so that what they show need not be looked up for
+//! each.
 
 ghost use Rattle.std.specs.Prelude.{◌↔◌, IsTrue};
+ghost use Rattle.std.specs.Option.{ForSome};
 ghost use Rattle.tabled_grid.specs.Reading.{direction_of};
-ghost use Rattle.tabled_printing.specs.Alike.{HasNoSingles, NoneForPlaces, NoneForLines};
+ghost use Rattle.tabled_printing.specs.Alike.{ClassDecides, HasNoSingles, NoneForPlaces, NoneForLines};
 
 use tabled_configuration::SpannedConfig;
-use tabled_grid::LineOf;
+use tabled_grid::{Borders, LineOf};
 use tabled_kept::Probes;
 
 /// Whether no character is kept for a single place of the lines of the direction of this one.
@@ -38,4 +40,14 @@ pub(crate) fn has_none_for_lines(cfg: &SpannedConfig, line: LineOf, with_colors:
 {
     let probes = &mut Probes::new();
     !cfg.has_char_lines(line, probes) && (!with_colors || !cfg.has_color_lines(line, probes))
+}
+
+/// The class record, where no colors are wanted and it alone decides which characters show.
+pub(crate) fn class_deciding(cfg: &SpannedConfig, with_colors: bool) -> Option<&Borders<char>>
+    ensures { ForSome result (λ its. ClassDecides cfg.now with_colors its.now) }
+{
+    if with_colors {
+        return None;
+    }
+    cfg.class_alone(&mut Probes::new())
 }

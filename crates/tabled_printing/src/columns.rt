@@ -32,5 +32,8 @@ pub fn draws_plainly(character: char) -> bool
     let code = character as u32;
     let in_ascii = (code >= 0x20) & (code <= 0x7E);
     let draws_boxes = (code >= 0x2500) & (code <= 0x259F);
-    in_ascii | (draws_boxes | is_ambiguous(character))
+    if in_ascii | draws_boxes {
+        return true;
+    }
+    is_ambiguous(character)
 }

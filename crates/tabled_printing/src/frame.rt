@@ -2,6 +2,7 @@
 
 ghost use Rattle.std.specs.Prelude.{◌≡◌, ◌↔◌, ◌+◌, ◌*◌, ◌≤◌, ◌<◌, ◌++◌, true, false, None, IfOk, length, map, option_map};
 ghost use Rattle.std.specs.Coded.{codes};
+ghost use Rattle.std.specs.Option.{ForSome};
 ghost use Rattle.std.specs.FinMap as finmap;
 ghost use Rattle.tabled_grid.specs.declared.place.LineOf.{LineOf as Line};
 ghost use Rattle.tabled_grid.specs.declared.place.Place.{Place as Spot};
@@ -9,21 +10,21 @@ ghost use Rattle.tabled_grid.specs.declared.site.Direction.TheVariants.{Horizont
 ghost use Rattle.tabled_grid.specs.Probing.{IsRaised};
 ghost use Rattle.tabled_object.specs.Entities.{below};
 ghost use Rattle.tabled_printing.specs.Along.{is_empty};
-ghost use Rattle.tabled_printing.specs.Alike.{NoneForPlaces, NoneForLines};
+ghost use Rattle.tabled_printing.specs.Alike.{ClassDecides, NoneForPlaces, NoneForLines};
 ghost use Rattle.tabled_printing.specs.Marks.{mark_of};
 ghost use Rattle.tabled_printing.specs.Picture.{mark_at, marks_along};
 ghost use Rattle.tabled_printing.specs.Beside.{mark_beside, mark_if_drawn, plain_mark};
 ghost use Rattle.tabled_printing.specs.Sides.{AreSides};
 ghost use Rattle.tabled_printing.specs.Sinks.{Put};
 
-use crate::alike::{has_none_for_lines, has_none_for_places};
+use crate::alike::{class_deciding, has_none_for_lines, has_none_for_places};
 use crate::mark::{mark_seen, plain_mark};
 use crate::sink::Sink;
 use crate::walk::Walk;
 use crate::{Mark, Run, Sides};
 use tabled_border::OutOfMemory;
 use tabled_configuration::SpannedConfig;
-use tabled_grid::{HorizontalLine, LineOf, Place, Rank};
+use tabled_grid::{Borders, HorizontalLine, LineOf, Place, Rank};
 use tabled_kept::Probes;
 use tabled_object::Dimension;
 
@@ -47,6 +48,8 @@ pub struct Frame<'a, 'b, D> {
     pub shape: (usize, usize),
     /// Whether colors are wanted.
     pub with_colors: bool,
+    /// The class record, where no colors are wanted and it alone decides which characters show.
+    pub class: Option<&'a Borders<char>>,
     /// What vertical lines show beside the first row.
     pub sides: Sides<'a>,
     /// Whether they show that beside each row, as nothing is kept for single places of theirs.
@@ -56,6 +59,7 @@ pub struct Frame<'a, 'b, D> {
     /// Whether no vertical line is a custom one.
     pub has_plain_columns: bool,
     ghost has_places: { is_empty shape ≡ false },
+    ghost class_decides: { ForSome class (λ its. ClassDecides cfg.now with_colors its.now) },
     ghost are_sides: { AreSides cfg.now with_colors shape sides },
     ghost sides_end: { sides.last ≡ shape.1 },
     ghost alike_sides: { has_alike_sides ≡ true → NoneForPlaces cfg.now with_colors Vertical } by { Prim.hlevel (codes, finmap.code) },
@@ -83,12 +87,14 @@ impl<'a, 'b, D: Dimension> Frame<'a, 'b, D> {
         let has_alike_sides = has_none_for_places(cfg, upright, with_colors);
         let has_plain_columns = has_none_for_lines(cfg, upright, with_colors);
         let by_rank = has_alike_sides && has_plain_columns;
-        let sides = Sides::of(cfg, shape, with_colors, by_rank)?;
+        let class = class_deciding(cfg, with_colors);
+        let sides = Sides::of(cfg, shape, with_colors, class, by_rank)?;
         Ok(Frame {
             cfg,
             dims,
             shape,
             with_colors,
+            class,
             sides,
             has_alike_sides,
             has_alike_lines: has_none_for_places(cfg, level, with_colors),
@@ -140,9 +146,7 @@ impl<'a, 'b, D: Dimension> Frame<'a, 'b, D> {
         ensures last { mark_of result.last ≡ plain_mark self.now.cfg.now self.now.with_colors self.now.shape (Spot.Cross row self.now.shape.1) }
         ensures probes { IsRaised 45 probes.old probes.new }
     {
-        if !self.with_colors
-            && let Some(class) = self.cfg.class_alone(probes)
-        {
+        if let Some(class) = self.class {
             return Looks::of(class.horizontal_line(Rank::of(row, self.shape.0)));
         }
         self.looked_up(row, probes)

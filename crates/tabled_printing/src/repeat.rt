@@ -125,10 +125,8 @@ fn push_many(text: &mut String, count: usize, character: char) -> Result<(), All
     }
 }
 
-/// Writes a character the given number of times. Where memory is refused it may have been written fewer times. Once or twice it is written
-/// by itself, which takes a fifth of what a copy takes.
-#[inline(always)]
-pub fn push_times(text: &mut String, count: usize, character: char) -> Result<(), AllocError>
+/// Writes a character the given number of times: twice by itself, and more often as copies.
+fn push_several(text: &mut String, count: usize, character: char) -> Result<(), AllocError>
     ensures ok { OnOk result (string_bytes text.new ≡ string_bytes text.old ++ times count character) }
     ensures err { OnErr result ((some : ℕ) × (string_bytes text.new ≡ string_bytes text.old ++ times some character)) }
 {
@@ -136,6 +134,19 @@ pub fn push_times(text: &mut String, count: usize, character: char) -> Result<()
         return push_each(text, count, character);
     }
     push_many(text, count, character)
+}
+
+/// Writes a character the given number of times. Where memory is refused it may have been written fewer times.
+#[inline(always)]
+pub fn push_times(text: &mut String, count: usize, character: char) -> Result<(), AllocError>
+    ensures ok { OnOk result (string_bytes text.new ≡ string_bytes text.old ++ times count character) }
+    ensures err { OnErr result ((some : ℕ) × (string_bytes text.new ≡ string_bytes text.old ++ times some character)) }
+{
+    if count != 1 {
+        return push_several(text, count, character);
+    }
+    text.push(character)?;
+    Ok(())
 }
 
 /// A text of `PIECE` spaces and then a character: of those that the vertical lines of tables are mostly drawn with.
@@ -173,7 +184,7 @@ fn push_in_turn(text: &mut String, count: usize, character: char) -> Result<(), 
 }
 
 /// Writes the given number of spaces and then a character. Where memory is refused some of the spaces may have been written, and the
-/// character was not.
+/// character was not. A space and a character of ASCII are written each by itself, anything else at once where that can be.
 pub fn push_spaces_before(
     text: &mut String,
     count: usize,
@@ -182,7 +193,7 @@ pub fn push_spaces_before(
     ensures ok { OnOk result (string_bytes text.new ≡ string_bytes text.old ++ times count 32 ++ encode_utf8 character) }
     ensures err { OnErr result ((some : ℕ) × (string_bytes text.new ≡ string_bytes text.old ++ times some 32)) }
 {
-    if 1 < count
+    if (1 < count || !character.is_ascii())
         && count <= PIECE
         && let Some(piece) = spaces_before(character)
     {

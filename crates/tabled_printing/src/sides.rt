@@ -1,9 +1,10 @@
 //! What vertical lines show beside rows, made once for a table.
 
 ghost use Rattle.std.specs.Prelude.{◌≡◌, ◌≤◌, ◌+◌, true, false, IfOk, map, option_map};
+ghost use Rattle.std.specs.Option.{ForSome};
 ghost use Rattle.tabled_grid.specs.declared.site.Direction.TheVariants.{Vertical};
 ghost use Rattle.tabled_object.specs.Entities.{below};
-ghost use Rattle.tabled_printing.specs.Alike.{NoneForPlaces, NoneForLines};
+ghost use Rattle.tabled_printing.specs.Alike.{ClassDecides, NoneForPlaces, NoneForLines};
 ghost use Rattle.tabled_printing.specs.Marks.{mark_of};
 ghost use Rattle.tabled_grid.specs.declared.place.Place.{Place as Spot};
 ghost use Rattle.tabled_printing.specs.Along.{is_empty};
@@ -15,7 +16,7 @@ use crate::mark::plain_mark;
 use crate::print::printed_as;
 use tabled_border::OutOfMemory;
 use tabled_configuration::SpannedConfig;
-use tabled_grid::{LineOf, Place, Rank};
+use tabled_grid::{Borders, LineOf, Place, Rank};
 use tabled_kept::Probes;
 
 /// The marks of vertical lines beside rows: for each line that is drawn one, and none for one that is not.
@@ -45,9 +46,11 @@ impl<'a> Sides<'a> {
         cfg: &'a SpannedConfig,
         shape: (usize, usize),
         with_colors: bool,
+        class: Option<&Borders<char>>,
         by_rank: bool,
     ) -> Result<Self, OutOfMemory>
         requires shape { is_empty shape ≡ false }
+        requires class { ForSome class (λ its. ClassDecides cfg.now with_colors its.now) }
         requires places { by_rank ≡ true → NoneForPlaces cfg.now with_colors Vertical }
         requires lines { by_rank ≡ true → NoneForLines cfg.now with_colors Vertical }
         ensures sides { IfOk result (AreSides cfg.now with_colors shape) }
@@ -55,13 +58,13 @@ impl<'a> Sides<'a> {
     {
         let (_, last) = shape;
         if by_rank {
-            let first = side(cfg, shape, 0, with_colors);
-            let inner = side(cfg, shape, 1, with_colors);
-            let end = side(cfg, shape, last, with_colors);
+            let first = side(cfg, shape, 0, with_colors, class);
+            let inner = side(cfg, shape, 1, with_colors, class);
+            let end = side(cfg, shape, last, with_colors, class);
             let marks = SideMarks::ByRank(first, inner, end);
             return Ok(Sides { marks, last });
         }
-        let marks = one_by_one(cfg, shape, with_colors)?;
+        let marks = one_by_one(cfg, shape, with_colors, class)?;
         Ok(Sides {
             marks: SideMarks::Each(marks),
             last,
@@ -119,17 +122,18 @@ fn mark_beside<'a>(
     shape: (usize, usize),
     col: usize,
     with_colors: bool,
+    class: Option<&Borders<char>>,
 ) -> Mark<'a>
     requires shape { is_empty shape ≡ false }
     requires col { col ≤ shape.1 }
+    requires class { ForSome class (λ its. ClassDecides cfg.now with_colors its.now) }
     ensures { mark_of result ≡ plain_mark cfg.now with_colors shape (Spot.Vertical 0 col 0) }
 {
-    let probes = &mut Probes::new();
-    if !with_colors && let Some(class) = cfg.class_alone(probes) {
+    if let Some(class) = class {
         return Mark::uncolored(class.vertical_line(Rank::of(col, shape.1)).main);
     }
     let place = Place::Vertical { row: 0, col, at: 0 };
-    plain_mark(cfg, shape, place, with_colors, probes)
+    plain_mark(cfg, shape, place, with_colors, &mut Probes::new())
 }
 
 /// The same, if the line is drawn.
@@ -138,15 +142,17 @@ fn side<'a>(
     shape: (usize, usize),
     col: usize,
     with_colors: bool,
+    class: Option<&Borders<char>>,
 ) -> Option<Mark<'a>>
     requires shape { is_empty shape ≡ false }
     requires col { col ≤ shape.1 }
+    requires class { ForSome class (λ its. ClassDecides cfg.now with_colors its.now) }
     ensures { option_map mark_of result ≡ plain_side cfg.now with_colors shape col }
 {
     if !cfg.draws(LineOf::Vertical(col), shape.1, &mut Probes::new()) {
         return None;
     }
-    Some(mark_beside(cfg, shape, col, with_colors))
+    Some(mark_beside(cfg, shape, col, with_colors, class))
 }
 
 /// The marks of all lines.
@@ -154,15 +160,17 @@ fn one_by_one<'a>(
     cfg: &'a SpannedConfig,
     shape: (usize, usize),
     with_colors: bool,
+    class: Option<&Borders<char>>,
 ) -> Result<Vec<Option<Mark<'a>>>, OutOfMemory>
-    requires { is_empty shape ≡ false }
+    requires shape { is_empty shape ≡ false }
+    requires class { ForSome class (λ its. ClassDecides cfg.now with_colors its.now) }
     ensures { IfOk result (λ marks. map (option_map mark_of) marks.items ≡ map (plain_side cfg.now with_colors shape) (below (shape.1 + 1))) }
 {
     let (_, last) = shape;
     let mut marks = Vec::with_capacity(cfg.allocator(), last.saturating_add(1))?;
     for col in 0..last {
-        marks.push(side(cfg, shape, col, with_colors))?;
+        marks.push(side(cfg, shape, col, with_colors, class))?;
     }
-    marks.push(side(cfg, shape, last, with_colors))?;
+    marks.push(side(cfg, shape, last, with_colors, class))?;
     Ok(marks)
 }
