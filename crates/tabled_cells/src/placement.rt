@@ -84,6 +84,7 @@ pub fn lines_above(how: &Placement, height: usize, count: usize) -> usize
 }
 
 /// What is shown of the character that fills a side: the character where it draws plainly, else a space.
+#[inline(always)]
 pub fn fill_shown(character: char) -> char
     ensures { result ≡ parts.fill_shown character }
 {
@@ -95,6 +96,7 @@ pub fn fill_shown(character: char) -> char
 }
 
 /// A side of the padding as it is shown.
+#[inline(always)]
 fn indent_shown(side: Indent) -> Indent
     ensures { result ≡ parts.indent_shown side }
 {
@@ -102,6 +104,7 @@ fn indent_shown(side: Indent) -> Indent
 }
 
 /// The padding as it is shown.
+#[inline(always)]
 fn padding_shown(padding: &Sides<Indent>) -> Sides<Indent>
     ensures { result ≡ parts.padding_shown padding.now }
 {

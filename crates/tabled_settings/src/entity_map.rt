@@ -81,6 +81,7 @@ impl<T> EntityMap<T> {
     }
 
     /// The value of a cell.
+    #[inline(always)]
     pub fn get(&self, position: Position) -> &T
         ensures { result.now ≡ value_at self.now position }
     {
@@ -93,6 +94,7 @@ impl<T> EntityMap<T> {
 
     /// What was written last for all cells, or the default where that was removed or nothing was written. A cell has it
     /// unless an entity that covers the cell had an event since then.
+    #[inline(always)]
     pub fn global(&self) -> &T
         ensures { result.now ≡ self.now.global }
     {

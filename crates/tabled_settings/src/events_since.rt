@@ -131,6 +131,7 @@ impl<T> EventsSince<T> {
     }
 
     /// The value of the last event that covers a cell, or none inside for a removal.
+    #[inline(always)]
     pub(crate) fn last(&self, cell: Position) -> Option<&Option<T>>
         requires { has_event Entity.Global self.now ≡ false }
         ensures { option_copied result ≡ option_map (λ event. event.1) (last_or None (covering self.now cell)) }

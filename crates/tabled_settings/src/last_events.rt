@@ -72,7 +72,9 @@ impl<T> LastEvents<T> {
         Ok(())
     }
 
-    /// The value of the last event that covers a cell, or none inside for a removal.
+    /// The value of the last event that covers a cell, or none inside for a removal. Out of line, so that a map without events is soon
+    /// read.
+    #[inline(never)]
     pub(crate) fn last(&self, cell: Position) -> Option<&Option<T>>
         requires { has_event Entity.Global self.now ≡ false }
         ensures { option_copied result ≡ option_map (λ event. event.1) (last_or None (covering self.now cell)) }
