@@ -225,7 +225,7 @@ pub(crate) fn cells() -> [Named; 7] {
             |turn| {
                 write(
                     turn,
-                    |store| store.set_cell(Place::Cross { row: 256, col: 9 }, 'x'),
+                    |store| store.set_cell(Place::Cross { row: 1024, col: 9 }, 'x'),
                 )
             },
         ),

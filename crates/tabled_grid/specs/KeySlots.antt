@@ -11,10 +11,14 @@ use Rattle.tabled_kept.specs.declared.table.Slot.{Slot}
 use Rattle.tabled_kept.specs.Slots.{slot}
 use Rattle.tabled_kept.specs.Kept.{dense_end}
 
+-- lines with numbers below this one stand in a table
+abbrev pub lines_end : ℕ
+lines_end = 1024
+
 -- horizontal lines stand in the first row of their table, and vertical ones in the second
 abbrev pub slot_of_line : LineOf → Option Slot
-slot_of_line (LineOf.Horizontal n) = if nat_lt n dense_end then Some (slot 0 n) else None
-slot_of_line (LineOf.Vertical n) = if nat_lt n dense_end then Some (slot 1 n) else None
+slot_of_line (LineOf.Horizontal n) = if nat_lt n lines_end then Some (slot 0 n) else None
+slot_of_line (LineOf.Vertical n) = if nat_lt n lines_end then Some (slot 1 n) else None
 
 abbrev pub line_at : Slot → LineOf
 line_at s = if s.row == 0 then LineOf.Horizontal s.col else LineOf.Vertical s.col
@@ -53,12 +57,12 @@ given : (b : Bool) (s t : Slot) → (if b then Some s else None) ≡ Some t → 
 given true s t e = (refl, same_slot s t e)
 given false s t e = absurd cc
 
-less : (n : ℕ) → nat_lt n 256 ≡ true → n < 256
-less n h = grind (arith, tests, nat_tests, h)
+less : (n end : ℕ) → nat_lt n end ≡ true → n < end
+less n end h = grind (arith, tests, nat_tests, h)
 
 pub lines_back : (line : LineOf) (s : Slot) → slot_of_line line ≡ Some s → line_at s ≡ line
-lines_back (LineOf.Horizontal n) s e = ap line_at (sym (given (nat_lt n 256) (slot 0 n) s e).1)
-lines_back (LineOf.Vertical n) s e = ap line_at (sym (given (nat_lt n 256) (slot 1 n) s e).1)
+lines_back (LineOf.Horizontal n) s e = ap line_at (sym (given (nat_lt n 1024) (slot 0 n) s e).1)
+lines_back (LineOf.Vertical n) s e = ap line_at (sym (given (nat_lt n 1024) (slot 1 n) s e).1)
 
 narrow_slot : (s t : Slot) → s ≡ t → (s.row < 256) × (s.col < 1024) → (t.row < 256) × (t.col < 1024)
 narrow_slot s t e h =
@@ -68,11 +72,11 @@ narrow_slot s t e h =
 
 pub lines_narrow : (line : LineOf) (s : Slot) → slot_of_line line ≡ Some s → (s.row < 256) × (s.col < 1024)
 lines_narrow (LineOf.Horizontal n) s e =
-    let it = given (nat_lt n 256) (slot 0 n) s e in
-    narrow_slot (slot 0 n) s it.1 (omega arith, omega (arith, less n it.0))
+    let it = given (nat_lt n 1024) (slot 0 n) s e in
+    narrow_slot (slot 0 n) s it.1 (omega arith, less n 1024 it.0)
 lines_narrow (LineOf.Vertical n) s e =
-    let it = given (nat_lt n 256) (slot 1 n) s e in
-    narrow_slot (slot 1 n) s it.1 (omega arith, omega (arith, less n it.0))
+    let it = given (nat_lt n 1024) (slot 1 n) s e in
+    narrow_slot (slot 1 n) s it.1 (omega arith, less n 1024 it.0)
 
 -- three slots a column
 columns_on : (r a c n : ℕ) → spot_after r a (3 * c + n) ≡ spot_after r (a + c) n
@@ -101,7 +105,7 @@ narrow_spot : (r c n : ℕ) (s : Slot) → n < 3 → (if small r c then Some (sl
 narrow_spot r c n s part e =
     let it = given (small r c) (slot r (3 * c + n)) s e in
     let numbers = and_parts (nat_lt r 256) (nat_lt c 256) it.0 in
-    narrow_slot (slot r (3 * c + n)) s it.1 (less r numbers.0, omega (arith, less c numbers.1, part))
+    narrow_slot (slot r (3 * c + n)) s it.1 (less r 256 numbers.0, omega (arith, less c 256 numbers.1, part))
 
 pub spots_narrow : (spot : Spot) (s : Slot) → slot_of_spot spot ≡ Some s → (s.row < 256) × (s.col < 1024)
 spots_narrow (Edge Horizontal r c) s e =

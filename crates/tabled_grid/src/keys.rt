@@ -3,8 +3,11 @@
 use crate::{Direction, LineOf, Offset, Spot};
 use tabled_kept::{Key, Slot};
 
-/// The first number that has no slot.
+/// The first number of an edge or a crossing that has no slot.
 const DENSE_END: usize = 256;
+
+/// The first number of a line that has no slot.
+const LINES_END: usize = 1024;
 
 impl Key for LineOf {
     ghost use Rattle.tabled_grid.specs.Keys.{exact_lines};
@@ -19,7 +22,7 @@ impl Key for LineOf {
             LineOf::Horizontal(line) => (0, line),
             LineOf::Vertical(line) => (1, line),
         };
-        if col < DENSE_END {
+        if col < LINES_END {
             Some(Slot { row, col })
         } else {
             None
