@@ -237,11 +237,25 @@ impl<T: Copy> Borders<T> {
     pub fn horizontal_line(&self, rank: Rank) -> HorizontalLine<T>
         ensures { result ≡ horizontal_of rank self.now }
     {
-        HorizontalLine {
-            main: self.edges_horizontal(rank).copied(),
-            intersection: self.crossing(rank, Rank::Inner).copied(),
-            left: self.crossing(rank, Rank::First).copied(),
-            right: self.crossing(rank, Rank::Last).copied(),
+        match rank {
+            Rank::First => HorizontalLine {
+                main: self.top,
+                intersection: self.top_intersection,
+                left: self.top_left,
+                right: self.top_right,
+            },
+            Rank::Inner => HorizontalLine {
+                main: self.horizontal,
+                intersection: self.intersection,
+                left: self.left_intersection,
+                right: self.right_intersection,
+            },
+            Rank::Last => HorizontalLine {
+                main: self.bottom,
+                intersection: self.bottom_intersection,
+                left: self.bottom_left,
+                right: self.bottom_right,
+            },
         }
     }
 
@@ -249,11 +263,25 @@ impl<T: Copy> Borders<T> {
     pub fn vertical_line(&self, rank: Rank) -> VerticalLine<T>
         ensures { result ≡ vertical_of rank self.now }
     {
-        VerticalLine {
-            main: self.edges_vertical(rank).copied(),
-            intersection: self.crossing(Rank::Inner, rank).copied(),
-            top: self.crossing(Rank::First, rank).copied(),
-            bottom: self.crossing(Rank::Last, rank).copied(),
+        match rank {
+            Rank::First => VerticalLine {
+                main: self.left,
+                intersection: self.left_intersection,
+                top: self.top_left,
+                bottom: self.bottom_left,
+            },
+            Rank::Inner => VerticalLine {
+                main: self.vertical,
+                intersection: self.intersection,
+                top: self.top_intersection,
+                bottom: self.bottom_intersection,
+            },
+            Rank::Last => VerticalLine {
+                main: self.right,
+                intersection: self.right_intersection,
+                top: self.top_right,
+                bottom: self.bottom_right,
+            },
         }
     }
 

@@ -7,6 +7,7 @@ mod clearing;
 mod copies;
 mod entity_border;
 mod equality;
+mod levels;
 mod reads;
 mod writes;
 

@@ -1,6 +1,6 @@
 //! How a store is read.
 
-ghost use Rattle.std.specs.Prelude.{◌≡◌, ◌↔◌, ◌<◌, IsTrue, IsFalse, None, IfOk, IfSome, IsSome, OnSome, option_copied, option_and_then};
+ghost use Rattle.std.specs.Prelude.{◌≡◌, ◌↔◌, ◌<◌, ◌≤◌, false, IsTrue, IsFalse, None, IfOk, IfSome, IsSome, OnSome, option_copied, option_and_then};
 ghost use Rattle.std.specs.Ordering.{nat_cmp};
 ghost use Rattle.std.specs.FinMap as map;
 ghost use Rattle.tabled_grid.specs.Table.{table};
@@ -125,7 +125,7 @@ impl<T> Layers<T> {
 impl<T, M: Meter> Layers<T, M> {
     ghost use Rattle.tabled_grid.specs.Value.{value, plain_value};
     ghost use Rattle.tabled_grid.specs.Drawn.{Drawn};
-    ghost use Rattle.tabled_grid.specs.State.{state_at, HasNoCells, HasNoLines, HasNoOffsets};
+    ghost use Rattle.tabled_grid.specs.State.{state_at};
     ghost use Rattle.tabled_grid.specs.Reading.{pick, main_of, offset_of, plain_edge, plain_crossing, edge_shown, HasClassAlone};
     ghost use Rattle.tabled_grid.specs.ClassAlone.{ShowsClasses};
 
@@ -193,46 +193,6 @@ impl<T, M: Meter> Layers<T, M> {
         ensures probes { IsRaised 3 (M.made probes.old) (M.made probes.new) }
     {
         !self.has_cells(probes) && !self.has_hlines(probes) && !self.has_vlines(probes)
-    }
-
-    /// Whether something is kept at an offset of an edge of a horizontal line, from its start or its end: one reading.
-    pub fn has_horizontal_offsets(&self, probes: &mut M) -> bool
-        ensures value { IsFalse result ↔ HasNoOffsets horizontal self.now }
-        ensures probes { IsRaised 1 (M.made probes.old) (M.made probes.new) }
-    {
-        !self.horizontal_offsets.is_empty(probes)
-    }
-
-    /// Whether something is kept at an offset of an edge of a vertical line, from its start or its end: one reading.
-    pub fn has_vertical_offsets(&self, probes: &mut M) -> bool
-        ensures value { IsFalse result ↔ HasNoOffsets vertical self.now }
-        ensures probes { IsRaised 1 (M.made probes.old) (M.made probes.new) }
-    {
-        !self.vertical_offsets.is_empty(probes)
-    }
-
-    /// Whether something is kept for an edge or a crossing by itself: one reading.
-    pub fn has_cells(&self, probes: &mut M) -> bool
-        ensures value { IsFalse result ↔ HasNoCells self.now }
-        ensures probes { IsRaised 1 (M.made probes.old) (M.made probes.new) }
-    {
-        !self.cells.is_empty(probes)
-    }
-
-    /// Whether a custom horizontal line stands at some index: one reading.
-    pub fn has_hlines(&self, probes: &mut M) -> bool
-        ensures value { IsFalse result ↔ HasNoLines horizontal self.now }
-        ensures probes { IsRaised 1 (M.made probes.old) (M.made probes.new) }
-    {
-        !self.horizontal_lines.is_empty(probes)
-    }
-
-    /// Whether a custom vertical line stands at some index: one reading.
-    pub fn has_vlines(&self, probes: &mut M) -> bool
-        ensures value { IsFalse result ↔ HasNoLines vertical self.now }
-        ensures probes { IsRaised 1 (M.made probes.old) (M.made probes.new) }
-    {
-        !self.vertical_lines.is_empty(probes)
     }
 
     /// What the edge of a line, of the lines 0 to `line.1` of its direction, shows at place `at.0` of its `at.1` places.
@@ -377,6 +337,7 @@ impl<T, M: Meter> Layers<T, M> {
     }
 
     /// Whether a line is drawn, of the lines 0 to `count` of its direction. At most six readings are made.
+    #[inline(always)]
     pub fn draws(&self, line: LineOf, count: usize, probes: &mut M) -> bool
         ensures drawn { IsTrue result ↔ Drawn (state_at self.now) count line }
         ensures probes { IsRaised 6 (M.made probes.old) (M.made probes.new) }
@@ -390,6 +351,19 @@ impl<T, M: Meter> Layers<T, M> {
         if class_draws(&self.class_record, line, count, probes) {
             return true;
         }
+        self.draws_above(line, count, probes)
+    }
+
+    /// Whether a line is drawn of which it is known that neither the default nor the class record draws it. Out of line, so that one that
+    /// these draw is soon told.
+    #[inline(never)]
+    fn draws_above(&self, line: LineOf, count: usize, probes: &mut M) -> bool
+        requires there { number line ≤ count }
+        requires default { self.now.default_value ≡ None }
+        requires class { class_drawn self.now.class_record count line ≡ false }
+        ensures drawn { IsTrue result ↔ Drawn (state_at self.now) count line }
+        ensures probes { IsRaised 4 (M.made probes.old) (M.made probes.new) }
+    {
         let on_lines = &self.on_lines;
         match line {
             LineOf::Horizontal(_) => {
