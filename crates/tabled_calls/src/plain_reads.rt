@@ -1,8 +1,8 @@
 //! What a configuration has beside its offsets, and whether it has anything of a kind.
 
-ghost use Rattle.std.specs.Prelude.{◌||◌, ◌↔◌, ◌≡◌, None, IfSome, IsFalse, IsSome, IsTrue, OnSome, is_some, option_copied};
+ghost use Rattle.std.specs.Prelude.{◌||◌, ◌↔◌, ◌≡◌, [], None, IfSome, IsFalse, IsSome, IsTrue, OnSome, is_some, option_copied};
 ghost use Rattle.std.specs.FinMap as map;
-ghost use Rattle.tabled_configuration.specs.AlikeCells.{AreAlike};
+ghost use Rattle.tabled_configuration.specs.AlikeCells.{AreAlike, AreColoredByRows, ArePlacedAlike};
 ghost use Rattle.tabled_grid.specs.ClassAlone.{ShowsClasses};
 ghost use Rattle.tabled_grid.specs.Probing.{IsRaised};
 ghost use Rattle.tabled_grid.specs.Reading.{direction_of, HasClassAlone};
@@ -104,6 +104,27 @@ pub fn has_alike_rows(cfg: &SpannedConfig) -> bool
     ensures { IsTrue result ↔ AreAlike cfg.now.settings.cells }
 {
     cfg.has_alike_rows()
+}
+
+/// Whether how texts are placed is set for all cells, but where the texts of columns stand between left and right.
+pub fn has_alike_placements(cfg: &SpannedConfig) -> bool
+    ensures { IsTrue result ↔ ArePlacedAlike cfg.now.settings.cells }
+{
+    cfg.has_alike_placements()
+}
+
+/// Whether colors beside texts are set for all cells and for rows alone.
+pub fn has_colors_by_rows(cfg: &SpannedConfig) -> bool
+    ensures { IsTrue result ↔ AreColoredByRows cfg.now.settings.cells }
+{
+    cfg.has_colors_by_rows()
+}
+
+/// Whether where texts stand between left and right is set for all cells alone.
+pub fn has_one_alignment(cfg: &SpannedConfig) -> bool
+    ensures { IsTrue result ↔ (cfg.now.settings.cells.alignment_horizontal.since ≡ []) }
+{
+    cfg.has_one_alignment()
 }
 
 /// Whether a custom horizontal line of characters, or one of colors, stands at an index.

@@ -1,13 +1,12 @@
 -- A row of which each cell is shown in its own place alone is painted as it is without spans.
-use Rattle.std.proofs.Common.{◌≡◌, ℕ, ◌+◌, ◌-◌, ◌<◌, ◌≤◌, ◌==◌, suc, min, Bool, true, false, if◌then◌else◌, Option, List, [], ◌++◌, map, length, get_or, refl, sym, ap, ◌∙◌, arith}
-use Rattle.std.specs.List.{flat_map}
+use Rattle.std.proofs.Common.{◌≡◌, ℕ, ◌+◌, ◌-◌, ◌<◌, ◌≤◌, ◌==◌, suc, min, true, false, if◌then◌else◌, Option, List, [], ◌++◌, map, length, sym, ap, ◌∙◌, arith}
 use Rattle.std.specs.Prelude.{slice_index_or}
 use Rattle.std.proofs.lemmas.Bool.Decides.{nat_tests}
 use Rattle.tabled_object.specs.Entities.{below}
 use Rattle.tabled_printing.specs.Texts.{Table}
 use Rattle.tabled_printing.specs.Picture.{Look}
 use Rattle.tabled_rooms.specs.Hosts.{Cell, Counts, host}
-use Rattle.tabled_rooms.specs.Holding.{held, AreHosts}
+use Rattle.tabled_rooms.specs.Holding.{AreHosts}
 use Rattle.tabled_rooms.specs.declared.host.Host.{Host}
 use Rattle.tabled_rooms.specs.Rooms.{room_height}
 use Rattle.tabled_rooms.proofs.LawLemmas.{takes}
@@ -15,7 +14,6 @@ use Rattle.tabled_rooms.proofs.OpenLemmas.{above_open}
 use Rattle.tabled_rooms.proofs.RowWidths.{alone_wide}
 use Rattle.tabled_painting.specs.declared.room.Room.{Room}
 use Rattle.tabled_painting.specs.declared.table_lines.TableLines.{TableLines}
-use Rattle.tabled_painting.specs.Painted.{Painted}
 use Rattle.tabled_painting.specs.PaintedTable.{Cells, painted_cell, painted_side, painted_between}
 use Rattle.tabled_painting.specs.PaintedSpans.{lines_above, room_line, room_wide, room_high, spanned_piece, spanned_between, spanned_row}
 use Rattle.tabled_painting.specs.RoomLines.{AreOpen, columns_of, room_cells, rows_of, StandAlone}

@@ -1,22 +1,26 @@
--- Bare cells: that all are such cells, and how such a one is painted.
-use Rattle.std.proofs.Common.{◌≡◌, ℕ, ◌+◌, ◌-◌, Bool, true, false, if◌then◌else◌, Option, None, List, [], ◌∷◌, ◌++◌, map, length, refl, sym, ap, subst, ◌∙◌, arith, option_map, nat_lt}
-use Rattle.std.specs.Prelude.{slice_index_or}
-use Rattle.std.specs.List.{list_all}
+-- Bare cells: that all are such cells, in the colors of their rows, and how such a one is painted.
+use Rattle.std.proofs.Common.{◌≡◌, ℕ, ◌+◌, ◌-◌, Bool, true, false, if◌then◌else◌, Option, Some, None, List, [], ◌∷◌, ◌++◌, map, length, refl, sym, ap, subst, ◌∙◌, arith, option_map, nat_lt}
+use Rattle.std.specs.Prelude.{IfSome, option_copied, slice_index_or}
+use denote.Ref.{Bor}
+use Rattle.std.specs.List.{list_all, slice_get}
 use Rattle.std.proofs.lemmas.List.{append_assoc, length-map, map-append}
+use Rattle.std.proofs.lemmas.Option.{slice_get_within, get_or_from_slice_get}
 use Rattle.std.proofs.lemmas.List.FromFn.{get_or-map-range_with_len, length-range_with_len}
 use Rattle.tabled_border.specs.Texts.{Texts}
 use Rattle.tabled_object.specs.declared.entity.Entity.TheVariants.{Global}
 use Rattle.tabled_object.specs.declared.position.Position.{Position}
 use Rattle.tabled_object.specs.Entities.{below}
-use Rattle.tabled_settings.proofs.Columns.{value_of_column}
+use Rattle.tabled_settings.proofs.Columns.{value_of_column, value_of_row}
 use Rattle.tabled_settings.specs.Setting.{write_of, setting}
 use Rattle.tabled_settings.specs.Live.{Live, value_at}
 use Rattle.tabled_settings.specs.declared.alignment.AlignmentHorizontal.{AlignmentHorizontal}
 use Rattle.tabled_settings.specs.declared.cell_settings.CellSettings.{CellSettings}
 use Rattle.tabled_settings.specs.declared.indent.Indent.{Indent}
 use Rattle.tabled_settings.specs.declared.sides.Sides.{Sides}
+use Rattle.tabled_settings.specs.CellSettings.{no_colors as no_sides}
 use Rattle.tabled_settings.specs.Padding.{first_padding}
-use Rattle.tabled_configuration.specs.AlikeCells.{AreAlike}
+use Rattle.tabled_configuration.specs.AlikeCells.{AreAlike, AreColoredByRows, ArePlacedAlike}
+use Rattle.tabled_configuration.specs.CellColors.{are_by_rows}
 use Rattle.tabled_printing.specs.Texts.{pieces, width_of_text}
 use Rattle.tabled_printing.proofs.TimesLemmas.{times_both}
 use Rattle.tabled_cells.specs.declared.filling.LineParts.{LineParts}
@@ -26,9 +30,12 @@ use Rattle.tabled_cells.specs.Placements.{placement_at}
 use Rattle.tabled_width.specs.Texts.{is_printable}
 use Rattle.tabled_cells.specs.Trimmed.{without_ends, is_space, is_blank, line_shown, lines_shown}
 use Rattle.tabled_cells.proofs.Printing.{one_piece, printable_width}
-use Rattle.tabled_painting.specs.Painted.{Painted, paint}
+use Rattle.tabled_painting.specs.Painted.{Painted, paint, plain, colored_if}
 use Rattle.tabled_painting.specs.CellLines.{Coloring, coloring_at, painted_line, cell_line}
-use Rattle.tabled_painting.specs.BareCells.{IsBareCell, AllAreBare, AreBare, bare_text, side_of}
+use Rattle.tabled_painting.specs.BareCells.{IsBareCell, IsInColor, IsRowColor, AllAreBare, AreBare, bare_text, side_in, side_of}
+use Rattle.tabled_painting.specs.declared.bare_cells.BareColumns.{BareColumns}
+use Rattle.tabled_painting.proofs.PainterLemmas.{plain_paint}
+use Rattle.tabled_painting.proofs.Plain.{plain_cell}
 
 -- ---- all cells
 
@@ -53,7 +60,7 @@ at_side side how = record {
   padding = how.padding;
 }
 
-placement_alike : (settings : CellSettings) (r c : ℕ) → AreAlike settings → at_side (side_of settings c) (placement_at settings 0 0) ≡ placement_at settings r c
+placement_alike : (settings : CellSettings) (r c : ℕ) → ArePlacedAlike settings → at_side (side_of settings c) (placement_at settings 0 0) ≡ placement_at settings r c
 unfolding placement_at
 placement_alike settings r c alike = λ i. record {
   alignment_horizontal = value_of_column settings.alignment_horizontal 0 r c alike.alignment_horizontal i;
@@ -65,54 +72,91 @@ placement_alike settings r c alike = λ i. record {
   padding = padding_shown (value_alike settings.padding (cell_at 0 0) (cell_at r c) alike.padding i);
 }
 
-no_color_alike : (colors : Option (Live Texts)) (a b : Position) → colors ≡ None → option_map (λ live. value_at live a) colors ≡ option_map (λ live. value_at live b) colors
-no_color_alike colors a b none = ap (option_map (λ live. value_at live a)) none ∙ sym (ap (option_map (λ live. value_at live b)) none)
-
-coloring_alike : (settings : CellSettings) (colors : Option (Live Texts)) (r c : ℕ) → AreAlike settings → colors ≡ None → coloring_at settings colors 0 0 ≡ coloring_at settings colors r c
-unfolding coloring_at
-coloring_alike settings colors r c alike none = λ i. record {
-  text = no_color_alike colors (cell_at 0 0) (cell_at r c) none i;
-  fill = value_alike settings.justification_color (cell_at 0 0) (cell_at r c) alike.justification_color i;
-  padding = value_alike settings.padding_color (cell_at 0 0) (cell_at r c) alike.padding_color i;
-}
-
 -- such a cell, which stands where it stands
-abbrev IsBare : Placement → Coloring → Type 0
-IsBare how coloring = IsBareCell how.alignment_horizontal how coloring
+abbrev IsBare : Placement → Type 0
+IsBare how = IsBareCell how.alignment_horizontal how
 
-elsewhere : (side : AlignmentHorizontal) (how : Placement) (coloring : Coloring) → IsBare how coloring → IsBareCell side (at_side side how) coloring
-elsewhere side how coloring is = record {
+elsewhere : (side : AlignmentHorizontal) (how : Placement) → IsBare how → IsBareCell side (at_side side how)
+elsewhere side how is = record {
   stands = refl;
   top = is.top;
   whole_lines = is.whole_lines;
   all_lines = is.all_lines;
   spaces = is.spaces;
   padding = is.padding;
-  text = is.text;
-  fill = is.fill;
-  before = is.before;
-  after = is.after;
 }
 
-pub all_bare : (settings : CellSettings) (colors : Option (Live Texts)) → AreAlike settings → colors ≡ None → IsBare (placement_at settings 0 0) (coloring_at settings colors 0 0) → AllAreBare settings colors
-all_bare settings colors alike none first r c =
+-- as the first one, which was read
+pub all_bare : (settings : CellSettings) (row col : ℕ) (how : Placement) → row ≡ 0 → col ≡ 0 → how ≡ placement_at settings row col → ArePlacedAlike settings → IsBare how → AllAreBare settings
+all_bare settings row col how at_row at_col placed alike first r c =
     let side = side_of settings c in
-    subst (λ how. IsBareCell side how (coloring_at settings colors r c)) (placement_alike settings r c alike)
-    (subst (IsBareCell side (at_side side (placement_at settings 0 0))) (coloring_alike settings colors r c alike none) (elsewhere side (placement_at settings 0 0) (coloring_at settings colors 0 0) first))
+    let same : how ≡ placement_at settings 0 0 = placed ∙ (λ i. placement_at settings (at_row i) (at_col i)) in
+    subst (IsBareCell side) (placement_alike settings r c alike) (elsewhere side (placement_at settings 0 0) (subst IsBare same first))
 
--- what was read of the first one
-pub first_bare : (settings : CellSettings) (colors : Option (Live Texts)) (read : CellSettings) (row col : ℕ) (how : Placement) (coloring : Coloring) → read ≡ settings → row ≡ 0 → col ≡ 0
-    → how ≡ placement_at read row col → coloring ≡ coloring_at settings colors row col → IsBare how coloring → IsBare (placement_at settings 0 0) (coloring_at settings colors 0 0)
-first_bare settings colors read row col how coloring same at_row at_col placed colored =
-    subst (λ how. IsBare how coloring → IsBare (placement_at settings 0 0) (coloring_at settings colors 0 0)) (sym (placed ∙ (λ i. placement_at (same i) (at_row i) (at_col i))))
-    (subst (IsBare (placement_at settings 0 0)) (colored ∙ (λ i. coloring_at settings colors (at_row i) (at_col i))))
+-- where the texts of columns stand: nowhere, alike, or by a list
+pub none_known : (settings : CellSettings) → AreBare settings BareColumns.Unknown
+none_known settings r c side is = absurd cc
 
--- the sides that are known, one for each column
-pub known_sides : (settings : CellSettings) (colors : Option (Live Texts)) (count : ℕ) (sides : List AlignmentHorizontal) → AllAreBare settings colors → sides ≡ map (side_of settings) (below count) → AreBare settings colors sides
-known_sides settings colors count sides bare are r c none inside =
-    let long : length sides ≡ count = ap length are ∙ length-map (below count) (side_of settings) ∙ length-range_with_len 0 count in
-    subst (λ side. IsBareCell side (placement_at settings r c) (coloring_at settings colors r c))
-    (sym (ap (λ list. slice_index_or list c none) are ∙ get_or-map-range_with_len (side_of settings) 0 count c c none (omega arith) (omega arith))) (bare r c)
+pub one_side : (settings : CellSettings) (cell : Position) (side : AlignmentHorizontal) → side ≡ value_at settings.alignment_horizontal cell → settings.alignment_horizontal.since ≡ []
+    → AllAreBare settings → AreBare settings (BareColumns.Alike side)
+one_side settings cell side read none bare r c other is =
+    let same : side ≡ other = cc in
+    subst (λ place. IsBareCell place (placement_at settings r c)) (value_alike settings.alignment_horizontal (cell_at 0 c) cell none ∙ sym read ∙ same) (bare r c)
+
+pub known_sides : (settings : CellSettings) (count : ℕ) (sides : List AlignmentHorizontal) (known : BareColumns) → ((c : ℕ) → side_in known c ≡ slice_get sides c) → AllAreBare settings
+    → sides ≡ map (side_of settings) (below count) → AreBare settings known
+known_sides settings count sides known listed bare are r c side is =
+    let there : slice_get (map (side_of settings) (below count)) c ≡ Some side = ap (λ list. slice_get list c) (sym are) ∙ sym (listed c) ∙ is in
+    let long : length (map (side_of settings) (below count)) ≡ count = length-map (below count) (side_of settings) ∙ length-range_with_len 0 count in
+    let inside = slice_get_within (map (side_of settings) (below count)) c side there in
+    subst (λ place. IsBareCell place (placement_at settings r c))
+    (sym (get_or-map-range_with_len (side_of settings) 0 count c c side (omega (arith, long, inside)) (omega arith))
+    ∙ get_or_from_slice_get (map (side_of settings) (below count)) c side side there) (bare r c)
+
+-- ---- colors of rows
+
+text_by_row : (colors : Option (Live Texts)) (r c : ℕ) → are_by_rows colors ≡ true → option_map (λ live. value_at live (cell_at r c)) colors ≡ option_map (λ live. value_at live (cell_at r 0)) colors
+text_by_row None r c rows = refl
+text_by_row (Some live) r c rows = ap Some (value_of_row live r c 0 rows)
+
+pub by_rows : (settings : CellSettings) (colors : Option (Live Texts)) → AreColoredByRows settings → are_by_rows colors ≡ true → (r c : ℕ) → coloring_at settings colors r c ≡ coloring_at settings colors r 0
+unfolding coloring_at
+by_rows settings colors beside texts r c = λ i. record {
+  text = text_by_row colors r c texts i;
+  fill = value_of_row settings.justification_color r c 0 beside.justification_color i;
+  padding = value_of_row settings.padding_color r c 0 beside.padding_color i;
+}
+
+no_color_alike : (colors : Option (Live Texts)) (a b : Position) → colors ≡ None → option_map (λ live. value_at live a) colors ≡ option_map (λ live. value_at live b) colors
+no_color_alike colors a b none = ap (option_map (λ live. value_at live a)) none ∙ sym (ap (option_map (λ live. value_at live b)) none)
+
+coloring_alike : (settings : CellSettings) (colors : Option (Live Texts)) (row col r c : ℕ) → AreAlike settings → colors ≡ None → coloring_at settings colors row col ≡ coloring_at settings colors r c
+unfolding coloring_at
+coloring_alike settings colors row col r c alike none = λ i. record {
+  text = no_color_alike colors (cell_at row col) (cell_at r c) none i;
+  fill = value_alike settings.justification_color (cell_at row col) (cell_at r c) alike.justification_color i;
+  padding = value_alike settings.padding_color (cell_at row col) (cell_at r c) alike.padding_color i;
+}
+
+-- no cell has a color, as one has none
+pub no_colors : (settings : CellSettings) (colors : Option (Live Texts)) (row col : ℕ) (coloring : Coloring) → coloring ≡ coloring_at settings colors row col → AreAlike settings → colors ≡ None
+    → IsInColor None coloring → (r c : ℕ) → IsInColor None (coloring_at settings colors r c)
+no_colors settings colors row col coloring read alike none is r c = subst (IsInColor None) (read ∙ coloring_alike settings colors row col r c alike none) is
+
+-- a row has the color of its first cell, if that has one
+pub color_of_row : (wanted : Bool) (settings : CellSettings) (colors : Option (Live Texts)) (row col r : ℕ) (coloring : Coloring) (found : Option (Option (Bor Texts)))
+    → ((r c : ℕ) → coloring_at settings colors r c ≡ coloring_at settings colors r 0) → row ≡ r → col ≡ 0 → coloring ≡ coloring_at settings colors row col
+    → IfSome found (λ color. IsInColor (option_copied color) coloring) → IfSome found (λ color. IsRowColor wanted settings colors r (option_copied color))
+color_of_row wanted settings colors row col r coloring None alike at_row at_col read is = tt
+color_of_row wanted settings colors row col r coloring (Some color) alike at_row at_col read is = λ yes c.
+    subst (IsInColor (option_copied color)) (read ∙ (λ i. coloring_at settings colors (at_row i) (at_col i)) ∙ sym (alike r c)) is
+
+-- and each cell has that of its row
+pub color_of_cell : (wanted : Bool) (settings : CellSettings) (colors : Option (Live Texts)) (r row col : ℕ) (found : Option (Option (Bor Texts))) → row ≡ r
+    → IfSome found (λ color. IsRowColor wanted settings colors r (option_copied color))
+    → IfSome found (λ color. wanted ≡ true → IsInColor (option_copied color) (coloring_at settings colors row col))
+color_of_cell wanted settings colors r row col None at_row is = tt
+color_of_cell wanted settings colors r row col (Some color) at_row is = λ yes. subst (λ n. IsInColor (option_copied color) (coloring_at settings colors n col)) (sym at_row) (is yes col)
 
 -- ---- such a cell
 
@@ -120,13 +164,16 @@ either_same : (b : Bool) (n : ℕ) → (if b then n else n) ≡ n
 either_same true n = refl
 either_same false n = refl
 
-painted_in_turn : (first before text after last : List ℕ) → paint None first ++ paint None before ++ paint None text ++ paint None after ++ paint None last ≡ paint None (first ++ before ++ text ++ after ++ last)
-painted_in_turn first before text after last = simp map-append
+painted_in_turn : (color : Option Texts) (first before text after last : List ℕ) → paint color first ++ paint color before ++ paint color text ++ paint color after ++ paint color last ≡ paint color (first ++ before ++ text ++ after ++ last)
+painted_in_turn color first before text after last = simp map-append
 
 one_greatest : (n : ℕ) → greatest (n ∷ []) ≡ n
 one_greatest n = omega arith
 
-module _ (side : AlignmentHorizontal) (how : Placement) (colors : Coloring) (is : IsBareCell side how colors) (width height : ℕ) (text : List ℕ) (printable : list_all is_printable text ≡ true) where
+abbrev no_coloring : Coloring
+no_coloring = record { text = None; fill = None; padding = no_sides }
+
+module _ (side : AlignmentHorizontal) (how : Placement) (is : IsBareCell side how) (width height : ℕ) (text : List ℕ) (printable : list_all is_printable text ≡ true) where
   shown : lines_shown how text ≡ text ∷ []
   unfolding lines_shown
   shown =
@@ -173,33 +220,42 @@ module _ (side : AlignmentHorizontal) (how : Placement) (colors : Coloring) (is 
       append_assoc (times 1 32 ++ times before 32 ++ text) (times after 32) (times 1 32)
       ∙ (λ i. sym (times_both 1 before 32) i ++ text ++ sym (times_both after 1 32) i)
 
-  line : (aligned : ℕ) → aligned ≡ length text → painted_line how colors width aligned text ≡ paint None (bare_text side width text)
+  line : (color : Option Texts) (colors : Coloring) (aligned : ℕ) → IsInColor color colors → aligned ≡ length text → painted_line how colors width aligned text ≡ paint color (bare_text side width text)
   unfolding painted_line
-  line aligned long =
+  line color colors aligned one long =
       let whole : Sides Indent → Option Texts → Option Texts → Option Texts → Option Texts → LineParts → Painted =
       λ padding left fill middle right of. paint left (times padding.left.size padding.left.fill) ++ paint fill (times of.before of.fill) ++ paint middle text ++ paint fill (times of.after of.fill)
       ++ paint right (times padding.right.size padding.right.fill) in
-      ap (λ padding. whole padding colors.padding.left colors.fill colors.text colors.padding.right (line_parts how width aligned text)) is.padding
-      ∙ ap (λ left. whole first_padding left colors.fill colors.text colors.padding.right (line_parts how width aligned text)) is.before
-      ∙ ap (λ fill. whole first_padding None fill colors.text colors.padding.right (line_parts how width aligned text)) is.fill
-      ∙ ap (λ middle. whole first_padding None None middle colors.padding.right (line_parts how width aligned text)) is.text
-      ∙ ap (λ right. whole first_padding None None None right (line_parts how width aligned text)) is.after
-      ∙ ap (whole first_padding None None None None) (parts aligned long)
-      ∙ painted_in_turn (times 1 32) (times before 32) text (times after 32) (times 1 32)
-      ∙ ap (paint None) spaces_around
+      (λ i. whole (is.padding i) (one.before i) (one.fill i) (one.text i) (one.after i) (parts aligned long i))
+      ∙ painted_in_turn color (times 1 32) (times before 32) text (times after 32) (times 1 32)
+      ∙ ap (paint color) spaces_around
 
   -- line 0 of it, where that many lines stand above the text
-  abbrev by_place : ℕ → Painted
-  by_place above =
+  abbrev by_place : Coloring → ℕ → Painted
+  by_place colors above =
       let own = slice_index_or (text ∷ []) (0 - above) [] in
       if nat_lt 0 above then paint colors.padding.top (times width how.padding.top.fill) else
       if nat_lt (0 - above) (length (text ∷ [])) then painted_line how colors width (aligned_width how (text ∷ []) own) own else
       paint colors.padding.bottom (times width how.padding.bottom.fill)
 
-  pub bare_cell : paint None (bare_text side width text) ≡ cell_line how colors width height (lines_shown how text) 0
+  bare_cell : (color : Option Texts) (colors : Coloring) → IsInColor color colors → paint color (bare_text side width text) ≡ cell_line how colors width height (lines_shown how text) 0
   unfolding cell_line
-  bare_cell =
+  bare_cell color colors one =
       sym (ap (λ lines. cell_line how colors width height lines 0) shown
-      ∙ ap (λ (padding : Sides Indent). by_place (padding.top.size + free_above how.alignment_vertical (height - padding.top.size - padding.bottom.size - 1))) is.padding
-      ∙ ap (λ place. by_place (0 + free_above place (height - 0 - 0 - 1))) is.top
-      ∙ line (aligned_width how (text ∷ []) text) (as_one how.line_alignment))
+      ∙ ap (λ (padding : Sides Indent). by_place colors (padding.top.size + free_above how.alignment_vertical (height - padding.top.size - padding.bottom.size - 1))) is.padding
+      ∙ ap (λ place. by_place colors (0 + free_above place (height - 0 - 0 - 1))) is.top
+      ∙ line color colors (aligned_width how (text ∷ []) text) one (as_one how.line_alignment))
+
+  -- its characters, whatever its colors
+  bare_plain : (colors : Coloring) → bare_text side width text ≡ plain (cell_line how colors width height (lines_shown how text) 0)
+  bare_plain colors =
+      sym (plain_paint None (bare_text side width text))
+      ∙ ap plain (bare_cell None no_coloring (record { text = refl; fill = refl; before = refl; after = refl }))
+      ∙ plain_cell how no_coloring width height (lines_shown how text) 0
+      ∙ sym (plain_cell how colors width height (lines_shown how text) 0)
+
+  -- so it is painted, with colors or without them
+  pub bare_shown : (with_colors : Bool) (color : Option Texts) (colors : Coloring) → (with_colors ≡ true → IsInColor color colors)
+      → colored_if with_colors (paint color (bare_text side width text)) ≡ colored_if with_colors (cell_line how colors width height (lines_shown how text) 0)
+  bare_shown true color colors one = bare_cell color colors (one refl)
+  bare_shown false color colors one = ap (paint None) (plain_paint color (bare_text side width text) ∙ bare_plain colors)

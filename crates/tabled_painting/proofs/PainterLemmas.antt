@@ -14,6 +14,7 @@ use Rattle.tabled_object.specs.Entities.{below}
 use Rattle.tabled_configuration.proofs.Below.{flat_map_below}
 use Rattle.tabled_painting.specs.Pages.{written}
 pub use Rattle.tabled_painting.specs.Put.{paints_none, paints_both}
+use Rattle.tabled_painting.specs.Put.{if_both}
 use Rattle.tabled_painting.specs.declared.painter.Painter.{Painter}
 use Rattle.tabled_painting.specs.Painted.{Painted, paint, plain, colored_if}
 use Rattle.tabled_painting.specs.InColor.{same_color, prefix_of, suffix_of, between, colored, last_color, color_if, Paints}
@@ -76,25 +77,33 @@ paints_begun color (byte ∷ bytes) old begun new some began is same wrote kept 
       same_colors = still ∙ same;
     }
 
--- without a color there is none, whether colors are wanted or not
-pub color_if-None : (wanted : Bool) → color_if wanted None ≡ None
-color_if-None true = refl
-color_if-None false = refl
-
--- a text without color is painted after what has none
-pub paints_uncolored : (bytes : List ℕ) (old new : Painter) → option_copied old.color ≡ None → string_bytes new.text ≡ string_bytes old.text ++ bytes
-    → new.color ≡ old.color → new.with_colors ≡ old.with_colors → Paints (paint None bytes) old new
-paints_uncolored bytes old new none wrote kept still =
-    let line : colored_if old.with_colors (paint None bytes) ≡ paint None bytes = if_paint old.with_colors None bytes ∙ ap (λ color. paint color bytes) (color_if-None old.with_colors) in
+-- a text is painted after what has its color
+pub paints_on : (color : Option Texts) (bytes : List ℕ) (old new : Painter) → option_copied old.color ≡ color_if old.with_colors color → string_bytes new.text ≡ string_bytes old.text ++ bytes
+    → new.color ≡ old.color → new.with_colors ≡ old.with_colors → Paints (paint color bytes) old new
+paints_on color bytes old new is wrote kept still =
+    let next = color_if old.with_colors color in
+    let line : colored_if old.with_colors (paint color bytes) ≡ paint next bytes = if_paint old.with_colors color bytes in
     record {
       text =
-          wrote ∙ ap (λ bs. string_bytes old.text ++ bs) (sym (goes_on None bytes))
-          ∙ ap (λ color. string_bytes old.text ++ colored color (paint None bytes)) (sym none)
+          wrote ∙ ap (λ bs. string_bytes old.text ++ bs) (sym (goes_on next bytes))
+          ∙ ap (λ before. string_bytes old.text ++ colored before (paint next bytes)) (sym is)
           ∙ ap (λ l. string_bytes old.text ++ colored (option_copied old.color) l) (sym line);
       color =
-          ap option_copied kept ∙ none ∙ sym (stays None bytes) ∙ ap (λ color. last_color color (paint None bytes)) (sym none)
+          ap option_copied kept ∙ is ∙ sym (stays next bytes) ∙ ap (λ before. last_color before (paint next bytes)) (sym is)
           ∙ ap (last_color (option_copied old.color)) (sym line);
       same_colors = still;
+    }
+
+-- a part that shows what another one shows is that one, whatever follows
+pub paints_as : (line other more : Painted) (old new : Painter) → colored_if old.with_colors line ≡ colored_if old.with_colors other → Paints (line ++ more) old new → Paints (other ++ more) old new
+paints_as line other more old new alike p =
+    let wanted = old.with_colors in
+    let same : colored_if wanted (line ++ more) ≡ colored_if wanted (other ++ more) =
+    if_both wanted line more ∙ ap (λ first. first ++ colored_if wanted more) alike ∙ sym (if_both wanted other more) in
+    record {
+      text = p.text ∙ ap (λ l. string_bytes old.text ++ colored (option_copied old.color) l) same;
+      color = p.color ∙ ap (last_color (option_copied old.color)) same;
+      same_colors = p.same_colors;
     }
 
 -- a text that is said not to be empty

@@ -1,5 +1,5 @@
 -- The lines of a table whose cells span are as wide as each other.
-use Rattle.std.proofs.Common.{◌≡◌, ℕ, zero, suc, ◌+◌, ◌-◌, ◌<◌, ◌≤◌, ◌==◌, not, Bool, true, false, nat_lt, if◌then◌else◌, List, [], ◌∷◌, ◌++◌, map, length, encode_utf8_all, refl, sym, ap, subst, ◌∙◌, arith}
+use Rattle.std.proofs.Common.{◌≡◌, ℕ, zero, suc, ◌+◌, ◌-◌, ◌<◌, ◌≤◌, ◌==◌, not, Bool, true, false, if◌then◌else◌, List, [], ◌∷◌, ◌++◌, map, length, refl, sym, ap, subst, ◌∙◌, arith}
 use Rattle.std.specs.List.{list_all, sum_by, flat_map, range_with_len, All}
 use Rattle.std.proofs.lemmas.Bool.{and_from}
 use Rattle.std.proofs.lemmas.Bool.Decides.{nat_tests}
@@ -11,7 +11,7 @@ use Rattle.tabled_object.specs.Entities.{below}
 use Rattle.tabled_grid.specs.declared.place.Place.{Place}
 use Rattle.tabled_grid.specs.declared.place.LineOf.{LineOf}
 use Rattle.tabled_layout.specs.declared.margin.Margin.{Margin}
-use Rattle.tabled_printing.specs.Along.{is_empty, along, crossing_at}
+use Rattle.tabled_printing.specs.Along.{is_empty, along}
 use Rattle.tabled_printing.specs.Picture.{Look, character, text_shown, text_marked, mark_at, marks_along}
 use Rattle.tabled_printing.specs.Columns.{is_narrow, HasNarrowBorders, IsRectangle, line_width, columns_before, table_width}
 use Rattle.tabled_printing.proofs.Straight.{across_long}
@@ -23,7 +23,7 @@ use Rattle.tabled_rooms.proofs.OpenLemmas.{begins_by}
 use Rattle.tabled_rooms.proofs.FirstColumns.{first_column, not_after, room_alike}
 use Rattle.tabled_rooms.proofs.RowWidths.{pieces_fill}
 use Rattle.tabled_painting.specs.Painted.{Painted, plain}
-use Rattle.tabled_painting.specs.PaintedTable.{Cells, painted_mark, painted_marks, painted_side, painted_if_drawn, plain_text}
+use Rattle.tabled_painting.specs.PaintedTable.{Cells, painted_marks, painted_side, painted_if_drawn, plain_text}
 use Rattle.tabled_painting.specs.PaintedSpans.{painted_crossing, painted_edge, lines_above, room_line, spanned_piece, spanned_between, crossed_piece, spanned_across, spanned_if_drawn, spanned_row, spanned_lines, spanned_table}
 use Rattle.tabled_painting.specs.Widths.{text_width}
 use Rattle.tabled_painting.proofs.Even.{even_with_margin}

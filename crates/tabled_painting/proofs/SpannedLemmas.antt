@@ -1,11 +1,11 @@
 -- The rooms of cells, and the lines that they stand in, part by part.
-use Rattle.std.proofs.Common.{◌≡◌, ◌≢◌, ℕ, zero, suc, ◌+◌, ◌-◌, ◌<◌, ◌≤◌, ◌==◌, ◌&&◌, min, Bool, true, false, if◌then◌else◌, Option, Some, None, List, [], ◌∷◌, ◌++◌, map, length, get_or, set, inl, inr, refl, sym, ap, subst, ◌∙◌, arith, add-one}
+use Rattle.std.proofs.Common.{◌≡◌, ◌≢◌, ℕ, ◌+◌, ◌-◌, ◌<◌, ◌≤◌, ◌==◌, ◌&&◌, Bool, true, false, if◌then◌else◌, Option, List, [], ◌∷◌, ◌++◌, map, length, set, inl, inr, refl, sym, ap, subst, ◌∙◌, arith, add-one}
 use Rattle.std.specs.List.{flat_map}
 use Rattle.std.specs.Prelude.{slice_index, slice_index_or}
 use Rattle.std.proofs.lemmas.Grind.{get_or_default_zero}
 use Rattle.std.proofs.lemmas.Bool.{cases_eq, eqb-true}
 use Rattle.std.proofs.lemmas.Bool.Decides.{nat_tests}
-use Rattle.std.proofs.lemmas.List.{map-append, append_assoc, get_or-set_same, get_or-set_other}
+use Rattle.std.proofs.lemmas.List.{map-append, get_or-set_same, get_or-set_other}
 use Rattle.std.proofs.lemmas.List.Concat.{flat_map-append}
 use Rattle.tabled_object.specs.Entities.{below}
 use Rattle.tabled_grid.specs.declared.place.Place.{Place}

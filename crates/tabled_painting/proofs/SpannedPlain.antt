@@ -7,7 +7,7 @@ use Rattle.tabled_grid.specs.declared.place.Place.{Place}
 use Rattle.tabled_grid.specs.declared.place.LineOf.{LineOf}
 use Rattle.tabled_layout.specs.declared.margin.Margin.{Margin}
 use Rattle.tabled_printing.specs.Along.{is_empty, along, crossing_at}
-use Rattle.tabled_printing.specs.Picture.{Look, Shown, text_shown, mark_at, marks_along}
+use Rattle.tabled_printing.specs.Picture.{Look, text_shown, mark_at, marks_along}
 use Rattle.tabled_printing.specs.Viewed as looks
 use Rattle.tabled_printing.proofs.ViewedLemmas.{kept_count}
 use Rattle.tabled_rooms.specs.Hosts.{Cell, Counts, host}

@@ -1,5 +1,5 @@
 -- The rooms of cells as the code keeps them. Private functions alone cite this.
-use Rattle.std.specs.Prelude.{◌≡◌, ℕ, ◌+◌, ◌-◌, ◌<◌, ◌≤◌, ◌==◌, true, false, Bool, if◌then◌else◌, Option, Some, None, List, [], ◌++◌, length, slice_index_or}
+use Rattle.std.specs.Prelude.{◌≡◌, ℕ, ◌+◌, ◌-◌, ◌<◌, ◌≤◌, ◌==◌, true, false, if◌then◌else◌, Option, Some, None, List, [], ◌++◌, length, slice_index_or}
 use Rattle.tabled_printing.specs.Picture.{Look}
 use Rattle.tabled_printing.specs.Texts.{Table}
 use Rattle.tabled_rooms.specs.Hosts.{Counts, host}

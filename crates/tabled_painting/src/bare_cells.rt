@@ -1,60 +1,89 @@
 //! Where the texts of bare cells stand: those that are shown as they are.
 
-ghost use Rattle.std.specs.Prelude.{◌≡◌, IfOk, IsTrue};
+ghost use Rattle.std.specs.Prelude.{◌≡◌, IfOk, IsTrue, map};
+ghost use Rattle.tabled_object.specs.Entities.{below};
 ghost use Rattle.tabled_settings.specs.Padding.{first_padding};
-ghost use Rattle.tabled_painting.specs.BareCells.{AllAreBare, AreBare, IsBareCell};
-ghost use Rattle.tabled_painting.specs.CellLines.{coloring_of};
+ghost use Rattle.tabled_painting.specs.BareCells.{AllAreBare, AreBare, IsBareCell, side_of};
 
-use crate::CellColors;
 use std::alloc::AllocError;
 use tabled_cells::Placement;
-use tabled_configuration::{ColorMap, SpannedConfig};
+use tabled_configuration::SpannedConfig;
 use tabled_object::Position;
 use tabled_settings::{AlignmentHorizontal, AlignmentVertical};
 
-/// Whether a cell for which no padding is set shows its text whole, at the top, between spaces, and without colors.
-fn is_bare(how: &Placement, colors: &CellColors) -> bool
+/// Where the texts of columns stand of which it is known that all their cells are bare.
+#[derive(Drop)]
+pub(crate) enum BareColumns {
+    /// It is known of no column.
+    Unknown,
+    /// In all columns they stand alike.
+    Alike(AlignmentHorizontal),
+    /// In each column as the list says.
+    Each(Vec<AlignmentHorizontal>),
+}
+
+impl BareColumns {
+    ghost use Rattle.tabled_painting.specs.BareCells.{side_in};
+
+    /// Where the texts of a column stand, if it is known that its cells are bare.
+    #[inline(always)]
+    pub(crate) fn at(&self, col: usize) -> Option<AlignmentHorizontal>
+        ensures { result ≡ side_in self.now col }
+    {
+        match self {
+            BareColumns::Unknown => None,
+            BareColumns::Alike(side) => Some(*side),
+            BareColumns::Each(sides) => sides.get(col).copied(),
+        }
+    }
+}
+
+/// Whether a cell for which no padding is set shows its text whole, at the top, between spaces.
+fn is_bare(how: &Placement) -> bool
     requires { how.now.padding ≡ first_padding }
-    ensures { IsTrue result → IsBareCell how.now.alignment_horizontal how.now (coloring_of colors.now) }
+    ensures { IsTrue result → IsBareCell how.now.alignment_horizontal how.now }
 {
     how.alignment_vertical == AlignmentVertical::Top
         && !how.trim_horizontal
         && !how.trim_vertical
         && how.justification == ' '
-        && colors.text.is_none()
-        && colors.fill.is_none()
-        && colors.padding.left.is_none()
-        && colors.padding.right.is_none()
 }
 
-/// Whether all cells are known to be such ones: since all rows have the same settings, all columns too but where their texts stand, and one
-/// cell is such a one.
-fn has_bare_cells(cfg: &SpannedConfig, colors: &ColorMap) -> bool
-    ensures { IsTrue result → AllAreBare cfg.now.settings.cells colors.now }
+/// Whether all cells are known to be such ones: since all rows are placed alike, all columns too but where their texts stand, and one cell
+/// is such a one.
+fn has_bare_cells(cfg: &SpannedConfig) -> bool
+    ensures { IsTrue result → AllAreBare cfg.now.settings.cells }
 {
-    if !cfg.has_alike_rows() || !cfg.has_no_padding() || !colors.is_empty() {
+    if !cfg.has_alike_placements() || !cfg.has_no_padding() {
         return false;
     }
     let first = Position::new(0, 0);
     let how = Placement::of(cfg, first);
-    is_bare(&how, &CellColors::of(cfg, colors, first))
+    is_bare(&how)
 }
 
-/// Where the texts of each of so many columns stand, if all cells are known to be bare; else of none.
-pub(crate) fn bare_columns(
-    cfg: &SpannedConfig,
-    colors: &ColorMap,
-    columns: usize,
-) -> Result<Vec<AlignmentHorizontal>, AllocError>
-    ensures { IfOk result (λ sides. AreBare cfg.now.settings.cells colors.now sides.items) }
+/// Where the text of the first cell of each column stands.
+fn first_sides(cfg: &SpannedConfig, columns: usize) -> Result<Vec<AlignmentHorizontal>, AllocError>
+    ensures { IfOk result (λ sides. sides.items ≡ map (side_of cfg.now.settings.cells) (below columns)) }
 {
-    let mut sides = Vec::new(cfg.allocator());
-    if !has_bare_cells(cfg, colors) {
-        return Ok(sides);
-    }
-    sides.reserve(columns)?;
+    let mut sides = Vec::with_capacity(cfg.allocator(), columns)?;
     for col in 0..columns {
         sides.push(cfg.get_alignment_horizontal(Position::new(0, col)))?;
     }
     Ok(sides)
+}
+
+/// Where the texts of so many columns stand, if all cells are known to be bare. Where all columns are alike it takes no memory.
+pub(crate) fn bare_columns(cfg: &SpannedConfig, columns: usize) -> Result<BareColumns, AllocError>
+    ensures { IfOk result (λ known. AreBare cfg.now.settings.cells known) }
+{
+    if !has_bare_cells(cfg) {
+        return Ok(BareColumns::Unknown);
+    }
+    if cfg.has_one_alignment() {
+        let side = cfg.get_alignment_horizontal(Position::new(0, 0));
+        return Ok(BareColumns::Alike(side));
+    }
+    let sides = first_sides(cfg, columns)?;
+    Ok(BareColumns::Each(sides))
 }

@@ -1,6 +1,6 @@
 //! The colors of a cell.
 
-ghost use Rattle.std.specs.Prelude.{◌≡◌};
+ghost use Rattle.std.specs.Prelude.{◌≡◌, None, IfSome, IsTrue, option_copied};
 
 use tabled_border::ANSIBuf;
 use tabled_configuration::{ColorMap, Colors, SpannedConfig};
@@ -19,6 +19,7 @@ pub(crate) struct CellColors<'a> {
 }
 
 impl<'a> CellColors<'a> {
+    ghost use Rattle.tabled_painting.specs.BareCells.{IsInColor};
     ghost use Rattle.tabled_painting.specs.CellLines.{coloring_at, coloring_of};
 
     /// The colors that are set for a cell.
@@ -32,5 +33,29 @@ impl<'a> CellColors<'a> {
             fill: cfg.get_justification_color(position),
             padding: cfg.get_padding_color(position),
         }
+    }
+
+    /// Whether neither its text nor what stands beside it has a color.
+    pub(crate) fn is_plain(&self) -> bool
+        ensures { IsTrue result → IsInColor None (coloring_of self.now) }
+    {
+        self.text.is_none()
+            && self.fill.is_none()
+            && self.padding.left.is_none()
+            && self.padding.right.is_none()
+    }
+
+    /// The color of its text, if all that stands beside it has the same.
+    pub(crate) fn one_color(&self) -> Option<Option<&'a ANSIBuf>>
+        ensures { IfSome result (λ color. IsInColor (option_copied color) (coloring_of self.now)) }
+    {
+        let (color, padding) = (self.text, self.padding);
+        if self.fill != color {
+            return None;
+        }
+        if padding.left.as_ref() != color || padding.right.as_ref() != color {
+            return None;
+        }
+        Some(color)
     }
 }

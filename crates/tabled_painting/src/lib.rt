@@ -15,6 +15,7 @@ mod page;
 mod painter;
 mod painting;
 mod room;
+mod row_colors;
 mod spanned_lines;
 mod spanned_sizes;
 mod spans_of;

@@ -172,34 +172,40 @@ impl<'a> Painter<'a> {
         Ok(())
     }
 
-    /// Writes a text in a column between spaces without color: at least one before it and one after it, and as many more as the column
+    /// Writes a text in a column between spaces, all in a color: at least one before it and one after it, and as many more as the column
     /// has room for, where its alignment wants them; and then a side, if there is one. The text takes as many terminal columns as it has bytes.
     #[inline(always)]
     pub(crate) fn push_bare(
         &mut self,
+        color: Option<&'a ANSIBuf>,
         alignment: AlignmentHorizontal,
         width: usize,
         text: &str,
         side: Option<Mark<'a>>,
     ) -> Result<(), AllocError>
-        ensures { OnOk result (Paints (paint None (bare_text alignment width text.now) ++ side_painted (option_map mark_of side.entry)) self.old self.new) }
+        ensures { OnOk result (Paints (paint (option_copied color.entry) (bare_text alignment width text.now) ++ side_painted (option_map mark_of side.entry)) self.old self.new) }
     {
         let free = width.saturating_sub(2).saturating_sub(text.len());
         let before = free_before(alignment, free);
-        self.begin(None)?;
+        self.begin(color)?;
         push_before(&mut self.text, before)?;
         self.text.push_str(text)?;
-        self.push_spaces(free - before + 1, side)
+        self.push_spaces(color, free - before + 1, side)
     }
 
-    /// Writes the given number of spaces, and then a side, if there is one, after what has no color.
+    /// Writes the given number of spaces, and then a side, if there is one, after what has the color of the spaces.
     #[inline(always)]
-    fn push_spaces(&mut self, count: usize, side: Option<Mark<'a>>) -> Result<(), AllocError>
-        requires { option_copied self.old.color ≡ None }
-        ensures { OnOk result (Paints (paint None (times count 32) ++ side_painted (option_map mark_of side.entry)) self.old self.new) }
+    fn push_spaces(
+        &mut self,
+        color: Option<&'a ANSIBuf>,
+        count: usize,
+        side: Option<Mark<'a>>,
+    ) -> Result<(), AllocError>
+        requires { option_copied self.old.color ≡ color_if self.old.with_colors (option_copied color) }
+        ensures { OnOk result (Paints (paint (option_copied color.entry) (times count 32) ++ side_painted (option_map mark_of side.entry)) self.old self.new) }
     {
         match side {
-            Some(mark) if mark.color.is_none() => {
+            Some(mark) if color.is_none() && mark.color.is_none() => {
                 push_spaces_before(&mut self.text, count, mark.shown.unwrap_or(' '))
             }
             _ => {

@@ -332,6 +332,7 @@ impl<'a, 'b, 'c> SpannedLines<'a, 'b, 'c> {
         requires rooms { length rooms.old ≡ self.now.lines.now.frame.shape.1 }
         requires are { AreHosts (columns_of self.now.lines.now) (rows_of self.now.lines.now) self.now.lines.now.frame.shape row hosts.now }
         requires ended { option_copied page.old.painter.color ≡ None }
+        requires colors { page.old.painter.with_colors ≡ self.now.lines.now.frame.with_colors }
         ensures painted { OnOk result ((table : Table) → slice_index_or table row [] ≡ map string_bytes texts.now → let lines = self.now.lines.now in
             AreOpen (viewed lines.frame) (columns_of lines) (rows_of lines) (room_cells lines table) row rooms.old → PaintsLines (spanned_row (viewed lines.frame) (columns_of lines) (rows_of lines) (room_cells lines table) row) page.old page.new) }
         ensures opened { OnOk result ((table : Table) → slice_index_or table row [] ≡ map string_bytes texts.now → let lines = self.now.lines.now in

@@ -1,6 +1,6 @@
 //! The lines of a table: its horizontal lines, and its rows, cell by cell.
 
-ghost use Rattle.std.specs.Prelude.{◌≡◌, ◌≢◌, ◌++◌, ◌<◌, ◌≤◌, ℕ, [], ◌∷◌, true, false, None, OnOk, IfOk, IfSome, length, map, option_copied, option_map, string_bytes, slice_index, slice_index_or};
+ghost use Rattle.std.specs.Prelude.{◌≡◌, ◌≢◌, ◌++◌, ◌<◌, ◌≤◌, ℕ, [], ◌∷◌, true, false, None, OnOk, IfOk, IfSome, IsSome, length, map, option_copied, option_map, string_bytes, slice_index, slice_index_or};
 ghost use Rattle.std.specs.Option.{ForSome};
 ghost use Rattle.std.specs.List.{All};
 ghost use Rattle.tabled_object.specs.Entities.{below};
@@ -13,22 +13,22 @@ ghost use Rattle.tabled_painting.specs.InColor.{Paints};
 ghost use Rattle.tabled_painting.specs.Pages.{PaintsLines, written};
 ghost use Rattle.tabled_painting.specs.PaintedTable.{painted_marks, side_painted};
 ghost use Rattle.tabled_painting.specs.Viewed as looks;
-ghost use Rattle.tabled_painting.specs.BareCells.{AreBare};
+ghost use Rattle.tabled_painting.specs.BareCells.{AreBare, AreRowColors};
 ghost use Rattle.tabled_painting.specs.Between.{IsBetweenRows};
 
 use crate::alike::first_plain_line;
-use crate::bare_cells::bare_columns;
+use crate::bare_cells::{BareColumns, bare_columns};
 use crate::cell_lines::CellLines;
 use crate::page::Page;
+use crate::row_colors::{RowColors, row_colors};
 use crate::{CellColors, Painter};
 use std::alloc::Global;
-use tabled_border::OutOfMemory;
+use tabled_border::{ANSIBuf, OutOfMemory};
 use tabled_cells::Placement;
 use tabled_configuration::{ColorMap, ColoredConfig};
 use tabled_kept::Probes;
 use tabled_object::{Dimension, FixedDimension, Position};
 use tabled_printing::{Frame, Mark};
-use tabled_settings::AlignmentHorizontal;
 use tabled_width::is_printable;
 
 /// From how many rows on it pays to keep what stands between them.
@@ -40,15 +40,20 @@ pub(crate) struct TableLines<'a, 'b> {
     pub(crate) frame: Frame<'a, 'b, FixedDimension>,
     /// The colors of cells.
     pub(crate) colors: &'a ColorMap,
-    /// Where the texts of each column stand, where all cells are bare; else of none.
-    bare_columns: Vec<AlignmentHorizontal>,
+    /// Where the texts of each column stand, if all cells are bare.
+    bare_columns: BareColumns,
+    /// In which colors the cells of a row are painted.
+    row_colors: RowColors,
     /// A horizontal line between two rows as it is written, with its line feed, where all of them but custom ones look alike.
     between: Option<String>,
-    ghost are_bare: { AreBare frame.cfg.now.settings.cells colors.now bare_columns.items },
+    ghost are_bare: { AreBare frame.cfg.now.settings.cells bare_columns },
+    ghost are_row_colors: { AreRowColors row_colors frame.with_colors frame.cfg.now.settings.cells colors.now },
     ghost is_between: { ForSome between (λ text. IsBetweenRows frame (string_bytes text)) },
 }
 
 impl<'a, 'b> TableLines<'a, 'b> {
+    ghost use Rattle.tabled_painting.specs.BareCells.{IsInColor, IsRowColor};
+    ghost use Rattle.tabled_painting.specs.CellLines.{coloring_at};
     ghost use Rattle.tabled_painting.specs.Rows.{line_of};
     ghost use Rattle.tabled_painting.specs.PaintedTable.{painted_between, painted_cell, painted_if_drawn, painted_lines};
     ghost use Rattle.tabled_painting.specs.Rows.{cells_of, row_cell, row_painted};
@@ -69,13 +74,15 @@ impl<'a, 'b> TableLines<'a, 'b> {
         ensures with_colors { IfOk result (λ lines. lines.frame.with_colors ≡ with_colors) }
     {
         let (config, colors) = (cfg.config(), cfg.get_colors());
-        let bare_columns = bare_columns(config, colors, shape.1)?;
+        let bare_columns = bare_columns(config, shape.1)?;
+        let row_colors = row_colors(config, colors, with_colors);
         let frame = Frame::new(config, sizes, shape, with_colors)?;
         let between = line_between(config.allocator(), &frame)?;
         Ok(TableLines {
             frame,
             colors,
             bare_columns,
+            row_colors,
             between,
         })
     }
@@ -131,6 +138,27 @@ impl<'a, 'b> TableLines<'a, 'b> {
         Ok(cell)
     }
 
+    /// The color in which all cells of a row of one line are painted, if it is known that there is one: none where they have no color, or
+    /// none is wanted.
+    #[inline(always)]
+    fn row_color(&self, row: usize, is_low: bool) -> Option<Option<&'a ANSIBuf>>
+        ensures color { IfSome result (λ color. IsRowColor self.now.frame.with_colors self.now.frame.cfg.now.settings.cells self.now.colors.now row (option_copied color)) }
+        ensures low { IsSome result → is_low ≡ true }
+    {
+        if !is_low {
+            return None;
+        }
+        match self.row_colors {
+            RowColors::Unknown => None,
+            RowColors::Plain => Some(None),
+            RowColors::ByRow => {
+                let first = Position::new(row, 0);
+                let colors = CellColors::of(self.frame.cfg, self.colors, first);
+                colors.one_color()
+            }
+        }
+    }
+
     /// Paints the first line of a cell, and then a side, if there is one. The cell goes behind the other ones, whose room it may
     /// take where its row is one line high.
     fn paint_set(
@@ -157,7 +185,7 @@ impl<'a, 'b> TableLines<'a, 'b> {
         Ok(())
     }
 
-    /// Paints the first line of a cell, and then a side, if there is one.
+    /// Paints the first line of a cell, and then a side, if there is one. A cell of a row of one line may be bare, in the color of its row.
     #[inline(always)]
     fn paint_cell(
         &self,
@@ -166,17 +194,21 @@ impl<'a, 'b> TableLines<'a, 'b> {
         text: &'a str,
         cells: &mut Vec<CellLines<'a>>,
         is_low: bool,
+        bare: Option<Option<&'a ANSIBuf>>,
         side: Option<Mark<'a>>,
     ) -> Result<(), OutOfMemory>
+        requires colors { painter.old.with_colors ≡ self.now.frame.with_colors }
+        requires bare { IfSome bare (λ color. self.now.frame.with_colors ≡ true → IsInColor (option_copied color) (coloring_at self.now.frame.cfg.now.settings.cells self.now.colors.now position.row position.col)) }
+        requires low { IsSome bare → is_low ≡ true }
         ensures painted { OnOk result (Paints (row_cell self.now position.row position.col text.now 0 ++ side_painted (option_map mark_of side.entry)) painter.old painter.new) }
         ensures kept { is_low ≡ false → OnOk result ((at : ℕ) → map (line_of at) cells.new.items ≡ map (line_of at) cells.old.items ++ row_cell self.now position.row position.col text.now at ∷ []) }
     {
-        if is_low
-            && let Some(alignment) = self.bare_columns.get(position.col)
+        if let Some(color) = bare
+            && let Some(alignment) = self.bare_columns.at(position.col)
             && is_printable(text)
         {
             let width = self.frame.dims.get_width(position.col);
-            painter.push_bare(*alignment, width, text, side)?;
+            painter.push_bare(color, alignment, width, text, side)?;
             return Ok(());
         }
         self.paint_set(painter, position, text, cells, is_low)?;
@@ -195,11 +227,13 @@ impl<'a, 'b> TableLines<'a, 'b> {
         requires row { row < self.now.frame.shape.0 }
         requires high { 0 < slice_index self.now.frame.dims.now.heights.items row }
         requires texts { length texts.now ≡ self.now.frame.shape.1 }
+        requires colors { painter.old.with_colors ≡ self.now.frame.with_colors }
         ensures painted { OnOk result (Paints (painted_between (viewed self.now.frame) row 0 (λ c. row_cell self.now row c (slice_index_or (map string_bytes texts.now) c []) 0)) painter.old painter.new) }
         ensures kept { slice_index self.now.frame.dims.now.heights.items row ≢ 1
             → OnOk result ((at : ℕ) → map (line_of at) cells.new.items ≡ map (λ c. row_cell self.now row c (slice_index_or (map string_bytes texts.now) c []) at) (below (length texts.now))) }
     {
         let is_low = self.frame.dims.get_height(row) == 1;
+        let bare = self.row_color(row, is_low);
         if !is_low {
             cells.clear();
         }
@@ -207,7 +241,7 @@ impl<'a, 'b> TableLines<'a, 'b> {
         for (col, text) in texts.iter().enumerate() {
             let side = self.frame.side(row, col + 1, 0);
             let position = Position::new(row, col);
-            self.paint_cell(painter, position, text.as_str(), cells, is_low, side)?;
+            self.paint_cell(painter, position, text.as_str(), cells, is_low, bare, side)?;
         }
         Ok(())
     }
@@ -245,6 +279,7 @@ impl<'a, 'b> TableLines<'a, 'b> {
         requires row { row < self.now.frame.shape.0 }
         requires texts { length texts.now ≡ self.now.frame.shape.1 }
         requires ended { option_copied page.old.painter.color ≡ None }
+        requires colors { page.old.painter.with_colors ≡ self.now.frame.with_colors }
         ensures { OnOk result (PaintsLines (row_painted self.now row (map string_bytes texts.now)) page.old page.new) }
     {
         let height = self.frame.dims.get_height(row);

@@ -119,7 +119,7 @@ impl<T> EntityMap<T> {
         self.since.has_columns_alone()
     }
 
-    /// The same for rows: so the value of a cell does not depend on its column.
+    /// The same for rows: then it does not depend on its column.
     pub fn has_rows_alone(&self) -> bool
         ensures { result ≡ are_of_rows self.now.since }
     {

@@ -1,28 +1,18 @@
--- One side more, and all of them.
-use Rattle.std.proofs.Common.{◌≡◌, ◌++◌, [], ◌∷◌, sym, ap, subst, ◌∙◌, arith}
-use Rattle.std.proofs.lemmas.List.FromFn.{map-range_with_len_more}
-use Rattle.tabled_object.specs.declared.position.Position.{Position}
-use Rattle.tabled_settings.specs.Live.{value_at}
-use Rattle.tabled_painting.specs.BareCells.{AreBare, side_of}
-use Rattle.tabled_painting.proofs.BareLemmas.{known_sides}
+-- Of no column, of all alike, or by a list.
+use Rattle.std.proofs.Common.{refl}
+use Rattle.tabled_painting.specs.declared.bare_cells.BareColumns.{BareColumns}
+use Rattle.tabled_painting.proofs.BareLemmas.{none_known, one_side, known_sides}
 use Rattle.tabled_painting.proofs.bare_cells.bare_columns.Goals as goal
 
 pub returns-then-not-has_bare_cells : goal.returns-then-not-has_bare_cells
-returns-then-not-has_bare_cells c =
-    subst (AreBare c.args.cfg.now.settings.cells c.args.colors.now) (sym c.new-sides.ensures.items) (λ row col none inside. absurd (omega arith))
+returns-then-not-has_bare_cells c = none_known c.args.cfg.now.settings.cells
 
-pub loop-col-preserved : goal.loop-col-preserved
-loop-col-preserved c =
-    let settings = c.args.cfg.now.settings.cells in
-    let n = c.loop-col.col in
-    let place : Position = record { row = 0; col = n } in
-    let at : c.new.result ≡ place = λ i. record { row = c.new.ensures.row i; col = c.new.ensures.col i } in
-    let side : c.get_alignment_horizontal.result ≡ side_of settings n = c.get_alignment_horizontal.ensures ∙ ap (value_at settings.alignment_horizontal) at in
-    c.in_ok-push.ensures.items
-    ∙ (λ i. c.loop-col.invariant i ++ side i ∷ [])
-    ∙ sym (map-range_with_len_more (side_of settings) 0 n n (omega arith))
+pub returns-then-has_one_alignment : goal.returns-then-has_one_alignment
+returns-then-has_one_alignment c =
+    one_side c.args.cfg.now.settings.cells c.new.result c.get_alignment_horizontal-side.result c.get_alignment_horizontal-side.ensures
+    (c.has_one_alignment.ensures.0 c.if-has_one_alignment.true) (c.has_bare_cells.ensures c.if-not-has_bare_cells.false)
 
 pub returns : goal.returns
 returns c =
-    let settings = c.args.cfg.now.settings.cells in
-    known_sides settings c.args.colors.now c.loop-col.col c.loop-col.sides.items (c.has_bare_cells.ensures c.if-not-has_bare_cells.false) c.loop-col.invariant
+    let sides = c.in_ok-sides.sides in
+    known_sides c.args.cfg.now.settings.cells c.args.columns sides.items (BareColumns.Each sides) (λ col. refl) (c.has_bare_cells.ensures c.if-not-has_bare_cells.false) c.in_ok-sides.ensures

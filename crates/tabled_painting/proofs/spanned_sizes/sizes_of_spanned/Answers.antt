@@ -1,5 +1,5 @@
 -- The sizes by the lines that are drawn.
-use Rattle.std.proofs.Common.{◌≡◌, ℕ, ◌+◌, Bool, false, ap, ◌∙◌, arith}
+use Rattle.std.proofs.Common.{ℕ, Bool, false, ap, ◌∙◌, arith}
 use Rattle.std.specs.Prelude.{slice_index_or}
 use Rattle.tabled_configuration.specs.Configuration.{all_writes, characters_of}
 use Rattle.tabled_grid.specs.Drawn.{drawn}

@@ -1,5 +1,5 @@
 -- The room stands in its column; the others stay.
-use Rattle.std.proofs.Common.{◌≡◌, ◌==◌, sym, ap, ◌∙◌}
+use Rattle.std.proofs.Common.{◌==◌, sym, ap, ◌∙◌}
 use Rattle.tabled_painting.specs.RoomLines.{room_shown}
 use Rattle.tabled_painting.proofs.SpannedLemmas.{put_there, put_elsewhere, not_own}
 use Rattle.tabled_painting.proofs.spanned_lines.SpannedLines.begin_room.Goals as goal

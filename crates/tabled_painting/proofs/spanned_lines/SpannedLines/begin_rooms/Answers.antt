@@ -1,5 +1,5 @@
 -- A column more: a room begins there, or none does.
-use Rattle.std.proofs.Common.{◌≡◌, ◌==◌, ◌&&◌, ◌+◌, ◌<◌, ◌≤◌, Bool, true, false, [], length, map, slice_index_or, string_bytes, refl, sym, ap, ◌∙◌, arith, min}
+use Rattle.std.proofs.Common.{◌≡◌, ◌==◌, ◌&&◌, ◌<◌, false, [], length, slice_index_or, string_bytes, refl, sym, ap, ◌∙◌, arith}
 use Rattle.std.specs.Prelude.{slice_index}
 use Rattle.tabled_rooms.specs.Hosts.{host}
 use Rattle.tabled_rooms.specs.Holding.{held}

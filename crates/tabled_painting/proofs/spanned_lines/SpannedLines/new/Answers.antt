@@ -1,5 +1,5 @@
 -- The lines at which rows begin, and the sides that are drawn.
-use Rattle.std.proofs.Common.{◌≡◌, ◌+◌, length, refl, sym, ap, ◌∙◌}
+use Rattle.std.proofs.Common.{◌+◌, length, refl, sym, ap, ◌∙◌}
 use Rattle.std.specs.Prelude.{slice_index}
 use Rattle.std.proofs.lemmas.List.FromFn.{length-map-range_with_len}
 use Rattle.tabled_configuration.specs.Configuration.{all_writes, characters_of}

@@ -1,13 +1,12 @@
 -- The rows, and the last line.
-use Rattle.std.proofs.Common.{◌≡◌, ◌++◌, length, refl, ap, sym, subst, ◌∙◌, List}
-use Rattle.tabled_printing.specs.Texts.{texts}
+use Rattle.std.proofs.Common.{refl, sym, subst, ◌∙◌, List}
 use Rattle.tabled_rooms.specs.Holding.{AreAbove}
 use Rattle.tabled_rooms.specs.declared.host.Host.{Host}
 use Rattle.tabled_rooms.proofs.HostLemmas.{none_above}
 use Rattle.tabled_painting.specs.Pages.{PaintsLines}
 use Rattle.tabled_painting.specs.PaintedTable.{painted_if_drawn}
 use Rattle.tabled_painting.specs.PaintedSpans.{spanned_lines}
-use Rattle.tabled_painting.specs.RoomLines.{columns_of, room_cells, rows_of}
+use Rattle.tabled_painting.specs.RoomLines.{columns_of, rows_of}
 use Rattle.tabled_painting.specs.Viewed.{viewed}
 use Rattle.tabled_painting.proofs.PageLemmas.{lines_both}
 use Rattle.tabled_painting.proofs.spanned_lines.SpannedLines.paint.Goals as goal

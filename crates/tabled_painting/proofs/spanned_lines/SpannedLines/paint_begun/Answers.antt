@@ -1,5 +1,5 @@
 -- A room that begins at the column, and none.
-use Rattle.std.proofs.Common.{◌≡◌, subst}
+use Rattle.std.proofs.Common.{subst}
 use Rattle.tabled_painting.specs.InColor.{Paints}
 use Rattle.tabled_painting.specs.Viewed.{viewed}
 use Rattle.tabled_painting.proofs.FrameLemmas.{side_is}

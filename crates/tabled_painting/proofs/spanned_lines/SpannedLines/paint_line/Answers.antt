@@ -1,5 +1,5 @@
 -- A line over which nothing reaches is painted as one without spans; another piece by piece, if it is drawn.
-use Rattle.std.proofs.Common.{◌≡◌, ◌<◌, if◌then◌else◌, [], ◌∷◌, length, refl, sym, ap, subst, ◌∙◌, arith}
+use Rattle.std.proofs.Common.{◌<◌, if◌then◌else◌, [], ◌∷◌, length, refl, sym, ap, subst, ◌∙◌, arith}
 use Rattle.tabled_rooms.specs.declared.host.Host.{Host}
 use Rattle.tabled_painting.specs.Pages.{PaintsLines}
 use Rattle.tabled_painting.specs.PaintedSpans.{spanned_across}

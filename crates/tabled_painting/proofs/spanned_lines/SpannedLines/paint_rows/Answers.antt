@@ -40,6 +40,11 @@ paint_shown-requires-clause-ended c =
     let lines = c.args.self.now.lines.now in
     (c.in_ok-paint_line.ensures (room_cells lines (texts c.args.rows.now)) (c.loop-row.invariant.opened (omega (arith, c.loop-row-test.true, c.requires.rows)))).ended
 
+pub paint_shown-requires-clause-colors : goal.paint_shown-requires-clause-colors
+paint_shown-requires-clause-colors c =
+    let lines = c.args.self.now.lines.now in
+    (c.in_ok-paint_line.ensures (room_cells lines (texts c.args.rows.now)) (c.loop-row.invariant.opened (omega (arith, c.loop-row-test.true, c.requires.rows)))).same_colors ∙ c.loop-row.invariant.colors
+
 pub loop-row-preserved : goal.loop-row-preserved
 loop-row-preserved c =
     let lines = c.args.self.now.lines.now in

@@ -19,6 +19,9 @@ paint_row-requires-clause-texts c =
     sym (length-map c.deref.result.now string_bytes) ∙ ap length there
     ∙ c.requires.cols c.loop-row.row [] (omega (arith, c.loop-row-test.true, length-map rows (λ row. map string_bytes row.items)))
 
+pub paint_row-requires-clause-colors : goal.paint_row-requires-clause-colors
+paint_row-requires-clause-colors c = c.in_ok-paint_line.ensures.same_colors ∙ c.loop-row.invariant.colors
+
 pub loop-row-preserved : goal.loop-row-preserved
 loop-row-preserved c =
     let lines = c.args.self.now in

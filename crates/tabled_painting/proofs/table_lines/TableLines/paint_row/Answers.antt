@@ -11,6 +11,9 @@ use Rattle.tabled_painting.proofs.FrameLemmas.{cells_same, cells_count, higher}
 use Rattle.tabled_painting.proofs.PageLemmas.{line_painted, line_more}
 use Rattle.tabled_painting.proofs.table_lines.TableLines.paint_row.Goals as goal
 
+pub paint_first-requires-clause-colors : goal.paint_first-requires-clause-colors
+paint_first-requires-clause-colors c = c.in_ok-begin_line.ensures.painted.same_colors ∙ c.requires.colors
+
 pub loop-at-init : goal.loop-at-init
 loop-at-init c = record {
   ended = c.in_ok-end_line.ensures.ended;
