@@ -21,6 +21,7 @@ pub(crate) struct MarginSides<'a> {
 
 impl<'a> MarginSides<'a> {
     /// The margin of a configuration.
+    #[inline(always)]
     pub(crate) fn of(cfg: &'a SpannedConfig) -> Self
         ensures left { side_of result.left ≡ left_side cfg.now.settings.margin }
         ensures right { side_of result.right ≡ right_side cfg.now.settings.margin }

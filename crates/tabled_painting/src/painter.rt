@@ -156,6 +156,7 @@ impl<'a> Painter<'a> {
     }
 
     /// Writes a character the given number of times in a color.
+    #[inline(always)]
     pub(crate) fn push_times(
         &mut self,
         color: Option<&'a ANSIBuf>,
@@ -255,6 +256,7 @@ impl<'a> Sink<'a> for Painter<'a> {
 
     ghost leaves = { anything };
 
+    #[inline(always)]
     fn put(&mut self, run: Run<'a>) -> Result<(), OutOfMemory> {
         self.push_times(run.mark.color, run.count, run.mark.shown.unwrap_or(' '))?;
         Ok(())

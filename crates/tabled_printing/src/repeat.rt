@@ -185,6 +185,7 @@ fn push_in_turn(text: &mut String, count: usize, character: char) -> Result<(), 
 
 /// Writes the given number of spaces and then a character. Where memory is refused some of the spaces may have been written, and the
 /// character was not. A space and a character of ASCII are written each by itself, anything else at once where that can be.
+#[inline(always)]
 pub fn push_spaces_before(
     text: &mut String,
     count: usize,
