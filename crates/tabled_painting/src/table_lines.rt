@@ -46,6 +46,8 @@ pub(crate) struct TableLines<'a, 'b> {
     row_colors: RowColors,
     /// A horizontal line between two rows as it is written, with its line feed, where all of them but custom ones look alike.
     between: Option<String>,
+    /// How many columns of a terminal its columns take, as far as a number says it.
+    columns: usize,
     ghost are_bare: { AreBare frame.cfg.now.settings.cells bare_columns },
     ghost are_row_colors: { AreRowColors row_colors frame.with_colors frame.cfg.now.settings.cells colors.now },
     ghost is_between: { ForSome between (λ text. IsBetweenRows frame (string_bytes text)) },
@@ -77,13 +79,15 @@ impl<'a, 'b> TableLines<'a, 'b> {
         let bare_columns = bare_columns(config, shape.1)?;
         let row_colors = row_colors(config, colors, with_colors);
         let frame = Frame::new(config, sizes, shape, with_colors)?;
-        let between = line_between(config.allocator(), &frame)?;
+        let columns = columns_of(&frame);
+        let between = line_between(config.allocator(), &frame, columns)?;
         Ok(TableLines {
             frame,
             colors,
             bare_columns,
             row_colors,
             between,
+            columns,
         })
     }
 
@@ -319,16 +323,15 @@ impl<'a, 'b> TableLines<'a, 'b> {
 
     /// How many bytes the lines of a table take at least, or nearly so: each column of a line is one or more. It saturates.
     pub(crate) fn least_bytes(&self) -> usize {
-        let (rows, cols) = self.frame.shape;
+        let (rows, _) = self.frame.shape;
         let mut high = 0usize;
         for row in 0..rows {
             high = high.saturating_add(self.frame.dims.get_height(row));
         }
-        let mut line = 1usize;
-        for col in 0..cols {
-            line = line.saturating_add(self.frame.dims.get_width(col));
-        }
-        line = line.saturating_add(self.frame.side_bytes());
+        let line = self
+            .columns
+            .saturating_add(self.frame.side_bytes())
+            .saturating_add(1);
         let between = match &self.between {
             Some(line) => line.len(),
             None => 0,
@@ -339,7 +342,11 @@ impl<'a, 'b> TableLines<'a, 'b> {
 }
 
 /// A horizontal line between two rows as it is written, where all of them but custom ones look alike, and one is drawn.
-fn line_between(alloc: Global, frame: &Frame<FixedDimension>) -> Result<Option<String>, OutOfMemory>
+fn line_between(
+    alloc: Global,
+    frame: &Frame<FixedDimension>,
+    columns: usize,
+) -> Result<Option<String>, OutOfMemory>
     ensures { IfOk result (λ found. ForSome found (λ text. IsBetweenRows frame.now (string_bytes text))) }
 {
     let (rows, _) = frame.shape;
@@ -347,32 +354,36 @@ fn line_between(alloc: Global, frame: &Frame<FixedDimension>) -> Result<Option<S
         return Ok(None);
     }
     match first_plain_line(frame.cfg, rows) {
-        Some(row) if frame.draws(row) => Ok(Some(line_written(alloc, frame, row)?)),
+        Some(row) if frame.draws(row) => { Ok(Some(line_written(alloc, frame, row, columns)?)) }
         _ => Ok(None),
     }
 }
 
-/// How many bytes a horizontal line takes, or more: at most three for each column of most characters. It saturates.
-fn line_room(frame: &Frame<FixedDimension>) -> usize {
+/// How many columns of a terminal the columns of a table take. It saturates.
+fn columns_of(frame: &Frame<FixedDimension>) -> usize {
     let (_, cols) = frame.shape;
-    let mut columns = cols.saturating_add(2);
+    let mut columns = 0usize;
     for col in 0..cols {
         columns = columns.saturating_add(frame.dims.get_width(col));
     }
-    columns.saturating_mul(3)
+    columns
 }
 
-/// A horizontal line as it is written, with its line feed.
+/// A horizontal line as it is written, with its line feed. It has room for three bytes for each of the given number of columns and for
+/// each vertical line, which is what most characters take at most.
 fn line_written(
     alloc: Global,
     frame: &Frame<FixedDimension>,
     row: usize,
+    columns: usize,
 ) -> Result<String, OutOfMemory>
     requires { row ≤ frame.now.shape.0 }
     ensures { IfOk result (λ text. string_bytes text ≡ written frame.now.with_colors (painted_marks (marks_along (looks.viewed frame.now) (Line.Horizontal row)))) }
 {
     let mut painter = Painter::new(alloc, frame.with_colors);
-    painter.reserve(line_room(frame))?;
+    let (_, cols) = frame.shape;
+    let room = columns.saturating_add(cols).saturating_add(2);
+    painter.reserve(room.saturating_mul(3))?;
     frame.put_line(row, &mut painter, &mut Probes::new())?;
     painter.end_line()?;
     Ok(painter.into_text())

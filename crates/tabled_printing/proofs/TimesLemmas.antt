@@ -1,5 +1,5 @@
 -- A character many times: written one by one, as pieces of spaces, and as copies of what was written.
-use Rattle.std.proofs.Common.{rules, Result, Ok, Err, OnErr, min, String, string_bytes, string_len, ◌≡◌, ℕ, zero, suc, ◌+◌, ◌-◌, ◌*◌, ◌≤◌, true, List, ◌++◌, length, take, drop, replicate, refl, sym, ap, subst, ◌∙◌, arith, lit<, encode_utf8, encode_utf8_all, length-append}
+use Rattle.std.proofs.Common.{rules, Result, Ok, Err, OnErr, min, String, string_bytes, string_len, ◌≡◌, ℕ, zero, suc, ◌+◌, ◌-◌, ◌*◌, ◌/◌, ◌≤◌, true, List, ◌++◌, length, take, drop, replicate, refl, sym, ap, subst, ◌∙◌, arith, lit<, encode_utf8, encode_utf8_all, length-append}
 use Rattle.std.specs.Str.{IsAscii, IsUtf8, IsCharBoundary, all_scalars}
 use Rattle.std.specs.Char.{IsScalar}
 use Rattle.std.specs.List.{slice_range}
@@ -131,6 +131,12 @@ module _ (piece : List ℕ) (count character size : ℕ) (is : piece ≡ times 6
   part_of =
       let whole : count * size - 0 ≡ length (times count character) = omega (arith, at_seam) in
       ap (λ k. take k piece) whole ∙ ap (take (length (times count character))) in_parts ∙ take_at (times count character) (times (64 - count) character) (length (times count character)) refl
+
+-- how many bytes each of them takes
+pub bytes_of_each : (piece : List ℕ) (bytes character : ℕ) → piece ≡ times 64 character → bytes ≡ length piece → bytes / 64 ≡ length (encode_utf8 character)
+bytes_of_each piece bytes character is long =
+    let all : bytes ≡ 64 * length (encode_utf8 character) = long ∙ ap length is ∙ length-times 64 character in
+    omega (arith, all)
 
 -- the last spaces of a text of spaces and of what it ends with
 module _ (piece : List ℕ) (count character : ℕ) (is : piece ≡ times 64 32 ++ encode_utf8 character) (within : count ≤ 64) where

@@ -42,19 +42,20 @@ fn piece_of(character: char) -> Option<&'static str>
     }
 }
 
-/// Writes the given number of characters of a text that has one character alone.
+/// Writes the given number of characters of a text that has this character alone.
 fn push_part(
     text: &mut String,
     piece: &str,
     count: usize,
-    character: char,
+    _character: char,
 ) -> Result<(), AllocError>
     requires within { count ≤ 64 }
-    requires piece { piece.now ≡ times 64 character }
-    ensures ok { OnOk result (string_bytes text.new ≡ string_bytes text.old ++ times count character) }
+    requires piece { piece.now ≡ times 64 _character }
+    ensures ok { OnOk result (string_bytes text.new ≡ string_bytes text.old ++ times count _character) }
     ensures err { OnErr result (string_bytes text.new ≡ string_bytes text.old) }
 {
-    text.push_str(&piece[..count * character.len_utf8()])?;
+    let bytes = piece.len() / PIECE;
+    text.push_str(&piece[..count * bytes])?;
     Ok(())
 }
 

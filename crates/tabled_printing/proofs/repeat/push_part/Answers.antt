@@ -1,15 +1,16 @@
 -- The part has the given number of characters.
-use Rattle.std.proofs.Common.{◌∙◌, ◌++◌, ap, string_bytes, rules}
+use Rattle.std.proofs.Common.{◌∙◌, ◌++◌, ap, refl, string_bytes, rules}
 use Rattle.std.specs.Char.{IsScalar}
-use Rattle.tabled_printing.proofs.TimesLemmas.{part_of, part_split}
+use Rattle.tabled_printing.proofs.TimesLemmas.{bytes_of_each, part_of, part_split}
 use Rattle.tabled_printing.proofs.repeat.push_part.Goals as goal
 
 pub range-requires-clause-end_boundary : goal.range-requires-clause-end_boundary
 range-requires-clause-end_boundary c =
-    let scalar : IsScalar c.args.character = search rules in
-    part_split c.args.piece.now c.args.count c.args.character c.len_utf8.result c.requires.piece c.requires.within c.len_utf8.ensures.len scalar
+    let scalar : IsScalar c.args._character = search rules in
+    part_split c.args.piece.now c.args.count c.args._character _ c.requires.piece c.requires.within (bytes_of_each c.args.piece.now _ c.args._character c.requires.piece refl) scalar
 
 pub returns-clause-ok : goal.returns-clause-ok
 returns-clause-ok c =
     c.in_ok-push_str.ensures.bytes
-    ∙ ap (λ bs. string_bytes c.args.text.now ++ bs) (c.range.ensures.value ∙ part_of c.args.piece.now c.args.count c.args.character c.len_utf8.result c.requires.piece c.requires.within c.len_utf8.ensures.len)
+    ∙ ap (λ bs. string_bytes c.args.text.now ++ bs) (c.range.ensures.value
+    ∙ part_of c.args.piece.now c.args.count c.args._character _ c.requires.piece c.requires.within (bytes_of_each c.args.piece.now _ c.args._character c.requires.piece refl))
