@@ -183,3 +183,20 @@ fn rows_in_color_with_padding(rt: HostRuntime) -> Result<(), Fail> {
     assert_eq!(rt; table.to_ansi()?.as_str(), text);
     Ok(())
 }
+
+#[test]
+fn a_row_has_an_empty_text_and_one_that_is_not_ascii(rt: HostRuntime) -> Result<(), Fail> {
+    let alloc = rt.alloc();
+    let mut table = TextTable::new(alloc, &[&["", "ab"], &["c", "é"]])?;
+    table.with(Style::ascii())?;
+    let colors = vec![in alloc; angle(alloc)?, square(alloc)?]?;
+    table.with(Colorization::rows(colors))?;
+    let text = "\
++---+----+
+|<   >|< ab >|
++---+----+
+|[ c ]|[ é  ]|
++---+----+";
+    assert_eq!(rt; table.to_ansi()?.as_str(), text);
+    Ok(())
+}
