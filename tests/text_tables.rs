@@ -3,9 +3,9 @@
 use std::alloc::Global;
 use std::fmt;
 use std::test::Fail;
-use tabled::settings::Style;
 use tabled::settings::object::{Columns, Rows};
 use tabled::settings::style::Border;
+use tabled::settings::{CellColor, Color, Style};
 use tabled::{TableError, TextTable};
 use tabled_grid::Position;
 use tabled_options::BorderCorrection;
@@ -124,5 +124,20 @@ fn options_are_applied_to_the_table_and_to_cells(rt: HostRuntime) -> Result<(), 
     table.with(BorderCorrection::span())?;
     let text = "#########\n# a | b !\n#===+===#\n# c | d !\n#########";
     assert_eq!(rt; table.to_text()?.as_str(), text);
+    Ok(())
+}
+
+/// What may go to another thread.
+fn sent<T: Send>(value: T) -> T {
+    value
+}
+
+#[test]
+fn a_table_may_go_to_another_thread(rt: HostRuntime) -> Result<(), Fail> {
+    let alloc = rt.alloc();
+    let mut table = TextTable::new(alloc, &[&["a"]])?;
+    table.with(CellColor::new(Color::new(alloc, "<", ">")?))?;
+    let table = sent(table);
+    assert_eq!(rt; table.to_ansi()?.as_str(), "< a >");
     Ok(())
 }
