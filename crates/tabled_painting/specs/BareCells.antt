@@ -1,4 +1,4 @@
--- Bare cells: their texts are shown whole, at the top, between spaces, and stand where their columns say, all of it in the color of their row.
+-- Bare cells: their texts are shown whole, at the top, between spaces, all in the color of their row, and stand where their columns say.
 use Rattle.std.specs.Prelude.{◌≡◌, ℕ, Bool, true, false, ◌+◌, ◌-◌, Option, Some, None, List, ◌++◌, length, slice_get}
 use Rattle.tabled_border.specs.Texts.{Texts}
 use Rattle.tabled_settings.specs.declared.alignment.AlignmentHorizontal.{AlignmentHorizontal}

@@ -119,10 +119,10 @@ impl<'a> Painter<'a> {
         ensures color { OnOk result (option_copied self.new.color ≡ color_if self.old.with_colors (option_copied color.entry)) }
         ensures same_colors { self.new.with_colors ≡ self.old.with_colors }
     {
-        let wanted = if self.with_colors { color } else { None };
-        if wanted.is_none() && self.color.is_none() {
+        if color.is_none() && self.color.is_none() {
             return Ok(());
         }
+        let wanted = if self.with_colors { color } else { None };
         self.change_color(wanted)
     }
 
@@ -174,7 +174,8 @@ impl<'a> Painter<'a> {
     }
 
     /// Writes a text in a column between spaces, all in a color: at least one before it and one after it, and as many more as the column
-    /// has room for, where its alignment wants them; and then a side, if there is one. The text takes as many terminal columns as it has bytes.
+    /// has room for, where its alignment wants them; and then a side, if there is one. The text takes as many terminal columns as it has
+    /// bytes.
     #[inline(always)]
     pub(crate) fn push_bare(
         &mut self,
