@@ -267,7 +267,9 @@ fn color_writes(
     match color {
         Some(color) => {
             let texts = color.to_ansi(alloc)?;
-            outline_writes(alloc, cells, Some(&texts), None)
+            let writes = outline_writes(alloc, cells, Some(&texts), None);
+            drop(texts);
+            writes
         }
         None => Ok(Vec::new(alloc)),
     }

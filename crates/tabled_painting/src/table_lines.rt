@@ -354,10 +354,7 @@ fn line_between(
         return Ok(None);
     }
     match first_plain_line(frame.cfg, rows) {
-        Some(row) if frame.draws(row) => {
-            let line = line_written(alloc, frame, row, columns)?;
-            Ok(Some(line))
-        }
+        Some(row) if frame.draws(row) => Ok(Some(line_written(alloc, frame, row, columns)?)),
         _ => Ok(None),
     }
 }
