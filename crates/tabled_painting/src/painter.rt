@@ -187,6 +187,39 @@ impl<'a> Painter<'a> {
     ) -> Result<(), AllocError>
         ensures { OnOk result (Paints (paint (option_copied color.entry) (bare_text alignment width text.now) ++ side_painted (option_map mark_of side.entry)) self.old self.new) }
     {
+        match color {
+            None => self.push_between_spaces(None, alignment, width, text, side),
+            Some(_) => self.push_colored(color, alignment, width, text, side),
+        }
+    }
+
+    /// The same, out of line: so what has no color is written without a look at one.
+    #[inline(never)]
+    fn push_colored(
+        &mut self,
+        color: Option<&'a ANSIBuf>,
+        alignment: AlignmentHorizontal,
+        width: usize,
+        text: &str,
+        side: Option<Mark<'a>>,
+    ) -> Result<(), AllocError>
+        ensures { OnOk result (Paints (paint (option_copied color.entry) (bare_text alignment width text.now) ++ side_painted (option_map mark_of side.entry)) self.old self.new) }
+    {
+        self.push_between_spaces(color, alignment, width, text, side)
+    }
+
+    /// The same, wherever it is called.
+    #[inline(always)]
+    fn push_between_spaces(
+        &mut self,
+        color: Option<&'a ANSIBuf>,
+        alignment: AlignmentHorizontal,
+        width: usize,
+        text: &str,
+        side: Option<Mark<'a>>,
+    ) -> Result<(), AllocError>
+        ensures { OnOk result (Paints (paint (option_copied color.entry) (bare_text alignment width text.now) ++ side_painted (option_map mark_of side.entry)) self.old self.new) }
+    {
         let free = width.saturating_sub(2).saturating_sub(text.len());
         let before = free_before(alignment, free);
         self.begin(color)?;

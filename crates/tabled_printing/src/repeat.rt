@@ -164,6 +164,7 @@ fn spaces_before(character: char) -> Option<&'static str>
 }
 
 /// Writes the given number of spaces at the end of a text that has spaces and then a character, and that character.
+#[inline(always)]
 fn push_end(text: &mut String, piece: &str, count: usize, character: char) -> Result<(), AllocError>
     requires within { count ≤ 64 }
     requires piece { piece.now ≡ times 64 32 ++ encode_utf8 character }

@@ -9,7 +9,7 @@ use Rattle.tabled_painting.specs.InColor.{Paints, color_if}
 use Rattle.tabled_painting.specs.Painted.{Painted, paint}
 use Rattle.tabled_painting.specs.PaintedTable.{side_painted}
 use Rattle.tabled_painting.proofs.PainterLemmas.{paints_begun, paints_both, on_done}
-use Rattle.tabled_painting.proofs.painter.Painter.push_bare.Goals as goal
+use Rattle.tabled_painting.proofs.painter.Painter.push_between_spaces.Goals as goal
 
 -- spaces and a text are some bytes
 some_spaces : (before : ℕ) (text : List ℕ) → times (1 + before) 32 ++ text ≡ [] → ⊥
