@@ -241,7 +241,7 @@ fn texts_are_painted_as_a_configuration_says(rt: HostRuntime) -> Result<(), Fail
     cfg.set_color(Entity::Cell(0, 0), ANSIBuf::new(alloc, "<", ">")?)?;
     let dims = FixedDimension::new(vec![in alloc; 4usize; 1]?, vec![in alloc; 1usize; 1]?);
     let rows = one_text(alloc, "a")?;
-    let plain = plain_text(&cfg, &dims, (1, 1), &rows)?;
+    let plain = plain_text(&cfg, &dims, (1, 1), &rows, false)?;
     assert_eq!(rt; plain.as_str(), "+----+\n| a  |\n+----+");
     let colored = colored_text(&cfg, &dims, (1, 1), &rows)?;
     assert_eq!(rt; colored.as_str(), "+----+\n| <a>  |\n+----+");

@@ -25,7 +25,7 @@ fn paint(turn: &mut Turn, with_colors: bool) -> Result<Outcome, OutOfMemory> {
     let text = if with_colors {
         colored_text(cfg, sizes, shape, &cells)
     } else {
-        plain_text(cfg, sizes, shape, &cells)
+        plain_text(cfg, sizes, shape, &cells, false)
     };
     Ok(Outcome::of_value(text.map(|text| text.len() > 40)))
 }

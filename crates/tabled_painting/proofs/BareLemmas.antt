@@ -247,7 +247,7 @@ module _ (side : AlignmentHorizontal) (how : Placement) (is : IsBareCell side ho
       ∙ line color colors (aligned_width how (text ∷ []) text) one (as_one how.line_alignment))
 
   -- its characters, whatever its colors
-  bare_plain : (colors : Coloring) → bare_text side width text ≡ plain (cell_line how colors width height (lines_shown how text) 0)
+  pub bare_plain : (colors : Coloring) → bare_text side width text ≡ plain (cell_line how colors width height (lines_shown how text) 0)
   bare_plain colors =
       sym (plain_paint None (bare_text side width text))
       ∙ ap plain (bare_cell None no_coloring (record { text = refl; fill = refl; before = refl; after = refl }))

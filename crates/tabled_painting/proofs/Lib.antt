@@ -14,3 +14,5 @@ pub mod SpannedPlain
 pub mod SpannedLemmas
 pub mod AloneLemmas
 pub mod DrawnLemmas
+pub mod PlainLineLemmas
+pub mod OutputLemmas

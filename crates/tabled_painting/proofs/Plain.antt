@@ -35,7 +35,7 @@ pub plain_flat : {X : Type 0} (f : X → Painted) (xs : List X) → plain (flat_
 plain_flat f [] = refl
 plain_flat f (x ∷ xs) = plain_both (f x) (flat_map f xs) ∙ ap (λ rest. plain (f x) ++ rest) (plain_flat f xs)
 
-map_flat : {X A B : Type 0} (g : A → B) (f : X → List A) (xs : List X) → map g (flat_map f xs) ≡ flat_map (λ x. map g (f x)) xs
+pub map_flat : {X A B : Type 0} (g : A → B) (f : X → List A) (xs : List X) → map g (flat_map f xs) ≡ flat_map (λ x. map g (f x)) xs
 map_flat g f [] = refl
 map_flat g f (x ∷ xs) = map-append g (f x) (flat_map f xs) ∙ ap (λ rest. map g (f x) ++ rest) (map_flat g f xs)
 
@@ -68,7 +68,7 @@ module _ (view : Look) where
   plain_line true line text is = ap (λ l. l ∷ []) is
   plain_line false line text is = refl
 
-  plain_if_drawn : (r : ℕ) → map plain (painted_if_drawn view r) ≡ line_if_drawn view r
+  pub plain_if_drawn : (r : ℕ) → map plain (painted_if_drawn view r) ≡ line_if_drawn view r
   plain_if_drawn r = plain_line (view.horizontal r) _ _ (plain_marks (marks_along view (LineOf.Horizontal r)))
 
   map_same : {A : Type 0} (f g : ℕ → A) (n : ℕ) → ((k : ℕ) → k < n → f k ≡ g k) → map f (below n) ≡ map g (below n)
@@ -233,7 +233,7 @@ module _ (wanted : Bool) (view : Look) (cells others : Cells) (same : (r c k : �
 
 -- ---- as a text
 
-uncolored_line : (text : List ℕ) → in_color (paint None text) ≡ text
+pub uncolored_line : (text : List ℕ) → in_color (paint None text) ≡ text
 uncolored_line text = (λ i. goes_on None text i ++ suffix_of (stays None text i)) ∙ append-nil text
 
 pub text_without_colors : (lines : List Painted) → map (λ line. in_color (colored_if false line)) lines ≡ map plain lines

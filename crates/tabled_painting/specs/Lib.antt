@@ -10,6 +10,10 @@ pub mod Viewed
 pub mod Rows
 pub mod Stretches
 pub mod BareCells
+pub mod Outputs
+pub mod Printable
+pub mod PlainRows
+pub mod PlainLines
 pub mod Widths
 pub mod PaintedSpans
 pub mod RoomLines

@@ -1,6 +1,6 @@
 //! Where the texts of bare cells stand: those that are shown as they are.
 
-ghost use Rattle.std.specs.Prelude.{◌≡◌, IfOk, IsTrue, map};
+ghost use Rattle.std.specs.Prelude.{◌≡◌, ◌<◌, ℕ, true, IfOk, IsSome, IsTrue, map};
 ghost use Rattle.tabled_object.specs.Entities.{below};
 ghost use Rattle.tabled_settings.specs.Padding.{first_padding};
 ghost use Rattle.tabled_painting.specs.BareCells.{AllAreBare, AreBare, IsBareCell, side_of};
@@ -34,6 +34,17 @@ impl BareColumns {
             BareColumns::Unknown => None,
             BareColumns::Alike(side) => Some(*side),
             BareColumns::Each(sides) => sides.get(col).copied(),
+        }
+    }
+
+    /// Whether it is known of each of the given number of columns.
+    pub(crate) fn are_known(&self, columns: usize) -> bool
+        ensures { result ≡ true → (c : ℕ) → c < columns → IsSome (side_in self.now c) }
+    {
+        match self {
+            BareColumns::Unknown => false,
+            BareColumns::Alike(_) => true,
+            BareColumns::Each(sides) => columns <= sides.len(),
         }
     }
 }

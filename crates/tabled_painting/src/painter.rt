@@ -10,31 +10,17 @@ ghost use Rattle.tabled_painting.specs.PaintedTable.{side_painted};
 ghost use Rattle.tabled_painting.specs.InColor.{Paints, between, prefix_of, suffix_of, color_if};
 ghost use Rattle.tabled_painting.specs.Put as put;
 
+use crate::plain_row::push_bare;
 use std::alloc::{AllocError, Global};
 use tabled_border::{ANSIBuf, OutOfMemory};
-use tabled_cells::free_before;
-use tabled_printing::{Mark, Run, Sink, push_spaces_before, push_times};
+use tabled_printing::{Mark, Run, Sink, push_times};
 use tabled_settings::AlignmentHorizontal;
-
-/// Writes a space after the given number of others. At the left of a column it is the only one, and written by itself.
-#[inline(always)]
-fn push_before(text: &mut String, count: usize) -> Result<(), AllocError>
-    ensures { OnOk result (string_bytes text.new ≡ string_bytes text.old ++ times (1 + count) 32) }
-{
-    if count == 0 {
-        text.push(' ')?;
-        return Ok(());
-    }
-    push_times(text, count, ' ')?;
-    text.push(' ')?;
-    Ok(())
-}
 
 /// A text that painted lines are written into, one after another, and the color of what was written last.
 #[derive(Drop)]
 pub(crate) struct Painter<'a> {
-    text: String,
-    color: Option<&'a ANSIBuf>,
+    pub(crate) text: String,
+    pub(crate) color: Option<&'a ANSIBuf>,
     with_colors: bool,
 }
 
@@ -187,67 +173,9 @@ impl<'a> Painter<'a> {
     ) -> Result<(), AllocError>
         ensures { OnOk result (Paints (paint (option_copied color.entry) (bare_text alignment width text.now) ++ side_painted (option_map mark_of side.entry)) self.old self.new) }
     {
-        match color {
-            None => self.push_between_spaces(None, alignment, width, text, side),
-            Some(_) => self.push_colored(color, alignment, width, text, side),
-        }
-    }
-
-    /// The same, out of line: so what has no color is written without a look at one.
-    #[inline(never)]
-    fn push_colored(
-        &mut self,
-        color: Option<&'a ANSIBuf>,
-        alignment: AlignmentHorizontal,
-        width: usize,
-        text: &str,
-        side: Option<Mark<'a>>,
-    ) -> Result<(), AllocError>
-        ensures { OnOk result (Paints (paint (option_copied color.entry) (bare_text alignment width text.now) ++ side_painted (option_map mark_of side.entry)) self.old self.new) }
-    {
-        self.push_between_spaces(color, alignment, width, text, side)
-    }
-
-    /// The same, wherever it is called.
-    #[inline(always)]
-    fn push_between_spaces(
-        &mut self,
-        color: Option<&'a ANSIBuf>,
-        alignment: AlignmentHorizontal,
-        width: usize,
-        text: &str,
-        side: Option<Mark<'a>>,
-    ) -> Result<(), AllocError>
-        ensures { OnOk result (Paints (paint (option_copied color.entry) (bare_text alignment width text.now) ++ side_painted (option_map mark_of side.entry)) self.old self.new) }
-    {
-        let free = width.saturating_sub(2).saturating_sub(text.len());
-        let before = free_before(alignment, free);
         self.begin(color)?;
-        push_before(&mut self.text, before)?;
-        self.text.push_str(text)?;
-        self.push_spaces(color, free - before + 1, side)
-    }
-
-    /// Writes the given number of spaces, and then a side, if there is one, after what has the color of the spaces.
-    #[inline(always)]
-    fn push_spaces(
-        &mut self,
-        color: Option<&'a ANSIBuf>,
-        count: usize,
-        side: Option<Mark<'a>>,
-    ) -> Result<(), AllocError>
-        requires { option_copied self.old.color ≡ color_if self.old.with_colors (option_copied color) }
-        ensures { OnOk result (Paints (paint (option_copied color.entry) (times count 32) ++ side_painted (option_map mark_of side.entry)) self.old self.new) }
-    {
-        match side {
-            Some(mark) if color.is_none() && mark.color.is_none() => {
-                push_spaces_before(&mut self.text, count, mark.shown.unwrap_or(' '))
-            }
-            _ => {
-                push_times(&mut self.text, count, ' ')?;
-                self.push_side(side)
-            }
-        }
+        push_bare(&mut self.text, alignment, width, text, None)?;
+        self.push_side(side)
     }
 
     /// Writes what a vertical line shows, if there is something.

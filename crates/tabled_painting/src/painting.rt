@@ -10,6 +10,7 @@ ghost use Rattle.tabled_printing.specs.Picture.{marks_along};
 ghost use Rattle.tabled_painting.specs.Painted.{Painted};
 ghost use Rattle.tabled_painting.specs.PaintedSpans.{spanned_by, spanned_table};
 ghost use Rattle.tabled_painting.specs.PaintedTable.{painted_by, painted_table, plain_text, colored_text};
+ghost use Rattle.tabled_painting.specs.Printable.{AllPrintable};
 ghost use Rattle.tabled_painting.specs.RoomLines.{columns_of, room_cells, rows_of};
 ghost use Rattle.tabled_painting.specs.Rows.{cells_of};
 ghost use Rattle.tabled_painting.specs.Viewed.{viewed};
@@ -59,9 +60,11 @@ fn paint_in_margin<'a>(
     mut painter: Painter<'a>,
     lines: &TableLines<'a, '_>,
     rows: &'a [Vec<String>],
+    are_printable: bool,
 ) -> Result<Painter<'a>, OutOfMemory>
     requires rows { length rows.now ≡ lines.now.frame.shape.0 }
     requires cols { All (λ row. length row ≡ lines.now.frame.shape.1) (texts rows.now) }
+    requires printable { are_printable ≡ true → AllPrintable (texts rows.now) }
     requires ended { option_copied painter.color ≡ None }
     requires colors { painter.with_colors ≡ lines.now.frame.with_colors }
     ensures { IfOk result (λ painted. PaintsWhole (painted_table (viewed lines.now.frame) lines.now.frame.cfg.now.settings.margin (cells_of lines.now (texts rows.now))) painter.entry painted) }
@@ -80,7 +83,7 @@ fn paint_in_margin<'a>(
         high,
         number: 0,
     };
-    lines.paint(&mut page, rows)?;
+    lines.paint(&mut page, rows, are_printable)?;
     let Page { mut painter, .. } = page;
     margin.bottom.paint_strips(&mut painter, long)?;
     Ok(painter)
@@ -126,10 +129,12 @@ fn written<'a>(
     sizes: &FixedDimension,
     shape: (usize, usize),
     rows: &'a [Vec<String>],
+    are_printable: bool,
     with_colors: bool,
 ) -> Result<String, OutOfMemory>
     requires rows { length rows.now ≡ shape.0 }
     requires cols { All (λ row. length row ≡ shape.1) (texts rows.now) }
+    requires printable { are_printable ≡ true → AllPrintable (texts rows.now) }
     ensures { IfOk result (λ text. string_bytes text ≡ text_of_lines with_colors (painted_by cfg.now shape sizes.now.widths.items sizes.now.heights.items (texts rows.now))) }
 {
     let alloc = cfg.config().allocator();
@@ -137,7 +142,12 @@ fn written<'a>(
         return Ok(String::new(alloc));
     }
     let lines = TableLines::new(cfg, sizes, shape, with_colors)?;
-    let painter = paint_in_margin(Painter::new(alloc, with_colors), &lines, rows)?;
+    let painter = paint_in_margin(
+        Painter::new(alloc, with_colors),
+        &lines,
+        rows,
+        are_printable,
+    )?;
     let mut text = painter.into_text();
     join_lines(&mut text, 0);
     Ok(text)
@@ -145,18 +155,21 @@ fn written<'a>(
 
 /// The text of a table of texts as its configuration says, without colors: its cells as they are set for each, its borders, and its
 /// margin around them. `sizes` are the widths of its columns and the heights of its rows, `shape` the numbers of its rows and of
-/// its columns. Its lines are joined by single line feeds. Spans are not looked at. Only memory can be refused.
+/// its columns. It may be said that all its texts are of printable characters of ASCII. Its lines are joined by single line feeds. Spans
+/// are not looked at. Only memory can be refused.
 pub fn plain_text(
     cfg: &ColoredConfig,
     sizes: &FixedDimension,
     shape: (usize, usize),
     rows: &[Vec<String>],
+    are_printable: bool,
 ) -> Result<String, OutOfMemory>
     requires rows { length rows.now ≡ shape.0 }
     requires cols { All (λ row. length row ≡ shape.1) (texts rows.now) }
+    requires printable { are_printable ≡ true → AllPrintable (texts rows.now) }
     ensures { IfOk result (λ text. string_bytes text ≡ plain_text (painted_by cfg.now shape sizes.now.widths.items sizes.now.heights.items (texts rows.now))) }
 {
-    written(cfg, sizes, shape, rows, false)
+    written(cfg, sizes, shape, rows, are_printable, false)
 }
 
 /// The same text in color: where the color changes along a line, the text that ends the last color is written and then the text that
@@ -171,7 +184,7 @@ pub fn colored_text(
     requires cols { All (λ row. length row ≡ shape.1) (texts rows.now) }
     ensures { IfOk result (λ text. string_bytes text ≡ colored_text (painted_by cfg.now shape sizes.now.widths.items sizes.now.heights.items (texts rows.now))) }
 {
-    written(cfg, sizes, shape, rows, true)
+    written(cfg, sizes, shape, rows, false, true)
 }
 
 /// The text of a table of texts whose cells span, with its colors or without them.

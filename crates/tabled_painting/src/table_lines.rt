@@ -13,8 +13,9 @@ ghost use Rattle.tabled_painting.specs.InColor.{Paints};
 ghost use Rattle.tabled_painting.specs.Pages.{PaintsLines, written};
 ghost use Rattle.tabled_painting.specs.PaintedTable.{painted_marks, side_painted};
 ghost use Rattle.tabled_painting.specs.Viewed as looks;
-ghost use Rattle.tabled_painting.specs.BareCells.{AreBare, AreRowColors};
+ghost use Rattle.tabled_painting.specs.BareCells.{AreBare, AreRowColors, side_in};
 ghost use Rattle.tabled_painting.specs.Between.{IsBetweenRows};
+ghost use Rattle.tabled_painting.specs.Printable.{AllPrintable, ArePrintable};
 
 use crate::alike::first_plain_line;
 use crate::bare_cells::{BareColumns, bare_columns};
@@ -41,14 +42,18 @@ pub(crate) struct TableLines<'a, 'b> {
     /// The colors of cells.
     pub(crate) colors: &'a ColorMap,
     /// Where the texts of each column stand, if all cells are bare.
-    bare_columns: BareColumns,
+    pub(crate) bare_columns: BareColumns,
+    /// Whether all cells are bare, and no colors are wanted.
+    pub(crate) is_plain: bool,
     /// In which colors the cells of a row are painted.
     row_colors: RowColors,
     /// A horizontal line between two rows as it is written, with its line feed, where all of them but custom ones look alike.
-    between: Option<String>,
+    pub(crate) between: Option<String>,
     /// How many columns of a terminal its columns take, as far as a number says it.
     columns: usize,
     ghost are_bare: { AreBare frame.cfg.now.settings.cells bare_columns },
+    ghost plain_columns: { is_plain ≡ true → (c : ℕ) → c < frame.shape.1 → IsSome (side_in bare_columns c) },
+    ghost plain_colors: { is_plain ≡ true → frame.with_colors ≡ false },
     ghost are_row_colors: { AreRowColors row_colors frame.with_colors frame.cfg.now.settings.cells colors.now },
     ghost is_between: { ForSome between (λ text. IsBetweenRows frame (string_bytes text)) },
 }
@@ -77,6 +82,7 @@ impl<'a, 'b> TableLines<'a, 'b> {
     {
         let (config, colors) = (cfg.config(), cfg.get_colors());
         let bare_columns = bare_columns(config, shape.1)?;
+        let is_plain = is_plain(&bare_columns, shape.1, with_colors);
         let row_colors = row_colors(config, colors, with_colors);
         let frame = Frame::new(config, sizes, shape, with_colors)?;
         let columns = columns_of(&frame);
@@ -85,6 +91,7 @@ impl<'a, 'b> TableLines<'a, 'b> {
             frame,
             colors,
             bare_columns,
+            is_plain,
             row_colors,
             between,
             columns,
@@ -227,16 +234,22 @@ impl<'a, 'b> TableLines<'a, 'b> {
         row: usize,
         texts: &'a [String],
         cells: &mut Vec<CellLines<'a>>,
+        are_printable: bool,
     ) -> Result<(), OutOfMemory>
         requires row { row < self.now.frame.shape.0 }
         requires high { 0 < slice_index self.now.frame.dims.now.heights.items row }
         requires texts { length texts.now ≡ self.now.frame.shape.1 }
+        requires printable { are_printable ≡ true → ArePrintable (map string_bytes texts.now) }
         requires colors { painter.old.with_colors ≡ self.now.frame.with_colors }
         ensures painted { OnOk result (Paints (painted_between (viewed self.now.frame) row 0 (λ c. row_cell self.now row c (slice_index_or (map string_bytes texts.now) c []) 0)) painter.old painter.new) }
         ensures kept { slice_index self.now.frame.dims.now.heights.items row ≢ 1
             → OnOk result ((at : ℕ) → map (line_of at) cells.new.items ≡ map (λ c. row_cell self.now row c (slice_index_or (map string_bytes texts.now) c []) at) (below (length texts.now))) }
     {
         let is_low = self.frame.dims.get_height(row) == 1;
+        if is_low && are_printable && self.is_plain && painter.color.is_none() {
+            self.push_plain_row(&mut painter.text, row, texts)?;
+            return Ok(());
+        }
         let bare = self.row_color(row, is_low);
         if !is_low {
             cells.clear();
@@ -271,7 +284,7 @@ impl<'a, 'b> TableLines<'a, 'b> {
         Ok(())
     }
 
-    /// Paints the lines of text of a row. `cells` is for its cells, whatever it had.
+    /// Paints the lines of text of a row. `cells` is for its cells, whatever it had. It may be said that its texts are printable.
     #[inline(always)]
     pub(crate) fn paint_row(
         &self,
@@ -279,9 +292,11 @@ impl<'a, 'b> TableLines<'a, 'b> {
         row: usize,
         texts: &'a [String],
         cells: &mut Vec<CellLines<'a>>,
+        are_printable: bool,
     ) -> Result<(), OutOfMemory>
         requires row { row < self.now.frame.shape.0 }
         requires texts { length texts.now ≡ self.now.frame.shape.1 }
+        requires printable { are_printable ≡ true → ArePrintable (map string_bytes texts.now) }
         requires ended { option_copied page.old.painter.color ≡ None }
         requires colors { page.old.painter.with_colors ≡ self.now.frame.with_colors }
         ensures { OnOk result (PaintsLines (row_painted self.now row (map string_bytes texts.now)) page.old page.new) }
@@ -291,7 +306,7 @@ impl<'a, 'b> TableLines<'a, 'b> {
             return Ok(());
         }
         page.begin_line()?;
-        self.paint_first(&mut page.painter, row, texts, cells)?;
+        self.paint_first(&mut page.painter, row, texts, cells, are_printable)?;
         page.end_line()?;
         for at in 1..height {
             page.begin_line()?;
@@ -301,14 +316,16 @@ impl<'a, 'b> TableLines<'a, 'b> {
         Ok(())
     }
 
-    /// Paints the lines of a table.
+    /// Paints the lines of a table. It may be said that all its texts are printable.
     pub(crate) fn paint(
         &self,
         page: &mut Page<'a>,
         rows: &'a [Vec<String>],
+        are_printable: bool,
     ) -> Result<(), OutOfMemory>
         requires rows { length rows.now ≡ self.now.frame.shape.0 }
         requires cols { All (λ row. length row ≡ self.now.frame.shape.1) (texts rows.now) }
+        requires printable { are_printable ≡ true → AllPrintable (texts rows.now) }
         requires ended { option_copied page.old.painter.color ≡ None }
         requires colors { page.old.painter.with_colors ≡ self.now.frame.with_colors }
         ensures { OnOk result (PaintsLines (painted_lines (viewed self.now.frame) (cells_of self.now (texts rows.now))) page.old page.new) }
@@ -316,7 +333,7 @@ impl<'a, 'b> TableLines<'a, 'b> {
         let mut cells = Vec::new(self.frame.cfg.allocator());
         for (row, texts) in rows.iter().enumerate() {
             self.paint_line(page, row)?;
-            self.paint_row(page, row, texts, &mut cells)?;
+            self.paint_row(page, row, texts, &mut cells, are_printable)?;
         }
         self.paint_line(page, rows.len())
     }
@@ -339,6 +356,14 @@ impl<'a, 'b> TableLines<'a, 'b> {
         let between = between.saturating_mul(rows.saturating_add(1));
         line.saturating_mul(high).saturating_add(between)
     }
+}
+
+/// Whether it is known that all cells are bare, where no colors are wanted.
+fn is_plain(bare_columns: &BareColumns, columns: usize, with_colors: bool) -> bool
+    ensures columns { result ≡ true → (c : ℕ) → c < columns → IsSome (side_in bare_columns.now c) }
+    ensures colors { result ≡ true → with_colors ≡ false }
+{
+    !with_colors && bare_columns.are_known(columns)
 }
 
 /// A horizontal line between two rows as it is written, where all of them but custom ones look alike, and one is drawn.

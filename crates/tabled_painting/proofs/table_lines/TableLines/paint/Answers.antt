@@ -6,6 +6,7 @@ use Rattle.tabled_object.specs.Entities.{below}
 use Rattle.tabled_printing.specs.Texts.{texts}
 use Rattle.tabled_painting.specs.Pages.{PaintsLines}
 use Rattle.tabled_painting.specs.PaintedTable.{painted_if_drawn, painted_row, painted_lines}
+use Rattle.tabled_painting.specs.Printable.{ArePrintable}
 use Rattle.tabled_painting.specs.Rows.{cells_of, row_painted}
 use Rattle.tabled_painting.specs.Viewed.{viewed}
 use Rattle.tabled_painting.proofs.FrameLemmas.{row_texts}
@@ -45,3 +46,8 @@ returns c =
     last_lines c.paint_line-2.result _ _ _ _ _ _
     (sym (ap (λ n. flat_map (λ r. painted_if_drawn view r ++ painted_row view (cells_of lines (texts rows)) r) (below n) ++ painted_if_drawn view view.shape.0) all))
     c.loop-row.invariant.painted (subst (λ n. OnOk c.paint_line-2.result (PaintsLines (painted_if_drawn view n) c.loop-row.page c.paint_line-2.new.page)) c.requires.rows c.paint_line-2.ensures)
+
+pub paint_row-requires-clause-printable : goal.paint_row-requires-clause-printable
+paint_row-requires-clause-printable c printable =
+    let there = row_texts c.args.rows.now c.loop-row.row c.index-rows-row.result c.deref.result.now c.loop-row-test.true c.index-rows-row.is c.deref.ensures.value in
+    subst ArePrintable (sym there) (c.requires.printable printable c.loop-row.row)

@@ -1,5 +1,5 @@
 -- A cell and a side more.
-use Rattle.std.proofs.Common.{◌≡◌, ℕ, ◌+◌, ◌++◌, [], ◌∷◌, map, length, slice_index_or, string_bytes, subst, sym, ap, ◌∙◌, arith}
+use Rattle.std.proofs.Common.{rules, refl, None, option_copied, ◌≡◌, ℕ, ◌+◌, ◌++◌, [], ◌∷◌, map, length, slice_index_or, string_bytes, subst, sym, ap, ◌∙◌, arith}
 use Rattle.std.specs.List.{flat_map}
 use Rattle.std.proofs.lemmas.List.FromFn.{map-range_with_len_more}
 use Rattle.tabled_object.specs.Entities.{below}
@@ -10,6 +10,7 @@ use Rattle.tabled_painting.specs.Rows.{row_cell}
 use Rattle.tabled_painting.specs.Viewed.{viewed}
 use Rattle.tabled_painting.proofs.BareLemmas.{color_of_cell}
 use Rattle.tabled_painting.proofs.FrameLemmas.{cell_then_side, shown_at, side_is, not_one}
+use Rattle.tabled_painting.proofs.OutputLemmas.{paints_plain}
 use Rattle.tabled_painting.proofs.table_lines.TableLines.paint_first.Goals as goal
 
 pub paint_cell-requires-clause-colors : goal.paint_cell-requires-clause-colors
@@ -53,3 +54,10 @@ returns-clause-kept c some at =
     let all : c.loop-col.col ≡ length c.args.texts.now = omega (arith, c.loop-col-test.false, c.loop-col.auto.col-end) in
     c.loop-col.invariant.kept (not_one _ _ c.get_height-is_low.ensures some) at
     ∙ ap (λ n. map (λ k. row_cell lines c.args.row k (slice_index_or (map string_bytes c.args.texts.now) k []) at) (below n)) all
+
+-- a row of bare printable cells, of which no color is wanted
+pub returns-then-is_none-clause-painted : goal.returns-then-is_none-clause-painted
+returns-then-is_none-clause-painted c =
+    let lines = c.args.self.now in
+    let none : option_copied c.args.painter.now.color ≡ None = search rules in
+    paints_plain _ c.args.painter.now _ (c.requires.colors ∙ lines.plain_colors c.if-self.true) none c.in_ok-push_plain_row.ensures refl refl

@@ -1,0 +1,63 @@
+//! What text without colors is written into, piece by piece: a text, or a stream.
+
+ghost use Rattle.std.specs.Prelude.{List, ℕ, [], ◌++◌, OnOk};
+ghost use Rattle.std.specs.Char.{encode_utf8};
+ghost use Rattle.tabled_cells.specs.Placed.{times};
+ghost use Rattle.tabled_painting.specs.Outputs as gained;
+
+use std::alloc::AllocError;
+use tabled_printing::{push_spaces_before, push_times};
+
+/// What text is written into, piece by piece.
+pub trait Output {
+    /// Why no more can be written.
+    type Error;
+
+    /// Whether these bytes, written in their order, make the one the other.
+    ghost gains: { List ℕ → Self → Self → Type 0 };
+
+    /// Writes a text.
+    fn push_str(&mut self, text: &str) -> Result<(), Self::Error>
+        ensures { OnOk result (gains text.now self.old self.new) };
+
+    /// Writes the given number of spaces.
+    fn push_spaces(&mut self, count: usize) -> Result<(), Self::Error>
+        ensures { OnOk result (gains (times count 32) self.old self.new) };
+
+    /// Writes the given number of spaces, and then a character.
+    fn push_spaces_before(&mut self, count: usize, character: char) -> Result<(), Self::Error>
+        ensures { OnOk result (gains (times count 32 ++ encode_utf8 character) self.old self.new) };
+
+    /// Nothing written leaves it as it is.
+    ghost gains_none: { (output : Self) → gains [] output output };
+
+    /// What is written in turn is written.
+    ghost gains_both: { (xs ys : List ℕ) (old between new : Self)
+        → gains xs old between → gains ys between new → gains (xs ++ ys) old new };
+}
+
+/// A text takes what memory has room for.
+impl Output for String {
+    type Error = AllocError;
+
+    ghost gains = { gained.text_gains };
+
+    #[inline(always)]
+    fn push_str(&mut self, text: &str) -> Result<(), AllocError> {
+        String::push_str(self, text)
+    }
+
+    #[inline(always)]
+    fn push_spaces(&mut self, count: usize) -> Result<(), AllocError> {
+        push_times(self, count, ' ')
+    }
+
+    #[inline(always)]
+    fn push_spaces_before(&mut self, count: usize, character: char) -> Result<(), AllocError> {
+        push_spaces_before(self, count, character)
+    }
+
+    ghost gains_none = { gained.text_none };
+
+    ghost gains_both = { gained.text_both };
+}
