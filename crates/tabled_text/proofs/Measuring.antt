@@ -1,6 +1,10 @@
 -- What is measured of texts, row by row.
-use Rattle.std.proofs.Common.{◌≡◌, ℕ, ◌+◌, ◌<◌, ◌≤◌, max, fold, suc, Bool, true, false, not, cond, ltb, ◌==◌, if◌then◌else◌, Option, Some, None, List, [], ◌∷◌, ◌++◌, map, length, take, get_or, refl, sym, ap, ◌∙◌, arith, String, string_bytes, Vec}
-use Rattle.std.specs.List.{position_or_len}
+use Rattle.std.proofs.Common.{◌≡◌, ℕ, ◌+◌, ◌<◌, ◌≤◌, max, fold, suc, Bool, true, false, not, cond, ltb, ◌==◌, if◌then◌else◌, Option, Some, None, List, [], ◌∷◌, ◌++◌, map, length, take, get_or, refl, sym, ap, subst, ◌∙◌, arith, String, string_bytes, Vec}
+use Rattle.std.specs.List.{list_all, position_or_len}
+use Rattle.tabled_width.specs.Texts.{is_printable}
+use Rattle.tabled_cells.proofs.Printing.{one_piece}
+use Rattle.tabled_printing.specs.Texts.{Table}
+use Rattle.tabled_painting.specs.Printable.{AllPrintable, ArePrintable}
 use Rattle.std.proofs.lemmas.List.{length-map, map-append, take_more, take_all, get_or-map, get_or_past}
 use Rattle.std.proofs.lemmas.List.FromFn.{fill_by_all}
 use Rattle.std.proofs.lemmas.Bool.{ltb-true, ltb-false, lt-ltb, le-ltb}
@@ -126,3 +130,32 @@ greatest_more asked column at old new text made within read is =
     ∙ ap (λ (found : List ℕ). max (greatest (map asked (take at all))) (asked found)) (sym (cell_at column at text within read))
     ∙ sym (fold-max-more 0 (map asked (take at all)) (asked (cell all at)))
     ∙ ap greatest (sym (map-append asked (take at all) (cell all at ∷ [])) ∙ ap (map asked) (sym (take_more all at [] (rw length-map within))))
+
+-- ---- printable texts
+
+-- past its end a row has no text that is not printable
+pub printable_row : (row : List (List ℕ)) (count : ℕ) → length row ≤ count → ((c : ℕ) → c < count → list_all is_printable (cell row c) ≡ true) → ArePrintable row
+printable_row row count within so c = by_case (ltb c count) refl
+  where
+    by_case : (b : Bool) → ltb c count ≡ b → list_all is_printable (cell row c) ≡ true
+    by_case true is = so c (ltb-true c count is)
+    by_case false is = let past = ltb-false c count is in ap (list_all is_printable) (get_or_past row c [] (omega (arith, past, within)))
+
+-- the rows so far, and all of them
+pub printable_more : (table : Table) (n : ℕ) (row : List (List ℕ)) → get_or table n [] ≡ row → ((r : ℕ) → r < n → ArePrintable (get_or table r [])) → ArePrintable row → (r : ℕ) → r < n + 1 → ArePrintable (get_or table r [])
+printable_more table n row here before is r within = by_case (ltb r n) refl
+  where
+    by_case : (b : Bool) → ltb r n ≡ b → ArePrintable (get_or table r [])
+    by_case true below = before r (ltb-true r n below)
+    by_case false not_below = let above = ltb-false r n not_below in let same : r ≡ n = omega (arith, above, within) in subst ArePrintable (sym (ap (λ k. get_or table k []) same ∙ here)) is
+
+pub all_printable : (table : Table) (n : ℕ) → length table ≤ n → ((r : ℕ) → r < n → ArePrintable (get_or table r [])) → AllPrintable table
+all_printable table n all so r = by_case (ltb r n) refl
+  where
+    by_case : (b : Bool) → ltb r n ≡ b → ArePrintable (get_or table r [])
+    by_case true below = so r (ltb-true r n below)
+    by_case false not_below = let above = ltb-false r n not_below in subst ArePrintable (sym (get_or_past table r [] (omega (arith, above, all)))) (λ c. ap (list_all is_printable) (get_or_past [] c [] (omega arith)))
+
+-- such a text is one line
+pub printable_line : (text : List ℕ) → list_all is_printable text ≡ true → height_asked text ≡ 1
+printable_line text printable = ap length (one_piece text printable)

@@ -8,3 +8,4 @@ pub mod Edited
 pub mod EditedColumns
 pub mod Numeric
 pub mod Panels
+pub mod Streams

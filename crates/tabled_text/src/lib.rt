@@ -10,6 +10,7 @@ mod fitting;
 mod measure;
 mod numeric;
 mod spanned;
+mod stream;
 mod table_error;
 mod text_table;
 

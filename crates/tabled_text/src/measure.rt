@@ -1,8 +1,11 @@
 //! How large the cells of a table are.
 
-ghost use Rattle.std.specs.Prelude.{◌≡◌, ◌+◌, ◌<◌, ℕ, true, length, max, map, slice_index, EachIndex, IfOk, OnOk, replicate, string_bytes};
+ghost use Rattle.std.specs.Prelude.{◌≡◌, ◌+◌, true, length, max, map, slice_index, EachIndex, IfOk, OnOk, replicate, string_bytes};
+ghost use Rattle.std.specs.List.{list_all};
 ghost use Rattle.tabled_object.specs.Entities.{below};
 ghost use Rattle.tabled_printing.specs.Texts.{texts, pieces, width_of_text};
+ghost use Rattle.tabled_painting.specs.Printable.{AllPrintable, ArePrintable};
+ghost use Rattle.tabled_width.specs.Texts.{is_printable};
 ghost use Rattle.tabled_text.specs.Edited.{widths_with};
 ghost use Rattle.tabled_text.specs.EditedColumns.{heights_with};
 ghost use Rattle.tabled_text.specs.Sizes.{cell, greatest, column_count, column_width, unequal_row, width_asked, height_asked, padded_width, padded_height, column_widths, row_height, row_heights};
@@ -53,8 +56,8 @@ fn with_spaces(columns: usize) -> Result<usize, OutOfMemory>
 struct CellSize {
     /// How many terminal columns it asks for: those of its widest line, and two for spaces around it.
     width: usize,
-    /// Whether it is known to be one line.
-    is_line: bool,
+    /// Whether it is of printable characters alone, and so one line.
+    is_printable: bool,
 }
 
 /// Measures a text: one of printable characters by its length. Refused where no number says how wide it is.
@@ -62,17 +65,17 @@ struct CellSize {
 #[tactic(auto, unfolding(crate::specs::Sizes::width_asked))]
 fn measure(text: &str) -> Result<CellSize, OutOfMemory>
     ensures width { IfOk result (λ found. found.width ≡ width_asked text.now) }
-    ensures line { IfOk result (λ found. found.is_line ≡ true → height_asked text.now ≡ 1) }
+    ensures printable { IfOk result (λ found. found.is_printable ≡ true → list_all is_printable text.now ≡ true) }
 {
     if is_printable(text) {
         return Ok(CellSize {
             width: with_spaces(text.len())?,
-            is_line: true,
+            is_printable: true,
         });
     }
     Ok(CellSize {
         width: with_spaces(widest_line(text))?,
-        is_line: false,
+        is_printable: false,
     })
 }
 
@@ -114,30 +117,30 @@ pub(crate) fn padded_height(padding: &Sides<Indent>, text: &str) -> Result<usize
 /// Measures the cell of a row in a column.
 fn measure_at(row: &[String], col: usize) -> Result<CellSize, OutOfMemory>
     ensures width { IfOk result (λ found. found.width ≡ width_asked (cell (map string_bytes row.now) col)) }
-    ensures line { IfOk result (λ found. found.is_line ≡ true → height_asked (cell (map string_bytes row.now) col) ≡ 1) }
+    ensures printable { IfOk result (λ found. found.is_printable ≡ true → list_all is_printable (cell (map string_bytes row.now) col) ≡ true) }
 {
     if col < row.len() {
         measure(row[col].as_str())
     } else {
         Ok(CellSize {
             width: 2,
-            is_line: false,
+            is_printable: false,
         })
     }
 }
 
-/// Makes each column wide enough for a row's cell in it. Returns whether each of these cells is known to be one line.
+/// Makes each column wide enough for a row's cell in it. Returns whether all the row's texts are known to be printable.
 fn widen(widths: &mut [usize], row: &[String]) -> Result<bool, OutOfMemory>
     ensures widths { OnOk result (EachIndex widths.new (λ col. slice_index widths.new col ≡ max (slice_index widths.old col) (width_asked (cell (map string_bytes row.now) col)))) }
-    ensures lines { IfOk result (λ are_lines. are_lines ≡ true → EachIndex widths.new (λ col. height_asked (cell (map string_bytes row.now) col) ≡ 1)) }
+    ensures printable { IfOk result (λ are_printable. are_printable ≡ true → ArePrintable (map string_bytes row.now)) }
 {
-    let mut are_lines = true;
+    let mut are_printable = row.len() <= widths.len();
     for (col, width) in widths.iter_mut().enumerate() {
         let found = measure_at(row, col)?;
         *width = (*width).max(found.width);
-        are_lines &= found.is_line;
+        are_printable &= found.is_printable;
     }
-    Ok(are_lines)
+    Ok(are_printable)
 }
 
 /// A zero for each column.
@@ -169,13 +172,12 @@ pub(crate) fn row_height(row: &[String]) -> usize
         .unwrap_or(0)
 }
 
-/// How high a row is, of which it is said whether the given number of its cells are known to be one line each.
-fn height_of(row: &[String], count: usize, are_lines: bool) -> usize
-    requires { are_lines ≡ true → (col : ℕ) → col < count → height_asked (cell (map string_bytes row.now) col) ≡ 1 }
+/// How high a row is, of which it is said whether its texts are known to be printable.
+fn height_of(row: &[String], are_printable: bool) -> usize
+    requires { are_printable ≡ true → ArePrintable (map string_bytes row.now) }
     ensures { result ≡ row_height (map string_bytes row.now) }
 {
-    let cells = row.len();
-    if are_lines && 0 < cells && cells <= count {
+    if are_printable && !row.is_empty() {
         1
     } else {
         row_height(row)
@@ -207,23 +209,38 @@ pub(crate) fn sizes_with(
     ensures height { IfOk result (λ sizes. sizes.1 ≡ row_height (map string_bytes row.now)) }
 {
     let mut wider = widths_of_columns(alloc, widths, row.len())?;
-    let are_lines = widen(&mut wider, row)?;
-    let height = height_of(row, row.len(), are_lines);
+    let are_printable = widen(&mut wider, row)?;
+    let height = height_of(row, are_printable);
     Ok((wider, height))
 }
 
-/// How wide each column is, and how high each row.
-pub(crate) fn sizes_of(alloc: Global, rows: &[Vec<String>]) -> Result<FixedDimension, OutOfMemory>
-    ensures widths { IfOk result (λ sizes. sizes.widths.items ≡ column_widths (texts rows.now)) }
-    ensures heights { IfOk result (λ sizes. sizes.heights.items ≡ row_heights (texts rows.now)) }
+/// What is measured of a table at once.
+#[derive(Debug, Drop)]
+pub(crate) struct TableSize {
+    /// How wide each column is, and how high each row.
+    pub(crate) sizes: FixedDimension,
+    /// Whether all texts are known to be printable.
+    pub(crate) are_printable: bool,
+}
+
+/// Measures the texts of a table.
+pub(crate) fn sizes_of(alloc: Global, rows: &[Vec<String>]) -> Result<TableSize, OutOfMemory>
+    ensures widths { IfOk result (λ found. found.sizes.widths.items ≡ column_widths (texts rows.now)) }
+    ensures heights { IfOk result (λ found. found.sizes.heights.items ≡ row_heights (texts rows.now)) }
+    ensures printable { IfOk result (λ found. found.are_printable ≡ true → AllPrintable (texts rows.now)) }
 {
     let mut widths = no_widths(alloc, rows)?;
     let mut heights = Vec::with_capacity(alloc, rows.len())?;
+    let mut are_printable = true;
     for row in rows {
-        let are_lines = widen(&mut widths, row)?;
-        heights.push(height_of(row, widths.len(), are_lines))?;
+        let is_printable = widen(&mut widths, row)?;
+        heights.push(height_of(row, is_printable))?;
+        are_printable &= is_printable;
     }
-    Ok(FixedDimension::new(widths, heights))
+    Ok(TableSize {
+        sizes: FixedDimension::new(widths, heights),
+        are_printable,
+    })
 }
 
 /// How wide a column is. Refused where no number says it.

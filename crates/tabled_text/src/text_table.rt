@@ -20,7 +20,7 @@ mod spans;
 mod texts;
 
 use crate::TableError;
-use crate::measure::{column_count, sizes_of, unequal_row};
+use crate::measure::{TableSize, column_count, sizes_of, unequal_row};
 use std::alloc::{AllocError, Global};
 use std::marker::Model;
 use std::{fmt, io, mem};
@@ -49,6 +49,8 @@ pub struct TextTable {
     cells: Vec<Vec<String>>,
     shape: Shape,
     sizes: FixedDimension,
+    /// Whether all texts are known to be of printable characters of ASCII: so they are found when all of them are measured.
+    are_printable: bool,
     config: Box<ColoredConfig>,
 }
 
@@ -59,6 +61,7 @@ impl Drop for TextTable {
             cells,
             shape: _,
             sizes,
+            are_printable: _,
             config,
         } = self;
         drop(cells);
@@ -68,7 +71,8 @@ impl Drop for TextTable {
 }
 
 impl Model for TextTable {
-    ghost use Rattle.std.specs.Prelude.{◌≡◌, None};
+    ghost use Rattle.std.specs.Prelude.{◌≡◌, true, None};
+    ghost use Rattle.tabled_painting.specs.Printable.{AllPrintable};
     ghost use Rattle.tabled_printing.specs.Texts.{texts};
     ghost use Rattle.tabled_text.specs.Sizes.{column_widths, row_heights, unequal_row};
     ghost use Rattle.tabled_text.specs.TextTable.{Drawing, drawing_code, shape_of};
@@ -83,7 +87,8 @@ impl Model for TextTable {
         (unequal_row (texts table.cells.items) ≡ None)
         × (table.shape ≡ shape_of (texts table.cells.items))
         × (table.sizes.widths.items ≡ column_widths (texts table.cells.items))
-        × (table.sizes.heights.items ≡ row_heights (texts table.cells.items)) };
+        × (table.sizes.heights.items ≡ row_heights (texts table.cells.items))
+        × (table.are_printable ≡ true → AllPrintable (texts table.cells.items)) };
 }
 
 impl TextTable {
@@ -146,7 +151,10 @@ impl TextTable {
         ensures texts { IfOk result (λ table. table.texts ≡ texts rows.items) }
         ensures config { IfOk result (λ table. Shows [] table.config) }
     {
-        let sizes = sizes_of(alloc, &rows)?;
+        let TableSize {
+            sizes,
+            are_printable,
+        } = sizes_of(alloc, &rows)?;
         let shape = Shape {
             rows: rows.len(),
             cols: column_count(&rows),
@@ -155,6 +163,7 @@ impl TextTable {
             cells: rows,
             shape,
             sizes,
+            are_printable,
             config: unset_config(alloc)?,
         })
     }
@@ -167,9 +176,13 @@ impl TextTable {
         ensures err { OnErr result (self.new ≡ self.old) }
     {
         let alloc = self.config().config().allocator();
-        let sizes = sizes_of(alloc, &cells)?;
+        let TableSize {
+            sizes,
+            are_printable,
+        } = sizes_of(alloc, &cells)?;
         drop(mem::replace(&mut self.cells, cells));
         drop(mem::replace(&mut self.sizes, sizes));
+        self.are_printable = are_printable;
         Ok(())
     }
 

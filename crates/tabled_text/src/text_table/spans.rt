@@ -78,7 +78,13 @@ impl TextTable {
             → IfOk result (λ text. StandsStraightIn (look_of es self.now.texts) (margin_set es) c (pieces (string_bytes text))) }
     {
         let shape = (self.shape.rows, self.shape.cols);
-        let text = plain_text(self.config(), &self.sizes, shape, &self.cells)?;
+        let text = plain_text(
+            self.config(),
+            &self.sizes,
+            shape,
+            &self.cells,
+            self.are_printable,
+        )?;
         Ok(text)
     }
 

@@ -1,11 +1,14 @@
--- Cells of one line each make a row of one line.
-use Rattle.std.proofs.Common.{map, string_bytes, arith}
+-- Printable texts make a row of one line.
+use Rattle.std.proofs.Common.{◌<◌, map, length, string_bytes, arith}
+use Rattle.std.proofs.lemmas.Bool.Decides.{nat_tests}
 use Rattle.std.proofs.lemmas.List.{length-map}
-use Rattle.tabled_text.proofs.Measuring.{one_high}
+use Rattle.tabled_text.specs.Sizes.{cell}
+use Rattle.tabled_text.proofs.Measuring.{one_high, printable_line}
 use Rattle.tabled_text.proofs.measure.height_of.Goals as goal
 
-pub returns-then-cells-count : goal.returns-then-cells-count
-returns-then-cells-count c =
+pub returns-then-not-is_empty : goal.returns-then-not-is_empty
+returns-then-not-is_empty c =
     let row = c.args.row.now in
     let counted = length-map row string_bytes in
-    one_high (map string_bytes row) (omega (arith, counted, c.if-cells-gt0.true)) (λ col within. c.requires c.if-are_lines.true col (omega (arith, within, counted, c.if-cells-count.true)))
+    let some : 0 < length row = grind (arith, nat_tests, c.is_empty.ensures, c.if-not-is_empty.true) in
+    one_high (map string_bytes row) (omega (arith, counted, some)) (λ col _. printable_line (cell (map string_bytes row) col) (c.requires c.if-are_printable.true col))

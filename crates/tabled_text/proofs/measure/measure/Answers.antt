@@ -13,6 +13,3 @@ returns-then-is_printable-clause-width c =
     let wide : length text ≡ greatest (map width_of_text (pieces text)) =
     sym (ap (λ lines. greatest (map width_of_text lines)) (one_piece text printable) ∙ omega (arith, printable_width text printable)) in
     c.in_ok-with_spaces.ensures ∙ ap (λ n. n + 2) wide
-
-pub returns-then-is_printable-clause-line : goal.returns-then-is_printable-clause-line
-returns-then-is_printable-clause-line c _ = ap length (one_piece c.args.text.now (sym c.is_printable.ensures ∙ c.if-is_printable.true))

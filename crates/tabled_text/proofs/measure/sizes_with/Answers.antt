@@ -6,12 +6,6 @@ use Rattle.tabled_object.specs.Entities.{below}
 use Rattle.tabled_text.specs.Sizes.{cell, width_asked}
 use Rattle.tabled_text.proofs.measure.sizes_with.Goals as goal
 
-pub height_of-height-requires : goal.height_of-height-requires
-height_of-height-requires c = λ lines col inside.
-    let row = c.args.row.now in
-    let long : length c.widen.new.widths ≡ length row = c.widen.auto.widths ∙ ap length (c.deref_mut.ensures.value ∙ c.in_ok-wider.ensures) ∙ length-map-range_with_len (λ (n : ℕ). get_or c.args.widths.now n 0) 0 (length row) in
-    c.in_ok-are_lines.ensures.lines lines col (omega (arith, inside, long))
-
 pub returns-clause-widths : goal.returns-clause-widths
 returns-clause-widths c =
     let row = c.args.row.now in
@@ -24,6 +18,6 @@ returns-clause-widths c =
     ∙ fill_by_all (λ (col : ℕ). max (get_or old col 0) (width_asked (cell cells col))) c.widen.new.widths count 0 long
     (λ col inside.
     let within : col < count = inside in
-    c.in_ok-are_lines.ensures.widths col (omega (arith, inside, long))
+    c.in_ok-are_printable.ensures.widths col (omega (arith, inside, long))
     ∙ ap (λ (n : ℕ). max n (width_asked (cell cells col))) (ap (λ (widths : List ℕ). get_or widths col 0) begun ∙ get_or-map-range_with_len (λ (n : ℕ). get_or old n 0) 0 count col col 0 within (omega arith)))
     ∙ ap (λ (n : ℕ). map (λ (col : ℕ). max (get_or old col 0) (width_asked (cell cells col))) (below n)) (sym (length-map row string_bytes))

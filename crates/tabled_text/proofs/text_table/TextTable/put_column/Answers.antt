@@ -1,5 +1,5 @@
 -- The table with a column more is measured.
-use Rattle.std.proofs.Common.{◌≡◌, ◌<◌, ◌≤◌, true, List, map, length, String, string_bytes, Global, sym, ap, ◌∙◌, arith}
+use Rattle.std.proofs.Common.{◌≡◌, ◌<◌, ◌≤◌, true, List, map, length, String, string_bytes, Global, sym, ap, ◌∙◌, arith, false}
 use Rattle.std.specs.List.{insert}
 use Rattle.std.proofs.lemmas.List.{length-map}
 use Rattle.tabled_cells.specs.Placed.{greatest}
@@ -40,4 +40,5 @@ invariant_of-self-2 c =
       widths,
       ap (λ heights. heights.items) c.replace.ensures.after ∙ c.in_ok-heights.ensures ∙ (λ i. heights_with (c.deref-2.ensures.value i) (map string_bytes (c.deref-3.ensures.value i)))
           ∙ heights-with at column old c.self.inside.sizes.heights.items c.self.invariant.3 ∙ sym (ap row_heights put),
+      λ known. absurd (let no : false ≡ true = known in cc),
     )

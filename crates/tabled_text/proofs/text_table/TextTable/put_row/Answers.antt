@@ -1,5 +1,5 @@
 -- The table with a row more is measured.
-use Rattle.std.proofs.Common.{◌≡◌, ◌+◌, ◌||◌, ◌==◌, true, ℕ, List, map, length, String, string_bytes, Global, Some, None, sym, ap, subst, ◌∙◌, arith}
+use Rattle.std.proofs.Common.{◌≡◌, ◌+◌, ◌||◌, ◌==◌, true, ℕ, List, map, length, String, string_bytes, Global, Some, None, sym, ap, subst, ◌∙◌, arith, false}
 use Rattle.std.specs.declared.vec.Vec.{Vec}
 use Rattle.std.specs.List.{insert}
 use Rattle.std.proofs.lemmas.List.{length-map}
@@ -16,7 +16,7 @@ pub returns-in_err-insert-clause-err : goal.returns-in_err-insert-clause-err
 returns-in_err-insert-clause-err c = where_refused c.from_residual-in_err-insert.result (ap texts c.in_ok-reserve.ensures.items ∙ ap (λ table. table.texts) c.self.view_is)
 
 -- the new texts, by those that stood there
-put : (c : goal.After-self-1) → texts c.insert-2.new.self.items ≡ insert (texts c.self.inside.cells.items) c.args.at (map string_bytes c.args.row.items)
+put : (c : goal.After-self-2-1) → texts c.insert-2.new.self.items ≡ insert (texts c.self.inside.cells.items) c.args.at (map string_bytes c.args.row.items)
 put c =
     ap texts (rw (c.insert-2.ensures.succeeds (omega (arith, c.in_ok-reserve.ensures.ok))) at c.insert-2.ensures.items)
     ∙ insert-map (λ (row : Vec (String Global) Global). map string_bytes row.items) c.reserve.new.self.items c.args.at c.args.row
@@ -40,6 +40,7 @@ invariant_of-self-2 c =
           ∙ widths-insert old c.args.at row c.self.inside.sizes.widths.items fits c.self.invariant.2 ∙ sym (ap column_widths (put c)),
       c.in_ok-insert.ensures.items ∙ (λ i. insert (c.self.invariant.3 i) c.args.at ((c.in_ok-widths.ensures.height ∙ ap row_height cells) i))
           ∙ heights-insert old c.args.at row ∙ sym (ap row_heights (put c)),
+      λ known. absurd (let no : false ≡ true = known in cc),
     )
 
 pub returns-clause-texts : goal.returns-clause-texts

@@ -1,17 +1,20 @@
 -- The table without the row is measured.
-use Rattle.std.proofs.Common.{◌≡◌, ◌<◌, ℕ, List, map, length, String, string_bytes, Global, Option, Some, None, get_or, option_map, sym, ap, subst, ◌∙◌, arith}
+use Rattle.std.proofs.Common.{true, ◌≡◌, ◌<◌, ℕ, List, map, length, String, string_bytes, Global, Option, Some, None, get_or, option_map, sym, ap, subst, ◌∙◌, arith}
 use Rattle.std.specs.declared.vec.Vec.{Vec}
 use Rattle.std.specs.List.{remove, slice_get}
+use Rattle.std.proofs.lemmas.Grind.{common_steps}
 use Rattle.std.proofs.lemmas.List.{length-map}
 use Rattle.std.proofs.lemmas.Option.{slice_get-map, slice_get_read}
+use Rattle.tabled_painting.specs.Printable.{AllPrintable}
 use Rattle.tabled_printing.specs.Texts.{Table, texts}
 use Rattle.tabled_rows.proofs.RowLemmas.{remove-map}
 use Rattle.tabled_text.specs.Sizes.{column_count, column_widths, row_heights, unequal_row}
+use Rattle.tabled_text.specs.TextTable.{shape_of}
 use Rattle.tabled_text.proofs.EditedLemmas.{unequal-remove}
 use Rattle.tabled_text.proofs.text_table.TextTable.remove_row.Goals as goal
 
 -- the new texts, by those that stood there
-left : (c : goal.After-self-1) → texts c.remove-row.new.self.items ≡ remove (texts c.self.inside.cells.items) c.args.index
+left : (c : goal.After-self-in-Ok-1) → texts c.remove-row.new.self.items ≡ remove (texts c.self.inside.cells.items) c.args.index
 left c = ap texts c.remove-row.ensures.items ∙ remove-map (λ (row : Vec (String Global) Global). map string_bytes row.items) c.self.inside.cells.items c.args.index
 
 pub invariant_of-self : goal.invariant_of-self
@@ -24,6 +27,7 @@ invariant_of-self c =
       (λ i. record { rows = rows i; cols = cols i }),
       ap (λ sizes. sizes.widths.items) c.replace.ensures.after ∙ c.in-Ok.ensures.widths ∙ ap column_widths (ap texts c.deref.ensures.value),
       ap (λ sizes. sizes.heights.items) c.replace.ensures.after ∙ c.in-Ok.ensures.heights ∙ ap row_heights (ap texts c.deref.ensures.value),
+      λ known. subst AllPrintable (ap texts c.deref.ensures.value) (c.in-Ok.ensures.printable known),
     )
 
 pub returns-in-Ok-clause-texts : goal.returns-in-Ok-clause-texts
@@ -37,3 +41,11 @@ returns-in-Ok-clause-row c =
     ap (option_map (λ (row : Vec (String Global) Global). map string_bytes row.items)) (sym there)
     ∙ sym (slice_get-map (λ (row : Vec (String Global) Global). map string_bytes row.items) cells c.args.index)
     ∙ ap (λ (table : Table). slice_get table c.args.index) (ap (λ table. table.texts) c.self.view_is)
+
+-- the row stands again where it stood
+pub invariant_of-self-in-Err : goal.invariant_of-self-in-Err
+invariant_of-self-in-Err c =
+    let old = c.self.inside in
+    let back : c.insert.new.self.items ≡ old.cells.items = grind (arith, common_steps) in
+    subst (λ (table : Table). (unequal_row table ≡ None) × (old.shape ≡ shape_of table) × (old.sizes.widths.items ≡ column_widths table) × (old.sizes.heights.items ≡ row_heights table) × (old.are_printable ≡ true → AllPrintable table))
+    (sym (ap texts back)) c.self.invariant

@@ -1,5 +1,5 @@
 -- The row and the column of the text are measured.
-use Rattle.std.proofs.Common.{◌≡◌, ◌<◌, ◌++◌, List, [], map, length, take, drop, get_or, String, string_bytes, Global, sym, ap, ◌∙◌, arith}
+use Rattle.std.proofs.Common.{◌≡◌, ◌<◌, ◌++◌, List, [], map, length, take, drop, get_or, String, string_bytes, Global, sym, ap, ◌∙◌, arith, true, false}
 use Rattle.std.specs.declared.vec.Vec.{Vec}
 use Rattle.std.proofs.lemmas.List.{take_at}
 use Rattle.tabled_printing.specs.Texts.{Table, texts}
@@ -44,4 +44,5 @@ invariant_of-self-2 c =
       same_shape old new same c.self.inside.shape c.self.invariant.1,
       widths-set row col text old c.in_ok-former.field-0.width c.self.inside.sizes.widths.items within c.self.invariant.2 (c.in_ok-former.ensures.width ∙ ap (λ (table : Table). column_width table col) made) ∙ sym (ap column_widths is),
       heights-set row col text old c.in_ok-former.field-0.height c.self.inside.sizes.heights.items above c.self.invariant.3 (c.in_ok-former.ensures.height ∙ ap (λ (table : Table). row_height (get_or table row [])) made) ∙ sym (ap row_heights is),
+      λ known. absurd (let no : false ≡ true = known in cc),
     )

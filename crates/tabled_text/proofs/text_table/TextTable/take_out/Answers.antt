@@ -1,5 +1,5 @@
 -- The table without the column is measured.
-use Rattle.std.proofs.Common.{◌≡◌, ◌<◌, ◌++◌, ℕ, List, length, take, drop, String, Global, sym, ap, ◌∙◌, arith}
+use Rattle.std.proofs.Common.{◌≡◌, ◌<◌, ◌++◌, ℕ, List, length, take, drop, String, Global, sym, ap, ◌∙◌, arith, true, false}
 use Rattle.std.specs.declared.vec.Vec.{Vec}
 use Rattle.std.specs.List.{remove}
 use Rattle.std.proofs.lemmas.List.{take_at}
@@ -35,4 +35,5 @@ invariant_of-self-2 c =
       widths,
       take_at c.measure_heights.new.heights (drop (length c.measure_heights.new.heights) c.self.inside.sizes.heights.items) c.self.inside.sizes.heights.len (c.measure_heights.auto.heights ∙ c.deref_mut-2.ensures.len)
           ∙ c.measure_heights.ensures ∙ ap (λ (rows : List (Vec (String Global) Global)). row_heights (texts rows)) c.deref.ensures.value,
+      λ known. absurd (let no : false ≡ true = known in cc),
     )
