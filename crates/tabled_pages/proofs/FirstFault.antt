@@ -6,7 +6,7 @@ use Rattle.tabled_pages.specs.Input.{is_allowed, rows_of, have_equal_counts, fau
 use Rattle.tabled_pages.specs.Refusal.{status_of, exit_status, answer_of}
 use Rattle.tabled_pages.specs.declared.read.TheConstants.{INPUT_LIMIT}
 use Rattle.tabled_pages.specs.declared.error.ShowError.{ShowError}
-use Rattle.tabled_pages.specs.declared.error.ShowError.TheVariants.{ReadFailed, OutOfMemory, TooLong, ByteOutOfRange, UnequalRows}
+use Rattle.tabled_pages.specs.declared.error.ShowError.TheVariants.{ReadFailed, OutOfMemory, TooLong, ByteOutOfRange, UnequalRows, WriteFailed}
 
 -- the first fault, by the three tests
 first_of_three : Bool → Bool → Bool → Option ShowError
@@ -55,7 +55,7 @@ reading_refused (Some bytes) e (Err y) is (inr (inl too_long)) long status =
 
 -- an error that was passed on is a refusal of memory or the fault, as it was before
 pub passed_on : {T : Type 0} (fault : Option ShowError) (e : ShowError) (r : Result T ShowError) → IsErrAnd r (λ y. y ≡ e)
-    → (e ≡ OutOfMemory) ⊎ (fault ≡ Some e) → IfErr r (λ y. (y ≡ OutOfMemory) ⊎ (fault ≡ Some y))
+    → (e ≡ OutOfMemory) ⊎ (fault ≡ Some e) → IfErr r (λ y. (y ≡ OutOfMemory) ⊎ ((y ≡ WriteFailed) ⊎ (fault ≡ Some y)))
 passed_on fault e (Ok x) is known = absurd is
 passed_on fault e (Err y) is (inl refused) = inl (is ∙ refused)
-passed_on fault e (Err y) is (inr known) = inr (known ∙ ap (λ refusal. Some refusal) (sym is))
+passed_on fault e (Err y) is (inr known) = inr (inr (known ∙ ap (λ refusal. Some refusal) (sym is)))

@@ -1,10 +1,11 @@
-//! The text of an input's table.
+//! The table of an input, and how it is written.
 
-ghost use Rattle.std.specs.Prelude.{◌≡◌, ◌≤◌, ◌⊎◌, List, ◌++◌, ◌∷◌, [], Some, None, true, false, length, string_bytes, IfOk, IfErr, OnOk};
+ghost use Rattle.std.specs.Prelude.{◌≡◌, ◌≢◌, ◌≤◌, ◌⊎◌, List, ◌++◌, ◌∷◌, [], Some, None, true, false, length, IfOk, IfErr, IsErrOf, OnOk};
+ghost use Rattle.std.specs.Io.KnownBytes.{Appends};
 ghost use Rattle.tabled_configuration.specs.Configuration.{ConfigEvent, Shows};
 ghost use Rattle.tabled_printing.specs.Texts.{texts};
 ghost use Rattle.tabled_text.specs.TextTable.{text_of};
-ghost use Rattle.tabled_pages.specs.Input.{fault_of, have_equal_counts, rows_of};
+ghost use Rattle.tabled_pages.specs.Input.{fault_of, have_equal_counts};
 ghost use Rattle.tabled_pages.specs.Page.{page};
 ghost use Rattle.tabled_pages.specs.Style.{styled};
 ghost use Rattle.tabled_pages.specs.declared.bytes.TheConstants.{LINE_FEED};
@@ -14,7 +15,7 @@ use crate::error::ShowError;
 use crate::read::INPUT_LIMIT;
 use crate::rows::rows_of;
 use std::alloc::Global;
-use tabled_printing::PrintError;
+use std::io::Write;
 use tabled_style::ReadyStyle;
 use tabled_text::{TableError, TextTable};
 
@@ -49,45 +50,41 @@ fn styled_table(
     Ok(table)
 }
 
-/// The text of a table, with a line feed after it.
-fn text_of(table: &TextTable) -> Result<String, ShowError>
-    ensures text { (es : List ConfigEvent) → Shows es table.now.config.spanned → IfOk result (λ text. string_bytes text ≡ text_of es table.now.texts ++ LINE_FEED ∷ []) }
-    ensures refused { IfErr result (λ e. e ≡ ShowError.OutOfMemory) }
+/// Writes the text of a table, and a line feed after it.
+fn write_table<W: Write>(table: &TextTable, output: &mut W) -> Result<(), ShowError>
+    ensures written { (es : List ConfigEvent) → Shows es table.now.config.spanned
+        → OnOk result (Appends (W.contents output.old) (W.contents output.new) (text_of es table.now.texts ++ LINE_FEED ∷ [])) }
+    ensures refused { IfErr result (λ e. (e ≡ ShowError.OutOfMemory) ⊎ (e ≡ ShowError.WriteFailed)) }
+    ensures unwritten { IfErr result (λ e. (e ≡ ShowError.WriteFailed) ⊎ (output.new ≡ output.old)) }
 {
-    match table.to_text() {
-        Ok(mut text) => {
-            text.push('\n')?;
-            Ok(text)
-        }
-        Err(PrintError::OutOfMemory) => Err(ShowError::OutOfMemory),
-        Err(_) => unreachable!("memory alone is refused"),
+    match table.print_between("", "\n", output) {
+        Ok(()) => Ok(()),
+        Err(TableError::Write) => Err(ShowError::WriteFailed),
+        Err(_) => Err(ShowError::OutOfMemory),
     }
 }
 
-/// The text of the table of an input in a style, with a line feed after it.
-fn styled_text(alloc: Global, style: ReadyStyle, input: &str) -> Result<String, ShowError>
-    ensures text { IfOk result (λ text. string_bytes text ≡ text_of (styled style) (rows_of input.now) ++ LINE_FEED ∷ []) }
-    ensures equal { OnOk result (have_equal_counts (rows_of input.now) ≡ true) }
-    ensures refused { IfErr result (λ e. (e ≡ ShowError.OutOfMemory) ⊎ ((e ≡ ShowError.UnequalRows) × (have_equal_counts (rows_of input.now) ≡ false))) }
-{
-    let rows = rows_of(alloc, input)?;
-    let table = styled_table(alloc, style, rows)?;
-    let text = text_of(&table)?;
-    Ok(text)
-}
-
-/// The text that is written for an input, the empty text for the empty input.
-pub fn page(alloc: Global, style: ReadyStyle, input: &[u8]) -> Result<String, ShowError>
+/// Writes the table of an input in a style, and a line feed after it; nothing where the input is empty. Nothing is written before the
+/// input has been found good, and all memory asked for.
+pub fn write_page<W: Write>(
+    alloc: Global,
+    style: ReadyStyle,
+    input: &[u8],
+    output: &mut W,
+) -> Result<(), ShowError>
     requires { length input.now ≤ INPUT_LIMIT }
-    ensures text { IfOk result (λ text. string_bytes text ≡ page style input.now) }
+    ensures written { OnOk result (Appends (W.contents output.old) (W.contents output.new) (page style input.now)) }
     ensures good { OnOk result (fault_of input.now ≡ None) }
-    ensures faults { IfErr result (λ e. (e ≡ ShowError.OutOfMemory) ⊎ (fault_of input.now ≡ Some e)) }
-    ensures kinds { IfErr result (λ e. (e ≡ ShowError.OutOfMemory) ⊎ (e ≡ ShowError.ByteOutOfRange) ⊎ (e ≡ ShowError.UnequalRows)) }
+    ensures faults { IfErr result (λ e. (e ≡ ShowError.OutOfMemory) ⊎ (e ≡ ShowError.WriteFailed) ⊎ (fault_of input.now ≡ Some e)) }
+    ensures write_failed { IsErrOf result ShowError.WriteFailed → fault_of input.now ≡ None }
+    ensures kinds { IfErr result (λ e. e ≢ ShowError.Usage) }
+    ensures unwritten { IfErr result (λ e. (e ≡ ShowError.WriteFailed) ⊎ (output.new ≡ output.old)) }
 {
     let input = as_text(input)?;
     if input.is_empty() {
-        return Ok(String::new(alloc));
+        return Ok(());
     }
-    let text = styled_text(alloc, style, input)?;
-    Ok(text)
+    let rows = rows_of(alloc, input)?;
+    let table = styled_table(alloc, style, rows)?;
+    write_table(&table, output)
 }

@@ -8,7 +8,7 @@ ghost use Rattle.tabled_pages.specs.Refusal.{answer_of, exit_status};
 ghost use Rattle.tabled_pages.specs.Style.{style_of};
 
 use crate::error::ShowError;
-use crate::page::page;
+use crate::page::write_page;
 use crate::read::{INPUT_LIMIT, read_input};
 use crate::styles::style_of;
 use std::alloc::Global;
@@ -46,9 +46,5 @@ pub fn run<R: Read, W: Write>(
         return Err(ShowError::Usage);
     };
     let bytes = read_input(alloc, input)?;
-    let text = page(alloc, style, &bytes)?;
-    match output.write_all(text.as_bytes()) {
-        Ok(()) => Ok(()),
-        Err(_) => Err(ShowError::WriteFailed),
-    }
+    write_page(alloc, style, &bytes, output)
 }

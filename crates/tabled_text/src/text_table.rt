@@ -1,7 +1,6 @@
 //! A table of texts.
 
-ghost use Rattle.std.specs.Prelude.{◌≡◌, [], length, map, string_bytes, slice_index_or, IfOk, IfErr, OnOk};
-ghost use Rattle.std.specs.Io.KnownBytes.{Appends};
+ghost use Rattle.std.specs.Prelude.{◌≡◌, [], length, map, string_bytes, slice_index_or, IfOk};
 ghost use Rattle.tabled_text.specs.declared.table_error.TableError.{TableError as Refusal};
 ghost use Rattle.tabled_configuration.specs.Colored.{Shows};
 ghost use Rattle.tabled_printing.specs.Pieces.{lent};
@@ -15,6 +14,7 @@ mod edited_columns;
 mod limits;
 mod making;
 mod panels;
+mod printing;
 mod rows;
 mod spans;
 mod texts;
@@ -23,7 +23,7 @@ use crate::TableError;
 use crate::measure::{TableSize, column_count, sizes_of, unequal_row};
 use std::alloc::{AllocError, Global};
 use std::marker::Model;
-use std::{fmt, io, mem};
+use std::{fmt, mem};
 use tabled_border::OutOfMemory;
 use tabled_configuration::{CellOption, ColoredConfig, SpannedConfig, TableOption, modify};
 use tabled_object::{FixedDimension, Object, Shape};
@@ -335,17 +335,6 @@ impl TextTable {
         Ok(())
     }
 
-    /// Writes the text of the table to a stream of bytes, such as standard output. Where it is refused by `to_text` nothing is
-    /// written; where the stream fails some of the text may be.
-    pub fn print_to<W: io::Write>(&self, out: &mut W) -> Result<(), TableError>
-        ensures text { (es : List ConfigEvent) → borders.Shows es self.now.config.spanned → OnOk result (Appends (W.contents out.old) (W.contents out.new) (text_of es self.now.texts)) }
-        ensures refusal { IfErr result (λ e. (e ≡ Refusal.OutOfMemory) ⊎ (e ≡ Refusal.Write)) }
-        ensures unwritten { IfErr result (λ e. (e ≡ Refusal.Write) ⊎ (out.new ≡ out.old)) }
-    {
-        let text = self.to_text()?;
-        write_bytes(out, text.as_str())
-    }
-
     /// Writes the text of the table after what `out` has. Where it is refused, as by `to_text`, `out` is as before.
     pub fn append_to(&self, out: &mut String) -> Result<(), PrintError>
         ensures text { (es : List ConfigEvent) → borders.Shows es self.now.config.spanned → OnOk result (string_bytes out.new ≡ string_bytes out.old ++ text_of es self.now.texts) }
@@ -397,17 +386,6 @@ impl TextTable {
         Ok(())
     }
 
-    /// Writes the text of the table in color to a stream of bytes, such as standard output. Where it is refused by `to_ansi`
-    /// nothing is written; where the stream fails some of the text may be.
-    pub fn print_ansi_to<W: io::Write>(&self, out: &mut W) -> Result<(), TableError>
-        ensures text { (es : List ConfigEvent) → Shows es self.now.config → OnOk result (Appends (W.contents out.old) (W.contents out.new) (colored_text (painted es self.now.texts))) }
-        ensures refusal { IfErr result (λ e. (e ≡ Refusal.OutOfMemory) ⊎ (e ≡ Refusal.Write)) }
-        ensures unwritten { IfErr result (λ e. (e ≡ Refusal.Write) ⊎ (out.new ≡ out.old)) }
-    {
-        let text = self.to_ansi()?;
-        write_bytes(out, text.as_str())
-    }
-
     /// The texts of the cells, row by row, as they were given.
     pub fn texts(&self) -> &[Vec<String>]
         ensures { texts result.now ≡ self.now.texts }
@@ -424,17 +402,6 @@ fn unset_config(alloc: Global) -> Result<Box<ColoredConfig>, OutOfMemory>
     match Box::new(alloc, ColoredConfig::new(SpannedConfig::new(alloc))) {
         Ok(config) => Ok(config),
         Err(_) => Err(OutOfMemory),
-    }
-}
-
-/// Writes the bytes of a text to a stream.
-fn write_bytes<W: io::Write>(out: &mut W, text: &str) -> Result<(), TableError>
-    ensures written { OnOk result (Appends (W.contents out.old) (W.contents out.new) text.now) }
-    ensures refused { IfErr result (λ e. e ≡ Refusal.Write) }
-{
-    match out.write_all(text.as_bytes()) {
-        Ok(()) => Ok(()),
-        Err(_) => Err(TableError::Write),
     }
 }
 
