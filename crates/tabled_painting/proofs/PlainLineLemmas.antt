@@ -1,7 +1,7 @@
 -- The lines of a plain table, each after a line feed but the first, are its lines joined.
-use Rattle.std.proofs.Common.{◌≡◌, ℕ, ◌+◌, ◌<◌, ◌==◌, ◌&&◌, zero, suc, Bool, true, false, if◌then◌else◌, List, [], ◌∷◌, ◌++◌, map, length, refl, sym, ap, ◌∙◌, arith}
+use Rattle.std.proofs.Common.{◌≡◌, ℕ, ◌+◌, ◌<◌, ◌==◌, zero, suc, Bool, true, false, if◌then◌else◌, List, [], ◌∷◌, ◌++◌, map, length, refl, sym, ap, ◌∙◌, arith}
 use Rattle.std.specs.List.{flat_map, join_with_byte}
-use Rattle.std.proofs.lemmas.Bool.Decides.{nat_tests}
+use Rattle.std.proofs.lemmas.Bool.{and_parts, eqb-true}
 use Rattle.std.proofs.lemmas.List.{append-nil, append_assoc, append_cancel_right, length-append, map-append}
 use Rattle.std.proofs.lemmas.List.Concat.{flat_map-append}
 use Rattle.tabled_object.specs.Entities.{below}
@@ -79,19 +79,12 @@ module _ (above : ℕ → List (List ℕ)) (row : ℕ → List ℕ) where
 
 -- ---- the lines of a table each of whose rows is one line high
 
-both_hold : (a b : Bool) → a && b ≡ true → (a ≡ true) × (b ≡ true)
-both_hold true b is = (refl, is)
-both_hold false b is = absurd cc
-
-none : (n : ℕ) → (n == 0) ≡ true → n ≡ 0
-none n is = grind (arith, nat_tests)
-
 in_no_margin : (margin : Margin) (columns : ℕ) (lines : List Painted) → is_without_room margin ≡ true → in_margin margin columns lines ≡ lines
 in_no_margin margin columns lines is =
-    let last = both_hold _ _ is in
-    let more = both_hold _ _ last.0 in
-    let first = both_hold _ _ more.0 in
-    without_room margin columns lines (none _ first.0) (none _ first.1) (none _ more.1) (none _ last.1)
+    let last = and_parts _ (margin.size.bottom.size == 0) is in
+    let more = and_parts _ (margin.size.top.size == 0) last.0 in
+    let first = and_parts (margin.size.left.size == 0) (margin.size.right.size == 0) more.0 in
+    without_room margin columns lines (eqb-true _ _ first.0) (eqb-true _ _ first.1) (eqb-true _ _ more.1) (eqb-true _ _ last.1)
 
 module _ (view : Look) (cells : Cells) where
   abbrev pub row_text : ℕ → List ℕ
