@@ -1,5 +1,5 @@
 -- Columns of numbers: one column more, and one that is set.
-use Rattle.std.proofs.Common.{◌≡◌, ℕ, ◌+◌, ◌-◌, Bool, true, false, if◌then◌else◌, List, [], ◌∷◌, ◌++◌, map, filter, flat_map, string_bytes, drop, take, length, min, zero, suc, arith, refl, sym, ap, subst, ◌∙◌, Result, Ok, Err, OnErr}
+use Rattle.std.proofs.Common.{◌≡◌, ℕ, ◌+◌, ◌-◌, Bool, if◌then◌else◌, List, [], ◌∷◌, ◌++◌, map, filter, string_bytes, drop, take, length, min, zero, suc, arith, refl, sym, ap, subst, ◌∙◌, Result, Ok, Err, OnErr}
 use Rattle.std.specs.List.{drop-map, range_with_len}
 use Rattle.tabled_object.specs.Entities.{below}
 use Rattle.std.specs.declared.string.String.{String}
@@ -12,7 +12,7 @@ use Rattle.tabled_settings.specs.declared.alignment.AlignmentHorizontal.{Alignme
 use Rattle.tabled_settings.specs.Setting.{write_of}
 use Rattle.tabled_settings.specs.CellSettings.{of_alignment_horizontal}
 use Rattle.tabled_configuration.specs.ChangeLaws.{both_change_borders}
-use Rattle.tabled_configuration.specs.Configuration.{Changes, ConfigEvent, Configuration, by_setting, cell_colors_of}
+use Rattle.tabled_configuration.specs.Configuration.{Changes, Configuration, by_setting, cell_colors_of}
 use Rattle.tabled_printing.specs.Texts.{texts}
 use Rattle.tabled_text.specs.Numeric.{at_right}
 

@@ -1,10 +1,9 @@
 -- The lines of a table where cells span, and where none does.
-use Rattle.std.proofs.Common.{◌≡◌, ℕ, ◌==◌, ◌&&◌, not, Bool, true, false, if◌then◌else◌, Option, List, [], map, length, get_or, refl, sym, ap, subst, ◌∙◌}
+use Rattle.std.proofs.Common.{◌≡◌, ℕ, ◌==◌, ◌&&◌, not, Bool, true, false, if◌then◌else◌, Option, List, [], length, refl, sym, ap, subst, ◌∙◌}
 use Rattle.std.specs.Prelude.{slice_index, slice_index_or}
 use Rattle.std.specs.FinMap.{len}
 use Rattle.std.specs.List.{join_with_byte}
 use Rattle.tabled_border.specs.Texts.{Texts}
-use Rattle.tabled_grid.specs.declared.place.LineOf.{LineOf}
 use Rattle.tabled_object.specs.declared.dimension.FixedDimension.{FixedDimension}
 use Rattle.tabled_object.specs.declared.records.Shape.{Shape}
 use Rattle.tabled_layout.specs.declared.table_settings.TableSettings.{TableSettings}
@@ -18,7 +17,7 @@ use Rattle.tabled_printing.specs.Texts.{Table}
 use Rattle.tabled_printing.proofs.LookLemmas.{own_look}
 use Rattle.tabled_rooms.specs.Sizes.{spanned_widths, spanned_heights}
 use Rattle.tabled_painting.specs.Painted.{plain}
-use Rattle.tabled_painting.specs.PaintedTable.{plain_text, colored_text}
+use Rattle.tabled_painting.specs.PaintedTable.{plain_text}
 use Rattle.tabled_painting.specs.PaintedSpans.{columns_spanned, rows_spanned, room_wide, room_high, spanned_cells, spanned_as_set, spanned_by}
 use Rattle.tabled_painting.specs.CellLines.{coloring_at}
 use Rattle.tabled_cells.specs.Placements.{placement_at}

@@ -1,5 +1,5 @@
 -- The lines of a table's text are as wide as each other, also where cells span and where padding is set.
-use Rattle.std.proofs.Common.{◌≡◌, ◌==◌, ℕ, ◌+◌, ◌<◌, ◌≤◌, true, false, Bool, ◌||◌, eqb, inl, inr, ⊎_elim, if◌then◌else◌, List, [], map, length, get_or, refl, sym, ap, subst, ◌∙◌, arith}
+use Rattle.std.proofs.Common.{◌≡◌, ◌==◌, ℕ, ◌+◌, ◌<◌, ◌≤◌, true, false, Bool, ◌||◌, eqb, inl, inr, ⊎_elim, if◌then◌else◌, List, [], length, get_or, refl, sym, ap, subst, ◌∙◌, arith}
 use Rattle.std.specs.Prelude.{slice_index}
 use Rattle.std.specs.Str.{IsUtf8}
 use Rattle.std.specs.List.{list_all, sum_by}
@@ -15,15 +15,15 @@ use Rattle.tabled_settings.specs.Live.{value_at}
 use Rattle.tabled_settings.proofs.Paddings.{no_padding_at}
 use Rattle.tabled_layout.specs.declared.table_settings.TableSettings.{TableSettings}
 use Rattle.tabled_configuration.specs.Configuration.{ConfigEvent, characters_of}
-use Rattle.tabled_printing.specs.Texts.{Table, pieces, width_of_text}
+use Rattle.tabled_printing.specs.Texts.{Table}
 use Rattle.tabled_printing.specs.Along.{is_empty}
 use Rattle.tabled_printing.specs.Picture.{Look}
 use Rattle.tabled_printing.specs.Columns.{HasNarrowBorders, IsRectangle, is_narrow, is_narrow_write}
 use Rattle.tabled_printing.proofs.NarrowLemmas.{borders_narrow}
 use Rattle.tabled_printing.proofs.Tiles.{Tile}
 use Rattle.tabled_rooms.specs.Hosts.{Counts, host}
-use Rattle.tabled_rooms.specs.Rooms.{one_if, room_width}
-use Rattle.tabled_rooms.specs.Sizes.{is_shown, spanned_widths, spanned_heights}
+use Rattle.tabled_rooms.specs.Rooms.{one_if}
+use Rattle.tabled_rooms.specs.Sizes.{is_shown}
 use Rattle.tabled_rooms.proofs.CellRooms.{wide_enough, some_line}
 use Rattle.tabled_cells.specs.Placed.{fill_shown}
 use Rattle.tabled_cells.specs.Placements.{placement_at}
@@ -31,12 +31,12 @@ use Rattle.tabled_cells.specs.Trimmed.{lines_shown}
 use Rattle.tabled_cells.proofs.Fits.{narrow_padding, placed_at_tile, printable_tile, starts_with_spaces}
 use Rattle.tabled_painting.specs.Painted.{plain}
 use Rattle.tabled_painting.specs.CellLines.{coloring_at}
-use Rattle.tabled_painting.specs.PaintedTable.{Cells, plain_text}
-use Rattle.tabled_painting.specs.PaintedSpans.{columns_spanned, rows_spanned, room_wide, room_high, spanned_cells, spanned_table}
+use Rattle.tabled_painting.specs.PaintedTable.{Cells}
+use Rattle.tabled_painting.specs.PaintedSpans.{columns_spanned, rows_spanned, room_wide, room_high, spanned_cells}
 use Rattle.tabled_painting.specs.Widths.{text_width}
 use Rattle.tabled_painting.proofs.Plain.{plain_cell}
 use Rattle.tabled_painting.proofs.SpannedEven.{spanned_even}
-use Rattle.tabled_text.specs.Sizes.{cell, column_count, padded_width, padded_height, width_with_padding, height_with_padding}
+use Rattle.tabled_text.specs.Sizes.{cell, column_count, padded_width, width_with_padding, height_with_padding}
 use Rattle.tabled_text.specs.Changed.{CellsArePrintable}
 use Rattle.tabled_text.specs.Cells.{settings_set, cells_set, margin_set, cell_colors, leaves_sizes, sets_no_padding, sets_no_spans, KeepsApart, StandApart, StartsWithSpace}
 use Rattle.tabled_text.specs.TextTable.{look_of, look_with_spans, look_printed, painted_with_spans, text_of, widths_with_spans, heights_with_spans}

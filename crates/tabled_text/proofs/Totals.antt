@@ -1,5 +1,5 @@
 -- A table whose columns share a room is no wider than it may be.
-use Rattle.std.proofs.Common.{◌≡◌, ◌⊎◌, ⊎_elim, ℕ, ◌+◌, ◌-◌, ◌<◌, ◌≤◌, zero, suc, max, fold, nat_le, sum, true, false, Bool, if◌then◌else◌, get_or, unwrap_or, Ordering, ◌==◌, Some, None, List, [], ◌∷◌, map, length, refl, sym, ap, subst, ◌∙◌, arith}
+use Rattle.std.proofs.Common.{◌≡◌, ⊎_elim, ℕ, ◌+◌, ◌-◌, ◌<◌, ◌≤◌, zero, suc, max, fold, nat_le, sum, true, false, Bool, if◌then◌else◌, get_or, unwrap_or, Ordering, ◌==◌, Some, None, List, [], ◌∷◌, map, length, refl, sym, ap, subst, ◌∙◌, arith}
 use Rattle.std.specs.Prelude.{slice_index, slice_get}
 use Rattle.std.specs.Str.{IsUtf8}
 use Rattle.std.specs.List.{All, sum_by}
@@ -24,7 +24,7 @@ use Rattle.tabled_painting.specs.Widths.{text_width}
 use Rattle.tabled_width.specs.declared.limit.Overflow.{Overflow}
 use Rattle.tabled_width.specs.declared.limit.Overflow.TheVariants.{Wrap, WrapWords, Truncate}
 use Rattle.tabled_width.specs.Limited.{ends_printable, limited}
-use Rattle.tabled_width.specs.Shares.{used, IsCap, shared}
+use Rattle.tabled_width.specs.Shares.{used, shared}
 use Rattle.tabled_width.specs.Texts.{LinesFit}
 use Rattle.tabled_width.proofs.LimitedLaws.{limited_fits, printable_can_fit}
 use Rattle.tabled_width.proofs.TextLaws.{wrapped_same, words_same, truncated_same}

@@ -243,6 +243,30 @@ pub(crate) fn sizes_of(alloc: Global, rows: &[Vec<String>]) -> Result<TableSize,
     })
 }
 
+/// Whether all texts of a row are printable.
+fn is_printable_row(row: &[String]) -> bool
+    ensures { result ≡ true → ArePrintable (map string_bytes row.now) }
+{
+    for text in row {
+        if !is_printable(text.as_str()) {
+            return false;
+        }
+    }
+    true
+}
+
+/// Whether all texts are printable.
+pub(crate) fn are_printable(rows: &[Vec<String>]) -> bool
+    ensures { result ≡ true → AllPrintable (texts rows.now) }
+{
+    for row in rows {
+        if !is_printable_row(row) {
+            return false;
+        }
+    }
+    true
+}
+
 /// How wide a column is. Refused where no number says it.
 pub(crate) fn column_width(rows: &[Vec<String>], col: usize) -> Result<usize, OutOfMemory>
     ensures { IfOk result (λ width. width ≡ column_width (texts rows.now) col) }

@@ -1,22 +1,31 @@
 //! A table that is printed to a stream of bytes, alone or between two texts.
 
-ghost use Rattle.std.specs.Prelude.{◌≡◌, ◌⊎◌, ◌++◌, List, IfErr, OnOk};
+ghost use Rattle.std.specs.Prelude.{◌≡◌, ◌⊎◌, ◌++◌, true, List, length, IfErr, IfOk, IfSome, OnOk};
+ghost use Rattle.std.specs.List.{All};
 ghost use Rattle.std.specs.Io.KnownBytes.{Appends};
 ghost use Rattle.tabled_configuration.specs.Colored.{Shows};
 ghost use Rattle.tabled_configuration.specs.Configuration.{ConfigEvent};
 ghost use Rattle.tabled_configuration.specs.Configuration as borders;
-ghost use Rattle.tabled_painting.specs.PaintedTable.{colored_text};
+ghost use Rattle.tabled_painting.specs.PaintedTable.{colored_text, plain_text};
+ghost use Rattle.tabled_painting.specs.Printable.{AllPrintable};
 ghost use Rattle.tabled_painting.specs.Widths.{text_width};
 ghost use Rattle.tabled_printing.specs.Columns.{IsRectangle, WritesNarrow};
-ghost use Rattle.tabled_text.specs.Cells.{StandApart, margin_set};
-ghost use Rattle.tabled_text.specs.TextTable.{look_printed, painted, text_of};
+ghost use Rattle.tabled_text.specs.Cells.{StandApart, leaves_sizes, margin_set};
+ghost use Rattle.tabled_text.specs.TextTable.{look_of, look_printed, painted, painted_alone, text_of};
 ghost use Rattle.tabled_text.specs.declared.table_error.TableError.{TableError as Refusal};
 
 use super::TextTable;
 use crate::TableError;
+use crate::measure::are_printable;
+use crate::stream::{ROOM, write_pieces};
 use std::io;
+use tabled_border::OutOfMemory;
+use tabled_object::Shape;
+use tabled_painting::PlainLines;
 
 impl TextTable {
+    ghost use Rattle.tabled_painting.specs.PlainLines.{written_by};
+
     /// Writes the text of the table to a stream of bytes, such as standard output. Where it is refused by `to_text` nothing is
     /// written; where the stream fails some of the text may be.
     pub fn print_to<W: io::Write>(&self, out: &mut W) -> Result<(), TableError>
@@ -43,8 +52,65 @@ impl TextTable {
         ensures refusal { IfErr result (λ e. (e ≡ Refusal.OutOfMemory) ⊎ (e ≡ Refusal.Write)) }
         ensures unwritten { IfErr result (λ e. (e ≡ Refusal.Write) ⊎ (out.new ≡ out.old)) }
     {
-        let text = self.to_text()?;
+        if self.config().config().has_spans_or_padding() {
+            let text = self.to_text()?;
+            return write_in_turn(before, text.as_str(), after, out);
+        }
+        self.print_alone(before, after, out)
+    }
+
+    /// Prints a table of which no cell spans or has padding, as a whole or piece by piece.
+    fn print_alone<W: io::Write>(
+        &self,
+        before: &str,
+        after: &str,
+        out: &mut W,
+    ) -> Result<(), TableError>
+        ensures text { (es : List ConfigEvent) → borders.Shows es self.now.config.spanned → OnOk result (Appends (W.contents out.old) (W.contents out.new) (before.now ++ plain_text (painted_alone es self.now.texts) ++ after.now)) }
+        ensures rectangle { (es : List ConfigEvent) → borders.Shows es self.now.config.spanned → WritesNarrow es → leaves_sizes es ≡ true
+            → OnOk result (IsRectangle (text_width (look_of es self.now.texts) (margin_set es)) (text_of es self.now.texts)) }
+        ensures refusal { IfErr result (λ e. (e ≡ Refusal.OutOfMemory) ⊎ (e ≡ Refusal.Write)) }
+        ensures unwritten { IfErr result (λ e. (e ≡ Refusal.Write) ⊎ (out.new ≡ out.old)) }
+    {
+        let alloc = self.config().config().allocator();
+        if let Some(lines) = self.plain_lines()? {
+            return write_pieces(alloc, &lines, before, &self.cells, after, out);
+        }
+        let text = self.text_alone()?;
         write_in_turn(before, text.as_str(), after, out)
+    }
+
+    /// The lines of a table that is long, and can be written one after another with no more memory than they have.
+    fn plain_lines(&self) -> Result<Option<PlainLines<'_, '_>>, OutOfMemory>
+        ensures text { (es : List ConfigEvent) → borders.Shows es self.now.config.spanned
+            → IfOk result (λ found. IfSome found (λ lines. written_by lines self.now.texts ≡ plain_text (painted_alone es self.now.texts))) }
+        ensures rows { IfOk result (λ found. IfSome found (λ lines. length self.now.texts ≡ lines.lines.frame.shape.0)) }
+        ensures cols { IfOk result (λ found. IfSome found (λ lines. All (λ row. length row ≡ lines.lines.frame.shape.1) self.now.texts)) }
+        ensures printable { IfOk result (λ found. IfSome found (λ lines. AllPrintable self.now.texts)) }
+        ensures rectangle { (es : List ConfigEvent) → borders.Shows es self.now.config.spanned → WritesNarrow es → leaves_sizes es ≡ true
+            → IfOk result (λ found. IfSome found (λ lines. IsRectangle (text_width (look_of es self.now.texts) (margin_set es)) (text_of es self.now.texts))) }
+    {
+        let Shape { rows, cols } = self.shape;
+        if rows == 0 || cols == 0 || !self.is_long() || !self.has_printable_texts() {
+            return Ok(None);
+        }
+        PlainLines::new(self.config(), &self.sizes, (rows, cols))
+    }
+
+    /// Whether its text has more bytes than wait to be written at most, as far as its sizes tell.
+    fn is_long(&self) -> bool {
+        let mut columns = 0usize;
+        for width in &self.sizes.widths {
+            columns = columns.saturating_add(*width);
+        }
+        ROOM < columns.saturating_mul(self.shape.rows)
+    }
+
+    /// Whether all its texts are printable, which is known unless some were changed.
+    fn has_printable_texts(&self) -> bool
+        ensures { result ≡ true → AllPrintable self.now.texts }
+    {
+        self.are_printable || are_printable(&self.cells)
     }
 
     /// Writes the text of the table in color to a stream of bytes, such as standard output. Where it is refused by `to_ansi`

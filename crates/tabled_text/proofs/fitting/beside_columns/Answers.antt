@@ -1,5 +1,5 @@
 -- One column more.
-use Rattle.std.proofs.Common.{◌+◌, ◌-◌, ap, ◌∙◌, arith}
+use Rattle.std.proofs.Common.{◌+◌, arith}
 use Rattle.tabled_text.specs.Fitted.{padding_across}
 use Rattle.tabled_text.proofs.Frames.{line_kept, left_after}
 use Rattle.tabled_text.proofs.fitting.beside_columns.Goals as goal

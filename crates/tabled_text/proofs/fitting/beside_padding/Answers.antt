@@ -1,10 +1,9 @@
 -- One row more, and all of them.
-use Rattle.std.proofs.Common.{◌≡◌, ◌+◌, ◌-◌, ℕ, ap, sym, ◌∙◌, arith}
+use Rattle.std.proofs.Common.{◌≡◌, ◌+◌, ℕ, ap, sym, ◌∙◌, arith}
 use Rattle.tabled_object.specs.Entities.{position}
 use Rattle.tabled_settings.specs.declared.indent.Indent.{Indent}
 use Rattle.tabled_settings.specs.declared.sides.Sides.{Sides}
 use Rattle.tabled_settings.specs.Live.{value_at}
-use Rattle.tabled_text.specs.Fitted.{padding_across}
 use Rattle.tabled_text.proofs.Frames.{across_all, across_more, across_unset}
 use Rattle.tabled_text.proofs.fitting.beside_padding.Goals as goal
 

@@ -1,5 +1,5 @@
 -- One column more.
-use Rattle.std.proofs.Common.{◌-◌, ◌+◌, min, ap, ◌∙◌}
+use Rattle.std.proofs.Common.{◌+◌, min, ap, ◌∙◌}
 use Rattle.tabled_text.proofs.Frames.{least_more}
 use Rattle.tabled_text.proofs.fitting.least_for_texts.Goals as goal
 

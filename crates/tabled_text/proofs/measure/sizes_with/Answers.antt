@@ -1,5 +1,5 @@
 -- Each column is as wide as it was, or as the row's cell asks.
-use Rattle.std.proofs.Common.{◌≡◌, ◌<◌, ℕ, List, max, map, length, drop, get_or, string_bytes, sym, ap, subst, ◌∙◌, arith}
+use Rattle.std.proofs.Common.{◌≡◌, ◌<◌, ℕ, List, max, map, length, drop, get_or, string_bytes, sym, ap, ◌∙◌, arith}
 use Rattle.std.proofs.lemmas.List.{length-map, take_at}
 use Rattle.std.proofs.lemmas.List.FromFn.{get_or-map-range_with_len, length-map-range_with_len, fill_by_all}
 use Rattle.tabled_object.specs.Entities.{below}

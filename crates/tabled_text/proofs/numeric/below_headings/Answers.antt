@@ -1,4 +1,4 @@
-use Rattle.std.proofs.Common.{◌≡◌, arith, length, min}
+use Rattle.std.proofs.Common.{◌≡◌, length, min}
 use Rattle.tabled_text.proofs.NumericLemmas.{below_headings}
 use Rattle.tabled_text.proofs.numeric.below_headings.Goals as goal
 

@@ -1,10 +1,7 @@
 -- One column more.
-use Rattle.std.proofs.Common.{◌+◌, add-one, ap, sym, subst, take, ◌∙◌}
+use Rattle.std.proofs.Common.{◌+◌, add-one, ap, take, ◌∙◌}
 use Rattle.std.proofs.Math.Seq.{take-suc}
-use Rattle.tabled_configuration.proofs.InTurn.{where_refused}
 use Rattle.tabled_configuration.specs.ChangeLaws.{none_change_borders}
-use Rattle.tabled_configuration.specs.Configuration.{Changes}
-use Rattle.tabled_text.specs.Numeric.{at_right}
 use Rattle.tabled_text.proofs.NumericLemmas.{one_at_right}
 use Rattle.tabled_text.proofs.numeric.set_at_right.Goals as goal
 

@@ -1,5 +1,5 @@
 -- The columns of numbers are found, and then set.
-use Rattle.std.proofs.Common.{◌≡◌, ℕ, List, [], ap, drop, filter, subst, sym, take, ◌∙◌, OnErr, OnOk}
+use Rattle.std.proofs.Common.{◌≡◌, ap, drop, filter, subst, take, ◌∙◌}
 use Rattle.tabled_object.specs.Entities.{below}
 use Rattle.tabled_grid.proofs.Seen.{on_ok}
 use Rattle.tabled_configuration.proofs.ColoredLemmas.{Changes_lent}

@@ -1,6 +1,6 @@
 -- The painted table, in color.
 use Rattle.std.proofs.Common.{◌≡◌, length, ap, sym, subst, ◌∙◌}
-use Rattle.tabled_printing.specs.Texts.{Table, texts}
+use Rattle.tabled_printing.specs.Texts.{texts}
 use Rattle.tabled_configuration.specs.Configuration.{all_writes}
 use Rattle.tabled_configuration.specs.Colored.{Shows}
 use Rattle.tabled_painting.specs.PaintedTable.{colored_text}

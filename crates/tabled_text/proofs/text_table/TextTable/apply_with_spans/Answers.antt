@@ -1,5 +1,5 @@
 -- The option reads the sizes that were measured for it.
-use Rattle.std.proofs.Common.{◌≡◌, ap, refl, ◌∙◌}
+use Rattle.std.proofs.Common.{ap, refl, ◌∙◌}
 use Rattle.tabled_grid.proofs.Seen.{on_ok}
 use Rattle.tabled_text.specs.TextTable.{Drawing, shape_of}
 use Rattle.tabled_text.proofs.SpanLemmas.{are_read_spanned, changes_read}

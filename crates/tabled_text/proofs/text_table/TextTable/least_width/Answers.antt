@@ -3,7 +3,7 @@ use Rattle.std.proofs.Common.{◌≡◌, ◌-◌, max, min, map, sym, subst, ap,
 use Rattle.tabled_configuration.specs.Configuration.{Shows}
 use Rattle.tabled_printing.specs.Texts.{Table, texts}
 use Rattle.tabled_width.specs.Shares.{used}
-use Rattle.tabled_text.specs.Fitted.{frame_width, least_width, texts_asked}
+use Rattle.tabled_text.specs.Fitted.{least_width, texts_asked}
 use Rattle.tabled_text.specs.TextTable.{Drawing}
 use Rattle.tabled_text.proofs.text_table.TextTable.least_width.Goals as goal
 

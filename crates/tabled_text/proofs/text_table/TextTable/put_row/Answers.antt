@@ -1,9 +1,8 @@
 -- The table with a row more is measured.
-use Rattle.std.proofs.Common.{◌≡◌, ◌+◌, ◌||◌, ◌==◌, true, ℕ, List, map, length, String, string_bytes, Global, Some, None, sym, ap, subst, ◌∙◌, arith, false}
+use Rattle.std.proofs.Common.{◌≡◌, true, map, length, String, string_bytes, Global, sym, ap, ◌∙◌, arith, false}
 use Rattle.std.specs.declared.vec.Vec.{Vec}
 use Rattle.std.specs.List.{insert}
 use Rattle.std.proofs.lemmas.List.{length-map}
-use Rattle.tabled_object.specs.declared.records.Shape.{Shape}
 use Rattle.tabled_configuration.proofs.InTurn.{where_refused}
 use Rattle.tabled_printing.specs.Texts.{Table, texts}
 use Rattle.tabled_rows.proofs.RowLemmas.{insert-map}

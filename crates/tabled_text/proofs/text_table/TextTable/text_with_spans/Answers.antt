@@ -1,9 +1,8 @@
 -- The characters of the painted table.
 use Rattle.std.proofs.Common.{◌≡◌, length, ap, sym, subst, ◌∙◌}
-use Rattle.tabled_printing.specs.Texts.{Table, texts}
+use Rattle.tabled_printing.specs.Texts.{texts}
 use Rattle.tabled_configuration.specs.Configuration as borders
 use Rattle.tabled_configuration.specs.Configuration.{all_writes}
-use Rattle.tabled_configuration.specs.Colored.{Colored}
 use Rattle.tabled_painting.specs.PaintedTable.{plain_text}
 use Rattle.tabled_painting.specs.PaintedSpans.{spanned_by}
 use Rattle.tabled_text.specs.Sizes.{column_count}
