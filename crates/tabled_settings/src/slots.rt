@@ -7,8 +7,10 @@ ghost use Rattle.tabled_object.specs.declared.entity.Entity.{Entity as Which};
 ghost use Rattle.tabled_settings.specs.Setting.{same_entity};
 ghost use Rattle.tabled_settings.specs.Slots.{standing, place, entity_cmp, IsOnce, HasPlaces, HasFewHoles, emptied, all_emptied, event_at, later_of};
 ghost use Rattle.tabled_settings.specs.Live.{are_of_columns, are_of_rows};
+ghost use Rattle.tabled_settings.specs.Kinds.{AreMarked};
 ghost use Rattle.tabled_settings.specs.Same.{same_event};
 
+use crate::kinds::Kinds;
 use std::collections::BTreeMap;
 use tabled_object::Entity;
 
@@ -75,10 +77,20 @@ pub(crate) fn number<T>(slots: &[Slot<T>], places: &mut BTreeMap<Entity, usize>)
     }
 }
 
-/// Where the event of an entity stands.
-pub(crate) fn place_of(places: &BTreeMap<Entity, usize>, entity: Entity) -> Option<usize>
+/// Where the event of an entity stands. It is not searched for where its kind has none.
+pub(crate) fn place_of<T>(
+    slots: &[Slot<T>],
+    places: &BTreeMap<Entity, usize>,
+    kinds: Kinds,
+    entity: Entity,
+) -> Option<usize>
+    requires placed { HasPlaces places.now slots.now }
+    requires marked { AreMarked kinds (standing slots.now) }
     ensures { result ≡ get entity_cmp places.now entity }
 {
+    if !kinds.has(entity) {
+        return None;
+    }
     places.get(&entity).copied()
 }
 
