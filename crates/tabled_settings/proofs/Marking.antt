@@ -1,5 +1,5 @@
 -- The kinds of entities are marked as events are put: so an entity of a kind that is not marked need not be looked for.
-use Rattle.std.proofs.Common.{◌≡◌, false, not, ◌||◌, List, [], ◌∷◌, ◌++◌, take, length, get_or, ◌+◌, ◌<◌, ℕ, refl, sym, ap, ◌∙◌}
+use Rattle.std.proofs.Common.{◌≡◌, false, not, ◌||◌, Option, List, [], ◌∷◌, ◌++◌, take, length, get_or, ◌+◌, ◌<◌, ℕ, refl, sym, ap, ◌∙◌}
 use Rattle.std.proofs.lemmas.List.{take_more}
 use Rattle.std.proofs.lemmas.List.Folds.{list_any-append}
 use Rattle.tabled_object.specs.declared.entity.Entity.{Entity}
@@ -8,6 +8,7 @@ use Rattle.tabled_settings.specs.declared.kinds.Kinds.{Kinds}
 use Rattle.tabled_settings.specs.Setting.{EntityEvent, same_entity}
 use Rattle.tabled_settings.specs.Live.{without, has_event, put_each}
 use Rattle.tabled_settings.specs.Kinds.{is_marked, with_kind, with_kinds, AreMarked}
+use Rattle.tabled_settings.specs.Slots.{standing}
 use Rattle.tabled_settings.proofs.Placing.{none_filtered}
 
 -- what is not marked with the kind of an entity was not marked before, and is not that entity
@@ -38,6 +39,10 @@ module _ {T : Type 0} where
   pub marked-puts : (old new : Kinds) (since after events given : List (EntityEvent T)) → AreMarked old since → new ≡ with_kinds old given → given ≡ events → after ≡ put_each since events → AreMarked new after
   marked-puts old new since after events given marked is lent made which h =
       ap (has_event which) made ∙ all_marked old since events marked which (ap (λ kinds. is_marked kinds which) (sym (is ∙ ap (with_kinds old) lent)) ∙ h)
+
+  -- slots in which the same stands
+  pub marked_alike : (kinds : Kinds) (slots now : List (Option (EntityEvent T))) → now ≡ slots → AreMarked kinds (standing slots) → AreMarked kinds (standing now)
+  marked_alike kinds slots now same marked which h = ap (λ items. has_event which (standing items)) same ∙ marked which h
 
   -- one event more
   kinds-more : (kinds : Kinds) (events : List (EntityEvent T)) (event : EntityEvent T) → with_kinds kinds (events ++ event ∷ []) ≡ with_kind (with_kinds kinds events) event.0

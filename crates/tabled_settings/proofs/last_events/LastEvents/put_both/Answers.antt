@@ -1,11 +1,10 @@
 use Rattle.std.proofs.Common.{ap, sym, subst, ◌∙◌, [], ◌∷◌, ◌++◌, length}
 use Rattle.tabled_settings.specs.Setting.{same_entity}
 use Rattle.tabled_settings.specs.Live.{without}
-use Rattle.tabled_settings.specs.Kinds.{AreMarked}
 use Rattle.tabled_settings.specs.Slots.{standing, IsOnce, HasPlaces, HasFewHoles}
 use Rattle.tabled_settings.proofs.Lasting.{slots_after, standing-put, once-put, places-put}
 use Rattle.tabled_settings.proofs.SettingBack.{has_place, places_again}
-use Rattle.tabled_settings.proofs.Marking.{marked-put}
+use Rattle.tabled_settings.proofs.Marking.{marked-put, marked_alike}
 use Rattle.tabled_settings.proofs.last_events.LastEvents.put_both.Goals as goal
 
 pub invariant_of-self-in-Err : goal.invariant_of-self-in-Err
@@ -18,7 +17,7 @@ invariant_of-self-in-Err g c = (
         (c.set_back.ensures (has_place c.self.inside.places c.insert.new.self c.args.entity c.len.result c.in_ok-before.ensures.updates))),
     subst HasFewHoles (sym c.reserve.ensures.items) c.self.invariant.0.2,
   ),
-  subst (λ items. AreMarked c.self.inside.kinds (standing items)) (sym c.reserve.ensures.items) c.self.invariant.1,
+  marked_alike c.self.inside.kinds c.self.inside.slots.items c.reserve.new.self.items c.reserve.ensures.items c.self.invariant.1,
 )
 
 pub close_up-requires : goal.close_up-requires
