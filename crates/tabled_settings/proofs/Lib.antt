@@ -2,6 +2,7 @@ pub mod Columns
 pub mod Entities
 pub mod Lasting
 pub mod Leaving
+pub mod Marking
 pub mod Numbering
 pub mod Placing
 pub mod Settling

@@ -179,6 +179,22 @@ module _ {K V : Type 0} {same : K → K → Bool} (t : Tells same) where
       by_answer true k = absurd (let none : place (same x) slots ≡ None = ap (λ e. place (same e) slots) (t.equal x event.0 k) ∙ place-none (same event.0) slots once in cc)
       by_answer false k = refl
 
+  -- ---- an event that is found
+
+  -- where an event of its key stands, it is the last one
+  last_there : (x : K) (slots : List (Option (K × V))) (at : ℕ) → IsOnce same (standing slots) → passes (same x) (event_at slots (Some at)) ≡ true → place (same x) slots ≡ Some at
+  last_there x [] at once h = absurd cc
+  last_there x (None ∷ slots) zero once h = absurd cc
+  last_there x (Some event ∷ slots) zero once h =
+      let none : place (same x) slots ≡ None = ap (λ e. place (same e) slots) (t.equal x event.0 h) ∙ place-none (same event.0) slots once.0 in
+      λ i. behind (none i) (h i)
+  last_there x (None ∷ slots) (suc at) once h = ap (λ p. behind p false) (last_there x slots at once h)
+  last_there x (Some event ∷ slots) (suc at) once h = ap (λ p. behind p (same x event.0)) (last_there x slots at once.1 h)
+
+  pub place-found : (x : K) (slots : List (Option (K × V))) (at : Option ℕ) → IsOnce same (standing slots) → passes (same x) (event_at slots at) ≡ true → place (same x) slots ≡ at
+  place-found x slots None once h = absurd cc
+  place-found x slots (Some at) once h = last_there x slots at once h
+
   -- ---- a hole where an event stood
 
   hole_here : (x y : K) (event : K × V) (slots : List (Option (K × V))) → place (same x) slots ≡ None → same x event.0 ≡ true

@@ -1,5 +1,6 @@
 pub mod Setting
 pub mod Live
+pub mod Kinds
 pub mod Padding
 pub mod CellSettings
 pub mod Slots

@@ -10,6 +10,7 @@ ghost use Rattle.tabled_settings.specs.Same.{same_event};
 mod both;
 mod lists;
 
+use crate::kinds::Kinds;
 use crate::slots::{self, Slot};
 use std::alloc::Global;
 use std::collections::BTreeMap;
@@ -25,18 +26,21 @@ pub(crate) struct LastEvents<T> {
     slots: Vec<Slot<T>>,
     /// In which slot the event of each entity stands.
     places: BTreeMap<Entity, usize>,
+    /// Of which kinds of entities there may be events.
+    kinds: Kinds,
 }
 
 impl<T> Model for LastEvents<T> {
     ghost use Rattle.std.specs.Prelude.{List};
     ghost use Rattle.tabled_settings.specs.Setting.{EntityEvent};
     ghost use Rattle.tabled_settings.specs.Slots.{standing, IsHeld};
+    ghost use Rattle.tabled_settings.specs.Kinds.{AreMarked};
 
     ghost Value = { List (EntityEvent T) };
 
     ghost view = { λ last. standing last.slots.items };
 
-    ghost invariant = { λ last. IsHeld last.places last.slots.items };
+    ghost invariant = { λ last. IsHeld last.places last.slots.items × AreMarked last.kinds (standing last.slots.items) };
 }
 
 impl<T> LastEvents<T> {
@@ -47,6 +51,7 @@ impl<T> LastEvents<T> {
         LastEvents {
             slots: Vec::new(alloc),
             places: BTreeMap::new(alloc),
+            kinds: Kinds::none(),
         }
     }
 
@@ -66,6 +71,7 @@ impl<T> LastEvents<T> {
     {
         self.slots.reserve(1)?;
         let before = self.places.insert(entity, self.slots.len())?;
+        self.kinds.mark(entity);
         slots::empty(&mut self.slots, before);
         self.slots.push_reserved(Some((entity, value)));
         slots::close_up(&mut self.slots, &mut self.places);
@@ -79,15 +85,13 @@ impl<T> LastEvents<T> {
         requires { has_event Entity.Global self.now ≡ false }
         ensures { option_copied result ≡ option_map (λ event. event.1) (last_or None (covering self.now cell)) }
     {
-        if self.is_empty() {
-            return None;
-        }
         let Position { row, col } = cell;
-        let of_row = slots::place_of(&self.places, Entity::Row(row));
-        let of_column = slots::place_of(&self.places, Entity::Column(col));
-        let of_cell = slots::place_of(&self.places, Entity::Cell(row, col));
+        let (slots, places, kinds) = (self.slots.as_slice(), &self.places, self.kinds);
+        let of_row = slots::place_of(slots, places, kinds, Entity::Row(row));
+        let of_column = slots::place_of(slots, places, kinds, Entity::Column(col));
+        let of_cell = slots::place_of(slots, places, kinds, Entity::Cell(row, col));
         let place = slots::later(of_cell, slots::later(of_row, of_column));
-        slots::value_at(&self.slots, place)
+        slots::value_at(slots, place)
     }
 
     /// Whether each of them is an event of a column.

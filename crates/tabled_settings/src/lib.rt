@@ -9,6 +9,7 @@ mod cell_settings;
 mod entity_map;
 mod events_since;
 mod indent;
+mod kinds;
 mod last_events;
 mod places;
 mod sides;

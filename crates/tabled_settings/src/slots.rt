@@ -5,10 +5,12 @@ ghost use Rattle.std.specs.BTreeMap.{get};
 ghost use Rattle.std.specs.Cmp.Lexicographic.{pointwise};
 ghost use Rattle.tabled_object.specs.declared.entity.Entity.{Entity as Which};
 ghost use Rattle.tabled_settings.specs.Setting.{same_entity};
-ghost use Rattle.tabled_settings.specs.Slots.{standing, place, entity_cmp, IsOnce, HasPlaces, HasFewHoles, emptied, all_emptied, event_at, later_of};
+ghost use Rattle.tabled_settings.specs.Slots.{standing, passes, place, entity_cmp, IsOnce, HasPlaces, HasFewHoles, emptied, all_emptied, event_at, later_of};
 ghost use Rattle.tabled_settings.specs.Live.{are_of_columns, are_of_rows};
+ghost use Rattle.tabled_settings.specs.Kinds.{AreMarked};
 ghost use Rattle.tabled_settings.specs.Same.{same_event};
 
+use crate::kinds::Kinds;
 use std::collections::BTreeMap;
 use tabled_object::Entity;
 
@@ -75,11 +77,51 @@ pub(crate) fn number<T>(slots: &[Slot<T>], places: &mut BTreeMap<Entity, usize>)
     }
 }
 
-/// Where the event of an entity stands.
-pub(crate) fn place_of(places: &BTreeMap<Entity, usize>, entity: Entity) -> Option<usize>
+/// Where the event of an entity stands. It is not looked for where its kind has none, and searched for only where it is not at
+/// its likely place.
+pub(crate) fn place_of<T>(
+    slots: &[Slot<T>],
+    places: &BTreeMap<Entity, usize>,
+    kinds: Kinds,
+    entity: Entity,
+) -> Option<usize>
+    requires once { IsOnce same_entity (standing slots.now) }
+    requires placed { HasPlaces places.now slots.now }
+    requires marked { AreMarked kinds (standing slots.now) }
     ensures { result ≡ get entity_cmp places.now entity }
 {
+    if !kinds.has(entity) {
+        return None;
+    }
+    let likely = likely_place(entity);
+    if stands_at(slots, likely, entity) {
+        return likely;
+    }
     places.get(&entity).copied()
+}
+
+/// A guess at where the event of an entity stands: options write those of rows, or of columns, mostly in their order and before any
+/// others. A wrong guess costs a comparison.
+fn likely_place(entity: Entity) -> Option<usize> {
+    match entity {
+        Entity::Row(row) => Some(row),
+        Entity::Column(col) => Some(col),
+        Entity::Global | Entity::Cell(_, _) => None,
+    }
+}
+
+/// Whether the event of an entity stands at a place, if there is one.
+fn stands_at<T>(slots: &[Slot<T>], place: Option<usize>, entity: Entity) -> bool
+    ensures { result ≡ passes (same_entity entity) (event_at slots.now place) }
+{
+    let Some(place) = place else {
+        return false;
+    };
+    match slots.get(place) {
+        Some(Some((there, _))) => entity == *there,
+        Some(None) => false,
+        None => false,
+    }
 }
 
 /// The later of two places, where there are such.

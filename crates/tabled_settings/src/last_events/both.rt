@@ -33,6 +33,7 @@ impl<T> LastEvents<T> {
             set_back(&mut self.places, entity, before);
             return Err(refused);
         }
+        self.kinds.mark(entity);
         slots::empty(&mut self.slots, before);
         self.slots.push_reserved(Some((entity, value)));
         slots::close_up(&mut self.slots, &mut self.places);

@@ -3,9 +3,11 @@
 ghost use Rattle.std.specs.Prelude.{◌≡◌, ◌+◌, ◌≤◌, List, Option, length, vec_len, vec_capacity, IfOk, OnOk, OnErr};
 ghost use Rattle.tabled_object.specs.declared.entity.Entity.{Entity as Which};
 ghost use Rattle.tabled_settings.specs.Live.{put_each};
+ghost use Rattle.tabled_settings.specs.Kinds.{AreMarked};
 ghost use Rattle.tabled_settings.specs.Slots.{standing, IsHeld, IsNoted};
 
 use super::LastEvents;
+use crate::kinds::Kinds;
 use crate::places;
 use crate::slots::{self, Slot};
 use std::alloc::Global;
@@ -41,14 +43,22 @@ impl<T: Drop> Noted<T> {
         Ok(Noted { events, before })
     }
 
-    /// Writes the events, each in place of an earlier one of its entity. It takes no memory.
-    fn write(self, slots: &mut Vec<Slot<T>>, places: &mut BTreeMap<Entity, usize>)
+    /// Writes the events, each in place of an earlier one of its entity, and marks their kinds. It takes no memory.
+    fn write(
+        self,
+        slots: &mut Vec<Slot<T>>,
+        places: &mut BTreeMap<Entity, usize>,
+        kinds: &mut Kinds,
+    )
         requires room { vec_len slots.old + length self.events.items ≤ vec_capacity slots.old }
         requires noted { IsNoted places.old slots.old.items self.events.items self.before.items }
+        requires marked { AreMarked kinds.old (standing slots.old.items) }
         ensures put { standing slots.new.items ≡ put_each (standing slots.old.items) self.events.items }
         ensures held { IsHeld places.new slots.new.items }
+        ensures marked { AreMarked kinds.new (standing slots.new.items) }
     {
         let Noted { events, before } = self;
+        kinds.mark_each(&events);
         slots::replace_by(slots, events, &before);
         slots::close_up(slots, places);
     }
@@ -75,7 +85,7 @@ impl<T> LastEvents<T> {
         ensures err { OnErr result (self.new ≡ self.old) }
     {
         let noted = Noted::new(alloc, &mut self.slots, &mut self.places, events)?;
-        noted.write(&mut self.slots, &mut self.places);
+        noted.write(&mut self.slots, &mut self.places, &mut self.kinds);
         Ok(())
     }
 
@@ -101,7 +111,7 @@ impl<T> LastEvents<T> {
             noted.take_back(&mut self.places);
             return Err(refused);
         }
-        noted.write(&mut self.slots, &mut self.places);
+        noted.write(&mut self.slots, &mut self.places, &mut self.kinds);
         Ok(())
     }
 
@@ -131,7 +141,7 @@ impl<T> LastEvents<T> {
             noted.take_back(&mut self.places);
             return Err(refused);
         }
-        noted.write(&mut self.slots, &mut self.places);
+        noted.write(&mut self.slots, &mut self.places, &mut self.kinds);
         Ok(())
     }
 }

@@ -11,6 +11,6 @@ pub returns : goal.returns
 returns g c =
     c.value_at.ensures
     ∙ ap (option_map (λ event. event.1)) (
-    (λ i. event_at (c.deref.ensures.value i) ((c.later-place.ensures ∙ (λ j. later_of (c.place_of-of_cell.ensures j) ((c.later.ensures ∙ (λ k. later_of (c.place_of-of_row.ensures k) (c.place_of-of_column.ensures k))) j))) i))
-    ∙ sym (last_by_three c.self.inside.places c.self.inside.slots.items c.args.cell c.self.invariant.1 (ap (has_event Global) c.self.view_is ∙ c.requires))
+    (λ i. event_at (c.as_slice-slots.ensures.value i) ((c.later-place.ensures ∙ (λ j. later_of (c.place_of-of_cell.ensures j) ((c.later.ensures ∙ (λ k. later_of (c.place_of-of_row.ensures k) (c.place_of-of_column.ensures k))) j))) i))
+    ∙ sym (last_by_three c.self.inside.places c.self.inside.slots.items c.args.cell c.self.invariant.0.1 (ap (has_event Global) c.self.view_is ∙ c.requires))
     ∙ ap (λ events. last_or None (covering events c.args.cell)) c.self.view_is)

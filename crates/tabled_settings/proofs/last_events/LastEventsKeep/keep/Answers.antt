@@ -13,7 +13,7 @@ loop-slot-preserved g c =
           w.copy-is ∙ w.in_ok-put-in-Some.ensures.ok
           ∙ (λ i. without w.in-Some.entity (c.loop-slot.invariant i) ++ (w.in-Some.entity, w.in_ok-keep-in-Some.ensures i) ∷ [])
           ∙ sym (copied_event c.deref-slot-items.result.now c.loop-slot.slot-index c.slot-item.result c.loop-slot-test.true c.slot-item.is (w.in-Some.entity, w.in-Some.value) w.in-Some.is
-          (subst (λ slots. IsOnce same_entity (standing slots)) (sym c.deref-slot-items.ensures.value) c.self.invariant.0))
+          (subst (λ slots. IsOnce same_entity (standing slots)) (sym c.deref-slot-items.ensures.value) c.self.invariant.0.0))
       | in-None w ↦ w.copy-is ∙ c.loop-slot.invariant ∙ sym (copied_hole c.deref-slot-items.result.now c.loop-slot.slot-index c.slot-item.result c.loop-slot-test.true c.slot-item.is w.in-None.is)
     ]
 

@@ -1,0 +1,13 @@
+use Rattle.std.proofs.Common.{sym, ◌∙◌}
+use Rattle.tabled_settings.specs.Setting.{same_entity}
+use Rattle.tabled_settings.proofs.Lasting.{entities_told}
+use Rattle.tabled_settings.proofs.Placing.{place-none, place-found}
+use Rattle.tabled_settings.proofs.slots.place_of.Goals as goal
+
+pub returns-then-not-has : goal.returns-then-not-has
+returns-then-not-has g c =
+    sym (c.requires.placed c.args.entity ∙ place-none (same_entity c.args.entity) c.args.slots.now (c.requires.marked c.args.entity (sym c.has.ensures ∙ c.if-not-has.true)))
+
+pub returns-then-stands_at : goal.returns-then-stands_at
+returns-then-stands_at g c =
+    sym (c.requires.placed c.args.entity ∙ place-found entities_told c.args.entity c.args.slots.now c.likely_place-likely.result c.requires.once (sym c.stands_at.ensures ∙ c.if-stands_at.true))
