@@ -148,13 +148,27 @@ fn print_ansi_to(turn: &mut Turn) -> Result<Outcome, OutOfMemory> {
     }
 }
 
+/// What becomes of a text in color that is printed to a stream between two others.
+fn print_ansi_between(turn: &mut Turn) -> Result<Outcome, OutOfMemory> {
+    let table = table(turn.alloc())?;
+    let mut stream = Counts { bytes: 0 };
+    turn.spend();
+    match table.print_ansi_between("above\n", "\n", &mut stream) {
+        Err(TableError::OutOfMemory) if stream.bytes == 0 => Ok(Outcome::AsBefore),
+        Ok(()) if stream.bytes == COLORED.len() + 7 => Ok(Outcome::Done),
+        Ok(()) => Ok(Outcome::NotDone),
+        Err(_) => Ok(Outcome::Changed),
+    }
+}
+
 /// Tables of texts in color, and with a margin.
-pub(crate) fn tables() -> [Named; 6] {
+pub(crate) fn tables() -> [Named; 7] {
     [
         ("TextTable::to_ansi", |turn| returned(turn, true)),
         ("TextTable::append_ansi_to", |turn| appended(turn, true)),
         ("TextTable::write_ansi_to", write_ansi_to),
         ("TextTable::print_ansi_to", print_ansi_to),
+        ("TextTable::print_ansi_between", print_ansi_between),
         (
             "TextTable::to_text (a margin)",
             |turn| returned(turn, false),

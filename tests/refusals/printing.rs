@@ -323,6 +323,19 @@ fn print_to(turn: &mut Turn) -> Result<Outcome, OutOfMemory> {
     }
 }
 
+/// What becomes of a text that is printed to a stream between two others.
+fn print_between(turn: &mut Turn) -> Result<Outcome, OutOfMemory> {
+    let (table, _copy) = table(turn.alloc())?;
+    let mut stream = Counts { bytes: 0 };
+    turn.spend();
+    match table.print_between("above\n", "\n", &mut stream) {
+        Err(TableError::OutOfMemory) if stream.bytes == 0 => Ok(Outcome::AsBefore),
+        Ok(()) if stream.bytes == DRAWN.len() + 7 => Ok(Outcome::Done),
+        Ok(()) => Ok(Outcome::NotDone),
+        Err(_) => Ok(Outcome::Changed),
+    }
+}
+
 /// What becomes of a text that is written.
 fn write_to(turn: &mut Turn) -> Result<Outcome, OutOfMemory> {
     let (table, _copy) = table(turn.alloc())?;
@@ -361,7 +374,7 @@ fn title(turn: &mut Turn) -> Result<Outcome, OutOfMemory> {
 }
 
 /// Tables of texts.
-pub(crate) fn tables() -> [Named; 13] {
+pub(crate) fn tables() -> [Named; 14] {
     [
         ("TextTable::new", make),
         ("TextTable::from_rows", make_of_rows),
@@ -375,6 +388,7 @@ pub(crate) fn tables() -> [Named; 13] {
         ("TextTable::append_to", append_to),
         ("TextTable::write_to", write_to),
         ("TextTable::print_to", print_to),
+        ("TextTable::print_between", print_between),
         ("<TextTable as Display>::fmt", display),
     ]
 }

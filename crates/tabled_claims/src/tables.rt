@@ -335,6 +335,37 @@ pub fn text_in_color_printed<W: io::Write>(table: &TextTable, out: &mut W) -> Re
     table.print_ansi_to(out)
 }
 
+/// The text between two others, to a stream of bytes: only the stream's own fault can leave something written. It is a rectangle as what
+/// `text_of_a_table` gives.
+pub fn text_printed_between<W: io::Write>(
+    table: &TextTable,
+    before: &str,
+    after: &str,
+    out: &mut W,
+) -> Result<(), TableError>
+    ensures text { (events : List ConfigEvent) → borders.Shows events table.now.config.spanned → OnOk result (Appends (W.contents out.old) (W.contents out.new) (before.now ++ text_of events table.now.texts ++ after.now)) }
+    ensures rectangle { (events : List ConfigEvent) → borders.Shows events table.now.config.spanned → WritesNarrow events → StandApart events table.now.texts
+        → OnOk result (IsRectangle (text_width (look_printed events table.now.texts) (margin_set events)) (text_of events table.now.texts)) }
+    ensures refusal { IfErr result (λ e. (e ≡ Refusal.OutOfMemory) ⊎ (e ≡ Refusal.Write)) }
+    ensures unwritten { IfErr result (λ e. (e ≡ Refusal.Write) ⊎ (out.new ≡ out.old)) }
+{
+    table.print_between(before, after, out)
+}
+
+/// The same in color.
+pub fn text_in_color_printed_between<W: io::Write>(
+    table: &TextTable,
+    before: &str,
+    after: &str,
+    out: &mut W,
+) -> Result<(), TableError>
+    ensures text { (events : List ConfigEvent) → Shows events table.now.config → OnOk result (Appends (W.contents out.old) (W.contents out.new) (before.now ++ colored_text (painted events table.now.texts) ++ after.now)) }
+    ensures refusal { IfErr result (λ e. (e ≡ Refusal.OutOfMemory) ⊎ (e ≡ Refusal.Write)) }
+    ensures unwritten { IfErr result (λ e. (e ≡ Refusal.Write) ⊎ (out.new ≡ out.old)) }
+{
+    table.print_ansi_between(before, after, out)
+}
+
 /// The texts of a table are lent as they were given.
 pub fn texts_of_a_table(table: &TextTable) -> &[Vec<String>]
     ensures { texts result.now ≡ table.now.texts }

@@ -1,5 +1,5 @@
 -- The page of rows: of their table, or nothing where there is none.
-use Rattle.std.proofs.Common.{◌≡◌, ℕ, ◌<◌, ◌≤◌, Bool, true, false, Some, List, [], ◌∷◌, ◌++◌, length, ap, ◌∙◌, append-nil, arith}
+use Rattle.std.proofs.Common.{◌≡◌, ℕ, ◌<◌, ◌≤◌, Bool, true, false, Some, List, [], ◌∷◌, ◌++◌, length, ap, ◌∙◌, append_assoc, append-nil, arith}
 use Rattle.tabled_printing.specs.Texts.{Table, pieces}
 use Rattle.std.specs.List.{list_all}
 use Rattle.tabled_configuration.specs.Configuration.{ConfigEvent, characters_of}
@@ -29,6 +29,10 @@ module _ (request : Request) (style : ReadyStyle) (words : List (List ℕ)) (aro
   pub view_some : (rows : Table) (text : List ℕ) → 0 < length rows → IsPage request style words around (texts_asked request rows) text → IsViewOfRows request style words around rows text
   view_some [] text some is = absurd (omega arith)
   view_some (row ∷ rows) text some is = is
+
+-- a line feed ends the text between what stands above and what stands below
+pub around_text : (above text below before after : List ℕ) → before ≡ above → after ≡ 10 ∷ below → before ++ text ++ after ≡ above ++ (text ++ 10 ∷ []) ++ below
+around_text above text below before after first last = (λ i. first i ++ text ++ last i) ∙ simp append_assoc
 
 -- the page of a table, by what was done to it one after the other
 module _ (request : Request) (style : ReadyStyle) (words : List (List ℕ)) (around : Surroundings) (texts : Table) where

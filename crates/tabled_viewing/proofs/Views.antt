@@ -61,6 +61,16 @@ module _ (request : Request) where
   refused_rows (Some read) cells rows e asked are good (inr fault) =
       inr (inr (by_rows request read rows (sym (ap (λ cells. bytes.fault_of cells read) asked) ∙ good) (are ∙ ap (λ cells. rows_in cells read) asked) ∙ fault))
 
+  -- where all was good but the rows
+  pub refused_written : (style : ReadyStyle) (words : List (List ℕ)) (around : Surroundings) (known : Option (List ℕ)) (cells : Cells) (rows : Table) (e : ViewError) → style_asked request words around ≡ Some style
+      → cells ≡ cells_asked request → IfSome known (λ read. rows ≡ rows_in cells read) → IfSome known (λ read. bytes.fault_of cells read ≡ None)
+      → (e ≡ OutOfMemory) ⊎ ((e ≡ WriteFailed) ⊎ (fault_of_rows request rows ≡ Some e))
+      → (e ≡ OutOfMemory) ⊎ ((e ≡ Input input.ReadFailed) ⊎ ((e ≡ WriteFailed) ⊎ IfSome known (λ read. fault_of request words around read ≡ Some e)))
+  refused_written style words around known cells rows e some asked are good (inl refused) = inl refused
+  refused_written style words around known cells rows e some asked are good (inr (inl failed)) = inr (inr (inl failed))
+  refused_written style words around known cells rows e some asked are good (inr (inr fault)) =
+      refused_later request style words around known e some (refused_rows known cells rows e asked are good (inr fault))
+
   pub refused_bytes : (known : Option (List ℕ)) (cells : Cells) (e : InputError) → cells ≡ cells_asked request
       → (e ≡ input.OutOfMemory) ⊎ ((e ≡ input.ReadFailed) ⊎ IfSome known (λ read. bytes.fault_of cells read ≡ Some e))
       → (of_input e ≡ OutOfMemory) ⊎ ((of_input e ≡ Input input.ReadFailed) ⊎ IfSome known (λ read. fault_of_input request read ≡ Some (of_input e)))

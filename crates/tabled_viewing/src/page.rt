@@ -1,14 +1,15 @@
-//! The text that is written for rows.
+//! What is written for rows.
 
-ghost use Rattle.std.specs.Prelude.{◌≡◌, ◌≢◌, ◌⊎◌, ◌++◌, [], ◌∷◌, List, None, Some, true, false, map, string_bytes, IfErr, IfOk, OnOk};
+ghost use Rattle.std.specs.Prelude.{◌≡◌, ◌⊎◌, ◌++◌, ℕ, [], ◌∷◌, List, None, Some, true, false, map, string_bytes, IfErr, IfOk, IsErrOf, OnOk};
+ghost use Rattle.std.specs.Io.KnownBytes.{Appends};
 ghost use Rattle.tabled_configuration.specs.Colored.{Shows};
 ghost use Rattle.tabled_configuration.specs.Configuration.{ConfigEvent};
-ghost use Rattle.tabled_painting.specs.PaintedTable.{colored_text};
 ghost use Rattle.tabled_painting.specs.Widths.{text_width};
 ghost use Rattle.tabled_printing.specs.Columns.{IsRectangle, WritesNarrow};
 ghost use Rattle.tabled_printing.specs.Texts.{Table, texts};
 ghost use Rattle.tabled_text.specs.Cells.{leaves_sizes, margin_set};
-ghost use Rattle.tabled_text.specs.TextTable.{look_of, painted, text_of};
+ghost use Rattle.tabled_text.specs.TextTable.{look_of, text_of};
+ghost use Rattle.tabled_text.specs.declared.table_error.TableError.TheVariants as table_refusals;
 ghost use Rattle.tabled_request.specs.Sides.{sides_of};
 ghost use Rattle.tabled_viewing.specs.Captions.{beside, caption};
 ghost use Rattle.tabled_viewing.specs.Refusal.{fault_of_rows};
@@ -21,10 +22,11 @@ use crate::colors::place_and_color;
 use crate::drawing::{frame, table_of};
 use crate::error::ViewError;
 use std::alloc::{AllocError, Global};
+use std::io::Write;
 use tabled_border::OutOfMemory;
 use tabled_request::{Request, Side, Surroundings, all_sides};
 use tabled_style::ReadyStyle;
-use tabled_text::TextTable;
+use tabled_text::{TableError, TextTable};
 
 /// Where the cells of each column of a table stand.
 fn sides_of(
@@ -73,73 +75,72 @@ fn put_footer(
     put_caption(table, alloc, text, style.borders().bottom.is_some(), rows)
 }
 
-/// The text of a table without colors.
-fn plain_text(table: &TextTable) -> Result<String, OutOfMemory>
-    ensures text { (events : List ConfigEvent) → Shows events table.now.config → IfOk result (λ text. string_bytes text ≡ text_of events table.now.texts) }
-    ensures rectangle { (events : List ConfigEvent) → Shows events table.now.config → WritesNarrow events → leaves_sizes events ≡ true
-        → IfOk result (λ text. IsRectangle (text_width (look_of events table.now.texts) (margin_set events)) (string_bytes text)) }
+/// A line feed, and what stands below a table.
+fn after_table(alloc: Global, below: &str) -> Result<String, OutOfMemory>
+    ensures { IfOk result (λ after. string_bytes after ≡ 10 ∷ below.now) }
 {
-    match table.to_text() {
-        Ok(text) => Ok(text),
-        Err(_) => Err(OutOfMemory),
-    }
+    let after = format!(in alloc; "\n{below}")?;
+    Ok(after)
 }
 
-/// The text of a table in color.
-fn colored_text(table: &TextTable) -> Result<String, OutOfMemory>
-    ensures { (events : List ConfigEvent) → Shows events table.now.config → IfOk result (λ text. string_bytes text ≡ colored_text (painted events table.now.texts)) }
-{
-    match table.to_ansi() {
-        Ok(text) => Ok(text),
-        Err(_) => Err(OutOfMemory),
-    }
-}
-
-/// The text of a table, in color or not.
-fn written(table: &TextTable, is_colored: bool) -> Result<String, OutOfMemory>
-    ensures text { (events : List ConfigEvent) → Shows events table.now.config → IfOk result (λ text. string_bytes text ≡ written is_colored events table.now.texts) }
+/// Writes a table, in color or not, between two texts.
+fn print<W: Write>(
+    table: &TextTable,
+    is_colored: bool,
+    before: &str,
+    after: &str,
+    output: &mut W,
+) -> Result<(), TableError>
+    ensures text { (events : List ConfigEvent) → Shows events table.now.config
+        → OnOk result (Appends (W.contents output.old) (W.contents output.new) (before.now ++ written is_colored events table.now.texts ++ after.now)) }
     ensures rectangle { is_colored ≡ false → (events : List ConfigEvent) → Shows events table.now.config → WritesNarrow events → leaves_sizes events ≡ true
-        → IfOk result (λ text. IsRectangle (text_width (look_of events table.now.texts) (margin_set events)) (string_bytes text)) }
+        → OnOk result (IsRectangle (text_width (look_of events table.now.texts) (margin_set events)) (text_of events table.now.texts)) }
+    ensures refusal { IfErr result (λ e. (e ≡ table_refusals.OutOfMemory) ⊎ (e ≡ table_refusals.Write)) }
+    ensures unwritten { IfErr result (λ e. (e ≡ table_refusals.Write) ⊎ (output.new ≡ output.old)) }
 {
     if is_colored {
-        return colored_text(table);
+        return table.print_ansi_between(before, after, output);
     }
-    plain_text(table)
+    table.print_between(before, after, output)
 }
 
-/// A text behind another one, which is copied only where there is one.
-fn behind(above: String, text: String) -> Result<String, OutOfMemory>
-    ensures { IfOk result (λ page. string_bytes page ≡ string_bytes above ++ string_bytes text) }
+/// The same, whose refusal is one of the program. Nothing is written where memory is refused.
+fn write_table<W: Write>(
+    table: &TextTable,
+    is_colored: bool,
+    before: &str,
+    after: &str,
+    output: &mut W,
+) -> Result<(), ViewError>
+    ensures text { (events : List ConfigEvent) → Shows events table.now.config
+        → OnOk result (Appends (W.contents output.old) (W.contents output.new) (before.now ++ written is_colored events table.now.texts ++ after.now)) }
+    ensures rectangle { is_colored ≡ false → (events : List ConfigEvent) → Shows events table.now.config → WritesNarrow events → leaves_sizes events ≡ true
+        → OnOk result (IsRectangle (text_width (look_of events table.now.texts) (margin_set events)) (text_of events table.now.texts)) }
+    ensures refused { IfErr result (λ e. (e ≡ refusals.OutOfMemory) ⊎ (e ≡ refusals.WriteFailed)) }
+    ensures unwritten { IfErr result (λ e. (e ≡ refusals.WriteFailed) ⊎ (output.new ≡ output.old)) }
 {
-    if above.is_empty() {
-        return Ok(text);
+    match print(table, is_colored, before, after, output) {
+        Ok(()) => Ok(()),
+        Err(TableError::Write) => Err(ViewError::WriteFailed),
+        Err(_) => Err(ViewError::OutOfMemory),
     }
-    let mut page = above;
-    page.push_str(text.as_str())?;
-    Ok(page)
 }
 
-/// A text and a line feed, between what stands above and what stands below.
-fn joined(above: String, text: String, below: &str) -> Result<String, OutOfMemory>
-    ensures { IfOk result (λ page. string_bytes page ≡ string_bytes above ++ (string_bytes text ++ 10 ∷ []) ++ below.now) }
-{
-    let mut page = behind(above, text)?;
-    page.push('\n')?;
-    page.push_str(below)?;
-    Ok(page)
-}
-
-/// The page of a table that has no borders yet.
-fn page_of_table(
+/// Writes the page of a table that has no borders yet. All memory is asked for before something is written.
+fn write_page_of_table<W: Write>(
     alloc: Global,
     request: Request,
     style: ReadyStyle,
     words: &[String],
     around: Surroundings,
     table: TextTable,
-) -> Result<String, OutOfMemory>
+    output: &mut W,
+) -> Result<(), ViewError>
     requires { Shows [] table.config }
-    ensures { IfOk result (λ text. IsPage request style (map string_bytes words.now) around table.texts (string_bytes text)) }
+    ensures written { OnOk result ((text : List ℕ) × IsPage request style (map string_bytes words.now) around table.texts text
+        × Appends (W.contents output.old) (W.contents output.new) text) }
+    ensures refused { IfErr result (λ e. (e ≡ refusals.OutOfMemory) ⊎ (e ≡ refusals.WriteFailed)) }
+    ensures unwritten { IfErr result (λ e. (e ≡ refusals.WriteFailed) ⊎ (output.new ≡ output.old)) }
 {
     let mut table = table;
     let sides = sides_of(&table, alloc, request, words)?;
@@ -148,28 +149,30 @@ fn page_of_table(
     let below = put_footer(&mut table, alloc, request, style, words)?;
     let in_color = is_colored(request, around);
     place_and_color(&mut table, alloc, request, &sides, in_color)?;
-    let text = written(&table, in_color)?;
-    joined(above, text, below.as_str())
+    let after = after_table(alloc, below.as_str())?;
+    write_table(&table, in_color, above.as_str(), after.as_str(), output)
 }
 
-/// The text that is written for rows: nothing where there is none.
-pub(crate) fn page_of(
+/// Writes the page of rows: nothing where there is none. All memory is asked for before something is written.
+pub(crate) fn write_page<W: Write>(
     alloc: Global,
     request: Request,
     style: ReadyStyle,
     words: &[String],
     around: Surroundings,
     rows: Vec<Vec<String>>,
-) -> Result<String, ViewError>
-    ensures page { IfOk result (λ text. IsViewOfRows request style (map string_bytes words.now) around (texts rows.items) (string_bytes text)) }
+    output: &mut W,
+) -> Result<(), ViewError>
+    ensures written { OnOk result ((text : List ℕ) × IsViewOfRows request style (map string_bytes words.now) around (texts rows.items) text
+        × Appends (W.contents output.old) (W.contents output.new) text) }
     ensures good { OnOk result (fault_of_rows request (texts rows.items) ≡ None) }
-    ensures kinds { IfErr result (λ e. e ≢ refusals.WriteFailed) }
-    ensures refused { IfErr result (λ e. (e ≡ refusals.OutOfMemory) ⊎ (fault_of_rows request (texts rows.items) ≡ Some e)) }
+    ensures write_failed { IsErrOf result refusals.WriteFailed → fault_of_rows request (texts rows.items) ≡ None }
+    ensures refused { IfErr result (λ e. (e ≡ refusals.OutOfMemory) ⊎ (e ≡ refusals.WriteFailed) ⊎ (fault_of_rows request (texts rows.items) ≡ Some e)) }
+    ensures unwritten { IfErr result (λ e. (e ≡ refusals.WriteFailed) ⊎ (output.new ≡ output.old)) }
 {
     if rows.is_empty() {
-        return Ok(String::new(alloc));
+        return Ok(());
     }
     let table = table_of(alloc, request, rows)?;
-    let page = page_of_table(alloc, request, style, words, around, table)?;
-    Ok(page)
+    write_page_of_table(alloc, request, style, words, around, table, output)
 }

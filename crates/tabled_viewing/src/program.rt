@@ -6,19 +6,18 @@ ghost use Rattle.tabled_input.specs.declared.error.InputError.TheVariants as inp
 ghost use Rattle.tabled_input.specs.declared.read.TheConstants.{INPUT_LIMIT};
 ghost use Rattle.tabled_viewing.specs.Asked.{is_about_itself, style_asked};
 ghost use Rattle.tabled_viewing.specs.Itself.{told_of_itself};
-ghost use Rattle.tabled_viewing.specs.Refusal.{fault_of, fault_of_input};
-ghost use Rattle.tabled_viewing.specs.View.{IsView, IsViewOfInput};
+ghost use Rattle.tabled_viewing.specs.Refusal.{fault_of};
+ghost use Rattle.tabled_viewing.specs.View.{IsView};
 ghost use Rattle.tabled_viewing.specs.declared.error.ViewError.TheVariants as refusals;
 
 use crate::asked::{cells_asked, is_about_itself, style_asked};
 use crate::error::ViewError;
-use crate::page::page_of;
+use crate::page::write_page;
 use crate::texts::told_of_itself;
 use std::alloc::Global;
 use std::io::{Read, Write};
 use tabled_input::read_rows;
 use tabled_request::{Request, Surroundings};
-use tabled_style::ReadyStyle;
 
 /// Writes a text whole. How much was written before a write failed is left open.
 fn write_text<W: Write>(output: &mut W, text: &str) -> Result<(), ViewError>
@@ -29,27 +28,6 @@ fn write_text<W: Write>(output: &mut W, text: &str) -> Result<(), ViewError>
         Ok(()) => Ok(()),
         Err(_) => Err(ViewError::WriteFailed),
     }
-}
-
-/// The text that is written for an input, in a style.
-fn page_of_input<R: Read>(
-    alloc: Global,
-    request: Request,
-    style: ReadyStyle,
-    words: &[String],
-    around: Surroundings,
-    input: &mut R,
-) -> Result<String, ViewError>
-    ensures whole { OnOk result (IsAtEnd (R.remaining input.new)) }
-    ensures page { IfOk result (λ text. IfSome (R.remaining input.old) (λ bytes. IsViewOfInput request style (map string_bytes words.now) around bytes (string_bytes text))) }
-    ensures good { OnOk result (IfSome (R.remaining input.old) (λ bytes. fault_of_input request bytes ≡ None)) }
-    ensures kinds { IfErr result (λ e. e ≢ refusals.WriteFailed) }
-    ensures refused { IfErr result (λ e. (e ≡ refusals.OutOfMemory) ⊎ (e ≡ refusals.Input input_refusals.ReadFailed)
-        ⊎ IfSome (R.remaining input.old) (λ bytes. fault_of_input request bytes ≡ Some e)) }
-    ensures at_most { (taken : List ℕ) × Consumes (R.remaining input.old) (R.remaining input.new) taken × (length taken ≤ INPUT_LIMIT + 1) }
-{
-    let rows = read_rows(alloc, cells_asked(request), input)?;
-    page_of(alloc, request, style, words, around, rows)
 }
 
 /// Writes the table of what is read, as the request asks for it. Nothing is written before all else was found good.
@@ -73,8 +51,8 @@ fn view<R: Read, W: Write>(
     ensures unwritten { IfErr result (λ e. e ≢ refusals.WriteFailed → Keeps (W.contents output.old) (W.contents output.new)) }
 {
     let style = style_asked(request, words, around)?;
-    let text = page_of_input(alloc, request, style, words, around, input)?;
-    write_text(output, text.as_str())
+    let rows = read_rows(alloc, cells_asked(request), input)?;
+    write_page(alloc, request, style, words, around, rows, output)
 }
 
 /// Writes what the program says of itself.
