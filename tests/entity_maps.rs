@@ -138,3 +138,51 @@ fn three_maps_are_changed_at_once(rt: HostRuntime) -> Result<(), Fail> {
     }
     Ok(())
 }
+
+/// The letter that a row was given last.
+fn letter(row: usize) -> char {
+    char::from(b'a' + (row % 26) as u8)
+}
+
+/// A map in which these rows have a letter each, written in their order.
+fn lettered(alloc: Global, rows: &[usize]) -> Result<EntityMap<char>, OutOfMemory> {
+    let mut map = EntityMap::new(alloc, '.');
+    for row in rows {
+        map.insert(Entity::Row(*row), letter(*row))?;
+    }
+    Ok(map)
+}
+
+/// Whether each of these rows has its letter, and the one after the last of eight has none.
+fn has_letters(map: &EntityMap<char>, rows: &[usize]) -> bool {
+    rows.iter().all(|row| value(map, *row, 3) == letter(*row)) && value(map, 8, 3) == '.'
+}
+
+#[test]
+fn rows_are_found_in_whatever_order_they_were_written(rt: HostRuntime) -> Result<(), Fail> {
+    let orders: [[usize; 8]; 4] = [
+        [0, 1, 2, 3, 4, 5, 6, 7],
+        [7, 6, 5, 4, 3, 2, 1, 0],
+        [1, 2, 3, 4, 5, 6, 7, 0],
+        [3, 1, 2, 0, 7, 5, 6, 4],
+    ];
+    for rows in &orders {
+        let mut map = lettered(rt.alloc(), rows)?;
+        assert!(rt; has_letters(&map, rows));
+        map.insert(Entity::Row(3), 'X')?;
+        assert_eq!(rt; value(&map, 3, 0), 'X');
+        assert_eq!(rt; value(&map, 2, 0), letter(2));
+        map.remove(Entity::Row(2))?;
+        assert_eq!(rt; value(&map, 2, 0), '.');
+        map.insert(Entity::Column(3), 'c')?;
+        assert_eq!(rt; value(&map, 5, 3), 'c');
+        assert_eq!(rt; value(&map, 5, 4), letter(5));
+        map.insert(Entity::Cell(5, 3), 'z')?;
+        assert_eq!(rt; value(&map, 5, 3), 'z');
+        map.insert(Entity::Global, 'g')?;
+        map.insert(Entity::Column(0), 'o')?;
+        assert_eq!(rt; value(&map, 5, 3), 'g');
+        assert_eq!(rt; value(&map, 5, 0), 'o');
+    }
+    Ok(())
+}

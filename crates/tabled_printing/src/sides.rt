@@ -137,6 +137,7 @@ fn mark_beside<'a>(
 }
 
 /// The same, if the line is drawn.
+#[inline(always)]
 fn side<'a>(
     cfg: &'a SpannedConfig,
     shape: (usize, usize),
