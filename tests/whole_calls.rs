@@ -10,7 +10,8 @@ use tabled_grid::{
     border_writes,
 };
 use tabled_painting::{
-    colored_spanned_text, colored_text, plain_spanned_text, plain_text, sizes_of_spanned,
+    Output, PlainLines, colored_spanned_text, colored_text, plain_spanned_text, plain_text,
+    sizes_of_spanned,
 };
 use tabled_rooms::CellSizes;
 use tabled_settings::EntityMap;
@@ -245,6 +246,32 @@ fn texts_are_painted_as_a_configuration_says(rt: HostRuntime) -> Result<(), Fail
     assert_eq!(rt; plain.as_str(), "+----+\n| a  |\n+----+");
     let colored = colored_text(&cfg, &dims, (1, 1), &rows)?;
     assert_eq!(rt; colored.as_str(), "+----+\n| <a>  |\n+----+");
+    Ok(())
+}
+
+#[test]
+fn a_text_takes_what_has_no_color(rt: HostRuntime) -> Result<(), Fail> {
+    let mut text = String::new(rt.alloc());
+    Output::push_str(&mut text, "ab")?;
+    Output::push_spaces(&mut text, 3)?;
+    Output::push_spaces_before(&mut text, 70, '│')?;
+    assert_eq!(rt; text.as_str(), format!(in rt.alloc(); "ab{:73}│", "")?.as_str());
+    Ok(())
+}
+
+#[test]
+fn a_plain_table_is_written_line_by_line(rt: HostRuntime) -> Result<(), Fail> {
+    let alloc = rt.alloc();
+    let mut config = SpannedConfig::new(alloc);
+    config.set_borders(ascii_borders());
+    let cfg = ColoredConfig::new(config);
+    let dims = FixedDimension::new(vec![in alloc; 4usize; 1]?, vec![in alloc; 1usize; 1]?);
+    let rows = one_text(alloc, "a")?;
+    let mut text = String::from_str(alloc, "= ")?;
+    if let Some(lines) = PlainLines::new(&cfg, &dims, (1, 1))? {
+        lines.write(&mut text, &rows)?;
+    }
+    assert_eq!(rt; text.as_str(), "= +----+\n| a  |\n+----+");
     Ok(())
 }
 
