@@ -335,8 +335,8 @@ pub fn text_in_color_printed<W: io::Write>(table: &TextTable, out: &mut W) -> Re
     table.print_ansi_to(out)
 }
 
-/// The text between two others, to a stream of bytes: only the stream's own fault can leave something written. It is a rectangle as what
-/// `text_of_a_table` gives.
+/// The text between two others, to a stream of bytes: only the stream's own fault can leave something written. The text of the table is a
+/// rectangle as `text_is_a_rectangle` says.
 pub fn text_printed_between<W: io::Write>(
     table: &TextTable,
     before: &str,
