@@ -53,17 +53,20 @@ side_is view r k c found is = ap side_painted is ∙ by_case (view.vertical c)
     by_case false = refl
 
 -- a cell and the side after it, behind the parts so far and the side before it
+pub sides_more : (side cell : ℕ → Painted) (n : ℕ) (line after : Painted) → line ≡ cell n → after ≡ side (n + 1)
+    → (flat_map (λ c. side c ++ cell c) (below n) ++ side n) ++ (line ++ after) ≡ flat_map (λ c. side c ++ cell c) (below (n + 1)) ++ side (n + 1)
+sides_more side cell n line after is ends =
+    let part : ℕ → Painted = λ c. side c ++ cell c in
+    let front : Painted = flat_map part (below n) in
+    (λ i. (front ++ side n) ++ (is i ++ ends i))
+    ∙ sym (append_assoc (front ++ side n) (cell n) (side (n + 1)))
+    ∙ ap (λ l. l ++ side (n + 1)) (append_assoc front (side n) (cell n) ∙ sym (flat_map_below part n))
+
 pub cell_then_side : (side cell : ℕ → Painted) (n : ℕ) (line after : Painted) (old middle new : Painter) → line ≡ cell n → after ≡ side (n + 1)
     → Paints (flat_map (λ c. side c ++ cell c) (below n) ++ side n) old middle → Paints (line ++ after) middle new
     → Paints (flat_map (λ c. side c ++ cell c) (below (n + 1)) ++ side (n + 1)) old new
 cell_then_side side cell n line after old middle new is ends p q =
-    let part : ℕ → Painted = λ c. side c ++ cell c in
-    let front : Painted = flat_map part (below n) in
-    let whole : (front ++ side n) ++ (line ++ after) ≡ flat_map part (below (n + 1)) ++ side (n + 1) =
-    (λ i. (front ++ side n) ++ (is i ++ ends i))
-    ∙ sym (append_assoc (front ++ side n) (cell n) (side (n + 1)))
-    ∙ ap (λ l. l ++ side (n + 1)) (append_assoc front (side n) (cell n) ∙ sym (flat_map_below part n)) in
-    subst (λ l. Paints l old new) whole (paints_both (front ++ side n) (line ++ after) old middle new p q)
+    subst (λ l. Paints l old new) (sides_more side cell n line after is ends) (paints_both (flat_map (λ c. side c ++ cell c) (below n) ++ side n) (line ++ after) old middle new p q)
 
 -- what a thing of a list shows, among what all of them show
 pub shown_at : {A B : Type 0} (f : A → B) (xs : List A) (at : ℕ) (x : A) (d : B) → at < length xs → x ≡ get_or xs at x → f x ≡ get_or (map f xs) at d

@@ -1,9 +1,8 @@
 -- What is written without colors, part by part: sides, cells, and the line of a row.
 use Rattle.std.proofs.Common.{◌≡◌, ℕ, ◌+◌, Bool, false, Option, Some, None, List, [], ◌∷◌, ◌++◌, refl, sym, ap, subst, ◌∙◌, option_map, encode_utf8, option_copied, string_bytes, Result, Ok, Err, OnOk}
 use Rattle.std.specs.List.{flat_map}
-use Rattle.std.proofs.lemmas.List.{append-nil, append_assoc}
+use Rattle.std.proofs.lemmas.List.{append-nil}
 use Rattle.tabled_object.specs.Entities.{below}
-use Rattle.tabled_configuration.proofs.Below.{flat_map_below}
 use Rattle.tabled_printing.specs.Marks.{mark_of}
 use Rattle.tabled_printing.specs.Picture.{character}
 use Rattle.tabled_printing.specs.declared.mark.Mark.{Mark}
@@ -12,6 +11,7 @@ use Rattle.tabled_painting.specs.PaintedTable.{side_painted}
 use Rattle.tabled_painting.specs.InColor.{Paints, colored, last_color}
 use Rattle.tabled_painting.specs.declared.painter.Painter.{Painter}
 use Rattle.tabled_painting.proofs.PainterLemmas.{plain_paint, goes_on, stays}
+use Rattle.tabled_painting.proofs.FrameLemmas.{sides_more}
 use Rattle.tabled_painting.proofs.Plain.{plain_both}
 
 -- what a side shows is its character
@@ -40,13 +40,8 @@ module _ {O : Type 0} (gains : List ℕ → O → O → Type 0) (both : (xs ys :
 pub cell_more : (side cell : ℕ → Painted) (n : ℕ) (line after : Painted) → line ≡ cell n → after ≡ side (n + 1)
     → plain (flat_map (λ c. side c ++ cell c) (below n) ++ side n) ++ (plain line ++ plain after) ≡ plain (flat_map (λ c. side c ++ cell c) (below (n + 1)) ++ side (n + 1))
 cell_more side cell n line after is ends =
-    let part : ℕ → Painted = λ c. side c ++ cell c in
-    let front : Painted = flat_map part (below n) in
-    let whole : (front ++ side n) ++ (line ++ after) ≡ flat_map part (below (n + 1)) ++ side (n + 1) =
-    (λ i. (front ++ side n) ++ (is i ++ ends i))
-    ∙ sym (append_assoc (front ++ side n) (cell n) (side (n + 1)))
-    ∙ ap (λ l. l ++ side (n + 1)) (append_assoc front (side n) (cell n) ∙ sym (flat_map_below part n)) in
-    ap (λ bs. plain (front ++ side n) ++ bs) (sym (plain_both line after)) ∙ sym (plain_both (front ++ side n) (line ++ after)) ∙ ap plain whole
+    let so_far : Painted = flat_map (λ c. side c ++ cell c) (below n) ++ side n in
+    ap (λ bs. plain so_far ++ bs) (sym (plain_both line after)) ∙ sym (plain_both so_far (line ++ after)) ∙ ap plain (sides_more side cell n line after is ends)
 
 -- characters written where no color is wanted and none goes on are painted
 pub paints_plain : (line : Painted) (old new : Painter) → old.with_colors ≡ false → option_copied old.color ≡ None → string_bytes new.text ≡ string_bytes old.text ++ plain line
