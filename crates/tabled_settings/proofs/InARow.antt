@@ -48,7 +48,7 @@ module _ {V : Type 0} where
   length-before slots [] = refl
   length-before slots (event ∷ events) = ap suc (length-before (after_put slots event) events)
 
-  length-put : (slots : List (Option (Entity × V))) (event : Entity × V) → length (after_put slots event) ≡ suc (length slots)
+  pub length-put : (slots : List (Option (Entity × V))) (event : Entity × V) → length (after_put slots event) ≡ suc (length slots)
   length-put slots event = length-push (emptied (place (same_entity event.0) slots) slots) (Some event) ∙ ap suc (length-emptied (place (same_entity event.0) slots) slots)
 
   pub length-puts : (slots : List (Option (Entity × V))) (events : List (Entity × V)) → length (after_puts slots events) ≡ length slots + length events
@@ -57,7 +57,7 @@ module _ {V : Type 0} where
 
   -- ---- each entity has one event, and they stand in order
 
-  once_put : (slots : List (Option (Entity × V))) (event : Entity × V) → IsOnce same_entity (standing slots) → IsOnce same_entity (standing (after_put slots event))
+  pub once_put : (slots : List (Option (Entity × V))) (event : Entity × V) → IsOnce same_entity (standing slots) → IsOnce same_entity (standing (after_put slots event))
   once_put slots event once = once-put slots (after_put slots event) event.0 event.1 once refl
 
   pub once-puts : (slots : List (Option (Entity × V))) (events : List (Entity × V)) → IsOnce same_entity (standing slots) → IsOnce same_entity (standing (after_puts slots events))
@@ -80,7 +80,7 @@ module _ {V : Type 0} where
       ∙ ap (λ b. cond b (Some (length (emptied (place (same_entity event.0) slots) slots))) (place (same_entity event.0) (emptied (place (same_entity event.0) slots) slots))) (entity_itself event.0))
 
   -- an event that was put moves no other entity's
-  others_stay : (slots : List (Option (Entity × V))) (event : Entity × V) (which : Entity) → IsOnce same_entity (standing slots) → same_entity which event.0 ≡ false
+  pub others_stay : (slots : List (Option (Entity × V))) (event : Entity × V) (which : Entity) → IsOnce same_entity (standing slots) → same_entity which event.0 ≡ false
       → place (same_entity which) (after_put slots event) ≡ place (same_entity which) slots
   others_stay slots event which once other =
       place-push (same_entity which) (emptied (place (same_entity event.0) slots) slots) event

@@ -10,5 +10,6 @@ pub mod SettingsLemmas
 pub mod SameSettings
 pub mod SettingBack
 pub mod InARow
+pub mod AtOnce
 pub mod Paddings
 pub mod Holes

@@ -1,7 +1,10 @@
 //! Where the event of each entity stands: noted for a list of events before it is written, and taken back.
 
-ghost use Rattle.std.specs.Prelude.{◌≡◌, ◌<◌, ◌≤◌, ◌+◌, ◌^◌, List, Option, true, take, length, is_some, IfOk, OnOk, OnErr, if◌then◌else◌};
-ghost use Rattle.std.specs.BTreeMap.{get};
+ghost use Rattle.std.specs.Prelude.{◌≡◌, ◌↔◌, ◌<◌, ◌≤◌, ◌+◌, ◌^◌, List, Option, true, take, length, is_some, IsTrue, IfOk, OnOk, OnErr, if◌then◌else◌};
+ghost use Rattle.std.specs.BTreeMap.{get, IsEmpty, IsFromIterResult};
+ghost use Rattle.std.specs.List.{range_with_len, zip};
+ghost use Rattle.std.specs.List.Sorted.{IsStrictlySortedBy};
+ghost use Rattle.std.specs.Map.{keys_of};
 ghost use Rattle.tabled_object.specs.declared.entity.Entity.{Entity as Which};
 ghost use Rattle.tabled_settings.specs.Setting.{same_entity};
 ghost use Rattle.tabled_settings.specs.Slots.{standing, entity_cmp, IsOnce, HasPlaces, after_puts, places_before};
@@ -14,6 +17,71 @@ use tabled_object::Entity;
 /// Notes where the events of a list will stand, the first of them at `first`, and returns where the event of each one's entity
 /// stood before. Where memory is refused nothing is noted.
 pub(crate) fn note<T>(
+    alloc: Global,
+    places: &mut BTreeMap<Entity, usize>,
+    first: usize,
+    events: &[(Entity, Option<T>)],
+) -> Result<Vec<Option<usize>>, OutOfMemory>
+    requires { first + length events.now < 2 ^ 64 }
+    ensures before { (slots : List (Option (Which × Option T))) → IsOnce same_entity (standing slots) → HasPlaces places.old slots → length slots ≡ first
+        → IfOk result (λ before. before.items ≡ places_before slots events.now) }
+    ensures ok { (slots : List (Option (Which × Option T))) → IsOnce same_entity (standing slots) → HasPlaces places.old slots → length slots ≡ first
+        → OnOk result (HasPlaces places.new (after_puts slots events.now)) }
+    ensures err { (slots : List (Option (Which × Option T))) → IsOnce same_entity (standing slots) → HasPlaces places.old slots → length slots ≡ first
+        → OnErr result (HasPlaces places.new slots) }
+{
+    if places.is_empty() && are_rising(events) {
+        note_at_once(alloc, places, first, events)
+    } else {
+        note_in_turn(alloc, places, first, events)
+    }
+}
+
+/// Whether the entity of each event comes after that of the one before it.
+fn are_rising<T>(events: &[(Entity, Option<T>)]) -> bool
+    ensures { IsTrue result ↔ IsStrictlySortedBy entity_cmp (keys_of events.now) }
+{
+    events.is_sorted_by(|event, next| event.0 < next.0)
+}
+
+/// Notes where events will stand of which each comes after the one before it, in places that have none yet: all of them at once,
+/// without a search for each.
+fn note_at_once<T>(
+    alloc: Global,
+    places: &mut BTreeMap<Entity, usize>,
+    first: usize,
+    events: &[(Entity, Option<T>)],
+) -> Result<Vec<Option<usize>>, OutOfMemory>
+    requires few { first + length events.now < 2 ^ 64 }
+    requires empty { IsEmpty places.old }
+    requires rising { IsStrictlySortedBy entity_cmp (keys_of events.now) }
+    ensures before { (slots : List (Option (Which × Option T))) → IsOnce same_entity (standing slots) → HasPlaces places.old slots → length slots ≡ first
+        → IfOk result (λ before. before.items ≡ places_before slots events.now) }
+    ensures ok { (slots : List (Option (Which × Option T))) → IsOnce same_entity (standing slots) → HasPlaces places.old slots → length slots ≡ first
+        → OnOk result (HasPlaces places.new (after_puts slots events.now)) }
+    ensures err { (slots : List (Option (Which × Option T))) → IsOnce same_entity (standing slots) → HasPlaces places.old slots → length slots ≡ first
+        → OnErr result (HasPlaces places.new slots) }
+{
+    let before = vec![in alloc; None; events.len()]?;
+    *places = places_at_once(alloc, first, events)?;
+    Ok(before)
+}
+
+/// The places of a list of events, the first of them at `first`.
+fn places_at_once<T>(
+    alloc: Global,
+    first: usize,
+    events: &[(Entity, Option<T>)],
+) -> Result<BTreeMap<Entity, usize>, OutOfMemory>
+    requires { first + length events.now < 2 ^ 64 }
+    ensures { IfOk result (IsFromIterResult entity_cmp (zip (keys_of events.now) (range_with_len first (length events.now)))) }
+{
+    let entities = events.iter().map(|event| event.0);
+    Ok(entities.zip(first..first + events.len()).collect(alloc)?)
+}
+
+/// Notes where events will stand, one after the other.
+fn note_in_turn<T>(
     alloc: Global,
     places: &mut BTreeMap<Entity, usize>,
     first: usize,

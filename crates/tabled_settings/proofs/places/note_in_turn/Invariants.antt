@@ -2,7 +2,7 @@ use Rattle.std.proofs.Common.{◌≡◌, ◌≤◌, List, Option, take, length, 
 use Rattle.tabled_object.specs.declared.entity.Entity.{Entity as Which}
 use Rattle.tabled_settings.specs.Setting.{same_entity}
 use Rattle.tabled_settings.specs.Slots.{standing, IsOnce, HasPlaces, after_puts, places_before}
-use Rattle.tabled_settings.proofs.places.note.Given as goal
+use Rattle.tabled_settings.proofs.places.note_in_turn.Given as goal
 
 -- the events so far are noted, and there is room for the places of all
 abbrev pub invariant-loop-at : goal.invariant-loop-at

@@ -1,6 +1,6 @@
 use Rattle.std.proofs.Common.{arith}
 use Rattle.tabled_settings.proofs.InARow.{one_noted}
-use Rattle.tabled_settings.proofs.places.note.Goals as goal
+use Rattle.tabled_settings.proofs.places.note_in_turn.Goals as goal
 
 pub loop-at-preserved : goal.loop-at-preserved
 loop-at-preserved g c = (
