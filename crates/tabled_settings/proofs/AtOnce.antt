@@ -1,6 +1,6 @@
 -- Events of entities that rise, noted at once where no places were noted yet.
 use Rattle.std.proofs.Common.{◌≡◌, ℕ, ◌+◌, suc, Bool, true, false, cond, Option, Some, None, List, [], ◌∷◌, length, get_or, replicate, refl, sym, ap, ◌∙◌, arith, Less, Ordering, Greater, Equal, IsTrue, ◌↔◌}
-use Rattle.std.specs.BTreeMap.{BTreeMap, IsEmpty, IsFromIterResult}
+use Rattle.std.specs.BTreeMap.{BTreeMap, get, is_at, IsEmpty, IsFromIterResult}
 use Rattle.std.specs.List.{AllByRecursion, IsAllAdjacentAnswer, range_with_len, zip}
 use Rattle.std.specs.List.Sorted.{IsStrictlySortedBy}
 use Rattle.std.specs.Map.{keys_of, lookup, update_all}
@@ -21,9 +21,14 @@ use Rattle.tabled_settings.proofs.Placing.{place-push, length-emptied}
 later_entity : (entity which : Entity) → entity_cmp entity which ≡ Less → same_entity which entity ≡ false
 later_entity entity which later = sym (found_entity entity which) ∙ ap is_eq later
 
-none_of_all : (P : Entity → Type 0) → ((which : Entity) → P which) → (entities : List Entity) → AllByRecursion P entities
-none_of_all P all [] = tt
-none_of_all P all (which ∷ entities) = (all which, none_of_all P all entities)
+-- what holds of every entity holds of those of a list
+holds_of_each : (P : Entity → Type 0) → ((which : Entity) → P which) → (entities : List Entity) → AllByRecursion P entities
+holds_of_each P all [] = tt
+holds_of_each P all (which ∷ entities) = (all which, holds_of_each P all entities)
+
+-- a map with no entries has no place
+no_place : (old : BTreeMap Entity ℕ) (which : Entity) → IsEmpty old → get entity_cmp old which ≡ None
+no_place old which empty = ap (λ entries. lookup (is_at (entity_cmp which)) entries) empty
 
 module _ {V : Type 0} where
   -- an event that was put stands at the end, and the others where they stood
@@ -51,7 +56,7 @@ module _ {V : Type 0} where
       → IsFromIterResult entity_cmp (zip (keys_of events) (range_with_len first (length events))) made → IsOnce same_entity (standing slots) → HasPlaces old slots → length slots ≡ first
       → HasPlaces made (after_puts slots events)
   made_at_once made old slots events first empty from once has end which =
-      from.0 which ∙ noted_in_turn (λ q. None) slots events first once end (λ q. sym (ap (λ entries. lookup (λ k. is_eq (entity_cmp q k)) entries) empty) ∙ has q) which
+      from.0 which ∙ noted_in_turn (λ q. None) slots events first once end (λ q. sym (no_place old q empty) ∙ has q) which
 
   -- an event that was put gives those that come later no place
   still_none : (slots : List (Option (Entity × V))) (event : Entity × V) (entities : List Entity) → IsOnce same_entity (standing slots) → AllByRecursion (λ which. entity_cmp event.0 which ≡ Less) entities
@@ -69,10 +74,13 @@ module _ {V : Type 0} where
       ∷ none_stood (after_put slots event) events (once_put slots event once) (sorted_tail entity_cmp event.0 (keys_of events) rising)
       (still_none slots event (keys_of events) once (sorted_head entity_cmp event.0 (keys_of events) rising) none.1) i
 
+  -- so there is none where nothing was noted
   pub none_before_all : (old : BTreeMap Entity ℕ) (slots : List (Option (Entity × V))) (events : List (Entity × V)) → IsEmpty old → IsStrictlySortedBy entity_cmp (keys_of events)
       → IsOnce same_entity (standing slots) → HasPlaces old slots → places_before slots events ≡ replicate (length events) None
   none_before_all old slots events empty rising once has =
-      none_stood slots events once rising (none_of_all (λ which. place (same_entity which) slots ≡ None) (λ q. sym (has q) ∙ ap (λ entries. lookup (λ k. is_eq (entity_cmp q k)) entries) empty) (keys_of events))
+      none_stood slots events once rising (holds_of_each (λ which. place (same_entity which) slots ≡ None) (λ q. sym (has q) ∙ no_place old q empty) (keys_of events))
+
+-- ---- whether entities rise
 
 less : (o : Ordering) → true ≡ is_lt o → o ≡ Less
 less Less h = refl
