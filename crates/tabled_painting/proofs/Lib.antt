@@ -1,4 +1,5 @@
 pub mod PainterLemmas
+pub mod JointLemmas
 pub mod CellLemmas
 pub mod FrameLemmas
 pub mod PageLemmas

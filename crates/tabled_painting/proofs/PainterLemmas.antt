@@ -1,9 +1,12 @@
 -- Painted lines as texts in color, part by part.
-use Rattle.std.proofs.Common.{◌≡◌, eq-eqb, ℕ, Bool, true, false, ◌==◌, ◌&&◌, if◌then◌else◌, Option, Some, None, List, [], ◌∷◌, ◌++◌, refl, sym, ap, ◌∙◌, string_bytes, option_copied, option_map, zero, suc, ◌+◌, ◌≤◌, length, subst, arith, replicate, encode_utf8, lit<, Result, Ok, Err, OnOk}
+use Rattle.std.proofs.Common.{◌≡◌, eq-eqb, ℕ, ◌-◌, Bool, true, false, ◌==◌, ◌&&◌, if◌then◌else◌, Option, Some, None, List, [], ◌∷◌, ◌++◌, refl, sym, ap, ◌∙◌, string_bytes, option_copied, option_map, zero, suc, ◌+◌, ◌≤◌, length, subst, arith, replicate, encode_utf8, lit<, Result, Ok, Err, OnOk}
 use Rattle.std.specs.Cmp.Lexicographic.{pointwise}
 use Rattle.std.proofs.lemmas.List.{append-nil, append_assoc, map-append, length-replicate}
 use Rattle.std.proofs.lemmas.Str.{encode_ascii, length-le-encodes}
-use Rattle.tabled_cells.specs.Placed.{times}
+use Rattle.tabled_cells.specs.Placed.{free_before, times}
+use Rattle.tabled_settings.specs.declared.alignment.AlignmentHorizontal.{AlignmentHorizontal}
+use Rattle.tabled_printing.proofs.TimesLemmas.{times_spaces}
+use Rattle.tabled_painting.specs.BareCells.{bare_text}
 use Rattle.tabled_printing.specs.Picture.{character}
 use Rattle.tabled_printing.specs.Marks.{mark_of}
 use Rattle.tabled_printing.specs.declared.mark.Mark.{Mark}
@@ -116,6 +119,16 @@ some_times zero character some none = some refl
 some_times (suc count) character some none =
     let long : suc count ≤ 0 = subst (λ bs. suc count ≤ length bs) none (subst (λ n. n ≤ length (times (suc count) character)) (length-replicate (suc count) character) (length-le-encodes (replicate (suc count) character))) in
     omega arith
+
+-- and so are a text of a bare cell and the spaces around it
+pub some_bare : (side : AlignmentHorizontal) (width : ℕ) (text : List ℕ) → bare_text side width text ≡ [] → ⊥
+some_bare side width text none =
+    let free : ℕ = width - 2 - length text in
+    let before : ℕ = free_before side free in
+    let last : List ℕ = times (free - before + 1) 32 in
+    let more : suc before ≡ 1 + before = omega arith in
+    let first : 32 ∷ ((replicate before 32 ++ text) ++ last) ≡ [] = sym (ap (λ bs. bs ++ text ++ last) (times_spaces (suc before))) ∙ ap (λ n. times n 32 ++ text ++ last) more ∙ none in
+    cc
 
 -- a line feed is one byte
 pub line_fed : (start begun new : List ℕ) (color : Option Texts) → begun ≡ start ++ between color None → new ≡ begun ++ encode_utf8 10 → new ≡ start ++ suffix_of color ++ 10 ∷ []

@@ -3,6 +3,7 @@ pub mod InColor
 pub mod CellLines
 pub mod Margin
 pub mod PaintedTable
+pub mod Joints
 pub mod Pages
 pub mod Between
 pub mod Put

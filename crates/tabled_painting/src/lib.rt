@@ -8,6 +8,7 @@ mod alike;
 mod bare_cells;
 mod cell_colors;
 mod cell_lines;
+mod colored_row;
 mod drawn;
 mod margin_side;
 mod margin_sides;

@@ -1,6 +1,6 @@
 //! Writes painted lines.
 
-ghost use Rattle.std.specs.Prelude.{◌≡◌, ◌+◌, ◌++◌, ◌∷◌, [], None, OnOk, option_copied, option_map, string_bytes};
+ghost use Rattle.std.specs.Prelude.{◌≡◌, ◌+◌, ◌++◌, ◌∷◌, [], None, IfOk, OnOk, option_copied, option_map, string_bytes};
 ghost use Rattle.tabled_printing.specs.Marks.{mark_of};
 ghost use Rattle.tabled_printing.specs.Sinks.{anything};
 ghost use Rattle.tabled_cells.specs.Placed.{times};
@@ -8,6 +8,7 @@ ghost use Rattle.tabled_painting.specs.BareCells.{bare_text};
 ghost use Rattle.tabled_painting.specs.Painted.{paint};
 ghost use Rattle.tabled_painting.specs.PaintedTable.{side_painted};
 ghost use Rattle.tabled_painting.specs.InColor.{Paints, between, prefix_of, suffix_of, color_if};
+ghost use Rattle.tabled_painting.specs.Joints.{joint_text};
 ghost use Rattle.tabled_painting.specs.Put as put;
 
 use crate::plain_row::push_bare;
@@ -22,6 +23,14 @@ pub(crate) struct Painter<'a> {
     pub(crate) text: String,
     pub(crate) color: Option<&'a ANSIBuf>,
     with_colors: bool,
+}
+
+/// A color, if colors are wanted.
+#[inline(always)]
+fn color_if<'a>(with_colors: bool, color: Option<&'a ANSIBuf>) -> Option<&'a ANSIBuf>
+    ensures { option_copied result ≡ color_if with_colors (option_copied color.entry) }
+{
+    if with_colors { color } else { None }
 }
 
 #[tactic(auto, using(crate::proofs::PainterLemmas::painting))]
@@ -108,8 +117,7 @@ impl<'a> Painter<'a> {
         if color.is_none() && self.color.is_none() {
             return Ok(());
         }
-        let wanted = if self.with_colors { color } else { None };
-        self.change_color(wanted)
+        self.change_color(color_if(self.with_colors, color))
     }
 
     /// Ends the color of what was written last, if it has one.
@@ -176,6 +184,44 @@ impl<'a> Painter<'a> {
         self.begin(color)?;
         push_bare(&mut self.text, alignment, width, text, None)?;
         self.push_side(side)
+    }
+
+    /// What is written between two cells of a row in one color: that color ends, what a vertical line shows follows, if there is
+    /// something, and the color begins again.
+    pub(crate) fn joint(
+        alloc: Global,
+        with_colors: bool,
+        color: Option<&'a ANSIBuf>,
+        side: Option<Mark<'a>>,
+    ) -> Result<String, AllocError>
+        ensures { IfOk result (λ text. string_bytes text ≡ joint_text with_colors (option_copied color.entry) (option_map mark_of side.entry)) }
+    {
+        let mut painter = Painter {
+            text: String::new(alloc),
+            color: color_if(with_colors, color),
+            with_colors,
+        };
+        painter.push_side(side)?;
+        painter.begin(color)?;
+        Ok(painter.into_text())
+    }
+
+    /// Writes a joint, and then a text in a column between spaces, as `push_bare` does: all in the color of what was written last.
+    #[inline(always)]
+    pub(crate) fn push_joined(
+        &mut self,
+        joint: &str,
+        alignment: AlignmentHorizontal,
+        width: usize,
+        text: &str,
+    ) -> Result<(), AllocError>
+        ensures text { OnOk result (string_bytes self.new.text ≡ string_bytes self.old.text ++ joint.now ++ bare_text alignment width text.now) }
+        ensures color { self.new.color ≡ self.old.color }
+        ensures same_colors { self.new.with_colors ≡ self.old.with_colors }
+    {
+        self.text.push_str(joint)?;
+        push_bare(&mut self.text, alignment, width, text, None)?;
+        Ok(())
     }
 
     /// Writes what a vertical line shows, if there is something.

@@ -173,18 +173,21 @@ pub fn plain_text(
 }
 
 /// The same text in color: where the color changes along a line, the text that ends the last color is written and then the text that
-/// begins the next, and at the end of a line the text that ends its last color; where there is no color nothing is written.
+/// begins the next, and at the end of a line the text that ends its last color; where there is no color nothing is written. It may be said
+/// that all its texts are of printable characters of ASCII.
 pub fn colored_text(
     cfg: &ColoredConfig,
     sizes: &FixedDimension,
     shape: (usize, usize),
     rows: &[Vec<String>],
+    are_printable: bool,
 ) -> Result<String, OutOfMemory>
     requires rows { length rows.now ≡ shape.0 }
     requires cols { All (λ row. length row ≡ shape.1) (texts rows.now) }
+    requires printable { are_printable ≡ true → AllPrintable (texts rows.now) }
     ensures { IfOk result (λ text. string_bytes text ≡ colored_text (painted_by cfg.now shape sizes.now.widths.items sizes.now.heights.items (texts rows.now))) }
 {
-    written(cfg, sizes, shape, rows, false, true)
+    written(cfg, sizes, shape, rows, are_printable, true)
 }
 
 /// The text of a table of texts whose cells span, with its colors or without them.

@@ -73,8 +73,8 @@ impl TableLines<'_, '_> {
 
     /// Where the texts of a column stand, all of whose cells are bare.
     #[inline(always)]
-    fn alignment_of(&self, col: usize) -> AlignmentHorizontal
-        requires plain { self.now.is_plain ≡ true }
+    pub(crate) fn alignment_of(&self, col: usize) -> AlignmentHorizontal
+        requires bare { self.now.are_all_bare ≡ true }
         requires within { col < self.now.frame.shape.1 }
         ensures { side_in self.now.bare_columns col ≡ Some result }
     {

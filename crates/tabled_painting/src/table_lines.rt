@@ -43,6 +43,8 @@ pub(crate) struct TableLines<'a, 'b> {
     pub(crate) colors: &'a ColorMap,
     /// Where the texts of each column stand, if all cells are bare.
     pub(crate) bare_columns: BareColumns,
+    /// Whether it is known of all columns.
+    pub(crate) are_all_bare: bool,
     /// Whether all cells are bare, and no colors are wanted.
     pub(crate) is_plain: bool,
     /// In which colors the cells of a row are painted.
@@ -52,7 +54,8 @@ pub(crate) struct TableLines<'a, 'b> {
     /// How many columns of a terminal its columns take, as far as a number says it.
     columns: usize,
     ghost are_bare: { AreBare frame.cfg.now.settings.cells bare_columns },
-    ghost plain_columns: { is_plain ≡ true → (c : ℕ) → c < frame.shape.1 → IsSome (side_in bare_columns c) },
+    ghost all_bare: { are_all_bare ≡ true → (c : ℕ) → c < frame.shape.1 → IsSome (side_in bare_columns c) },
+    ghost plain_cells: { is_plain ≡ true → are_all_bare ≡ true },
     ghost plain_colors: { is_plain ≡ true → frame.with_colors ≡ false },
     ghost are_row_colors: { AreRowColors row_colors frame.with_colors frame.cfg.now.settings.cells colors.now },
     ghost is_between: { ForSome between (λ text. IsBetweenRows frame (string_bytes text)) },
@@ -82,7 +85,8 @@ impl<'a, 'b> TableLines<'a, 'b> {
     {
         let (config, colors) = (cfg.config(), cfg.get_colors());
         let bare_columns = bare_columns(config, shape.1)?;
-        let is_plain = is_plain(&bare_columns, shape.1, with_colors);
+        let are_all_bare = bare_columns.are_known(shape.1);
+        let is_plain = is_plain(are_all_bare, with_colors);
         let row_colors = row_colors(config, colors, with_colors);
         let frame = Frame::new(config, sizes, shape, with_colors)?;
         let columns = columns_of(&frame);
@@ -91,6 +95,7 @@ impl<'a, 'b> TableLines<'a, 'b> {
             frame,
             colors,
             bare_columns,
+            are_all_bare,
             is_plain,
             row_colors,
             between,
@@ -152,7 +157,7 @@ impl<'a, 'b> TableLines<'a, 'b> {
     /// The color in which all cells of a row of one line are painted, if it is known that there is one: none where they have no color, or
     /// none is wanted.
     #[inline(always)]
-    fn row_color(&self, row: usize, is_low: bool) -> Option<Option<&'a ANSIBuf>>
+    pub(crate) fn row_color(&self, row: usize, is_low: bool) -> Option<Option<&'a ANSIBuf>>
         ensures color { IfSome result (λ color. IsRowColor self.now.frame.with_colors self.now.frame.cfg.now.settings.cells self.now.colors.now row (option_copied color)) }
         ensures low { IsSome result → is_low ≡ true }
     {
@@ -251,6 +256,37 @@ impl<'a, 'b> TableLines<'a, 'b> {
             return Ok(());
         }
         let bare = self.row_color(row, is_low);
+        if are_printable
+            && self.are_all_bare
+            && let Some(color) = bare
+            && let Some(inner) = self.inner_side()
+        {
+            self.paint_in_one_color(painter, row, texts, color, inner)?;
+            return Ok(());
+        }
+        self.paint_each(painter, row, texts, cells, bare)
+    }
+
+    /// Paints the first line of text of a row cell by cell, of which it is said in which color all of them are, if that is known.
+    fn paint_each(
+        &self,
+        painter: &mut Painter<'a>,
+        row: usize,
+        texts: &'a [String],
+        cells: &mut Vec<CellLines<'a>>,
+        bare: Option<Option<&'a ANSIBuf>>,
+    ) -> Result<(), OutOfMemory>
+        requires row { row < self.now.frame.shape.0 }
+        requires high { 0 < slice_index self.now.frame.dims.now.heights.items row }
+        requires texts { length texts.now ≡ self.now.frame.shape.1 }
+        requires colors { painter.old.with_colors ≡ self.now.frame.with_colors }
+        requires color { IfSome bare (λ color. IsRowColor self.now.frame.with_colors self.now.frame.cfg.now.settings.cells self.now.colors.now row (option_copied color)) }
+        requires low { IsSome bare → slice_index self.now.frame.dims.now.heights.items row ≡ 1 }
+        ensures painted { OnOk result (Paints (painted_between (viewed self.now.frame) row 0 (λ c. row_cell self.now row c (slice_index_or (map string_bytes texts.now) c []) 0)) painter.old painter.new) }
+        ensures kept { slice_index self.now.frame.dims.now.heights.items row ≢ 1
+            → OnOk result ((at : ℕ) → map (line_of at) cells.new.items ≡ map (λ c. row_cell self.now row c (slice_index_or (map string_bytes texts.now) c []) at) (below (length texts.now))) }
+    {
+        let is_low = self.frame.dims.get_height(row) == 1;
         if !is_low {
             cells.clear();
         }
@@ -348,6 +384,7 @@ impl<'a, 'b> TableLines<'a, 'b> {
         let line = self
             .columns
             .saturating_add(self.frame.side_bytes())
+            .saturating_add(self.color_bytes())
             .saturating_add(1);
         let between = match &self.between {
             Some(line) => line.len(),
@@ -358,12 +395,12 @@ impl<'a, 'b> TableLines<'a, 'b> {
     }
 }
 
-/// Whether it is known that all cells are bare, where no colors are wanted.
-fn is_plain(bare_columns: &BareColumns, columns: usize, with_colors: bool) -> bool
-    ensures columns { result ≡ true → (c : ℕ) → c < columns → IsSome (side_in bare_columns.now c) }
+/// Whether all cells are bare, and no colors are wanted.
+fn is_plain(are_all_bare: bool, with_colors: bool) -> bool
+    ensures cells { result ≡ true → are_all_bare ≡ true }
     ensures colors { result ≡ true → with_colors ≡ false }
 {
-    !with_colors && bare_columns.are_known(columns)
+    are_all_bare && !with_colors
 }
 
 /// A horizontal line between two rows as it is written, where all of them but custom ones look alike, and one is drawn.

@@ -105,7 +105,13 @@ impl TextTable {
         ensures { (es : List ConfigEvent) → Shows es self.now.config → IfOk result (λ text. string_bytes text ≡ colored_text (painted_alone es self.now.texts)) }
     {
         let shape = (self.shape.rows, self.shape.cols);
-        let text = colored_text(self.config(), &self.sizes, shape, &self.cells)?;
+        let text = colored_text(
+            self.config(),
+            &self.sizes,
+            shape,
+            &self.cells,
+            self.are_printable,
+        )?;
         Ok(text)
     }
 

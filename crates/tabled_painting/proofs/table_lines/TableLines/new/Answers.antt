@@ -16,9 +16,9 @@ invariant_of-result-clause-are_row_colors c =
     subst (λ (wanted : Bool). AreRowColors known wanted frame.cfg.now.settings.cells colors) (sym c.in_ok-frame.ensures.with_colors)
     (subst (λ (cells : CellSettings). AreRowColors known c.args.with_colors cells colors) (ap (λ cfg. cfg.now.settings.cells) (sym c.in_ok-frame.ensures.cfg)) c.row_colors-row_colors.ensures)
 
-pub invariant_of-result-clause-plain_columns : goal.invariant_of-result-clause-plain_columns
-invariant_of-result-clause-plain_columns c plain col within =
-    c.is_plain-is_plain.ensures.columns plain col (subst (λ (shape : ℕ × ℕ). col < shape.1) c.in_ok-frame.ensures.shape within)
+pub invariant_of-result-clause-all_bare : goal.invariant_of-result-clause-all_bare
+invariant_of-result-clause-all_bare c bare col within =
+    c.are_known-are_all_bare.ensures bare col (subst (λ (shape : ℕ × ℕ). col < shape.1) c.in_ok-frame.ensures.shape within)
 
 pub invariant_of-result-clause-plain_colors : goal.invariant_of-result-clause-plain_colors
 invariant_of-result-clause-plain_colors c plain = c.in_ok-frame.ensures.with_colors ∙ c.is_plain-is_plain.ensures.colors plain

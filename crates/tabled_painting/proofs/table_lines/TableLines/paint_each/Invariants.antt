@@ -7,7 +7,7 @@ use Rattle.tabled_painting.specs.InColor.{Paints}
 use Rattle.tabled_painting.specs.PaintedTable.{painted_side}
 use Rattle.tabled_painting.specs.Rows.{row_cell}
 use Rattle.tabled_painting.specs.Viewed.{viewed}
-use Rattle.tabled_painting.proofs.table_lines.TableLines.paint_first.Given as goal
+use Rattle.tabled_painting.proofs.table_lines.TableLines.paint_each.Given as goal
 
 abbrev pub invariant-loop-col : goal.invariant-loop-col
 invariant-loop-col l = record {
