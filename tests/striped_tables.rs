@@ -2,6 +2,7 @@
 
 use std::alloc::Global;
 use std::test::Fail;
+use tabled::grid::config::{Position, VerticalLine};
 use tabled::settings::object::{Cell, Columns, Rows, Segment};
 use tabled::settings::style::BorderColor;
 use tabled::settings::themes::Colorization;
@@ -197,6 +198,83 @@ fn a_row_has_an_empty_text_and_one_that_is_not_ascii(rt: HostRuntime) -> Result<
 +---+----+
 |[ c ]|[ é  ]|
 +---+----+";
+    assert_eq!(rt; table.to_ansi()?.as_str(), text);
+    Ok(())
+}
+
+#[test]
+fn a_line_between_columns_shows_another_character(rt: HostRuntime) -> Result<(), Fail> {
+    let alloc = rt.alloc();
+    let mut table = TextTable::new(alloc, &[&["a", "b", "c"], &["d", "e", "f"]])?;
+    table.with(Style::ascii())?;
+    let colors = vec![in alloc; angle(alloc)?, square(alloc)?]?;
+    table.with(Colorization::rows(colors))?;
+    let line = VerticalLine::new(Some('!'), Some('x'), Some('x'), Some('x'));
+    table.config_mut().config_mut().insert_vertical_line(1, line)?;
+    let text = "\
++---x---+---+
+|< a >!< b >|< c >|
++---x---+---+
+|[ d ]![ e ]|[ f ]|
++---x---+---+";
+    assert_eq!(rt; table.to_ansi()?.as_str(), text);
+    Ok(())
+}
+
+#[test]
+fn rows_in_color_have_lines_in_another_one(rt: HostRuntime) -> Result<(), Fail> {
+    let alloc = rt.alloc();
+    let mut table = TextTable::new(alloc, &[&["a", "b", "c"], &["d", "", "f"], &["g", "h", "i"]])?;
+    table.with(Style::ascii())?;
+    let colors = vec![in alloc; angle(alloc)?, square(alloc)?]?;
+    table.with(Colorization::rows(colors))?;
+    let lines = Color::new(alloc, "(", ")")?;
+    table.modify(Segment::all(), BorderColor::filled(alloc, lines)?)?;
+    let text = "\
+(+---+---+---+)
+(|)< a >(|)< b >(|)< c >(|)
+(+---+---+---+)
+(|)[ d ](|)[   ](|)[ f ](|)
+(+---+---+---+)
+(|)< g >(|)< h >(|)< i >(|)
+(+---+---+---+)";
+    assert_eq!(rt; table.to_ansi()?.as_str(), text);
+    Ok(())
+}
+
+#[test]
+fn rows_in_color_without_lines_go_on_in_it(rt: HostRuntime) -> Result<(), Fail> {
+    let alloc = rt.alloc();
+    let mut table = TextTable::new(alloc, &[&["a", "b"], &["c", "d"]])?;
+    let colors = vec![in alloc; angle(alloc)?, square(alloc)?]?;
+    table.with(Colorization::rows(colors))?;
+    assert_eq!(rt; table.to_ansi()?.as_str(), "< a  b >\n[ c  d ]");
+    Ok(())
+}
+
+#[test]
+fn rows_of_one_cell_have_colors(rt: HostRuntime) -> Result<(), Fail> {
+    let alloc = rt.alloc();
+    let mut table = TextTable::new(alloc, &[&["a"], &["b"]])?;
+    table.with(Style::ascii())?;
+    let colors = vec![in alloc; angle(alloc)?, square(alloc)?]?;
+    table.with(Colorization::rows(colors))?;
+    assert_eq!(rt; table.to_ansi()?.as_str(), "+---+\n|< a >|\n+---+\n|[ b ]|\n+---+");
+    Ok(())
+}
+
+#[test]
+fn a_text_of_a_row_in_color_was_changed(rt: HostRuntime) -> Result<(), Fail> {
+    let mut table = striped(rt.alloc())?;
+    let _ = table.set_text(Position::new(1, 0), "dd")?;
+    let text = "\
++----+----+
+|< a  >|<  1 >|
++----+----+
+|[ dd ]|[ 22 ]|
++----+----+
+|< c  >|<  3 >|
++----+----+";
     assert_eq!(rt; table.to_ansi()?.as_str(), text);
     Ok(())
 }

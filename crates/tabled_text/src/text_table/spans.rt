@@ -104,14 +104,8 @@ impl TextTable {
     pub(super) fn ansi_alone(&self) -> Result<String, OutOfMemory>
         ensures { (es : List ConfigEvent) → Shows es self.now.config → IfOk result (λ text. string_bytes text ≡ colored_text (painted_alone es self.now.texts)) }
     {
-        let shape = (self.shape.rows, self.shape.cols);
-        let text = colored_text(
-            self.config(),
-            &self.sizes,
-            shape,
-            &self.cells,
-            self.are_printable,
-        )?;
+        let (config, shape) = (self.config(), (self.shape.rows, self.shape.cols));
+        let text = colored_text(config, &self.sizes, shape, &self.cells, self.are_printable)?;
         Ok(text)
     }
 

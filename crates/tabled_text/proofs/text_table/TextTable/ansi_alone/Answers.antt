@@ -17,8 +17,8 @@ colored_text-requires-clause-cols c =
 pub returns : goal.returns
 returns c es shows =
     let rows = c.self.inside.cells.items in
-    let cfg = c.config.result.now in
-    let shown : Shows es cfg = subst (Shows es) (sym c.config.ensures) shows in
+    let cfg = c.config-config.result.now in
+    let shown : Shows es cfg = subst (Shows es) (sym c.config-config.ensures) shows in
     c.in_ok-text.ensures
     ∙ ap (λ items. colored_text (painted_by cfg (c.self.inside.shape.rows, c.self.inside.shape.cols) c.self.inside.sizes.widths.items c.self.inside.sizes.heights.items (texts items))) c.deref.ensures.value
     ∙ ap colored_text (is_colored_text cfg (texts rows) c.self.inside.shape c.self.inside.sizes.widths.items c.self.inside.sizes.heights.items c.self.invariant.1 c.self.invariant.2 c.self.invariant.3 es shown)
