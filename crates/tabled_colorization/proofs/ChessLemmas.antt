@@ -83,27 +83,27 @@ module _ (white black : Shade) where
   by_parity : ℕ → Shade
   by_parity k = if k % 2 == 0 then white else black
 
-  of_two : (n : ℕ) → n < 2 → slice_get (white ∷ black ∷ []) n ≡ Some (if n == 0 then white else black)
+  of_two : (n : ℕ) → n < 2 → slice_get (texts_of white ∷ texts_of black ∷ []) n ≡ Some (texts_of (if n == 0 then white else black))
   of_two zero h = refl
-  of_two (suc zero) h = ap (λ b. Some (cond b white black)) (let one : false ≡ (suc zero == 0) = grind (arith, nat_tests) in one)
+  of_two (suc zero) h = ap (λ b. Some (texts_of (cond b white black))) (let one : false ≡ (suc zero == 0) = grind (arith, nat_tests) in one)
   of_two (suc (suc n)) h = absurd (omega arith)
 
-  row_written : (row : ℕ) (cols : List ℕ) → text_writes (in_turn (white ∷ black ∷ []) (map (λ col. (Cell row col, row + col)) cols)) ≡ map (λ col. write_of (Cell row col) (texts_of (if (row + col) % 2 == 0 then white else black))) cols
+  row_written : (row : ℕ) (cols : List ℕ) → text_writes (in_turn (texts_of white ∷ texts_of black ∷ []) (map (λ col. (Cell row col, row + col)) cols)) ≡ map (λ col. write_of (Cell row col) (texts_of (if (row + col) % 2 == 0 then white else black))) cols
   row_written row [] = refl
   row_written row (col ∷ cols) =
-      ap (λ shade. text_writes (with_color (Cell row col) shade ++ in_turn (white ∷ black ∷ []) (map (λ col. (Cell row col, row + col)) cols))) (of_two ((row + col) % 2) (omega arith))
+      ap (λ shade. text_writes (with_color (Cell row col) shade ++ in_turn (texts_of white ∷ texts_of black ∷ []) (map (λ col. (Cell row col, row + col)) cols))) (of_two ((row + col) % 2) (omega arith))
       ∙ ap (λ rest. write_of (Cell row col) (texts_of (if (row + col) % 2 == 0 then white else black)) ∷ rest) (row_written row cols)
 
-  board_written : (rows cols : List ℕ) → text_writes (in_turn (white ∷ black ∷ []) (flat_map (λ row. map (λ col. (Cell row col, row + col)) cols) rows)) ≡ flat_map (λ row. map (λ col. write_of (Cell row col) (texts_of (if (row + col) % 2 == 0 then white else black))) cols) rows
+  board_written : (rows cols : List ℕ) → text_writes (in_turn (texts_of white ∷ texts_of black ∷ []) (flat_map (λ row. map (λ col. (Cell row col, row + col)) cols) rows)) ≡ flat_map (λ row. map (λ col. write_of (Cell row col) (texts_of (if (row + col) % 2 == 0 then white else black))) cols) rows
   board_written [] cols = refl
   board_written (row ∷ rows) cols =
       let line : List (Entity × ℕ) = map (λ col. (Cell row col, row + col)) cols in
       let lines : List (Entity × ℕ) = flat_map (λ row. map (λ col. (Cell row col, row + col)) cols) rows in
-      ap text_writes (flat_map-append (in_its_turn (white ∷ black ∷ [])) line lines)
-      ∙ map-append (λ colored. write_of colored.0 colored.1) (in_turn (white ∷ black ∷ []) line) (in_turn (white ∷ black ∷ []) lines)
+      ap text_writes (flat_map-append (in_its_turn (texts_of white ∷ texts_of black ∷ [])) line lines)
+      ∙ map-append (λ colored. write_of colored.0 colored.1) (in_turn (texts_of white ∷ texts_of black ∷ []) line) (in_turn (texts_of white ∷ texts_of black ∷ []) lines)
       ∙ (λ i. row_written row cols i ++ board_written rows cols i)
 
-  pub on_the_board : (rows cols row col : ℕ) (default : Texts) → row < rows → col < cols → setting (text_writes (in_turn (white ∷ black ∷ []) (numbered Chess rows cols))) default (position row col) ≡ texts_of (if (row + col) % 2 == 0 then white else black)
+  pub on_the_board : (rows cols row col : ℕ) (default : Texts) → row < rows → col < cols → setting (text_writes (in_turn (texts_of white ∷ texts_of black ∷ []) (numbered Chess rows cols))) default (position row col) ≡ texts_of (if (row + col) % 2 == 0 then white else black)
   unfolding numbered covered writes
   on_the_board rows cols row col default h k =
       ap (λ events. unwrap_or (option_and_then (λ event. event.1) (last_or None (filter (λ event. covers event.0 (position row col)) events))) default) (board_written (below rows) (below cols))

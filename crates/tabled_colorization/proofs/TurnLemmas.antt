@@ -9,17 +9,16 @@ use Rattle.tabled_border.specs.Texts.{Texts}
 use Rattle.tabled_object.specs.declared.entity.Entity.{Entity}
 use Rattle.tabled_object.specs.Entities.{below}
 use Rattle.tabled_configuration.proofs.Below.{flat_map_below}
-use Rattle.tabled_color.specs.Shade.{Shade}
-use Rattle.tabled_colorization.specs.Turns.{in_its_turn, in_turn, exact_colorization}
+use Rattle.tabled_colorization.specs.Turns.{in_its_turn, in_turn, listing_in_turn}
 
 -- one entity more
-pub one_more : (colors : List Shade) (entity : ℕ → Entity × ℕ) (first old new : List (Entity × Texts)) (at : ℕ) → old ≡ first ++ in_turn colors (map entity (below at)) → new ≡ old ++ in_its_turn colors (entity at) → new ≡ first ++ in_turn colors (map entity (below (at + 1)))
+pub one_more : (colors : List Texts) (entity : ℕ → Entity × ℕ) (first old new : List (Entity × Texts)) (at : ℕ) → old ≡ first ++ in_turn colors (map entity (below at)) → new ≡ old ++ in_its_turn colors (entity at) → new ≡ first ++ in_turn colors (map entity (below (at + 1)))
 one_more colors entity first old new at made is =
     is ∙ ap (λ front. front ++ in_its_turn colors (entity at)) made ∙ flat_map_more (in_its_turn colors) first (map entity (below at)) (entity at)
     ∙ ap (λ entities. first ++ flat_map (in_its_turn colors) entities) (sym (map-range_with_len_more entity 0 at at (omega arith)))
 
 -- one line of a table more
-pub line_more : (colors : List Shade) (line : ℕ → List (Entity × ℕ)) (old new : List (Entity × Texts)) (at : ℕ) → old ≡ in_turn colors (flat_map line (below at)) → new ≡ old ++ in_turn colors (line at) → new ≡ in_turn colors (flat_map line (below (at + 1)))
+pub line_more : (colors : List Texts) (line : ℕ → List (Entity × ℕ)) (old new : List (Entity × Texts)) (at : ℕ) → old ≡ in_turn colors (flat_map line (below at)) → new ≡ old ++ in_turn colors (line at) → new ≡ in_turn colors (flat_map line (below (at + 1)))
 line_more colors line old new at made is =
     is ∙ ap (λ front. front ++ flat_map (in_its_turn colors) (line at)) made
     ∙ sym (flat_map-append (in_its_turn colors) (flat_map line (below at)) (line at))
@@ -35,7 +34,7 @@ enumerated_more start (x ∷ xs) zero d h = ap (λ n. (n, x) ∷ []) {x = start}
 enumerated_more start (x ∷ xs) (suc i) d h =
     ap (λ rest. (start, x) ∷ rest) (enumerated_more (start + 1) xs i d (omega arith) ∙ ap (λ n. enumerate_from (start + 1) (take i xs) ++ (n, slice_index_or xs i d) ∷ []) {x = start + 1 + i} {y = start + suc i} (omega arith))
 
-pub listed_more : (colors : List Shade) (entities : List Entity) (i : ℕ) (d : Entity) (old new : List (Entity × Texts)) → i < length entities → old ≡ exact_colorization colors (take i entities) → new ≡ old ++ in_its_turn colors (slice_index_or entities i d, i) → new ≡ exact_colorization colors (take (i + 1) entities)
+pub listed_more : (colors : List Texts) (entities : List Entity) (i : ℕ) (d : Entity) (old new : List (Entity × Texts)) → i < length entities → old ≡ listing_in_turn colors (take i entities) → new ≡ old ++ in_its_turn colors (slice_index_or entities i d, i) → new ≡ listing_in_turn colors (take (i + 1) entities)
 listed_more colors entities i d old new here made is =
     is ∙ ap (λ front. front ++ in_its_turn colors (slice_index_or entities i d, i)) made
     ∙ flat_map_more (in_its_turn colors) [] (map (λ item. (item.1, item.0)) (enumerate_from 0 (take i entities))) (slice_index_or entities i d, i)

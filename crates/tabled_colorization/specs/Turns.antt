@@ -20,15 +20,15 @@ pub record Exactly (O : Type 0) : Type 0 where
   pub target : O
 
 -- an entity with its color, if it has one
-abbrev pub with_color : Entity → Option Shade → List (Entity × Texts)
+abbrev pub with_color : Entity → Option Texts → List (Entity × Texts)
 with_color entity None = []
-with_color entity (Some color) = (entity, texts_of color) ∷ []
+with_color entity (Some color) = (entity, color) ∷ []
 
 -- an entity with a number has the color of that number, where the colors are counted round and round; without colors there is none
-abbrev pub in_its_turn : List Shade → Entity × ℕ → List (Entity × Texts)
+abbrev pub in_its_turn : List Texts → Entity × ℕ → List (Entity × Texts)
 in_its_turn colors numbered = with_color numbered.0 (slice_get colors (numbered.1 % length colors))
 
-abbrev pub in_turn : List Shade → List (Entity × ℕ) → List (Entity × Texts)
+abbrev pub in_turn : List Texts → List (Entity × ℕ) → List (Entity × Texts)
 in_turn colors entities = flat_map (in_its_turn colors) entities
 
 -- the entities of a pattern with their numbers, in a table of the given numbers of rows and columns
@@ -41,8 +41,11 @@ numbered Chess rows cols = flat_map (λ row. map (λ col. (Cell row col, row + c
 
 -- the colors that a pattern gives
 abbrev pub colorization : Colorizing → ℕ → ℕ → List (Entity × Texts)
-colorization given rows cols = in_turn given.colors (numbered given.pattern rows cols)
+colorization given rows cols = in_turn (map texts_of given.colors) (numbered given.pattern rows cols)
 
 -- the colors that the entities of a listing are given, counted from 0
+abbrev pub listing_in_turn : List Texts → List Entity → List (Entity × Texts)
+listing_in_turn colors entities = in_turn colors (map (λ item. (item.1, item.0)) (enumerate_from 0 entities))
+
 abbrev pub exact_colorization : List Shade → List Entity → List (Entity × Texts)
-exact_colorization colors entities = in_turn colors (map (λ item. (item.1, item.0)) (enumerate_from 0 entities))
+exact_colorization colors entities = listing_in_turn (map texts_of colors) entities

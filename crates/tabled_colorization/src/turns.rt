@@ -4,22 +4,48 @@ ghost use Rattle.std.specs.Prelude.{◌≡◌, ◌+◌, ◌%◌, ◌^◌, ◌<�
 ghost use Rattle.tabled_object.specs.declared.entity.Entity.TheVariants as cells;
 ghost use Rattle.tabled_object.specs.Entities.{below};
 ghost use Rattle.tabled_colorization.specs.declared.pattern.Pattern.TheVariants as pattern;
-ghost use Rattle.tabled_colorization.specs.Turns.{in_its_turn, in_turn, numbered, exact_colorization};
+ghost use Rattle.tabled_colorization.specs.Turns.{in_its_turn, in_turn, listing_in_turn, numbered, exact_colorization};
+ghost use Rattle.tabled_color.specs.Shade.{texts_of};
 
 use crate::pattern::Pattern;
 use std::alloc::Global;
-use tabled_border::{ANSIBuf, OutOfMemory};
+use tabled_border::{ANSIBuf, Keep, OutOfMemory};
 use tabled_color::Color;
 use tabled_object::Entity;
 
 /// Entities, each with its color.
 pub(crate) type Colored = Vec<(Entity, ANSIBuf)>;
 
+/// The texts of colors, which all entities of one color share.
+fn texts_of(alloc: Global, colors: &[Color]) -> Result<Vec<ANSIBuf>, OutOfMemory>
+    ensures { IfOk result (λ texts. texts.items ≡ map texts_of colors.now) }
+{
+    let mut texts = Vec::with_capacity(alloc, colors.len())?;
+    for color in colors {
+        texts.push(ANSIBuf::new(alloc, color.get_prefix(), color.get_suffix())?)?;
+    }
+    Ok(texts)
+}
+
 /// The entities of a pattern in a table of the given numbers of rows and columns, each with its color.
 pub(crate) fn colored_by(
     alloc: Global,
     pattern: Pattern,
     colors: &[Color],
+    rows: usize,
+    cols: usize,
+) -> Result<Colored, OutOfMemory>
+    ensures { IfOk result (λ list. list.items ≡ in_turn (map texts_of colors.now) (numbered pattern rows cols)) }
+{
+    let texts = texts_of(alloc, colors)?;
+    in_turn(alloc, pattern, &texts, rows, cols)
+}
+
+/// The same, where the colors are given by their texts.
+fn in_turn(
+    alloc: Global,
+    pattern: Pattern,
+    colors: &[ANSIBuf],
     rows: usize,
     cols: usize,
 ) -> Result<Colored, OutOfMemory>
@@ -42,6 +68,14 @@ pub(crate) fn colored_exactly(
 ) -> Result<Colored, OutOfMemory>
     ensures { IfOk result (λ list. list.items ≡ exact_colorization colors.now entities.now) }
 {
+    let texts = texts_of(alloc, colors)?;
+    listed(alloc, &texts, entities)
+}
+
+/// The same, where the colors are given by their texts.
+fn listed(alloc: Global, colors: &[ANSIBuf], entities: &[Entity]) -> Result<Colored, OutOfMemory>
+    ensures { IfOk result (λ list. list.items ≡ listing_in_turn colors.now entities.now) }
+{
     let mut list = Vec::new(alloc);
     for (number, entity) in entities.iter().enumerate() {
         add(&mut list, alloc, colors, *entity, number as u128)?;
@@ -49,7 +83,7 @@ pub(crate) fn colored_exactly(
     Ok(list)
 }
 
-fn columns(alloc: Global, colors: &[Color], cols: usize) -> Result<Colored, OutOfMemory>
+fn columns(alloc: Global, colors: &[ANSIBuf], cols: usize) -> Result<Colored, OutOfMemory>
     ensures { IfOk result (λ list. list.items ≡ in_turn colors.now (map (λ col. (cells.Column col, col)) (below cols))) }
 {
     let mut list = Vec::new(alloc);
@@ -59,7 +93,7 @@ fn columns(alloc: Global, colors: &[Color], cols: usize) -> Result<Colored, OutO
     Ok(list)
 }
 
-fn rows_of(alloc: Global, colors: &[Color], rows: usize) -> Result<Colored, OutOfMemory>
+fn rows_of(alloc: Global, colors: &[ANSIBuf], rows: usize) -> Result<Colored, OutOfMemory>
     ensures { IfOk result (λ list. list.items ≡ in_turn colors.now (map (λ row. (cells.Row row, row)) (below rows))) }
 {
     let mut list = Vec::new(alloc);
@@ -69,7 +103,12 @@ fn rows_of(alloc: Global, colors: &[Color], rows: usize) -> Result<Colored, OutO
     Ok(list)
 }
 
-fn by_row(alloc: Global, colors: &[Color], rows: usize, cols: usize) -> Result<Colored, OutOfMemory>
+fn by_row(
+    alloc: Global,
+    colors: &[ANSIBuf],
+    rows: usize,
+    cols: usize,
+) -> Result<Colored, OutOfMemory>
     ensures { IfOk result (λ list. list.items ≡ in_turn colors.now (numbered pattern.ByRow rows cols)) }
 {
     let mut list = Vec::new(alloc);
@@ -88,7 +127,7 @@ fn by_row(alloc: Global, colors: &[Color], rows: usize, cols: usize) -> Result<C
 
 fn by_column(
     alloc: Global,
-    colors: &[Color],
+    colors: &[ANSIBuf],
     rows: usize,
     cols: usize,
 ) -> Result<Colored, OutOfMemory>
@@ -108,7 +147,12 @@ fn by_column(
     Ok(list)
 }
 
-fn chess(alloc: Global, colors: &[Color], rows: usize, cols: usize) -> Result<Colored, OutOfMemory>
+fn chess(
+    alloc: Global,
+    colors: &[ANSIBuf],
+    rows: usize,
+    cols: usize,
+) -> Result<Colored, OutOfMemory>
     ensures { IfOk result (λ list. list.items ≡ in_turn colors.now (numbered pattern.Chess rows cols)) }
 {
     let mut list = Vec::new(alloc);
@@ -122,7 +166,7 @@ fn chess(alloc: Global, colors: &[Color], rows: usize, cols: usize) -> Result<Co
 fn add_row(
     list: &mut Colored,
     alloc: Global,
-    colors: &[Color],
+    colors: &[ANSIBuf],
     row: usize,
     cols: usize,
     first: u128,
@@ -146,7 +190,7 @@ fn add_row(
 fn add_column(
     list: &mut Colored,
     alloc: Global,
-    colors: &[Color],
+    colors: &[ANSIBuf],
     col: usize,
     rows: usize,
     first: u128,
@@ -170,7 +214,7 @@ fn add_column(
 fn add(
     list: &mut Colored,
     alloc: Global,
-    colors: &[Color],
+    colors: &[ANSIBuf],
     entity: Entity,
     number: u128,
 ) -> Result<(), OutOfMemory>
@@ -178,8 +222,7 @@ fn add(
 {
     match color_of(colors, number) {
         Some(color) => {
-            let texts = ANSIBuf::new(alloc, color.get_prefix(), color.get_suffix())?;
-            list.push((entity, texts))?;
+            list.push((entity, color.keep(alloc)?))?;
             Ok(())
         }
         None => Ok(()),
@@ -187,7 +230,7 @@ fn add(
 }
 
 /// The color of a number, where the colors are counted round and round.
-fn color_of(colors: &[Color], number: u128) -> Option<&Color>
+fn color_of(colors: &[ANSIBuf], number: u128) -> Option<&ANSIBuf>
     ensures { option_copied result ≡ slice_get colors.now (number % length colors.now) }
 {
     if colors.is_empty() {

@@ -1,6 +1,6 @@
 use Rattle.std.proofs.Common.{◌≡◌, sym, subst, IfOk}
 use Rattle.tabled_colorization.specs.Turns.{in_turn, numbered}
-use Rattle.tabled_colorization.proofs.turns.colored_by.Goals as goal
+use Rattle.tabled_colorization.proofs.turns.in_turn.Goals as goal
 
 pub returns-in-Columns : goal.returns-in-Columns
 unfolding numbered
