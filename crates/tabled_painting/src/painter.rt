@@ -17,6 +17,9 @@ use tabled_border::{ANSIBuf, OutOfMemory};
 use tabled_printing::{Mark, Run, Sink, push_times};
 use tabled_settings::AlignmentHorizontal;
 
+/// How many bytes most joints have at most.
+const JOINT: usize = 64;
+
 /// A text that painted lines are written into, one after another, and the color of what was written last.
 #[derive(Drop)]
 pub(crate) struct Painter<'a> {
@@ -197,7 +200,7 @@ impl<'a> Painter<'a> {
         ensures { IfOk result (λ text. string_bytes text ≡ joint_text with_colors (option_copied color.entry) (option_map mark_of side.entry)) }
     {
         let mut painter = Painter {
-            text: String::new(alloc),
+            text: String::with_capacity(alloc, JOINT)?,
             color: color_if(with_colors, color),
             with_colors,
         };

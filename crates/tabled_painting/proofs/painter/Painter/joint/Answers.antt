@@ -8,4 +8,4 @@ pub returns : goal.returns
 returns c =
     ap string_bytes c.into_text.ensures
     ∙ joint_painted c.args.with_colors (option_copied c.args.color) (option_map mark_of c.args.side) _ c.push_side.new.self c.begin.new.self
-    c.new.ensures.bytes c.color_if.ensures refl c.in_ok-push_side.ensures c.in_ok-begin.ensures.text
+    c.in_ok-with_capacity.ensures.bytes c.color_if.ensures refl c.in_ok-push_side.ensures c.in_ok-begin.ensures.text
