@@ -396,9 +396,9 @@ fn every_other_color(
     ensures texts { table.new.texts ≡ table.old.texts }
     ensures sizes { table.new.sizes ≡ table.old.sizes }
 {
-    table.apply_to(&Entity::Row(0), &padding)?;
-    table.apply(justification)?;
-    table.apply(color)
+    let done = table.apply_to(&Entity::Row(0), &padding);
+    let done = apply_after(done, table, justification);
+    apply_after(done, table, color)
 }
 
 /// Applies those that color whole cells.
