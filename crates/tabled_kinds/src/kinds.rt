@@ -1,19 +1,24 @@
 //! An option of every kind, one after the other: some read nothing, others read what stands before them, the shape, the sizes,
 //! the drawn lines or the spans, and some set what is no border.
 
-ghost use Rattle.std.specs.Prelude.{◌≡◌, length, OnOk};
+ghost use Rattle.std.specs.Prelude.{◌≡◌, false, length, is_err, OnOk};
+ghost use Rattle.tabled_object.specs.declared.dimension.FixedDimension.{FixedDimension};
+ghost use Rattle.tabled_configuration.specs.Colored.{Changes};
 ghost use Rattle.tabled_text.specs.Sizes.{column_count};
+ghost use Rattle.tabled_text.specs.TextTable.{AreRead, shape_of};
 ghost use Rattle.tabled_kinds.specs.EveryKind.{style_options, edge_options, border_options, line_options, color_options, text_options, room_options, first_targets, other_borders, other_colors, whole_colors, other_settings, other_targets, options, InTurn};
 
 use tabled::TextTable;
-use tabled::grid::config::{Border as CellBorder, Borders, Entity, OutOfMemory};
+use tabled::grid::config::{Border as CellBorder, Borders, ColoredConfig, Entity, OutOfMemory};
+use tabled::grid::dimension::FixedDimension;
+use tabled::grid::records::Shape;
 use tabled::settings::formatting::{AlignmentStrategy, TrimStrategy};
 use tabled::settings::object::{Cell, Column, FirstRow, Row};
 use tabled::settings::style::{BorderColor, EmptyBorder, LineChar, LineText, On, ReadyStyle};
 use tabled::settings::themes::{BorderCorrection, Colorization, ExactColorization};
 use tabled::settings::{
     Alignment, Border, CellColor, Color, Highlight, JoinedColor, Justification, Margin,
-    MarginColor, Padding, PaddingColor, Shadow, Span, Style, Theme,
+    MarginColor, Padding, PaddingColor, Shadow, Span, Style, TableOption, Theme,
 };
 
 /// Options for the borders of a table and of its cells.
@@ -145,6 +150,28 @@ pub struct OtherTargets {
     pub settings: OtherSettings,
 }
 
+/// Options that are applied later: letting go of them is one call wherever their life ends.
+struct Later<T: Drop> {
+    options: T,
+}
+
+impl<T: Drop> Drop for Later<T> {
+    fn drop(self) {
+        let Later { options } = self;
+        drop(options);
+    }
+}
+
+impl<T: Drop> Later<T> {
+    /// The options, to be applied now.
+    fn now(self) -> T
+        ensures { result ≡ self.options }
+    {
+        let Later { options } = self;
+        options
+    }
+}
+
 /// Applies them all, at each of their targets, and then a correction for the spans that are set. By its contract the configuration
 /// changes by the events of each, in this order, and by nothing else, whatever stood there before; so `headline` says of every place
 /// what it shows then, and as the texts stay, `TextTable::to_text` prints that around the same cells.
@@ -157,8 +184,9 @@ pub fn every_kind(
     ensures texts { table.new.texts ≡ table.old.texts }
     ensures sizes { table.new.sizes ≡ table.old.sizes }
 {
+    let others = Later { options: others };
     every_first_target(table, kinds)?;
-    every_other_target(table, others)?;
+    every_other_target(table, others.now())?;
     table.apply(BorderCorrection::span())
 }
 
@@ -175,10 +203,13 @@ pub fn every_first_target(table: &mut TextTable, kinds: Kinds) -> Result<(), Out
         texts,
         rooms,
     } = kinds;
+    let lines = Later { options: lines };
+    let colors = Later { options: colors };
+    let texts = Later { options: texts };
     every_border(table, borders)?;
-    every_line(table, lines)?;
-    every_color(table, colors)?;
-    every_text(table, texts)?;
+    every_line(table, lines.now())?;
+    every_color(table, colors.now())?;
+    every_text(table, texts.now())?;
     every_room(table, rooms)
 }
 
@@ -189,8 +220,9 @@ pub fn every_other_target(table: &mut TextTable, others: OtherTargets) -> Result
     ensures sizes { table.new.sizes ≡ table.old.sizes }
 {
     let OtherTargets { borders, settings } = others;
+    let settings = Later { options: settings };
     every_other_border(table, borders)?;
-    every_other_setting(table, settings)
+    every_other_setting(table, settings.now())
 }
 
 /// Applies options for borders: the first four replace them all, and the others change some of them.
@@ -208,8 +240,9 @@ pub fn every_border(table: &mut TextTable, kinds: BorderKinds) -> Result<(), Out
         around,
         colors,
     } = kinds;
+    let colors = Later { options: colors };
     every_style(table, theme, style, ready, characters)?;
-    every_edge(table, frame, &around, &colors)
+    every_edge(table, frame, &around, &colors.options)
 }
 
 /// Applies what replaces all borders.
@@ -269,20 +302,28 @@ pub fn every_color(table: &mut TextTable, kinds: ColorKinds) -> Result<(), OutOf
     ensures texts { table.new.texts ≡ table.old.texts }
     ensures sizes { table.new.sizes ≡ table.old.sizes }
 {
-    let ColorKinds {
-        row,
-        padding,
-        in_turn,
-        exact,
-        margin,
-        shadow,
-    } = kinds;
-    table.apply_to(&Entity::Row(0), &row)?;
-    table.apply(padding)?;
-    table.apply(in_turn)?;
-    table.apply(exact)?;
-    table.apply(margin)?;
-    table.apply(shadow)
+    let done = table.apply_to(&Entity::Row(0), &kinds.row);
+    let done = apply_after(done, table, kinds.padding);
+    let done = apply_after(done, table, kinds.in_turn);
+    let done = apply_after(done, table, kinds.exact);
+    let done = apply_after(done, table, kinds.margin);
+    apply_after(done, table, kinds.shadow)
+}
+
+/// Applies an option after others, unless one of them was refused.
+fn apply_after<P>(
+    others: Result<(), OutOfMemory>,
+    table: &mut TextTable,
+    option: P,
+) -> Result<(), OutOfMemory>
+where
+    P: TableOption<Shape, ColoredConfig, FixedDimension> + Drop,
+    ensures config { OnOk result ((is_err others ≡ false) × (read : FixedDimension) × AreRead table.old read × Changes (P.makes option (shape_of table.old.texts) read table.old.config) table.old.config table.new.config) }
+    ensures texts { table.new.texts ≡ table.old.texts }
+    ensures sizes { table.new.sizes ≡ table.old.sizes }
+{
+    others?;
+    table.apply(option)
 }
 
 /// Applies options for texts of cells.
@@ -355,9 +396,9 @@ fn every_other_color(
     ensures texts { table.new.texts ≡ table.old.texts }
     ensures sizes { table.new.sizes ≡ table.old.sizes }
 {
-    table.apply_to(&Entity::Row(0), &padding)?;
-    table.apply(justification)?;
-    table.apply(color)
+    let done = table.apply_to(&Entity::Row(0), &padding);
+    let done = apply_after(done, table, justification);
+    apply_after(done, table, color)
 }
 
 /// Applies those that color whole cells.

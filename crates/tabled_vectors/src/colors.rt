@@ -101,14 +101,17 @@ fn colors_are_compared_and_put_around_texts(rt: HostRuntime) {
     assert!(rt; is_colorized(alloc));
 }
 
+/// Whether a color is empty.
+fn is_empty(color: Color) -> bool {
+    let is_empty = color.is_empty();
+    drop(color);
+    is_empty
+}
+
 /// Whether a color of these texts is empty, if there was memory for it.
 fn made_is_empty(alloc: Global, prefix: &str, suffix: &str) -> Option<bool> {
     match Color::new(alloc, prefix, suffix) {
-        Ok(color) => {
-            let is_empty = color.is_empty();
-            drop(color);
-            Some(is_empty)
-        }
+        Ok(color) => Some(is_empty(color)),
         Err(OutOfMemory) => None,
     }
 }
@@ -135,9 +138,9 @@ fn attributes_have_texts(rt: HostRuntime) {
 
 #[test]
 fn colors_without_texts_are_empty(rt: HostRuntime) {
-    assert!(rt; Color::empty().is_empty());
+    assert!(rt; is_empty(Color::empty()));
     assert!(rt; made_is_empty(rt.alloc(), "", "") == Some(true));
     assert!(rt; made_is_empty(rt.alloc(), "a", "b") == Some(false));
-    assert!(rt; !Color::FG_BLACK.is_empty());
-    assert!(rt; !Color::BG_RED.is_empty());
+    assert!(rt; !is_empty(Color::FG_BLACK));
+    assert!(rt; !is_empty(Color::BG_RED));
 }

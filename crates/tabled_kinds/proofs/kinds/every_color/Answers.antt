@@ -3,7 +3,7 @@ use Rattle.std.proofs.Common.{[], ◌∷◌, length, refl, ◌∙◌}
 use Rattle.tabled_object.specs.declared.dimension.FixedDimension.{FixedDimension}
 use Rattle.tabled_object.specs.declared.entity.Entity.TheVariants.{Global, Row, Column}
 use Rattle.tabled_settings.specs.Setting.{write_of}
-use Rattle.tabled_grid.proofs.Seen.{on_ok}
+use Rattle.tabled_grid.proofs.Seen.{on_ok, where_ok}
 use Rattle.tabled_configuration.specs.Colored.{by_cell_color}
 use Rattle.tabled_configuration.specs.EntitiesColored.{entities_colored}
 use Rattle.tabled_printing.specs.Texts.{Table}
@@ -21,17 +21,22 @@ returns-clause-steps c =
     let start = c.args.table.now in
     let texts : Table = start.texts in
     let sizes : FixedDimension = start.sizes in
-    let texts_2 = c.apply_to.ensures.texts in
-    let texts_3 = c.apply.ensures.texts ∙ texts_2 in
-    let texts_4 = c.apply-2.ensures.texts ∙ texts_3 in
-    let texts_5 = c.apply-3.ensures.texts ∙ texts_4 in
-    let texts_6 = c.apply-4.ensures.texts ∙ texts_5 in
-    let sizes_2 = c.apply_to.ensures.sizes in
-    let sizes_3 = c.apply.ensures.sizes ∙ sizes_2 in
-    let sizes_4 = c.apply-2.ensures.sizes ∙ sizes_3 in
-    let sizes_5 = c.apply-3.ensures.sizes ∙ sizes_4 in
-    let sizes_6 = c.apply-4.ensures.sizes ∙ sizes_5 in
-    on_ok c.apply-5.result (λ last.
+    let texts_2 = c.apply_to-done.ensures.texts in
+    let texts_3 = c.apply_after-done.ensures.texts ∙ texts_2 in
+    let texts_4 = c.apply_after-done-2.ensures.texts ∙ texts_3 in
+    let texts_5 = c.apply_after-done-3.ensures.texts ∙ texts_4 in
+    let texts_6 = c.apply_after-done-4.ensures.texts ∙ texts_5 in
+    let sizes_2 = c.apply_to-done.ensures.sizes in
+    let sizes_3 = c.apply_after-done.ensures.sizes ∙ sizes_2 in
+    let sizes_4 = c.apply_after-done-2.ensures.sizes ∙ sizes_3 in
+    let sizes_5 = c.apply_after-done-3.ensures.sizes ∙ sizes_4 in
+    let sizes_6 = c.apply_after-done-4.ensures.sizes ∙ sizes_5 in
+    on_ok c.apply_after.result (λ last.
+    let fifth = where_ok _ last.0 c.apply_after-done-4.ensures.config in
+    let fourth = where_ok _ fifth.0 c.apply_after-done-3.ensures.config in
+    let third = where_ok _ fourth.0 c.apply_after-done-2.ensures.config in
+    let second = where_ok _ third.0 c.apply_after-done.ensures.config in
+    let first = where_ok _ second.0 c.apply_to-done.ensures.config in
     then_one (λ t s before. shadow_set kinds.shadow) _ texts _ sizes _ start.config _ _ texts_6 sizes_6
     (then_one (λ t s before. margin_colored (λ (color : Shade). color.prefix) (λ (color : Shade). color.suffix) kinds.margin) _ texts _ sizes _ start.config _ _ texts_5 sizes_5
     (then_one (λ t s before. entities_colored (exact_colorization kinds.exact.colors (Column kinds.exact.target.index ∷ []))) _ texts _ sizes _ start.config _ _ texts_4 sizes_4
@@ -39,9 +44,9 @@ returns-clause-steps c =
     (then_one (λ t s before. padding_set (λ (color : Shade). color.prefix) (λ (color : Shade). color.suffix) kinds.padding Global) _ texts _ sizes _ start.config _ _ texts_2 sizes_2
     (then_those (λ t s. (λ before. by_cell_color (write_of (Row 0) (texts_of kinds.row))) ∷ []) _ texts _ sizes _ start.config _ _ refl refl
     (nothing_yet start.config)
-    c.in_ok-apply_to.ensures.config)
-    c.in_ok-apply.ensures.config.2)
-    c.in_ok-apply-2.ensures.config.2)
-    c.in_ok-apply-3.ensures.config.2)
-    c.in_ok-apply-4.ensures.config.2)
-    last.2) c.apply-5.ensures.config
+    first)
+    second.3)
+    third.3)
+    fourth.3)
+    fifth.3)
+    last.3) c.apply_after.ensures.config

@@ -1,11 +1,11 @@
 -- Group by group: each reads the same texts and sizes, and what stands after those before it.
-use Rattle.std.proofs.Common.{length, refl, ◌∙◌}
+use Rattle.std.proofs.Common.{length, refl, subst, ◌∙◌}
 use Rattle.tabled_object.specs.declared.dimension.FixedDimension.{FixedDimension}
 use Rattle.tabled_grid.proofs.Seen.{on_ok}
 use Rattle.tabled_printing.specs.Texts.{Table}
 use Rattle.tabled_text.specs.Sizes.{column_count}
 use Rattle.tabled_correction.specs.Correction.{correction_events}
-use Rattle.tabled_kinds.specs.EveryKind.{first_targets, other_targets}
+use Rattle.tabled_kinds.specs.EveryKind.{first_targets, other_targets, InTurn}
 use Rattle.tabled_kinds.proofs.Turns.{nothing_yet, then_one, then_those}
 use Rattle.tabled_kinds.proofs.kinds.every_kind.Goals as goal
 
@@ -20,9 +20,11 @@ returns-clause-steps c =
     let texts_3 = c.every_other_target.ensures.texts ∙ texts_2 in
     let sizes_2 = c.every_first_target.ensures.sizes in
     let sizes_3 = c.every_other_target.ensures.sizes ∙ sizes_2 in
+    let first = c.every_first_target.new.table in
+    let by_others = subst (λ others. InTurn (other_targets others (length first.texts, column_count first.texts)) first.config c.every_other_target.new.table.config) c.now.ensures c.in_ok-every_other_target.ensures.steps in
     on_ok c.apply.result (λ corrected.
     then_one (λ t s before. correction_events (length t, column_count t) before.spanned) _ texts _ sizes _ start.config _ _ texts_3 sizes_3
     (then_those (λ t s. other_targets others (length t, column_count t)) _ texts _ sizes _ start.config _ _ texts_2 sizes_2
     (then_those (λ t s. first_targets kinds t) _ texts _ sizes _ start.config _ _ refl refl (nothing_yet start.config) c.in_ok-every_first_target.ensures.steps)
-    c.in_ok-every_other_target.ensures.steps)
+    by_others)
     corrected.2) c.apply.ensures.config
