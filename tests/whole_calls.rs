@@ -244,7 +244,7 @@ fn texts_are_painted_as_a_configuration_says(rt: HostRuntime) -> Result<(), Fail
     let rows = one_text(alloc, "a")?;
     let plain = plain_text(&cfg, &dims, (1, 1), &rows, false)?;
     assert_eq!(rt; plain.as_str(), "+----+\n| a  |\n+----+");
-    let colored = colored_text(&cfg, &dims, (1, 1), &rows)?;
+    let colored = colored_text(&cfg, &dims, (1, 1), &rows, true)?;
     assert_eq!(rt; colored.as_str(), "+----+\n| <a>  |\n+----+");
     Ok(())
 }

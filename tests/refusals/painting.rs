@@ -23,7 +23,7 @@ fn paint(turn: &mut Turn, with_colors: bool) -> Result<Outcome, OutOfMemory> {
     turn.spend();
     let (cfg, sizes, shape) = (&sample.cfg, &sample.dims, (2, 2));
     let text = if with_colors {
-        colored_text(cfg, sizes, shape, &cells)
+        colored_text(cfg, sizes, shape, &cells, false)
     } else {
         plain_text(cfg, sizes, shape, &cells, false)
     };
