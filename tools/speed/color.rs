@@ -34,9 +34,10 @@ fn table(alloc: Global, rows: Vec<Vec<String>>) -> Result<TextTable, TableError>
 
 fn main(rt: HostRuntime) -> io::Result<()> {
     let alloc = rt.alloc();
+    let input = io::read_to_string(alloc, rt.stdin())?;
     let mut rows = Vec::new(alloc);
-    for line in rt.lines(alloc) {
-        rows.push(cells(alloc, line?.as_str())?)?;
+    for line in input.as_str().lines() {
+        rows.push(cells(alloc, line)?)?;
     }
     table(alloc, rows)?.print_ansi_to(&mut rt.stdout())?;
     Ok(())
