@@ -278,3 +278,36 @@ fn a_text_of_a_row_in_color_was_changed(rt: HostRuntime) -> Result<(), Fail> {
     assert_eq!(rt; table.to_ansi()?.as_str(), text);
     Ok(())
 }
+
+/// Nine rows of one cell, the numbers from 1 on, without borders.
+fn nine(alloc: Global) -> Result<TextTable, TableError> {
+    let rows: &[&[&str]] = &[&["1"], &["2"], &["3"], &["4"], &["5"], &["6"], &["7"], &["8"], &["9"]];
+    TextTable::new(alloc, rows)
+}
+
+#[test]
+fn many_rows_have_colors_in_turn(rt: HostRuntime) -> Result<(), Fail> {
+    let alloc = rt.alloc();
+    let mut table = nine(alloc)?;
+    let colors = vec![in alloc; angle(alloc)?, square(alloc)?]?;
+    table.with(Colorization::rows(colors))?;
+    let text = "< 1 >\n[ 2 ]\n< 3 >\n[ 4 ]\n< 5 >\n[ 6 ]\n< 7 >\n[ 8 ]\n< 9 >";
+    assert_eq!(rt; table.to_ansi()?.as_str(), text);
+    Ok(())
+}
+
+#[test]
+fn later_colors_of_many_rows_replace_the_first_ones(rt: HostRuntime) -> Result<(), Fail> {
+    let alloc = rt.alloc();
+    let mut table = nine(alloc)?;
+    let colors = vec![in alloc; angle(alloc)?, square(alloc)?]?;
+    table.with(Colorization::rows(colors))?;
+    table.modify(Rows::one(4), CellColor::new(square(alloc)?))?;
+    let text = "< 1 >\n[ 2 ]\n< 3 >\n[ 4 ]\n[ 5 ]\n[ 6 ]\n< 7 >\n[ 8 ]\n< 9 >";
+    assert_eq!(rt; table.to_ansi()?.as_str(), text);
+    let others = vec![in alloc; square(alloc)?, angle(alloc)?, Color::empty()]?;
+    table.with(Colorization::rows(others))?;
+    let text = "[ 1 ]\n< 2 >\n 3 \n[ 4 ]\n< 5 >\n 6 \n[ 7 ]\n< 8 >\n 9 ";
+    assert_eq!(rt; table.to_ansi()?.as_str(), text);
+    Ok(())
+}
