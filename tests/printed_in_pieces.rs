@@ -6,7 +6,8 @@ use std::io::{ErrorKind, Write};
 use std::test::Fail;
 use tabled::grid::config::{HorizontalLine, Indent, Offset, Sides, VerticalLine};
 use tabled::settings::object::{Cell, Columns, Rows, Segment};
-use tabled::settings::style::{Border, LineChar, LineText};
+use tabled::settings::style::{Border, BorderColor, LineChar, LineText};
+use tabled::settings::themes::Colorization;
 use tabled::settings::{Alignment, Color, Justification, Margin, Padding, Span, Style};
 use tabled::{TableError, TextTable};
 use tabled_grid::Position;
@@ -128,6 +129,79 @@ fn a_table_with_colors_is_printed_in_pieces_without_them(rt: HostRuntime) -> Res
     let mut colored = Stream::new(rt.alloc(), usize::MAX);
     table.print_ansi_to(&mut colored)?;
     assert!(rt; colored.taken.as_slice() == table.to_ansi()?.as_bytes());
+    Ok(())
+}
+
+/// Whether a table is printed in color as its text in color is, in one piece or in several.
+fn is_printed_in_color(alloc: Global, table: &TextTable, how: How) -> Result<bool, TableError> {
+    let text = table.to_ansi()?;
+    let mut alone = Stream::new(alloc, usize::MAX);
+    table.print_ansi_to(&mut alone)?;
+    let mut between = Stream::new(alloc, usize::MAX);
+    table.print_ansi_between("above\n", "\nbelow", &mut between)?;
+    let whole = format!(in alloc; "above\n{text}\nbelow")?;
+    let is_whole = alone.writes == 1 && alone.longest == text.len();
+    let is_in_pieces = alone.writes > 1 && alone.longest <= ROOM;
+    let is_as_wanted = if how == How::Whole { is_whole } else { is_in_pieces };
+    Ok(alone.taken.as_slice() == text.as_bytes() && between.taken.as_slice() == whole.as_bytes() && is_as_wanted)
+}
+
+/// The given number of colors, each with another text before what is colored.
+fn colors(alloc: Global, count: usize) -> Result<Vec<Color>, TableError> {
+    let mut colors = Vec::new(alloc);
+    for number in 0..count {
+        let prefix = format!(in alloc; "<{number} ")?;
+        colors.push(Color::new(alloc, prefix.as_str(), ">")?)?;
+    }
+    Ok(colors)
+}
+
+#[test]
+fn rows_in_color_are_printed_in_pieces(rt: HostRuntime) -> Result<(), Fail> {
+    let alloc = rt.alloc();
+    let mut table = long(alloc)?;
+    assert!(rt; is_printed_in_color(alloc, &table, How::InPieces)?, "no color");
+    table.modify(Segment::all(), BorderColor::filled(alloc, Color::FG_RED)?)?;
+    assert!(rt; is_printed_in_color(alloc, &table, How::InPieces)?, "borders in color");
+    for count in [1, 2, 16] {
+        table.with(Colorization::rows(colors(alloc, count)?))?;
+        assert!(rt; is_printed_in_color(alloc, &table, How::InPieces)?, "{count} colors");
+    }
+    table.with(Style::empty())?;
+    table.modify(Columns::last(), Alignment::right())?;
+    assert!(rt; is_printed_in_color(alloc, &table, How::InPieces)?, "no borders");
+    Ok(())
+}
+
+#[test]
+fn other_colors_are_printed_whole(rt: HostRuntime) -> Result<(), Fail> {
+    let alloc = rt.alloc();
+    let mut table = long(alloc)?;
+    table.with(Colorization::rows(colors(alloc, 17)?))?;
+    assert!(rt; is_printed_in_color(alloc, &table, How::Whole)?, "many colors");
+    let mut table = long(alloc)?;
+    table.modify(Columns::one(1), Color::FG_RED)?;
+    assert!(rt; is_printed_in_color(alloc, &table, How::Whole)?, "a column in color");
+    let mut table = long(alloc)?;
+    table.modify(Rows::one(7), Color::FG_RED)?;
+    assert!(rt; is_printed_in_color(alloc, &table, How::Whole)?, "texts alone");
+    let mut table = long(alloc)?;
+    table.with(Colorization::rows(colors(alloc, 2)?))?;
+    table.modify(Cell::new(3, 0), LineChar::vertical('#', Offset::Start(0)))?;
+    assert!(rt; is_printed_in_color(alloc, &table, How::Whole)?, "a side of a single place");
+    Ok(())
+}
+
+#[test]
+fn a_stream_that_fails_has_a_beginning_in_color(rt: HostRuntime) -> Result<(), Fail> {
+    let mut table = long(rt.alloc())?;
+    table.with(Colorization::rows(colors(rt.alloc(), 2)?))?;
+    let text = table.to_ansi()?;
+    for room in [0, 1, ROOM, 2 * ROOM, text.len() - 1] {
+        let mut stream = Stream::new(rt.alloc(), room);
+        assert!(rt; table.print_ansi_to(&mut stream) == Err(TableError::Write), "{room} bytes");
+        assert!(rt; text.as_bytes().get(..room) == Some(stream.taken.as_slice()), "{room} bytes");
+    }
     Ok(())
 }
 

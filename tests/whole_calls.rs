@@ -10,7 +10,7 @@ use tabled_grid::{
     border_writes,
 };
 use tabled_painting::{
-    Output, PlainLines, colored_spanned_text, colored_text, plain_spanned_text, plain_text,
+    AlikeLines, Output, colored_spanned_text, colored_text, plain_spanned_text, plain_text,
     sizes_of_spanned,
 };
 use tabled_rooms::CellSizes;
@@ -260,7 +260,7 @@ fn a_text_takes_what_has_no_color(rt: HostRuntime) -> Result<(), Fail> {
 }
 
 #[test]
-fn a_plain_table_is_written_line_by_line(rt: HostRuntime) -> Result<(), Fail> {
+fn a_table_is_written_line_by_line(rt: HostRuntime) -> Result<(), Fail> {
     let alloc = rt.alloc();
     let mut config = SpannedConfig::new(alloc);
     config.set_borders(ascii_borders());
@@ -268,7 +268,7 @@ fn a_plain_table_is_written_line_by_line(rt: HostRuntime) -> Result<(), Fail> {
     let dims = FixedDimension::new(vec![in alloc; 4usize; 1]?, vec![in alloc; 1usize; 1]?);
     let rows = one_text(alloc, "a")?;
     let mut text = String::from_str(alloc, "= ")?;
-    if let Some(lines) = PlainLines::new(&cfg, &dims, (1, 1))? {
+    if let Some(lines) = AlikeLines::new(&cfg, &dims, (1, 1), false)? {
         lines.write(&mut text, &rows)?;
     }
     assert_eq!(rt; text.as_str(), "= +----+\n| a  |\n+----+");

@@ -1,5 +1,6 @@
 pub mod PainterLemmas
 pub mod JointLemmas
+pub mod JoinedRow
 pub mod CellLemmas
 pub mod FrameLemmas
 pub mod PageLemmas
@@ -15,5 +16,5 @@ pub mod SpannedPlain
 pub mod SpannedLemmas
 pub mod AloneLemmas
 pub mod DrawnLemmas
-pub mod PlainLineLemmas
+pub mod AlikeLineLemmas
 pub mod OutputLemmas

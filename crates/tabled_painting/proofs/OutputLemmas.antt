@@ -1,5 +1,5 @@
 -- What is written without colors, part by part: sides, cells, and the line of a row.
-use Rattle.std.proofs.Common.{◌≡◌, ℕ, ◌+◌, Bool, false, Option, Some, None, List, [], ◌∷◌, ◌++◌, refl, sym, ap, subst, ◌∙◌, option_map, encode_utf8, option_copied, string_bytes, Result, Ok, Err, OnOk}
+use Rattle.std.proofs.Common.{◌≡◌, ℕ, ◌+◌, false, Option, Some, None, List, [], ◌++◌, sym, ap, subst, ◌∙◌, option_map, encode_utf8, option_copied, string_bytes, Result, Ok, Err, OnOk}
 use Rattle.std.specs.List.{flat_map}
 use Rattle.std.proofs.lemmas.List.{append-nil}
 use Rattle.tabled_object.specs.Entities.{below}

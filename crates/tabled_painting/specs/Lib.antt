@@ -13,8 +13,8 @@ pub mod Stretches
 pub mod BareCells
 pub mod Outputs
 pub mod Printable
-pub mod PlainRows
-pub mod PlainLines
+pub mod AlikeRows
+pub mod AlikeLines
 pub mod Widths
 pub mod PaintedSpans
 pub mod RoomLines

@@ -10,9 +10,12 @@ use Rattle.tabled_painting.specs.Margin.{side_of, between_sides, strip}
 use Rattle.tabled_painting.specs.declared.painter.Painter.{Painter}
 use Rattle.tabled_painting.specs.declared.page.Page.{Page}
 
--- a line as it is written, with the line feed that ends it
+-- a line as it is written, and with the line feed that ends it
+abbrev pub line_text : Bool → Painted → List ℕ
+line_text with_colors line = in_color (colored_if with_colors line)
+
 abbrev pub written : Bool → Painted → List ℕ
-written with_colors line = in_color (colored_if with_colors line) ++ 10 ∷ []
+written with_colors line = line_text with_colors line ++ 10 ∷ []
 
 -- painted lines as a text, with their colors or without them
 unfoldable pub text_of_lines : Bool → List Painted → List ℕ

@@ -29,7 +29,7 @@ pub if_both : (wanted : Bool) (xs ys : Painted) → colored_if wanted (xs ++ ys)
 if_both true xs ys = refl
 if_both false xs ys = ap (paint None) (map-append (λ painted. painted.0) xs ys) ∙ map-append (λ byte. (byte, None)) (plain xs) (plain ys)
 
-if_nothing : (wanted : Bool) → colored_if wanted [] ≡ []
+pub if_nothing : (wanted : Bool) → colored_if wanted [] ≡ []
 if_nothing true = refl
 if_nothing false = refl
 

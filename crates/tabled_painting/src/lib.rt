@@ -5,31 +5,33 @@
 #![tactic(auto)]
 
 mod alike;
+mod alike_lines;
 mod bare_cells;
 mod cell_colors;
 mod cell_lines;
-mod colored_row;
 mod drawn;
+mod joined_row;
+mod joints;
 mod margin_side;
 mod margin_sides;
 mod output;
 mod page;
 mod painter;
 mod painting;
-mod plain_lines;
 mod plain_row;
 mod room;
 mod row_colors;
+mod row_joints;
 mod spanned_lines;
 mod spanned_sizes;
 mod spans_of;
 mod table_lines;
 
+pub use alike_lines::AlikeLines;
 pub(crate) use cell_colors::CellColors;
 pub(crate) use margin_side::MarginSide;
 pub(crate) use margin_sides::MarginSides;
 pub use output::Output;
 pub(crate) use painter::Painter;
 pub use painting::{colored_spanned_text, colored_text, plain_spanned_text, plain_text};
-pub use plain_lines::PlainLines;
 pub use spanned_sizes::sizes_of_spanned;

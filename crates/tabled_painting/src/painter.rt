@@ -125,7 +125,7 @@ impl<'a> Painter<'a> {
 
     /// Ends the color of what was written last, if it has one.
     #[tactic(auto, unfolding(crate::specs::InColor::between))]
-    fn end_last(&mut self) -> Result<(), AllocError>
+    pub(crate) fn end_last(&mut self) -> Result<(), AllocError>
         ensures text { OnOk result (string_bytes self.new.text ≡ string_bytes self.old.text ++ between (option_copied self.old.color) None) }
         ensures color { OnOk result (option_copied self.new.color ≡ None) }
         ensures same_colors { self.new.with_colors ≡ self.old.with_colors }
@@ -189,42 +189,34 @@ impl<'a> Painter<'a> {
         self.push_side(side)
     }
 
-    /// What is written between two cells of a row in one color: that color ends, what a vertical line shows follows, if there is
-    /// something, and the color begins again.
+    /// What is written of a side between a place of the one color and a place of the other: the first color ends, what the vertical line shows
+    /// follows, if there is something, and the other color begins.
     pub(crate) fn joint(
         alloc: Global,
         with_colors: bool,
-        color: Option<&'a ANSIBuf>,
+        before: Option<&'a ANSIBuf>,
         side: Option<Mark<'a>>,
+        after: Option<&'a ANSIBuf>,
     ) -> Result<String, AllocError>
-        ensures { IfOk result (λ text. string_bytes text ≡ joint_text with_colors (option_copied color.entry) (option_map mark_of side.entry)) }
+        ensures { IfOk result (λ text. string_bytes text ≡ joint_text with_colors (color_if with_colors (option_copied before.entry)) (option_map mark_of side.entry) (color_if with_colors (option_copied after.entry))) }
     {
         let mut painter = Painter {
             text: String::with_capacity(alloc, JOINT)?,
-            color: color_if(with_colors, color),
+            color: color_if(with_colors, before),
             with_colors,
         };
         painter.push_side(side)?;
-        painter.begin(color)?;
+        painter.begin(after)?;
         Ok(painter.into_text())
     }
 
-    /// Writes a joint, and then a text in a column between spaces, as `push_bare` does: all in the color of what was written last.
-    #[inline(always)]
-    pub(crate) fn push_joined(
-        &mut self,
-        joint: &str,
-        alignment: AlignmentHorizontal,
-        width: usize,
-        text: &str,
-    ) -> Result<(), AllocError>
-        ensures text { OnOk result (string_bytes self.new.text ≡ string_bytes self.old.text ++ joint.now ++ bare_text alignment width text.now) }
-        ensures color { self.new.color ≡ self.old.color }
+    /// Goes on in a color, in which its text ends already.
+    pub(crate) fn go_on_in(&mut self, color: Option<&'a ANSIBuf>)
+        ensures text { self.new.text ≡ self.old.text }
+        ensures color { option_copied self.new.color ≡ color_if self.old.with_colors (option_copied color.entry) }
         ensures same_colors { self.new.with_colors ≡ self.old.with_colors }
     {
-        self.text.push_str(joint)?;
-        push_bare(&mut self.text, alignment, width, text, None)?;
-        Ok(())
+        self.color = color_if(self.with_colors, color);
     }
 
     /// Writes what a vertical line shows, if there is something.

@@ -3,7 +3,7 @@
 ghost use Rattle.std.specs.Prelude.{◌≡◌, ◌<◌, ◌++◌, [], true, Some, OnOk, length, map, option_map, slice_index, slice_index_or, string_bytes};
 ghost use Rattle.tabled_printing.specs.Marks.{mark_of};
 ghost use Rattle.tabled_cells.specs.Placed.{times};
-ghost use Rattle.tabled_painting.specs.BareCells.{bare_text, side_in};
+ghost use Rattle.tabled_painting.specs.BareCells.{bare_text, side_in, text_within};
 ghost use Rattle.tabled_painting.specs.Painted.{plain};
 ghost use Rattle.tabled_painting.specs.PaintedTable.{painted_between, side_painted};
 ghost use Rattle.tabled_painting.specs.Printable.{ArePrintable};
@@ -45,6 +45,35 @@ pub(crate) fn push_bare<O: Output>(
     out.push_spaces(1 + before)?;
     out.push_str(text)?;
     push_spaces(out, free - before + 1, side)
+}
+
+/// Writes the given number of spaces, of which there often are none.
+#[inline(always)]
+fn push_free<O: Output>(out: &mut O, count: usize) -> Result<(), O::Error>
+    ensures { OnOk result (O.gains (times count 32) out.old out.new) }
+{
+    if count == 0 {
+        return Ok(());
+    }
+    out.push_spaces(count)
+}
+
+/// Writes a text in a column, with the spaces that its alignment wants around it beside one before it and one after it. The text takes as
+/// many terminal columns as it has bytes.
+#[inline(always)]
+pub(crate) fn push_within<O: Output>(
+    out: &mut O,
+    alignment: AlignmentHorizontal,
+    width: usize,
+    text: &str,
+) -> Result<(), O::Error>
+    ensures { OnOk result (O.gains (text_within alignment width text.now) out.old out.new) }
+{
+    let free = width.saturating_sub(2).saturating_sub(text.len());
+    let before = free_before(alignment, free);
+    push_free(out, before)?;
+    out.push_str(text)?;
+    push_free(out, free - before)
 }
 
 impl TableLines<'_, '_> {

@@ -340,7 +340,7 @@ impl<'a, 'b, 'c> SpannedLines<'a, 'b, 'c> {
             → AreOpen (viewed lines.frame) (columns_of lines) (rows_of lines) (room_cells lines table) (row + 1) rooms.new) }
     {
         if all_stand_alone(hosts, row) {
-            self.lines.paint_row(page, row, texts, cells, false)?;
+            self.lines.paint_row(page, row, texts, cells, false, None)?;
             return Ok(());
         }
         self.begin_rooms(rooms, wides, hosts, row, texts)?;

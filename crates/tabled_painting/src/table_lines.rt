@@ -11,6 +11,7 @@ ghost use Rattle.tabled_printing.specs.Texts.{texts};
 ghost use Rattle.tabled_grid.specs.declared.place.LineOf.{LineOf as Line};
 ghost use Rattle.tabled_painting.specs.InColor.{Paints};
 ghost use Rattle.tabled_painting.specs.Pages.{PaintsLines, written};
+ghost use Rattle.tabled_painting.specs.Pages as pages;
 ghost use Rattle.tabled_painting.specs.PaintedTable.{painted_marks, side_painted};
 ghost use Rattle.tabled_painting.specs.Viewed as looks;
 ghost use Rattle.tabled_painting.specs.BareCells.{AreBare, AreRowColors, side_in};
@@ -20,6 +21,7 @@ ghost use Rattle.tabled_painting.specs.Printable.{AllPrintable, ArePrintable};
 use crate::alike::first_plain_line;
 use crate::bare_cells::{BareColumns, bare_columns};
 use crate::cell_lines::CellLines;
+use crate::joints::RowJoints;
 use crate::page::Page;
 use crate::row_colors::{RowColors, row_colors};
 use crate::{CellColors, Painter};
@@ -48,11 +50,11 @@ pub(crate) struct TableLines<'a, 'b> {
     /// Whether all cells are bare, and no colors are wanted.
     pub(crate) is_plain: bool,
     /// In which colors the cells of a row are painted.
-    row_colors: RowColors,
+    pub(crate) row_colors: RowColors,
     /// A horizontal line between two rows as it is written, with its line feed, where all of them but custom ones look alike.
     pub(crate) between: Option<String>,
     /// How many columns of a terminal its columns take, as far as a number says it.
-    columns: usize,
+    pub(crate) columns: usize,
     ghost are_bare: { AreBare frame.cfg.now.settings.cells bare_columns },
     ghost all_bare: { are_all_bare ≡ true → (c : ℕ) → c < frame.shape.1 → IsSome (side_in bare_columns c) },
     ghost plain_cells: { is_plain ≡ true → are_all_bare ≡ true },
@@ -64,6 +66,7 @@ pub(crate) struct TableLines<'a, 'b> {
 impl<'a, 'b> TableLines<'a, 'b> {
     ghost use Rattle.tabled_painting.specs.BareCells.{IsInColor, IsRowColor};
     ghost use Rattle.tabled_painting.specs.CellLines.{coloring_at};
+    ghost use Rattle.tabled_painting.specs.Joints.{AreJoined};
     ghost use Rattle.tabled_painting.specs.Rows.{line_of};
     ghost use Rattle.tabled_painting.specs.PaintedTable.{painted_between, painted_cell, painted_if_drawn, painted_lines};
     ghost use Rattle.tabled_painting.specs.Rows.{cells_of, row_cell, row_painted};
@@ -240,30 +243,29 @@ impl<'a, 'b> TableLines<'a, 'b> {
         texts: &'a [String],
         cells: &mut Vec<CellLines<'a>>,
         are_printable: bool,
+        joints: Option<&RowJoints<'a>>,
     ) -> Result<(), OutOfMemory>
         requires row { row < self.now.frame.shape.0 }
         requires high { 0 < slice_index self.now.frame.dims.now.heights.items row }
         requires texts { length texts.now ≡ self.now.frame.shape.1 }
         requires printable { are_printable ≡ true → ArePrintable (map string_bytes texts.now) }
+        requires joints { IfSome (option_copied joints) (AreJoined self.now) }
         requires colors { painter.old.with_colors ≡ self.now.frame.with_colors }
         ensures painted { OnOk result (Paints (painted_between (viewed self.now.frame) row 0 (λ c. row_cell self.now row c (slice_index_or (map string_bytes texts.now) c []) 0)) painter.old painter.new) }
         ensures kept { slice_index self.now.frame.dims.now.heights.items row ≢ 1
             → OnOk result ((at : ℕ) → map (line_of at) cells.new.items ≡ map (λ c. row_cell self.now row c (slice_index_or (map string_bytes texts.now) c []) at) (below (length texts.now))) }
     {
         let is_low = self.frame.dims.get_height(row) == 1;
-        if is_low && are_printable && self.is_plain && painter.color.is_none() {
-            self.push_plain_row(&mut painter.text, row, texts)?;
-            return Ok(());
+        if is_low && are_printable && self.are_all_bare && painter.color.is_none() {
+            if let Some(joints) = joints {
+                return self.paint_joined(painter, row, texts, joints.of(row));
+            }
+            if self.is_plain {
+                self.push_plain_row(&mut painter.text, row, texts)?;
+                return Ok(());
+            }
         }
         let bare = self.row_color(row, is_low);
-        if are_printable
-            && self.are_all_bare
-            && let Some(color) = bare
-            && let Some(inner) = self.inner_side()
-        {
-            self.paint_in_one_color(painter, row, texts, color, inner)?;
-            return Ok(());
-        }
         self.paint_each(painter, row, texts, cells, bare)
     }
 
@@ -329,10 +331,12 @@ impl<'a, 'b> TableLines<'a, 'b> {
         texts: &'a [String],
         cells: &mut Vec<CellLines<'a>>,
         are_printable: bool,
+        joints: Option<&RowJoints<'a>>,
     ) -> Result<(), OutOfMemory>
         requires row { row < self.now.frame.shape.0 }
         requires texts { length texts.now ≡ self.now.frame.shape.1 }
         requires printable { are_printable ≡ true → ArePrintable (map string_bytes texts.now) }
+        requires joints { IfSome (option_copied joints) (AreJoined self.now) }
         requires ended { option_copied page.old.painter.color ≡ None }
         requires colors { page.old.painter.with_colors ≡ self.now.frame.with_colors }
         ensures { OnOk result (PaintsLines (row_painted self.now row (map string_bytes texts.now)) page.old page.new) }
@@ -342,7 +346,7 @@ impl<'a, 'b> TableLines<'a, 'b> {
             return Ok(());
         }
         page.begin_line()?;
-        self.paint_first(&mut page.painter, row, texts, cells, are_printable)?;
+        self.paint_first(&mut page.painter, row, texts, cells, are_printable, joints)?;
         page.end_line()?;
         for at in 1..height {
             page.begin_line()?;
@@ -367,9 +371,11 @@ impl<'a, 'b> TableLines<'a, 'b> {
         ensures { OnOk result (PaintsLines (painted_lines (viewed self.now.frame) (cells_of self.now (texts rows.now))) page.old page.new) }
     {
         let mut cells = Vec::new(self.frame.cfg.allocator());
+        let made = self.row_joints()?;
+        let joints = made.as_ref();
         for (row, texts) in rows.iter().enumerate() {
             self.paint_line(page, row)?;
-            self.paint_row(page, row, texts, &mut cells, are_printable)?;
+            self.paint_row(page, row, texts, &mut cells, are_printable, joints)?;
         }
         self.paint_line(page, rows.len())
     }
@@ -384,7 +390,6 @@ impl<'a, 'b> TableLines<'a, 'b> {
         let line = self
             .columns
             .saturating_add(self.frame.side_bytes())
-            .saturating_add(self.color_bytes())
             .saturating_add(1);
         let between = match &self.between {
             Some(line) => line.len(),
@@ -431,9 +436,28 @@ fn columns_of(frame: &Frame<FixedDimension>) -> usize {
     columns
 }
 
-/// A horizontal line as it is written, with its line feed. It has room for three bytes for each of the given number of columns and for
-/// each vertical line, which is what most characters take at most.
-fn line_written(
+/// A horizontal line as it is written. It has room for three bytes for each of the given number of columns and for each vertical line, which
+/// is what most characters take at most, and for its line feed.
+pub(crate) fn line_text(
+    alloc: Global,
+    frame: &Frame<FixedDimension>,
+    row: usize,
+    columns: usize,
+) -> Result<String, OutOfMemory>
+    requires { row ≤ frame.now.shape.0 }
+    ensures { IfOk result (λ text. string_bytes text ≡ pages.line_text frame.now.with_colors (painted_marks (marks_along (looks.viewed frame.now) (Line.Horizontal row)))) }
+{
+    let mut painter = Painter::new(alloc, frame.with_colors);
+    let (_, cols) = frame.shape;
+    let room = columns.saturating_add(cols).saturating_add(2);
+    painter.reserve(room.saturating_mul(3))?;
+    frame.put_line(row, &mut painter, &mut Probes::new())?;
+    painter.end_last()?;
+    Ok(painter.into_text())
+}
+
+/// The same with its line feed.
+pub(crate) fn line_written(
     alloc: Global,
     frame: &Frame<FixedDimension>,
     row: usize,
@@ -442,13 +466,9 @@ fn line_written(
     requires { row ≤ frame.now.shape.0 }
     ensures { IfOk result (λ text. string_bytes text ≡ written frame.now.with_colors (painted_marks (marks_along (looks.viewed frame.now) (Line.Horizontal row)))) }
 {
-    let mut painter = Painter::new(alloc, frame.with_colors);
-    let (_, cols) = frame.shape;
-    let room = columns.saturating_add(cols).saturating_add(2);
-    painter.reserve(room.saturating_mul(3))?;
-    frame.put_line(row, &mut painter, &mut Probes::new())?;
-    painter.end_line()?;
-    Ok(painter.into_text())
+    let mut text = line_text(alloc, frame, row, columns)?;
+    text.push('\n')?;
+    Ok(text)
 }
 
 /// The room of a cell that was painted before, if there is one and it is not needed any more.

@@ -6,7 +6,7 @@ ghost use Rattle.std.specs.List.{All};
 ghost use Rattle.std.specs.String.{string_capacity};
 ghost use Rattle.std.specs.Io.KnownBytes.{Appends};
 ghost use Rattle.tabled_printing.specs.Texts.{texts, times};
-ghost use Rattle.tabled_painting.specs.PlainLines.{written_by};
+ghost use Rattle.tabled_painting.specs.AlikeLines.{written_by};
 ghost use Rattle.tabled_painting.specs.Printable.{AllPrintable};
 ghost use Rattle.tabled_text.specs.declared.stream.TheConstants.{ROOM};
 ghost use Rattle.tabled_text.specs.declared.table_error.TableError.{TableError as Refusal};
@@ -15,7 +15,7 @@ use crate::TableError;
 use std::alloc::Global;
 use std::convert::Infallible;
 use std::io;
-use tabled_painting::{Output, PlainLines};
+use tabled_painting::{AlikeLines, Output};
 
 /// How many bytes wait at most before they are written.
 pub(crate) const ROOM: usize = 65_536;
@@ -146,7 +146,7 @@ impl<W: io::Write> Stream<'_, W> {
     }
 
     /// Writes the texts before and after a table, and the table between them, and all that waits then.
-    fn push_all(&mut self, lines: &PlainLines, before: &str, rows: &[Vec<String>], after: &str)
+    fn push_all(&mut self, lines: &AlikeLines, before: &str, rows: &[Vec<String>], after: &str)
         requires rows { length rows.now ≡ lines.now.lines.frame.shape.0 }
         requires cols { All (λ row. length row ≡ lines.now.lines.frame.shape.1) (texts rows.now) }
         requires printable { AllPrintable (texts rows.now) }
@@ -201,10 +201,10 @@ impl<W: io::Write> Output for Stream<'_, W> {
     ghost gains_both = { stream_both W.contents };
 }
 
-/// Writes a plain table to a stream, piece by piece, between two texts. All memory is asked for before the first byte is written.
+/// Writes a table to a stream, piece by piece, between two texts. All memory is asked for before the first byte is written.
 pub(crate) fn write_pieces<W: io::Write>(
     alloc: Global,
-    lines: &PlainLines,
+    lines: &AlikeLines,
     before: &str,
     rows: &[Vec<String>],
     after: &str,

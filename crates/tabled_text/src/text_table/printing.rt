@@ -1,6 +1,6 @@
 //! A table that is printed to a stream of bytes, alone or between two texts.
 
-ghost use Rattle.std.specs.Prelude.{◌≡◌, ◌⊎◌, ◌++◌, true, List, length, IfErr, IfOk, IfSome, OnOk};
+ghost use Rattle.std.specs.Prelude.{◌≡◌, ◌⊎◌, ◌++◌, true, false, List, length, IfErr, IfOk, IfSome, OnOk};
 ghost use Rattle.std.specs.List.{All};
 ghost use Rattle.std.specs.Io.KnownBytes.{Appends};
 ghost use Rattle.tabled_configuration.specs.Colored.{Shows};
@@ -21,10 +21,10 @@ use crate::stream::{ROOM, write_pieces};
 use std::io;
 use tabled_border::OutOfMemory;
 use tabled_object::Shape;
-use tabled_painting::PlainLines;
+use tabled_painting::AlikeLines;
 
 impl TextTable {
-    ghost use Rattle.tabled_painting.specs.PlainLines.{written_by};
+    ghost use Rattle.tabled_painting.specs.AlikeLines.{written_by};
 
     /// Writes the text of the table to a stream of bytes, such as standard output. Where it is refused by `to_text` nothing is
     /// written; where the stream fails some of the text may be.
@@ -73,17 +73,20 @@ impl TextTable {
         ensures unwritten { IfErr result (λ e. (e ≡ Refusal.Write) ⊎ (out.new ≡ out.old)) }
     {
         let alloc = self.config().config().allocator();
-        if let Some(lines) = self.plain_lines()? {
+        if let Some(lines) = self.alike_lines(false)? {
             return write_pieces(alloc, &lines, before, &self.cells, after, out);
         }
         let text = self.text_alone()?;
         write_in_turn(before, text.as_str(), after, out)
     }
 
-    /// The lines of a table that is long, and can be written one after another with no more memory than they have.
-    fn plain_lines(&self) -> Result<Option<PlainLines<'_, '_>>, OutOfMemory>
-        ensures text { (es : List ConfigEvent) → borders.Shows es self.now.config.spanned
+    /// The lines of a table of which no cell spans or has padding, with its colors or without them, where it is long, and they can be written
+    /// one after another with no more memory than they have.
+    fn alike_lines(&self, with_colors: bool) -> Result<Option<AlikeLines<'_, '_>>, OutOfMemory>
+        ensures plain { (es : List ConfigEvent) → borders.Shows es self.now.config.spanned → with_colors ≡ false
             → IfOk result (λ found. IfSome found (λ lines. written_by lines self.now.texts ≡ plain_text (painted_alone es self.now.texts))) }
+        ensures colored { (es : List ConfigEvent) → Shows es self.now.config → with_colors ≡ true
+            → IfOk result (λ found. IfSome found (λ lines. written_by lines self.now.texts ≡ colored_text (painted_alone es self.now.texts))) }
         ensures rows { IfOk result (λ found. IfSome found (λ lines. length self.now.texts ≡ lines.lines.frame.shape.0)) }
         ensures cols { IfOk result (λ found. IfSome found (λ lines. All (λ row. length row ≡ lines.lines.frame.shape.1) self.now.texts)) }
         ensures printable { IfOk result (λ found. IfSome found (λ lines. AllPrintable self.now.texts)) }
@@ -94,7 +97,7 @@ impl TextTable {
         if rows == 0 || cols == 0 || !self.is_long() || !self.has_printable_texts() {
             return Ok(None);
         }
-        PlainLines::new(self.config(), &self.sizes, (rows, cols))
+        AlikeLines::new(self.config(), &self.sizes, (rows, cols), with_colors)
     }
 
     /// Whether its text has more bytes than wait to be written at most, as far as its sizes tell.
@@ -135,7 +138,29 @@ impl TextTable {
         ensures refusal { IfErr result (λ e. (e ≡ Refusal.OutOfMemory) ⊎ (e ≡ Refusal.Write)) }
         ensures unwritten { IfErr result (λ e. (e ≡ Refusal.Write) ⊎ (out.new ≡ out.old)) }
     {
-        let text = self.to_ansi()?;
+        if self.config().config().has_spans_or_padding() {
+            let text = self.to_ansi()?;
+            return write_in_turn(before, text.as_str(), after, out);
+        }
+        self.print_ansi_alone(before, after, out)
+    }
+
+    /// Prints a table in color of which no cell spans or has padding, as a whole or piece by piece.
+    fn print_ansi_alone<W: io::Write>(
+        &self,
+        before: &str,
+        after: &str,
+        out: &mut W,
+    ) -> Result<(), TableError>
+        ensures text { (es : List ConfigEvent) → Shows es self.now.config → OnOk result (Appends (W.contents out.old) (W.contents out.new) (before.now ++ colored_text (painted_alone es self.now.texts) ++ after.now)) }
+        ensures refusal { IfErr result (λ e. (e ≡ Refusal.OutOfMemory) ⊎ (e ≡ Refusal.Write)) }
+        ensures unwritten { IfErr result (λ e. (e ≡ Refusal.Write) ⊎ (out.new ≡ out.old)) }
+    {
+        let alloc = self.config().config().allocator();
+        if let Some(lines) = self.alike_lines(true)? {
+            return write_pieces(alloc, &lines, before, &self.cells, after, out);
+        }
+        let text = self.ansi_alone()?;
         write_in_turn(before, text.as_str(), after, out)
     }
 }

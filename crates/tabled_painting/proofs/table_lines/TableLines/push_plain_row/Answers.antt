@@ -1,5 +1,5 @@
 -- A cell and a side more.
-use Rattle.std.proofs.Common.{◌≡◌, ℕ, ◌+◌, ◌++◌, [], true, map, length, option_map, slice_index, slice_index_or, string_bytes, subst, sym, ap, ◌∙◌, arith}
+use Rattle.std.proofs.Common.{◌≡◌, ℕ, ◌+◌, ◌++◌, [], true, map, option_map, slice_index, slice_index_or, string_bytes, subst, sym, ap, ◌∙◌, arith}
 use Rattle.std.specs.List.{flat_map, list_all}
 use Rattle.tabled_width.specs.Texts.{is_printable}
 use Rattle.tabled_object.specs.Entities.{below}

@@ -1,9 +1,9 @@
 -- The table, piece by piece or as a whole.
-use Rattle.std.proofs.Common.{◌≡◌, ◌++◌, Result, Ok, Err, OnOk, ap, sym, subst, ◌∙◌}
+use Rattle.std.proofs.Common.{◌≡◌, ◌++◌, Result, Ok, Err, OnOk, refl, ap, sym, subst, ◌∙◌}
 use Rattle.std.specs.Prelude.{IfSome}
 use Rattle.std.specs.Io.KnownBytes.{Appends}
 use Rattle.tabled_painting.specs.PaintedTable.{plain_text}
-use Rattle.tabled_painting.specs.PlainLines.{written_by}
+use Rattle.tabled_painting.specs.AlikeLines.{written_by}
 use Rattle.tabled_painting.specs.Widths.{text_width}
 use Rattle.tabled_printing.specs.Columns.{IsRectangle}
 use Rattle.tabled_printing.specs.Texts.{texts}
@@ -22,7 +22,7 @@ returns-in-Some-clause-text g c es shows =
     let table = c.args.self.now.texts in
     let lines = c.in-Some.lines in
     let same : written_by lines table ≡ plain_text (painted_alone es table) =
-    subst (λ found. IfSome found (λ plain. written_by plain table ≡ plain_text (painted_alone es table))) c.in-Some.is (c.in_ok-lines.ensures.text es shows) in
+    subst (λ found. IfSome found (λ plain. written_by plain table ≡ plain_text (painted_alone es table))) c.in-Some.is (c.in_ok-lines.ensures.plain es shows refl) in
     let kept : texts c.deref.result.now ≡ table = ap texts c.deref.ensures.value ∙ ap (λ drawing. drawing.texts) c.self.view_is in
     subst (λ bytes. OnOk c.write_pieces.result (Appends (g.W.Write.contents c.args.out.now) (g.W.Write.contents c.write_pieces.new.out) (c.args.before.now ++ bytes ++ c.args.after.now)))
     (ap (written_by lines) kept ∙ same) c.write_pieces.ensures.text

@@ -1,79 +1,78 @@
-//! A table that is written without colors, line by line, with no memory beside what was taken for it before.
+//! A table that is written line by line, with no memory beside what was taken for it before.
 
-ghost use Rattle.std.specs.Prelude.{◌≡◌, ◌<◌, ◌≤◌, ◌++◌, ◌∷◌, [], ℕ, true, false, IfOk, IfSome, IsSome, OnOk, length, map, string_bytes, slice_index};
+ghost use Rattle.std.specs.Prelude.{◌≡◌, ◌<◌, ◌≤◌, ◌++◌, ◌∷◌, [], ℕ, true, false, None, IfOk, IfSome, IsSome, OnOk, length, map, string_bytes, slice_index};
+ghost use Rattle.std.specs.Option.{ForSome};
 ghost use Rattle.std.specs.List.{All};
-ghost use Rattle.tabled_grid.specs.declared.place.LineOf.{LineOf as Line};
 ghost use Rattle.tabled_printing.specs.Along.{is_empty};
-ghost use Rattle.tabled_printing.specs.Picture.{marks_along, text_marked};
 ghost use Rattle.tabled_printing.specs.Texts.{Table, texts};
+ghost use Rattle.tabled_painting.specs.AlikeRows.{AreAlikeBetween, feed_before, line_above, line_below, row_text};
 ghost use Rattle.tabled_painting.specs.Between.{IsPlainLine};
+ghost use Rattle.tabled_painting.specs.Joints.{AreJoined};
 ghost use Rattle.tabled_painting.specs.Margin.{is_without_room};
-ghost use Rattle.tabled_painting.specs.PaintedTable.{painted_by, plain_text};
-ghost use Rattle.tabled_painting.specs.PlainRows.{AreAlikeBetween, feed_before, line_above, line_below, plain_row};
+ghost use Rattle.tabled_painting.specs.Pages.{text_of_lines};
+ghost use Rattle.tabled_painting.specs.PaintedTable.{painted_by};
 ghost use Rattle.tabled_painting.specs.Printable.{AllPrintable, ArePrintable};
 ghost use Rattle.tabled_painting.specs.Viewed.{viewed};
 
+use crate::joints::RowJoints;
 use crate::output::Output;
-use crate::table_lines::TableLines;
+use crate::table_lines::{TableLines, line_text, line_written};
 use std::alloc::Global;
 use tabled_border::OutOfMemory;
 use tabled_configuration::{ColoredConfig, SpannedConfig};
-use tabled_kept::Probes;
 use tabled_object::{Dimension, FixedDimension};
 use tabled_printing::Frame;
 
-/// A table without a margin, each of whose rows is one line of bare cells and whose lines between rows look alike.
+/// A table without a margin, each of whose rows is one line of bare cells in one color, and whose lines between rows look alike.
 #[derive(Drop)]
-pub struct PlainLines<'a, 'b> {
+pub struct AlikeLines<'a, 'b> {
     pub(crate) lines: TableLines<'a, 'b>,
     /// The horizontal line above the first row with its line feed, if it is drawn.
     first: String,
     /// A line feed and the horizontal line below the last row, if it is drawn.
     last: String,
-    ghost is_plain: { lines.is_plain ≡ true },
+    /// What stands between the texts of each row, if it was made before.
+    joints: Option<RowJoints<'a>>,
+    ghost bare: { lines.are_all_bare ≡ true },
     ghost low: { (r : ℕ) → r < lines.frame.shape.0 → slice_index lines.frame.dims.now.heights.items r ≡ 1 },
     ghost no_room: { is_without_room lines.frame.cfg.now.settings.margin ≡ true },
-    ghost over: { string_bytes first ≡ line_above (viewed lines.frame) 0 },
+    ghost over: { string_bytes first ≡ line_above lines.frame.with_colors (viewed lines.frame) 0 },
     ghost alike: { AreAlikeBetween lines },
-    ghost beneath: { string_bytes last ≡ line_below (viewed lines.frame) },
+    ghost beneath: { string_bytes last ≡ line_below lines.frame.with_colors (viewed lines.frame) },
+    ghost joined: { ForSome joints (AreJoined lines) },
+    ghost plain: { joints ≡ None → lines.is_plain ≡ true },
 }
 
-/// A horizontal line as a text.
-fn line_text(
+/// The horizontal line above the first row with its line feed, if it is drawn. Columns of a terminal are given.
+fn first_line(
     alloc: Global,
     frame: &Frame<FixedDimension>,
-    row: usize,
+    columns: usize,
 ) -> Result<String, OutOfMemory>
-    requires { row ≤ frame.now.shape.0 }
-    ensures { IfOk result (λ text. string_bytes text ≡ text_marked (marks_along (viewed frame.now) (Line.Horizontal row))) }
-{
-    let mut text = String::new(alloc);
-    frame.put_line(row, &mut text, &mut Probes::new())?;
-    Ok(text)
-}
-
-/// The horizontal line above the first row with its line feed, if it is drawn.
-fn first_line(alloc: Global, frame: &Frame<FixedDimension>) -> Result<String, OutOfMemory>
-    ensures { IfOk result (λ text. string_bytes text ≡ line_above (viewed frame.now) 0) }
+    ensures { IfOk result (λ text. string_bytes text ≡ line_above frame.now.with_colors (viewed frame.now) 0) }
 {
     if !frame.draws(0) {
         return Ok(String::new(alloc));
     }
-    let mut text = line_text(alloc, frame, 0)?;
-    text.push('\n')?;
-    Ok(text)
+    line_written(alloc, frame, 0, columns)
 }
 
-/// A line feed and the horizontal line below the last row, if it is drawn.
-fn last_line(alloc: Global, frame: &Frame<FixedDimension>) -> Result<String, OutOfMemory>
-    ensures { IfOk result (λ text. string_bytes text ≡ line_below (viewed frame.now)) }
+/// A line feed and the horizontal line below the last row, if it is drawn. Columns of a terminal are given.
+fn last_line(
+    alloc: Global,
+    frame: &Frame<FixedDimension>,
+    columns: usize,
+) -> Result<String, OutOfMemory>
+    ensures { IfOk result (λ text. string_bytes text ≡ line_below frame.now.with_colors (viewed frame.now)) }
 {
-    let mut text = String::new(alloc);
     let (rows, _) = frame.shape;
-    if frame.draws(rows) {
-        text.push('\n')?;
-        frame.put_line(rows, &mut text, &mut Probes::new())?;
+    if !frame.draws(rows) {
+        return Ok(String::new(alloc));
     }
+    let line = line_text(alloc, frame, rows, columns)?;
+    let mut text = String::with_capacity(alloc, line.len().saturating_add(1))?;
+    text.push('\n')?;
+    text.push_str(line.as_str())?;
     Ok(text)
 }
 
@@ -138,9 +137,8 @@ impl TableLines<'_, '_> {
     fn text_between(&self, row: usize) -> &str
         requires some { 0 < row }
         requires within { row < self.now.frame.shape.0 }
-        requires plain { self.now.is_plain ≡ true }
         requires alike { AreAlikeBetween self.now }
-        ensures { result.now ≡ line_above (viewed self.now.frame) row }
+        ensures { result.now ≡ line_above self.now.frame.with_colors (viewed self.now.frame) row }
     {
         if !self.frame.draws(row) {
             return "";
@@ -152,8 +150,8 @@ impl TableLines<'_, '_> {
     }
 }
 
-impl<'a, 'b> PlainLines<'a, 'b> {
-    ghost use Rattle.tabled_painting.specs.PlainLines.{written_by};
+impl<'a, 'b> AlikeLines<'a, 'b> {
+    ghost use Rattle.tabled_painting.specs.AlikeLines.{written_by};
 
     /// The lines of a table of printable texts that has rows and columns, if it is such a one. What is written beside its texts is made
     /// here.
@@ -161,28 +159,38 @@ impl<'a, 'b> PlainLines<'a, 'b> {
         cfg: &'a ColoredConfig,
         sizes: &'b FixedDimension,
         shape: (usize, usize),
+        with_colors: bool,
     ) -> Result<Option<Self>, OutOfMemory>
         requires { is_empty shape ≡ false }
-        ensures text { IfOk result (λ found. IfSome found (λ plain. (table : Table) → written_by plain table ≡ plain_text (painted_by cfg.now shape sizes.now.widths.items sizes.now.heights.items table))) }
-        ensures shape { IfOk result (λ found. IfSome found (λ plain. plain.lines.frame.shape ≡ shape)) }
+        ensures text { IfOk result (λ found. IfSome found (λ alike. (table : Table) → written_by alike table ≡ text_of_lines with_colors (painted_by cfg.now shape sizes.now.widths.items sizes.now.heights.items table))) }
+        ensures shape { IfOk result (λ found. IfSome found (λ alike. alike.lines.frame.shape ≡ shape)) }
     {
         if !has_no_margin(cfg.config()) {
             return Ok(None);
         }
-        let lines = TableLines::new(cfg, sizes, shape, false)?;
-        if !lines.is_plain || !are_low(&lines.frame) || !lines.are_alike_between() {
+        let lines = TableLines::new(cfg, sizes, shape, with_colors)?;
+        if !lines.are_all_bare || !are_low(&lines.frame) || !lines.are_alike_between() {
+            return Ok(None);
+        }
+        let joints = lines.row_joints()?;
+        if joints.is_none() && !lines.is_plain {
             return Ok(None);
         }
         let alloc = cfg.config().allocator();
-        let first = first_line(alloc, &lines.frame)?;
-        let last = last_line(alloc, &lines.frame)?;
-        Ok(Some(PlainLines { lines, first, last }))
+        let first = first_line(alloc, &lines.frame, lines.columns)?;
+        let last = last_line(alloc, &lines.frame, lines.columns)?;
+        Ok(Some(AlikeLines {
+            lines,
+            first,
+            last,
+            joints,
+        }))
     }
 
     /// Writes the line above a row with its line feed, if it is drawn.
     fn push_above<O: Output>(&self, out: &mut O, row: usize) -> Result<(), O::Error>
         requires { row < self.now.lines.frame.shape.0 }
-        ensures { OnOk result (O.gains (line_above (viewed self.now.lines.frame) row) out.old out.new) }
+        ensures { OnOk result (O.gains (line_above self.now.lines.frame.with_colors (viewed self.now.lines.frame) row) out.old out.new) }
     {
         if row == 0 {
             return out.push_str(self.first.as_str());
@@ -190,16 +198,38 @@ impl<'a, 'b> PlainLines<'a, 'b> {
         out.push_str(self.lines.text_between(row))
     }
 
+    /// Writes the line of a row of these texts.
+    fn push_texts<O: Output>(
+        &self,
+        out: &mut O,
+        row: usize,
+        texts: &[String],
+    ) -> Result<(), O::Error>
+        requires row { row < self.now.lines.frame.shape.0 }
+        requires texts { length texts.now ≡ self.now.lines.frame.shape.1 }
+        requires printable { ArePrintable (map string_bytes texts.now) }
+        ensures { OnOk result (O.gains (row_text self.now.lines row (map string_bytes texts.now)) out.old out.new) }
+    {
+        match &self.joints {
+            Some(joints) => {
+                let joints = joints.of(row);
+                self.lines.push_cells(out, row, texts, joints)?;
+                out.push_str(joints.last.as_str())
+            }
+            None => self.lines.push_plain_row(out, row, texts),
+        }
+    }
+
     /// Writes a row, after the line above it, each after the line feed of what stands before.
     fn push_row<O: Output>(&self, out: &mut O, row: usize, texts: &[String]) -> Result<(), O::Error>
         requires row { row < self.now.lines.frame.shape.0 }
         requires texts { length texts.now ≡ self.now.lines.frame.shape.1 }
         requires printable { ArePrintable (map string_bytes texts.now) }
-        ensures { OnOk result (O.gains (feed_before row ++ (line_above (viewed self.now.lines.frame) row ++ plain_row self.now.lines row (map string_bytes texts.now))) out.old out.new) }
+        ensures { OnOk result (O.gains (feed_before row ++ (line_above self.now.lines.frame.with_colors (viewed self.now.lines.frame) row ++ row_text self.now.lines row (map string_bytes texts.now))) out.old out.new) }
     {
         push_feed(out, row)?;
         self.push_above(out, row)?;
-        self.lines.push_plain_row(out, row, texts)
+        self.push_texts(out, row, texts)
     }
 
     /// Writes the table of these texts, which are printable. Nothing is refused but by what it is written into.

@@ -1,4 +1,4 @@
--- The lines of a plain table, each after a line feed but the first, are its lines joined.
+-- The lines of a table that is written line by line, each after a line feed but the first, are its lines joined.
 use Rattle.std.proofs.Common.{◌≡◌, ℕ, ◌+◌, ◌<◌, ◌==◌, zero, suc, Bool, true, false, if◌then◌else◌, List, [], ◌∷◌, ◌++◌, map, length, refl, sym, ap, ◌∙◌, arith}
 use Rattle.std.specs.List.{flat_map, join_with_byte}
 use Rattle.std.proofs.lemmas.Bool.{and_parts, eqb-true}
@@ -10,13 +10,14 @@ use Rattle.tabled_printing.proofs.TextLemmas.{ended, ends_joined}
 use Rattle.tabled_grid.specs.declared.place.LineOf.{LineOf}
 use Rattle.tabled_layout.specs.declared.margin.Margin.{Margin}
 use Rattle.tabled_printing.specs.Along.{is_empty}
-use Rattle.tabled_printing.specs.Picture.{Look, line_if_drawn, marks_along}
+use Rattle.tabled_printing.specs.Picture.{Look, marks_along}
 use Rattle.tabled_painting.specs.Margin.{in_margin, is_without_room}
-use Rattle.tabled_painting.specs.Painted.{Painted, plain}
-use Rattle.tabled_painting.specs.PaintedTable.{Cells, painted_between, painted_if_drawn, painted_lines, painted_row, painted_table}
-use Rattle.tabled_painting.specs.PlainRows.{feed_before}
+use Rattle.tabled_painting.specs.AlikeRows.{feed_before, text_if_drawn}
+use Rattle.tabled_painting.specs.Pages.{line_text}
+use Rattle.tabled_painting.specs.Painted.{Painted}
+use Rattle.tabled_painting.specs.PaintedTable.{Cells, painted_between, painted_if_drawn, painted_lines, painted_marks, painted_row, painted_table}
 use Rattle.tabled_painting.proofs.FrameLemmas.{flat_map_same}
-use Rattle.tabled_painting.proofs.Plain.{map_flat, plain_if_drawn, without_room}
+use Rattle.tabled_painting.proofs.Plain.{map_flat, without_room}
 
 module _ (above : ℕ → List (List ℕ)) (row : ℕ → List ℕ) where
   -- a row with the line above it
@@ -86,24 +87,31 @@ in_no_margin margin columns lines is =
     let first = and_parts (margin.size.left.size == 0) (margin.size.right.size == 0) more.0 in
     without_room margin columns lines (eqb-true _ _ first.0) (eqb-true _ _ first.1) (eqb-true _ _ more.1) (eqb-true _ _ last.1)
 
-module _ (view : Look) (cells : Cells) where
-  abbrev pub row_text : ℕ → List ℕ
-  row_text r = plain (painted_between view r 0 (λ c. cells r c 0))
+module _ (wanted : Bool) (view : Look) (cells : Cells) where
+  abbrev pub row_of : ℕ → List ℕ
+  row_of r = line_text wanted (painted_between view r 0 (λ c. cells r c 0))
 
   abbrev rows : ℕ → List Painted
   rows r = painted_if_drawn view r ++ painted_row view cells r
 
-  row_lines : (r : ℕ) → view.heights r ≡ 1 → map plain (rows r) ≡ line_if_drawn view r ++ row_text r ∷ []
+  if_drawn : (r : ℕ) → map (line_text wanted) (painted_if_drawn view r) ≡ text_if_drawn wanted view r
+  if_drawn r = by_case (view.horizontal r)
+    where
+      by_case : (b : Bool) → map (line_text wanted) (if b then painted_marks (marks_along view (LineOf.Horizontal r)) ∷ [] else []) ≡ (if b then line_text wanted (painted_marks (marks_along view (LineOf.Horizontal r))) ∷ [] else [])
+      by_case true = refl
+      by_case false = refl
+
+  row_lines : (r : ℕ) → view.heights r ≡ 1 → map (line_text wanted) (rows r) ≡ text_if_drawn wanted view r ++ row_of r ∷ []
   row_lines r one =
-      map-append plain (painted_if_drawn view r) (painted_row view cells r)
-      ∙ (λ i. plain_if_drawn view r i ++ ap (λ n. map plain (map (λ k. painted_between view r k (λ c. cells r c k)) (below n))) one i)
+      map-append (line_text wanted) (painted_if_drawn view r) (painted_row view cells r)
+      ∙ (λ i. if_drawn r i ++ ap (λ n. map (line_text wanted) (map (λ k. painted_between view r k (λ c. cells r c k)) (below n))) one i)
 
   pub table_lines : (margin : Margin) → is_empty view.shape ≡ false → is_without_room margin ≡ true → ((r : ℕ) → r < view.shape.0 → view.heights r ≡ 1)
-      → map plain (painted_table view margin cells) ≡ flat_map (lines (line_if_drawn view) row_text) (below view.shape.0) ++ line_if_drawn view view.shape.0
+      → map (line_text wanted) (painted_table view margin cells) ≡ flat_map (lines (text_if_drawn wanted view) row_of) (below view.shape.0) ++ text_if_drawn wanted view view.shape.0
   unfolding painted_table painted_lines
   table_lines margin any no_room low =
-      ap (λ empty. map plain (if empty then [] else in_margin margin (length (marks_along view (LineOf.Horizontal 0))) (painted_lines view cells))) any
-      ∙ ap (map plain) (in_no_margin margin (length (marks_along view (LineOf.Horizontal 0))) (painted_lines view cells) no_room)
-      ∙ map-append plain (flat_map rows (below view.shape.0)) (painted_if_drawn view view.shape.0)
-      ∙ (λ i. (map_flat plain rows (below view.shape.0) ∙ flat_map_same (λ r. map plain (rows r)) (lines (line_if_drawn view) row_text) view.shape.0 (λ r within. row_lines r (low r within))) i
-      ++ plain_if_drawn view view.shape.0 i)
+      ap (λ empty. map (line_text wanted) (if empty then [] else in_margin margin (length (marks_along view (LineOf.Horizontal 0))) (painted_lines view cells))) any
+      ∙ ap (map (line_text wanted)) (in_no_margin margin (length (marks_along view (LineOf.Horizontal 0))) (painted_lines view cells) no_room)
+      ∙ map-append (line_text wanted) (flat_map rows (below view.shape.0)) (painted_if_drawn view view.shape.0)
+      ∙ (λ i. (map_flat (line_text wanted) rows (below view.shape.0) ∙ flat_map_same (λ r. map (line_text wanted) (rows r)) (lines (text_if_drawn wanted view) row_of) view.shape.0 (λ r within. row_lines r (low r within))) i
+      ++ if_drawn view.shape.0 i)
