@@ -1,5 +1,5 @@
 -- The slots of numbers tell them apart, and are small.
-use Rattle.std.specs.Prelude.{◌≡◌, ℕ, ◌<◌, nat_lt, Bool, true, false, if◌then◌else◌, Some, None, refl, unwrap_or}
+use Rattle.std.specs.Prelude.{◌≡◌, ℕ, ◌<◌, ◌^◌, nat_lt, Bool, true, false, if◌then◌else◌, Some, None, refl, unwrap_or}
 use Rattle.std.proofs.Common.{ap, sym, arith, tests}
 use Rattle.std.proofs.lemmas.Bool.Decides.{nat_tests}
 use Rattle.tabled_kept.specs.declared.table.Slot.{Slot}
@@ -16,10 +16,10 @@ numbers_back n s = by_test (nat_lt n 256)
     by_test true e = sym (ap (λ t. t.col) (same_slots s (slot 0 n) s e))
     by_test false e = absurd cc
 
-pub numbers_narrow : (n : ℕ) (s : Slot) → slot_of_number n ≡ Some s → (s.row < 256) × (s.col < 1024)
+pub numbers_narrow : (n : ℕ) (s : Slot) → slot_of_number n ≡ Some s → (s.row < 2 ^ 30) × (s.col < 2 ^ 32)
 numbers_narrow n s = by_test (nat_lt n 256) (λ h. grind (arith, tests, nat_tests, h))
   where
-    by_test : (b : Bool) → (b ≡ true → n < 256) → (if b then Some (slot 0 n) else None) ≡ Some s → (s.row < 256) × (s.col < 1024)
+    by_test : (b : Bool) → (b ≡ true → n < 256) → (if b then Some (slot 0 n) else None) ≡ Some s → (s.row < 2 ^ 30) × (s.col < 2 ^ 32)
     by_test true small e =
         let same = same_slots s (slot 0 n) s e in
         let row : 0 ≡ s.row = ap (λ t. t.row) same in
