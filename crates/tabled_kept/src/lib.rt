@@ -9,6 +9,7 @@ mod counted_map;
 mod entries;
 mod key;
 mod meter;
+mod number;
 mod numbered;
 mod one;
 mod probes;

@@ -7,6 +7,7 @@ ghost use Rattle.tabled_kept.specs.Sheet.{far_number};
 ghost use Rattle.tabled_kept.specs.Same.{same_map};
 
 use crate::copies::copy_of;
+use crate::number::Number;
 use crate::table::{Slot, Table};
 use std::alloc::Global;
 use std::collections::BTreeMap;
@@ -31,7 +32,7 @@ const FAR_END: usize = 0x1_0000_0000;
 #[derive(Debug, Drop)]
 pub(crate) struct Sheet<V> {
     near: Table<V>,
-    far: BTreeMap<usize, V>,
+    far: BTreeMap<Number, V>,
 }
 
 impl<V> Model for Sheet<V> {
@@ -79,6 +80,7 @@ impl<V> Sheet<V> {
 
     /// Puts a value into a slot, and returns the one that was there. Only where nothing is there can memory be refused; then
     /// nothing changes.
+    #[inline(always)]
     pub(crate) fn put(&mut self, slot: Slot, value: V) -> Result<Option<V>, OutOfMemory>
     where
         V: Drop,
@@ -139,14 +141,14 @@ impl<V> Sheet<V> {
 
 /// The number of a slot that stands in the ordered map.
 #[inline(always)]
-fn number(slot: Slot) -> Option<usize>
+fn number(slot: Slot) -> Option<Number>
     ensures { result ≡ far_number slot }
 {
     if slot.row < NEAR_ROWS && slot.col < NEAR_END {
         return None;
     }
     if slot.row < FAR_ROWS && slot.col < FAR_END {
-        Some(slot.row * FAR_END + slot.col)
+        Some(Number::new(slot.row * FAR_END + slot.col))
     } else {
         None
     }
@@ -157,7 +159,7 @@ impl<V: Keep> Keep for Sheet<V> {
         // one field more, or a list in place of a value, and this does not compile
         let Sheet { near, far } = self;
         let near: &Table<V> = near;
-        let far: &BTreeMap<usize, V> = far;
+        let far: &BTreeMap<Number, V> = far;
         Ok(Sheet {
             near: near.keep(alloc)?,
             far: copy_of(far, alloc)?,
