@@ -11,3 +11,4 @@ pub mod SheetLemmas
 pub mod FewSlots
 pub mod NumberedLemmas
 pub mod Tallies
+pub mod OneMoreLemmas

@@ -34,6 +34,10 @@ far_back s n = by_tests (is_near s) (nat_lt s.row (2 ^ 30)) (nat_lt s.col (2 ^ 3
     by_tests false false col small e = absurd cc
     by_tests false true false small e = absurd cc
 
+pub not_far : (number : Option ℕ) → is_some number ≡ false → number ≡ None
+not_far None h = refl
+not_far (Some n) h = absurd cc
+
 module _ {V : Type 0} where
   -- a finite map is that of its entries
   of_entries : (m : map.FinMap slot_cmp V) → table slot_cmp (map.entries m) ≡ m

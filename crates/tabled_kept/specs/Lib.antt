@@ -5,3 +5,4 @@ pub mod Slots
 pub mod Kept
 pub mod KeyLaws
 pub mod Sheet
+pub mod OneMore

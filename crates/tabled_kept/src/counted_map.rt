@@ -1,9 +1,10 @@
 //! What a store keeps under keys: one value under each.
 
-ghost use Rattle.std.specs.Prelude.{◌≡◌, ◌↔◌, ◌<◌, ◌^◌, OnOk, OnErr, IfOk, None, option_copied, IsTrue};
+ghost use Rattle.std.specs.Prelude.{◌≡◌, ◌↔◌, ◌<◌, ◌^◌, OnOk, OnErr, IfOk, None, option_copied, IsTrue, IsFalse};
 ghost use Rattle.std.specs.FinMap as map;
 ghost use Rattle.tabled_kept.specs.Table.{table};
 ghost use Rattle.tabled_kept.specs.Same.{same_map};
+ghost use Rattle.tabled_kept.specs.OneMore.{IsOneMore};
 ghost use Rattle.tabled_kept.specs.Probing.{IsCounted, IsRaised};
 
 use crate::key::Key;
@@ -156,6 +157,20 @@ impl<K: Key, V> CountedMap<K, V> {
             (Some(entries), None) => entries.is_empty(),
             (None, Some(others)) => others.is_empty(),
             (None, None) => true,
+        }
+    }
+}
+
+impl<K: Key> CountedMap<K, u128> {
+    /// Counts one more under a key where it stands, without a search: where a number is there in a row of slots, and has one
+    /// after it. Else nothing changes.
+    pub fn add_one(&mut self, key: K) -> bool
+        ensures more { IsTrue result → IsOneMore (table K.cmp self.old) (table K.cmp self.new) key }
+        ensures same { IsFalse result → table K.cmp self.new ≡ table K.cmp self.old }
+    {
+        match &mut self.entries {
+            Some(entries) => entries.add_one(key),
+            None => false,
         }
     }
 }

@@ -1,9 +1,10 @@
 //! The entries of a kept map: in a table where their keys have slots, and else in an ordered map.
 
-ghost use Rattle.std.specs.Prelude.{◌≡◌, ◌<◌, ◌^◌, OnOk, OnErr, IfOk, None, option_copied};
+ghost use Rattle.std.specs.Prelude.{◌≡◌, ◌<◌, ◌^◌, IsTrue, IsFalse, OnOk, OnErr, IfOk, None, option_copied};
 ghost use Rattle.std.specs.FinMap as map;
 ghost use Rattle.tabled_kept.specs.Table.{table};
 ghost use Rattle.tabled_kept.specs.Same.{same_map};
+ghost use Rattle.tabled_kept.specs.OneMore.{IsOneMore};
 ghost use Rattle.tabled_kept.specs.Probing.{IsCounted, IsRaised};
 
 use crate::copies::copy_of;
@@ -119,6 +120,20 @@ impl<K: Key, V> Entries<K, V> {
         let dense = self.dense.is_same(&other.dense);
         let others = self.others == other.others;
         dense && others
+    }
+}
+
+impl<K: Key> Entries<K, u128> {
+    /// Counts one more under a key whose slot stands in a row, where a number is there that has one after it. Else nothing changes.
+    pub(crate) fn add_one(&mut self, key: K) -> bool
+        ensures more { IsTrue result → IsOneMore (table K.cmp self.old) (table K.cmp self.new) key }
+        ensures same { IsFalse result → table K.cmp self.new ≡ table K.cmp self.old }
+    {
+        if let Some(slot) = key.slot() {
+            let more = self.dense.add_one(slot);
+            return more;
+        }
+        false
     }
 }
 

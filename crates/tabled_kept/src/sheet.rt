@@ -1,10 +1,11 @@
 //! Sheets of slots: slots with small numbers stand in rows, and the others in an ordered map.
 
-ghost use Rattle.std.specs.Prelude.{◌≡◌, ℕ, slice_index_or, is_some, if◌then◌else◌, OnOk, OnErr, IfOk, None, option_copied};
+ghost use Rattle.std.specs.Prelude.{◌≡◌, ℕ, ◌<◌, ◌^◌, slice_index_or, is_some, if◌then◌else◌, IsTrue, IsFalse, OnOk, OnErr, IfOk, None, option_copied};
 ghost use Rattle.std.specs.FinMap as map;
 ghost use Rattle.tabled_kept.specs.Slots.{slot};
 ghost use Rattle.tabled_kept.specs.Sheet.{far_number};
 ghost use Rattle.tabled_kept.specs.Same.{same_map};
+ghost use Rattle.tabled_kept.specs.OneMore.{IsOneMore};
 
 use crate::copies::copy_of;
 use crate::number::Number;
@@ -19,9 +20,6 @@ const NEAR_ROWS: usize = 256;
 
 /// The first number in a row of which the slot stands in the ordered map.
 const NEAR_END: usize = 1024;
-
-/// The first row that has no numbers.
-const FAR_ROWS: usize = 0x4000_0000;
 
 /// How many numbers a row has.
 const FAR_END: usize = 0x1_0000_0000;
@@ -63,6 +61,7 @@ impl<V> Sheet<V> {
 
     /// The value in a slot, if one is there.
     pub(crate) fn get(&self, slot: Slot) -> Option<&V>
+        requires { (slot.row < 2 ^ 30) × (slot.col < 2 ^ 32) }
         ensures { option_copied result ≡ map.get self.now slot }
     {
         match number(slot) {
@@ -84,6 +83,7 @@ impl<V> Sheet<V> {
     pub(crate) fn put(&mut self, slot: Slot, value: V) -> Result<Option<V>, OutOfMemory>
     where
         V: Drop,
+        requires { (slot.row < 2 ^ 30) × (slot.col < 2 ^ 32) }
         ensures before { IfOk result (λ before. before ≡ map.get self.old slot) }
         ensures ok { OnOk result (self.new ≡ map.insert self.old slot value) }
         ensures err { OnErr result (self.new ≡ self.old) }
@@ -103,6 +103,7 @@ impl<V> Sheet<V> {
 
     /// Takes the value out of a slot, if one is there.
     pub(crate) fn take(&mut self, slot: Slot) -> Option<V>
+        requires { (slot.row < 2 ^ 30) × (slot.col < 2 ^ 32) }
         ensures before { result ≡ map.get self.old slot }
         ensures removed { self.new ≡ map.remove self.old slot }
     {
@@ -139,19 +140,31 @@ impl<V> Sheet<V> {
     }
 }
 
+impl Sheet<u128> {
+    /// Counts one more in a slot of a row, where a number is there that has one after it. Else nothing changes.
+    pub(crate) fn add_one(&mut self, slot: Slot) -> bool
+        requires { (slot.row < 2 ^ 30) × (slot.col < 2 ^ 32) }
+        ensures more { IsTrue result → IsOneMore self.old self.new slot }
+        ensures same { IsFalse result → self.new ≡ self.old }
+    {
+        if number(slot).is_some() {
+            return false;
+        }
+        let more = self.near.add_one(slot);
+        more
+    }
+}
+
 /// The number of a slot that stands in the ordered map.
 #[inline(always)]
 fn number(slot: Slot) -> Option<Number>
+    requires { (slot.row < 2 ^ 30) × (slot.col < 2 ^ 32) }
     ensures { result ≡ far_number slot }
 {
     if slot.row < NEAR_ROWS && slot.col < NEAR_END {
         return None;
     }
-    if slot.row < FAR_ROWS && slot.col < FAR_END {
-        Some(Number::new(slot.row * FAR_END + slot.col))
-    } else {
-        None
-    }
+    Some(Number::new(slot.row * FAR_END + slot.col))
 }
 
 impl<V: Keep> Keep for Sheet<V> {
