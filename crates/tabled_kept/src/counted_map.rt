@@ -166,7 +166,7 @@ impl<K: Key> CountedMap<K, u128> {
     /// after it. Else nothing changes.
     pub fn add_one(&mut self, key: K) -> bool
         ensures more { IsTrue result → IsOneMore (table K.cmp self.old) (table K.cmp self.new) key }
-        ensures same { IsFalse result → table K.cmp self.new ≡ table K.cmp self.old }
+        ensures same { IsFalse result → self.new ≡ self.old }
     {
         match &mut self.entries {
             Some(entries) => entries.add_one(key),

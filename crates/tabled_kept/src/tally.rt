@@ -119,7 +119,7 @@ impl<K: Key> Tally<K, u128> {
     /// Counts one more under a key whose slot stands in a row, where a number is there that has one after it. Else nothing changes.
     pub(crate) fn add_one(&mut self, key: K) -> bool
         ensures more { IsTrue result → IsOneMore (table K.cmp self.old) (table K.cmp self.new) key }
-        ensures same { IsFalse result → table K.cmp self.new ≡ table K.cmp self.old }
+        ensures same { IsFalse result → self.new ≡ self.old }
     {
         let more = self.entries.add_one(key);
         more
