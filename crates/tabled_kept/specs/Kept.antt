@@ -1,4 +1,4 @@
--- What a kept map keeps: values in slots of a table, and the others in an ordered map.
+-- What a kept map keeps: values in slots, and the others in an ordered map.
 use Rattle.std.specs.Prelude.{◌≡◌, ℕ, nat_lt, if◌then◌else◌, Option, Some, None, IsSome, List, ◌++◌, map}
 use Rattle.std.specs.FinMap.{FinMap, get, entries}
 use Rattle.std.specs.declared.cmp.Ordering.{Ordering}
@@ -10,7 +10,7 @@ use Rattle.tabled_kept.specs.Table.{table}
 abbrev pub keyed : {S K V : Type 0} → (S → K) → List (S × V) → List (K × V)
 keyed key_at values = map (λ value. (key_at value.0, value.1)) values
 
--- all entries: those of the table, and then the others
+-- all entries: those in slots, and then the others
 abbrev pub all_entries : {S K V : Type 0} {Q : S → S → Ordering} → (S → K) → FinMap Q V → List (K × V) → List (K × V)
 all_entries key_at dense others = keyed key_at (entries dense) ++ others
 
@@ -19,11 +19,11 @@ pub record Parted {S K V : Type 0} {Q : S → S → Ordering} (R : K → K → O
   pub in_place : (s : S) → IsSome (get dense s) → slot_of (key_at s) ≡ Some s
   pub apart : (key : K) → IsSome (slot_of key) → get (table R others) key ≡ None
 
--- numbers below this one stand in a table
+-- numbers below this one have slots
 abbrev pub dense_end : ℕ
 dense_end = 256
 
--- the slot of a number: those of a table with one row
+-- the slot of a number: one of the first row
 abbrev pub slot_of_number : ℕ → Option Slot
 slot_of_number n = if nat_lt n dense_end then Some (slot 0 n) else None
 

@@ -134,7 +134,7 @@ impl<K: Key, V> CountedMap<K, V> {
         let _ = self.remove(key);
     }
 
-    /// Takes everything, which takes no memory. The room of the tables stays, so what stood in a slot can be kept there again
+    /// Takes everything, which takes no memory. The room of the rows of slots stays, so what stood in one can be kept there again
     /// without a request for memory.
     pub fn clear(&mut self)
     where

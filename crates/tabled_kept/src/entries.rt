@@ -1,4 +1,4 @@
-//! The entries of a kept map: in a table where their keys have slots, and else in an ordered map.
+//! The entries of a kept map: in slots where their keys have one, and else in an ordered map.
 
 ghost use Rattle.std.specs.Prelude.{◌≡◌, ◌<◌, ◌^◌, IsTrue, IsFalse, OnOk, OnErr, IfOk, None, option_copied};
 ghost use Rattle.std.specs.FinMap as map;
@@ -17,7 +17,7 @@ use std::marker::Model;
 use tabled_border::{Keep, OutOfMemory};
 
 /// The entries of a kept map. A value stands in the slot of its key, if the key has one, and else in an ordered map; so a reading
-/// is one of the table or one of the ordered map. In contracts it is the list of its entries.
+/// is one of the slots or one of the ordered map. In contracts it is the list of its entries.
 #[derive(Debug, Drop)]
 pub(crate) struct Entries<K: Key, V> {
     pub(crate) dense: Sheet<V>,
@@ -98,7 +98,7 @@ impl<K: Key, V> Entries<K, V> {
         before
     }
 
-    /// Takes everything. The room of the table stays.
+    /// Takes everything. The room of the rows of slots stays.
     pub(crate) fn clear(&mut self)
     where
         V: Drop,

@@ -1,6 +1,8 @@
 //! Sheets of slots: slots with small numbers stand in rows, and the others in an ordered map.
 
 ghost use Rattle.std.specs.Prelude.{◌≡◌, ℕ, ◌<◌, ◌^◌, slice_index_or, is_some, if◌then◌else◌, IsTrue, IsFalse, OnOk, OnErr, IfOk, None, option_copied};
+ghost use Rattle.std.specs.BTreeMap.{get_by};
+ghost use Rattle.std.specs.Ordering.{nat_cmp};
 ghost use Rattle.std.specs.FinMap as map;
 ghost use Rattle.tabled_kept.specs.Slots.{slot};
 ghost use Rattle.tabled_kept.specs.Sheet.{far_number};
@@ -65,7 +67,7 @@ impl<V> Sheet<V> {
         ensures { option_copied result ≡ map.get self.now slot }
     {
         match number(slot) {
-            Some(number) => self.far.get(&number),
+            Some(number) => far_value(&self.far, number),
             None => self.near.get(slot),
         }
     }
@@ -153,6 +155,15 @@ impl Sheet<u128> {
         let more = self.near.add_one(slot);
         more
     }
+}
+
+/// The value under a number, if one is there. Out of line, so that a value in a row is read without the registers that a search
+/// takes.
+#[inline(never)]
+fn far_value<V>(far: &BTreeMap<Number, V>, number: Number) -> Option<&V>
+    ensures { option_copied result ≡ get_by (nat_cmp number) far.now }
+{
+    far.get(&number)
 }
 
 /// The number of a slot that stands in the ordered map.

@@ -95,7 +95,7 @@ impl<K: Key, V> Tally<K, V> {
         before
     }
 
-    /// Takes everything. The room of the tables stays.
+    /// Takes everything. The room of the rows of slots stays.
     pub(crate) fn clear(&mut self)
     where
         V: Drop,
