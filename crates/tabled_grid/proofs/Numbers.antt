@@ -7,6 +7,7 @@ use Rattle.tabled_grid.specs.Counted.{number_at}
 use Rattle.tabled_grid.specs.declared.place.LineOf.{LineOf}
 use Rattle.tabled_grid.specs.Keys.{line_cmp, lines_total, is_same_line}
 use Rattle.tabled_grid.specs.Site.{same_line}
+use Rattle.tabled_kept.specs.OneMore.{IsOneMore}
 
 through : (b : Bool) (n : ℕ) (o : Option ℕ) → unwrap_or (cond b (Some n) o) 0 ≡ cond b n (unwrap_or o 0)
 through true n o = refl
@@ -30,6 +31,10 @@ number-remove m k q =
 -- one more
 pub raised : (old new : map.FinMap line_cmp ℕ) (k : LineOf) (n : ℕ) → n ≡ number_at old k → new ≡ map.insert old k (n + 1) → (q : LineOf) → number_at new q ≡ cond (same_line k q) (number_at old k + 1) (number_at old q)
 raised old new k n is e q = ap (λ m. number_at m q) e ∙ number-insert old k (n + 1) q ∙ ap (λ x. cond (same_line k q) (x + 1) (number_at old q)) is
+
+-- the same, counted where it stands
+pub raised_there : (old new : map.FinMap line_cmp ℕ) (k : LineOf) → IsOneMore old new k → (q : LineOf) → number_at new q ≡ cond (same_line k q) (number_at old k + 1) (number_at old q)
+raised_there old new k more = raised old new k more.0 (sym (ap (λ o. unwrap_or o 0) more.1)) more.2
 
 -- one less, where there are more than one; the number is there, so it takes no memory
 pub lowered : {E : Type 0} (r : Result (Option ℕ) E) (old new : map.FinMap line_cmp ℕ) (k : LineOf) (n : ℕ) → n ≡ number_at old k → 1 < n → OnOk r (new ≡ map.insert old k (n - 1)) → OnErr r (map.get old k ≡ None) → (q : LineOf) → number_at new q ≡ cond (same_line k q) (number_at old k - 1) (number_at old q)

@@ -1,5 +1,5 @@
 -- The slots of the keys of a store: where both numbers of an edge or a crossing are small, or the number of a line.
-use Rattle.std.specs.Prelude.{◌≡◌, ℕ, zero, suc, ◌+◌, ◌*◌, ◌<◌, Bool, true, false, ◌&&◌, ◌==◌, nat_lt, if◌then◌else◌, Option, Some, None, refl, unwrap_or}
+use Rattle.std.specs.Prelude.{◌≡◌, ℕ, zero, suc, ◌+◌, ◌*◌, ◌^◌, ◌<◌, Bool, true, false, ◌&&◌, ◌==◌, nat_lt, if◌then◌else◌, Option, Some, None, refl, unwrap_or}
 use Rattle.std.proofs.Common.{sym, ap, ◌∙◌, tests, arith}
 use Rattle.std.proofs.lemmas.Bool.Decides.{nat_tests}
 use Rattle.std.proofs.lemmas.Bool.{and_parts}
@@ -9,23 +9,22 @@ use Rattle.tabled_grid.specs.declared.place.LineOf.{LineOf}
 use Rattle.tabled_grid.specs.Site.{Horizontal, Vertical, Spot, Edge, Crossing}
 use Rattle.tabled_kept.specs.declared.table.Slot.{Slot}
 use Rattle.tabled_kept.specs.Slots.{slot}
-use Rattle.tabled_kept.specs.Kept.{dense_end}
 
--- lines with numbers below this one stand in a table
-abbrev pub lines_end : ℕ
-lines_end = 1024
+-- the first number that has no slot
+abbrev pub slots_end : ℕ
+slots_end = 2 ^ 30
 
 -- horizontal lines stand in the first row of their table, and vertical ones in the second
 abbrev pub slot_of_line : LineOf → Option Slot
-slot_of_line (LineOf.Horizontal n) = if nat_lt n lines_end then Some (slot 0 n) else None
-slot_of_line (LineOf.Vertical n) = if nat_lt n lines_end then Some (slot 1 n) else None
+slot_of_line (LineOf.Horizontal n) = if nat_lt n slots_end then Some (slot 0 n) else None
+slot_of_line (LineOf.Vertical n) = if nat_lt n slots_end then Some (slot 1 n) else None
 
 abbrev pub line_at : Slot → LineOf
 line_at s = if s.row == 0 then LineOf.Horizontal s.col else LineOf.Vertical s.col
 
 -- the two edges and the crossing of a row and a column stand beside one another
 abbrev pub small : ℕ → ℕ → Bool
-small r c = nat_lt r dense_end && nat_lt c dense_end
+small r c = nat_lt r slots_end && nat_lt c slots_end
 
 abbrev pub slot_of_spot : Spot → Option Slot
 slot_of_spot (Edge Horizontal r c) = if small r c then Some (slot r (3 * c)) else None
@@ -61,22 +60,22 @@ less : (n end : ℕ) → nat_lt n end ≡ true → n < end
 less n end h = grind (arith, tests, nat_tests, h)
 
 pub lines_back : (line : LineOf) (s : Slot) → slot_of_line line ≡ Some s → line_at s ≡ line
-lines_back (LineOf.Horizontal n) s e = ap line_at (sym (given (nat_lt n 1024) (slot 0 n) s e).1)
-lines_back (LineOf.Vertical n) s e = ap line_at (sym (given (nat_lt n 1024) (slot 1 n) s e).1)
+lines_back (LineOf.Horizontal n) s e = ap line_at (sym (given (nat_lt n slots_end) (slot 0 n) s e).1)
+lines_back (LineOf.Vertical n) s e = ap line_at (sym (given (nat_lt n slots_end) (slot 1 n) s e).1)
 
-narrow_slot : (s t : Slot) → s ≡ t → (s.row < 256) × (s.col < 1024) → (t.row < 256) × (t.col < 1024)
+narrow_slot : (s t : Slot) → s ≡ t → (s.row < 2 ^ 30) × (s.col < 2 ^ 32) → (t.row < 2 ^ 30) × (t.col < 2 ^ 32)
 narrow_slot s t e h =
     let row : s.row ≡ t.row = ap (λ u. u.row) e in
     let col : s.col ≡ t.col = ap (λ u. u.col) e in
     (omega (arith, row, h.0), omega (arith, col, h.1))
 
-pub lines_narrow : (line : LineOf) (s : Slot) → slot_of_line line ≡ Some s → (s.row < 256) × (s.col < 1024)
+pub lines_narrow : (line : LineOf) (s : Slot) → slot_of_line line ≡ Some s → (s.row < 2 ^ 30) × (s.col < 2 ^ 32)
 lines_narrow (LineOf.Horizontal n) s e =
-    let it = given (nat_lt n 1024) (slot 0 n) s e in
-    narrow_slot (slot 0 n) s it.1 (omega arith, less n 1024 it.0)
+    let it = given (nat_lt n slots_end) (slot 0 n) s e in
+    narrow_slot (slot 0 n) s it.1 (omega arith, omega (arith, less n slots_end it.0))
 lines_narrow (LineOf.Vertical n) s e =
-    let it = given (nat_lt n 1024) (slot 1 n) s e in
-    narrow_slot (slot 1 n) s it.1 (omega arith, less n 1024 it.0)
+    let it = given (nat_lt n slots_end) (slot 1 n) s e in
+    narrow_slot (slot 1 n) s it.1 (omega arith, omega (arith, less n slots_end it.0))
 
 -- three slots a column
 columns_on : (r a c n : ℕ) → spot_after r a (3 * c + n) ≡ spot_after r (a + c) n
@@ -101,13 +100,13 @@ spots_back (Edge Horizontal r c) s e =
 spots_back (Edge Vertical r c) s e = ap spot_at (sym (given (small r c) (slot r (3 * c + 1)) s e).1) ∙ at_column r c 1
 spots_back (Crossing r c) s e = ap spot_at (sym (given (small r c) (slot r (3 * c + 2)) s e).1) ∙ at_column r c 2
 
-narrow_spot : (r c n : ℕ) (s : Slot) → n < 3 → (if small r c then Some (slot r (3 * c + n)) else None) ≡ Some s → (s.row < 256) × (s.col < 1024)
+narrow_spot : (r c n : ℕ) (s : Slot) → n < 3 → (if small r c then Some (slot r (3 * c + n)) else None) ≡ Some s → (s.row < 2 ^ 30) × (s.col < 2 ^ 32)
 narrow_spot r c n s part e =
     let it = given (small r c) (slot r (3 * c + n)) s e in
-    let numbers = and_parts (nat_lt r 256) (nat_lt c 256) it.0 in
-    narrow_slot (slot r (3 * c + n)) s it.1 (less r 256 numbers.0, omega (arith, less c 256 numbers.1, part))
+    let numbers = and_parts (nat_lt r slots_end) (nat_lt c slots_end) it.0 in
+    narrow_slot (slot r (3 * c + n)) s it.1 (less r slots_end numbers.0, omega (arith, less c slots_end numbers.1, part))
 
-pub spots_narrow : (spot : Spot) (s : Slot) → slot_of_spot spot ≡ Some s → (s.row < 256) × (s.col < 1024)
+pub spots_narrow : (spot : Spot) (s : Slot) → slot_of_spot spot ≡ Some s → (s.row < 2 ^ 30) × (s.col < 2 ^ 32)
 spots_narrow (Edge Horizontal r c) s e =
     let first : 3 * c + 0 ≡ 3 * c = omega arith in
     narrow_spot r c 0 s (omega arith) (ap (λ k. if small r c then Some (slot r k) else None) first ∙ e)
@@ -117,5 +116,5 @@ spots_narrow (Crossing r c) s e = narrow_spot r c 2 s (omega arith) e
 pub no_slot_back : (place : EdgePlace) (s : Slot) → no_slot place ≡ Some s → no_edge_place s ≡ place
 no_slot_back place s e = absurd cc
 
-pub no_slot_narrow : (place : EdgePlace) (s : Slot) → no_slot place ≡ Some s → (s.row < 256) × (s.col < 1024)
+pub no_slot_narrow : (place : EdgePlace) (s : Slot) → no_slot place ≡ Some s → (s.row < 2 ^ 30) × (s.col < 2 ^ 32)
 no_slot_narrow place s e = absurd cc

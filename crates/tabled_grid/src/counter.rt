@@ -18,6 +18,9 @@ pub(crate) fn add(numbers: &mut CountedMap<LineOf, u128>, line: LineOf) -> Resul
     ensures err { OnErr result (numbers.new ≡ numbers.old) }
     ensures none { OnErr result (number_at (table line_cmp numbers.old) line ≡ 0) }
 {
+    if numbers.add_one(line) {
+        return Ok(());
+    }
     let number = numbers.read(line, &mut Probes::new()).copied().unwrap_or(0);
     numbers.insert(line, number + 1)?;
     Ok(())

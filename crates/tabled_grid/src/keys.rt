@@ -3,11 +3,8 @@
 use crate::{Direction, LineOf, Offset, Spot};
 use tabled_kept::{Key, Slot};
 
-/// The first number of an edge or a crossing that has no slot.
-const DENSE_END: usize = 256;
-
-/// The first number of a line that has no slot.
-const LINES_END: usize = 1024;
+/// The first number of a line, of an edge or of a crossing that has no slot.
+const SLOTS_END: usize = 0x4000_0000;
 
 impl Key for LineOf {
     ghost use Rattle.tabled_grid.specs.Keys.{exact_lines};
@@ -22,7 +19,7 @@ impl Key for LineOf {
             LineOf::Horizontal(line) => (0, line),
             LineOf::Vertical(line) => (1, line),
         };
-        if col < LINES_END {
+        if col < SLOTS_END {
             Some(Slot { row, col })
         } else {
             None
@@ -50,7 +47,7 @@ impl Key for Spot {
             Spot::Edge(Direction::Vertical, row, col) => (row, col, 1),
             Spot::Crossing(row, col) => (row, col, 2),
         };
-        if row < DENSE_END && col < DENSE_END {
+        if row < SLOTS_END && col < SLOTS_END {
             Some(Slot {
                 row,
                 col: 3 * col + part,

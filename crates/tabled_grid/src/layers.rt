@@ -252,7 +252,7 @@ impl<T> Layers<T> {
         self.erase_spot(place.spot());
     }
 
-    /// Erases the whole cell level. The room of its tables stays, so what has a slot there can be written again without a
+    /// Erases the whole cell level. The room of its rows of slots stays, so what stood in one can be written again without a
     /// request for memory.
     pub fn erase_cells(&mut self)
     where

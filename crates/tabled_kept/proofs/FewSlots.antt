@@ -14,10 +14,10 @@ use Rattle.tabled_kept.proofs.Tables.{len-table}
 
 -- the place of a slot among all that are so small
 abbrev code : Slot → ℕ
-code s = 1024 * s.row + s.col
+code s = 2 ^ 32 * s.row + s.col
 
 abbrev Narrow : Slot → Type 0
-Narrow s = (s.row < 256) × (s.col < 1024)
+Narrow s = (s.row < 2 ^ 30) × (s.col < 2 ^ 32)
 
 rising : (s t : Slot) → Narrow s → Narrow t → slot_cmp s t ≡ Less → code s < code t
 rising s t small small' = by_rows (nat_cmp s.row t.row) refl
@@ -48,7 +48,7 @@ module _ {V : Type 0} where
       less Equal h = absurd h
       less Greater h = absurd h
 
-  few_left : (least : ℕ) (es : List (Slot × V)) → T (is_sorted slot_cmp es) → AllFrom least es → length es ≤ 2 ^ 18 - least
+  few_left : (least : ℕ) (es : List (Slot × V)) → T (is_sorted slot_cmp es) → AllFrom least es → length es ≤ 2 ^ 62 - least
   few_left least [] sorted all = omega arith
   few_left least (e ∷ es) sorted all =
       let parts = split (below_all slot_cmp e.0 es) (is_sorted slot_cmp es) sorted in
@@ -70,14 +70,14 @@ module _ {V : Type 0} where
       either true x some = refl
       either false x some = some
 
-  few_slots : (m : map.FinMap slot_cmp V) → ((s : Slot) → IsSome (map.get m s) → Narrow s) → length (map.entries m) ≤ 2 ^ 18
+  few_slots : (m : map.FinMap slot_cmp V) → ((s : Slot) → IsSome (map.get m s) → Narrow s) → length (map.entries m) ≤ 2 ^ 62
   few_slots m small = few_left 0 (map.entries m) (map.entries_sorted m) (all_small (map.entries m) (λ s some. small s (ap is_some (map.get-entries m s) ∙ some)))
 
 abbrev under : {K V : Type 0} → (Slot → K) → Slot × V → K × V
 under key_at value = (key_at value.0, value.1)
 
 -- so a kept map is no larger than what fits beside one
-pub few_kept : {K V : Type 0} {R : K → K → Ordering} {slot_of : K → Option Slot} {key_at : Slot → K} → IsTotalOrder R → map.IsAntisymmetric R → ((key : K) (s : Slot) → slot_of key ≡ Some s → (s.row < 256) × (s.col < 1024)) → (dense : map.FinMap slot_cmp V) (others : List (K × V)) → Parted R slot_of key_at dense others → length others < 2 ^ 63 → map.len (table R (all_entries key_at dense others)) < 2 ^ 64
+pub few_kept : {K V : Type 0} {R : K → K → Ordering} {slot_of : K → Option Slot} {key_at : Slot → K} → IsTotalOrder R → map.IsAntisymmetric R → ((key : K) (s : Slot) → slot_of key ≡ Some s → (s.row < 2 ^ 30) × (s.col < 2 ^ 32)) → (dense : map.FinMap slot_cmp V) (others : List (K × V)) → Parted R slot_of key_at dense others → length others < 2 ^ 63 → map.len (table R (all_entries key_at dense others)) < 2 ^ 64
 few_kept {R = R} {key_at = key_at} o exact narrow dense others parted few =
     let slots = few_slots dense (λ s some. narrow (key_at s) s (parted.in_place s some)) in
     let all = len-table o exact (all_entries key_at dense others) in

@@ -7,6 +7,8 @@ pub mod Tables
 pub mod Ascending
 pub mod Joining
 pub mod KeptLemmas
+pub mod SheetLemmas
 pub mod FewSlots
 pub mod NumberedLemmas
 pub mod Tallies
+pub mod OneMoreLemmas

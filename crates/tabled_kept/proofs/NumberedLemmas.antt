@@ -1,5 +1,5 @@
 -- A map kept under numbers, in rising order: what stands in the slots of the first row, and then the others.
-use Rattle.std.proofs.Common.{◌≡◌, ℕ, zero, suc, ◌+◌, ◌<◌, ◌≤◌, Bool, true, false, cond, Option, Some, None, is_some, IsSome, List, [], ◌∷◌, ◌++◌, inl, inr, refl, sym, ap, ◌∙◌, arith, tests, slice_index_or, nat_lt, if◌then◌else◌, ◌⊎◌, Less}
+use Rattle.std.proofs.Common.{◌≡◌, ℕ, zero, suc, ◌+◌, ◌*◌, ◌^◌, ◌<◌, ◌≤◌, Bool, true, false, cond, Option, Some, None, is_some, IsSome, List, [], ◌∷◌, ◌++◌, inl, inr, refl, sym, ap, ◌∙◌, arith, tests, slice_index_or, nat_lt, if◌then◌else◌, ◌⊎◌, Less}
 use Rattle.std.specs.List.{AllByRecursion}
 use Rattle.std.specs.List.Sorted.{IsStrictlySortedBy}
 use Rattle.std.specs.Map.{keys_of}
@@ -8,12 +8,14 @@ use Rattle.std.specs.Cmp.{nat_cmp_total, nat_cmp_is, tied_itself}
 use Rattle.std.specs.FinMap as map
 use Rattle.std.proofs.lemmas.Bool.{cases_lt}
 use Rattle.std.proofs.lemmas.Bool.Decides.{nat_tests}
-use Rattle.tabled_kept.specs.Slots.{slot_cmp, slot, numbered}
+use Rattle.tabled_kept.specs.Slots.{slot_cmp, slots_total, slot, numbered}
+use Rattle.tabled_kept.specs.Sheet.{far_number}
 use Rattle.tabled_kept.specs.Table.{table}
 use Rattle.tabled_kept.specs.Kept.{all_entries, Parted, slot_of_number, number_at_slot}
 use Rattle.tabled_kept.specs.KeyLaws.{numbers_back}
 use Rattle.tabled_kept.proofs.SlotLemmas.{or_else, find-append, find-slots}
 use Rattle.tabled_kept.proofs.Ascending.{entries-table}
+use Rattle.tabled_kept.proofs.TableLemmas.{exact_slots}
 use Rattle.tabled_kept.proofs.Joining.{at_slot, get-all_entries}
 use Rattle.tabled_kept.proofs.KeptLemmas.{none_or}
 
@@ -58,18 +60,33 @@ module _ {V : Type 0} where
   rising n (Some x ∷ slots) es small large sorted =
       (above_all n (suc n) slots es (omega arith) (omega (arith, small zero refl)) large, rising (suc n) slots es (λ k some. omega (arith, small (suc k) some)) large sorted)
 
-  module _ (slots : List (Option V)) (dense : map.FinMap slot_cmp V) (others : List (ℕ × V)) (first_row : (k : ℕ) → slice_index_or slots k None ≡ map.get dense (slot 0 k)) (parted : Parted nat_cmp slot_of_number number_at_slot dense others) (sorted : Sorted others) where
-    -- only small numbers have a slot
-    small_only : (k : ℕ) → IsSome (map.get dense (slot 0 k)) → nat_lt k 256 ≡ true
-    small_only k some = by_test (nat_lt k 256) (parted.in_place (slot 0 k) some)
-      where
-        by_test : (b : Bool) → (if b then Some (slot 0 k) else None) ≡ Some (slot 0 k) → b ≡ true
-        by_test true e = refl
-        by_test false e = absurd cc
+  -- only small numbers have a slot
+  small_only : (dense : map.FinMap slot_cmp V) (others : List (ℕ × V)) → Parted nat_cmp slot_of_number number_at_slot dense others → (k : ℕ) → IsSome (map.get dense (slot 0 k)) → nat_lt k 256 ≡ true
+  small_only dense others parted k some = by_test (nat_lt k 256) (parted.in_place (slot 0 k) some)
+    where
+      by_test : (b : Bool) → (if b then Some (slot 0 k) else None) ≡ Some (slot 0 k) → b ≡ true
+      by_test true e = refl
+      by_test false e = absurd cc
 
+  -- so all of their slots stand in the first row
+  pub all_in_row : (slots : List (Option V)) (dense : map.FinMap slot_cmp V) (others : List (ℕ × V)) → Parted nat_cmp slot_of_number number_at_slot dense others → ((k : ℕ) → slice_index_or slots k None ≡ (if is_some (far_number (slot 0 k)) then None else map.get dense (slot 0 k))) → (k : ℕ) → slice_index_or slots k None ≡ map.get dense (slot 0 k)
+  all_in_row slots dense others parted first_row k = by_test (is_some (far_number (slot 0 k))) refl
+    where
+      near : nat_lt k 256 ≡ true → is_some (far_number (slot 0 k)) ≡ false
+      near less =
+          let small : nat_lt k 1024 ≡ true = grind (arith, tests, nat_tests, less) in
+          ap (λ b. is_some (if b then None else if nat_lt k (2 ^ 32) then Some (0 * 2 ^ 32 + k) else None)) small
+
+      by_test : (b : Bool) → is_some (far_number (slot 0 k)) ≡ b → slice_index_or slots k None ≡ map.get dense (slot 0 k)
+      by_test false is = first_row k ∙ ap (λ b. if b then None else map.get dense (slot 0 k)) is
+      by_test true is =
+          first_row k ∙ ap (λ b. if b then None else map.get dense (slot 0 k)) is
+          ∙ sym (none_or (map.get dense (slot 0 k)) (λ some. absurd (let both = sym is ∙ near (small_only dense others parted k some) in cc)))
+
+  module _ (slots : List (Option V)) (dense : map.FinMap slot_cmp V) (others : List (ℕ × V)) (first_row : (k : ℕ) → slice_index_or slots k None ≡ map.get dense (slot 0 k)) (parted : Parted nat_cmp slot_of_number number_at_slot dense others) (sorted : Sorted others) where
     pub in_order : Sorted (numbered 0 slots ++ others)
     in_order = rising 0 slots others
-        (λ k some. let less = small_only k (sym (ap is_some (first_row k)) ∙ some) in grind (arith, tests, nat_tests, less))
+        (λ k some. let less = small_only dense others parted k (sym (ap is_some (first_row k)) ∙ some) in grind (arith, tests, nat_tests, less))
         (all_large others (λ k small. sym (map.get-from_entries nat_cmp_total others k) ∙ parted.apart k (has_slot k (grind (arith, tests, nat_tests, small)))))
         sorted
       where
@@ -80,7 +97,7 @@ module _ {V : Type 0} where
     same_map_in_order = map.same_map nat_cmp_total map.nat_cmp-IsAntisymmetric _ _ (λ q.
         map.get-from_entries nat_cmp_total (numbered 0 slots ++ others) q ∙ find-append nat_cmp q (numbered 0 slots) others
         ∙ (λ i. or_else ((find-slots slots q ∙ first_row q) i) (sym (map.get-from_entries nat_cmp_total others q) i))
-        ∙ by_test q (nat_lt q 256) refl ∙ sym (get-all_entries nat_cmp_total map.nat_cmp-IsAntisymmetric numbers_back dense others parted q))
+        ∙ by_test q (nat_lt q 256) refl ∙ sym (get-all_entries slots_total exact_slots nat_cmp_total map.nat_cmp-IsAntisymmetric numbers_back dense others parted q))
       where
         nothing_else : (x : Option V) → or_else x None ≡ x
         nothing_else None = refl
@@ -93,7 +110,7 @@ module _ {V : Type 0} where
             ∙ ap (λ at. at_slot at (map.get dense) (map.get (table nat_cmp others) q)) (sym of_q)
         by_test q false large =
             let of_q : slot_of_number q ≡ None = ap (λ b. if b then Some (slot 0 q) else None) large in
-            let none : map.get dense (slot 0 q) ≡ None = none_or (map.get dense (slot 0 q)) (λ some. absurd (let both = sym large ∙ small_only q some in cc)) in
+            let none : map.get dense (slot 0 q) ≡ None = none_or (map.get dense (slot 0 q)) (λ some. absurd (let both = sym large ∙ small_only dense others parted q some in cc)) in
             ap (λ x. or_else x (map.get (table nat_cmp others) q)) none ∙ ap (λ at. at_slot at (map.get dense) (map.get (table nat_cmp others) q)) (sym of_q)
 
     -- so they are the entries of the whole map

@@ -4,3 +4,5 @@ pub mod Same
 pub mod Slots
 pub mod Kept
 pub mod KeyLaws
+pub mod Sheet
+pub mod OneMore

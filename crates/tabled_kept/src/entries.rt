@@ -1,26 +1,26 @@
-//! The entries of a kept map: in a table where their keys have slots, and else in an ordered map.
+//! The entries of a kept map: in slots where their keys have one, and else in an ordered map.
 
-ghost use Rattle.std.specs.Prelude.{◌≡◌, ◌<◌, ◌^◌, OnOk, OnErr, IfOk, None, option_copied};
+ghost use Rattle.std.specs.Prelude.{◌≡◌, ◌<◌, ◌^◌, IsTrue, IsFalse, OnOk, OnErr, IfOk, None, option_copied};
 ghost use Rattle.std.specs.FinMap as map;
-ghost use Rattle.std.specs.List.Sorted.{IsStrictlySortedBy};
-ghost use Rattle.std.specs.Map.{keys_of};
 ghost use Rattle.tabled_kept.specs.Table.{table};
 ghost use Rattle.tabled_kept.specs.Same.{same_map};
+ghost use Rattle.tabled_kept.specs.OneMore.{IsOneMore};
 ghost use Rattle.tabled_kept.specs.Probing.{IsCounted, IsRaised};
 
+use crate::copies::copy_of;
 use crate::key::Key;
 use crate::meter::Meter;
-use crate::table::Table;
+use crate::sheet::Sheet;
 use std::alloc::Global;
 use std::collections::BTreeMap;
 use std::marker::Model;
 use tabled_border::{Keep, OutOfMemory};
 
 /// The entries of a kept map. A value stands in the slot of its key, if the key has one, and else in an ordered map; so a reading
-/// is one of the table or one of the ordered map. In contracts it is the list of its entries.
+/// is one of the slots or one of the ordered map. In contracts it is the list of its entries.
 #[derive(Debug, Drop)]
 pub(crate) struct Entries<K: Key, V> {
-    pub(crate) dense: Table<V>,
+    pub(crate) dense: Sheet<V>,
     pub(crate) others: BTreeMap<K, V>,
 }
 
@@ -41,7 +41,7 @@ impl<K: Key, V> Entries<K, V> {
         ensures { table K.cmp result ≡ map.empty }
     {
         Entries {
-            dense: Table::new(alloc),
+            dense: Sheet::new(alloc),
             others: BTreeMap::new(alloc),
         }
     }
@@ -98,7 +98,7 @@ impl<K: Key, V> Entries<K, V> {
         before
     }
 
-    /// Takes everything. The room of the table stays.
+    /// Takes everything. The room of the rows of slots stays.
     pub(crate) fn clear(&mut self)
     where
         V: Drop,
@@ -123,29 +123,18 @@ impl<K: Key, V> Entries<K, V> {
     }
 }
 
-/// Copies of all entries of an ordered map, whose memory comes from `alloc`.
-fn copy_of<K: Key, V: Keep>(
-    entries: &BTreeMap<K, V>,
-    alloc: Global,
-) -> Result<BTreeMap<K, V>, OutOfMemory>
-    ensures { IfOk result (λ copy. copy.entries ≡ entries.now.entries) }
-{
-    let mut copies = Vec::with_capacity(alloc, entries.len())?;
-    for (key, value) in entries {
-        copies.push((*key, value.keep(alloc)?))?;
+impl<K: Key> Entries<K, u128> {
+    /// Counts one more under a key whose slot stands in a row, where a number is there that has one after it. Else nothing changes.
+    pub(crate) fn add_one(&mut self, key: K) -> bool
+        ensures more { IsTrue result → IsOneMore (table K.cmp self.old) (table K.cmp self.new) key }
+        ensures same { IsFalse result → self.new ≡ self.old }
+    {
+        if let Some(slot) = key.slot() {
+            let more = self.dense.add_one(slot);
+            return more;
+        }
+        false
     }
-    map_of(copies, alloc)
-}
-
-/// The ordered map of entries in rising order, made at once and without a search. Its memory comes from `alloc`.
-pub(crate) fn map_of<K: Key, V: Drop>(
-    entries: Vec<(K, V)>,
-    alloc: Global,
-) -> Result<BTreeMap<K, V>, OutOfMemory>
-    requires { IsStrictlySortedBy K.cmp (keys_of entries.items) }
-    ensures { IfOk result (λ made. made.entries ≡ entries.items) }
-{
-    Ok(BTreeMap::from_iter(alloc, entries)?)
 }
 
 impl<K: Key, V: Keep> Keep for Entries<K, V> {
@@ -153,7 +142,7 @@ impl<K: Key, V: Keep> Keep for Entries<K, V> {
         // one field more, or a list in place of a value, and this does not compile; a look at the entries also gives
         // the checker their bound, which the copy keeps to
         let Entries { dense, others } = self;
-        let dense: &Table<V> = dense;
+        let dense: &Sheet<V> = dense;
         let others: &BTreeMap<K, V> = others;
         Ok(Entries {
             dense: dense.keep(alloc)?,

@@ -1,6 +1,6 @@
 //! The keys of kept maps, and the slots that some of them have.
 
-ghost use Rattle.std.specs.Prelude.{◌≡◌, ◌<◌, Option, Some};
+ghost use Rattle.std.specs.Prelude.{◌≡◌, ◌<◌, ◌^◌, Option, Some};
 ghost use Rattle.std.specs.FinMap as map;
 ghost use Rattle.tabled_kept.specs.declared.table.Slot.{Slot as Place};
 ghost use Rattle.tabled_kept.specs.Kept.{slot_of_number, number_at_slot};
@@ -27,7 +27,7 @@ pub trait Key: Ord + Copy + Drop {
     ghost back: { (key : Self) → (slot : Place) → slot_of key ≡ Some slot → key_at slot ≡ key };
 
     /// Slots have small numbers.
-    ghost narrow: { (key : Self) → (slot : Place) → slot_of key ≡ Some slot → (slot.row < 256) × (slot.col < 1024) };
+    ghost narrow: { (key : Self) → (slot : Place) → slot_of key ≡ Some slot → (slot.row < 2 ^ 30) × (slot.col < 2 ^ 32) };
 }
 
 impl Key for usize {

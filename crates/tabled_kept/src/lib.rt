@@ -1,5 +1,5 @@
-//! What a store keeps under keys: one value under each, in tables where the numbers of the key are small, and else in an
-//! ordered map.
+//! What a store keeps under keys: one value under each, in tables where the numbers of the key are small, and else in
+//! ordered maps.
 //!
 //! `docs/DEFINITIONS.md` explains the words of the contracts. Users name [`Probes`] by `tabled_grid`.
 #![tactic(auto)]
@@ -9,9 +9,11 @@ mod counted_map;
 mod entries;
 mod key;
 mod meter;
+mod number;
 mod numbered;
 mod one;
 mod probes;
+mod sheet;
 mod slots;
 mod table;
 mod tally;

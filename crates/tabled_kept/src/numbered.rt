@@ -8,8 +8,9 @@ ghost use Rattle.std.specs.Map.{keys_of};
 ghost use Rattle.std.specs.Iterator.{YieldsFirstBy, item_count};
 ghost use Rattle.tabled_kept.specs.Table.{table};
 
+use crate::copies::map_of;
 use crate::counted_map::CountedMap;
-use crate::entries::{Entries, map_of};
+use crate::entries::Entries;
 use std::alloc::Global;
 use std::collections::BTreeMap;
 use std::collections::btree_map::Iter;

@@ -1,10 +1,11 @@
 //! Numbered slots, each empty or with a value.
 
-ghost use Rattle.std.specs.Prelude.{◌≡◌, ◌↔◌, ◌<◌, ◌≤◌, vec_len, IsTrue, OnOk, OnErr, IfOk, None, option_copied};
+ghost use Rattle.std.specs.Prelude.{◌≡◌, ◌↔◌, ◌<◌, ◌≤◌, vec_len, IsTrue, IsFalse, OnOk, OnErr, IfOk, None, option_copied};
 ghost use Rattle.std.specs.Ordering.{nat_cmp};
 ghost use Rattle.std.specs.FinMap as map;
 ghost use Rattle.tabled_kept.specs.Slots.{filled};
 ghost use Rattle.tabled_kept.specs.Same.{same_map};
+ghost use Rattle.tabled_kept.specs.OneMore.{IsOneMore};
 
 use crate::copies::copies;
 use std::alloc::Global;
@@ -120,6 +121,25 @@ impl<V> Slots<V> {
             }
         }
         true
+    }
+}
+
+impl Slots<u128> {
+    /// Counts one more in the slot of a number, where a number is there that has one after it. Else nothing changes.
+    pub(crate) fn add_one(&mut self, at: usize) -> bool
+        ensures more { IsTrue result → IsOneMore self.old self.new at }
+        ensures same { IsFalse result → self.new ≡ self.old }
+    {
+        if at < self.slots.len() {
+            if let Some(number) = self.slots[at] {
+                let has_next = number < u128::MAX;
+                if has_next {
+                    self.slots[at] = Some(number + 1);
+                    return true;
+                }
+            }
+        }
+        false
     }
 }
 

@@ -1,9 +1,10 @@
 //! Tables of slots: rows of slots, each row as long as its writes ask for.
 
-ghost use Rattle.std.specs.Prelude.{◌≡◌, ◌<◌, ◌≤◌, ℕ, vec_len, slice_index_or, unwrap_or, OnOk, OnErr, IfOk, None, option_copied};
+ghost use Rattle.std.specs.Prelude.{◌≡◌, ◌<◌, ◌≤◌, ℕ, vec_len, slice_index_or, unwrap_or, IsTrue, IsFalse, OnOk, OnErr, IfOk, None, option_copied};
 ghost use Rattle.std.specs.FinMap as map;
 ghost use Rattle.tabled_kept.specs.Slots.{slot_cmp, slot, in_rows};
 ghost use Rattle.tabled_kept.specs.Same.{same_map};
+ghost use Rattle.tabled_kept.specs.OneMore.{IsOneMore};
 
 use crate::copies::copies;
 use crate::slots::Slots;
@@ -122,6 +123,20 @@ impl<V> Table<V> {
             }
         }
         true
+    }
+}
+
+impl Table<u128> {
+    /// Counts one more in a slot, where a number is there that has one after it. Else nothing changes.
+    pub(crate) fn add_one(&mut self, slot: Slot) -> bool
+        ensures more { IsTrue result → IsOneMore self.old self.new slot }
+        ensures same { IsFalse result → self.new ≡ self.old }
+    {
+        if slot.row < self.rows.len() {
+            let more = self.rows[slot.row].add_one(slot.col);
+            return more;
+        }
+        false
     }
 }
 

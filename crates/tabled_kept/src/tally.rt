@@ -1,9 +1,10 @@
 //! The entries of a kept map, with their number.
 
-ghost use Rattle.std.specs.Prelude.{◌≡◌, ◌↔◌, ◌<◌, ◌^◌, OnOk, OnErr, IfOk, None, option_copied, IsTrue};
+ghost use Rattle.std.specs.Prelude.{◌≡◌, ◌↔◌, ◌<◌, ◌^◌, OnOk, OnErr, IfOk, None, option_copied, IsTrue, IsFalse};
 ghost use Rattle.std.specs.FinMap as map;
 ghost use Rattle.tabled_kept.specs.Table.{table};
 ghost use Rattle.tabled_kept.specs.Same.{same_map};
+ghost use Rattle.tabled_kept.specs.OneMore.{IsOneMore};
 ghost use Rattle.tabled_kept.specs.Probing.{IsCounted, IsRaised};
 
 use crate::entries::Entries;
@@ -94,7 +95,7 @@ impl<K: Key, V> Tally<K, V> {
         before
     }
 
-    /// Takes everything. The room of the tables stays.
+    /// Takes everything. The room of the rows of slots stays.
     pub(crate) fn clear(&mut self)
     where
         V: Drop,
@@ -111,6 +112,17 @@ impl<K: Key, V> Tally<K, V> {
         ensures { result ≡ same_map V.eq (table K.cmp self.now) (table K.cmp other.now) }
     {
         self.entries.is_same(&other.entries)
+    }
+}
+
+impl<K: Key> Tally<K, u128> {
+    /// Counts one more under a key whose slot stands in a row, where a number is there that has one after it. Else nothing changes.
+    pub(crate) fn add_one(&mut self, key: K) -> bool
+        ensures more { IsTrue result → IsOneMore (table K.cmp self.old) (table K.cmp self.new) key }
+        ensures same { IsFalse result → self.new ≡ self.old }
+    {
+        let more = self.entries.add_one(key);
+        more
     }
 }
 

@@ -1,4 +1,4 @@
-use Rattle.std.proofs.Common.{is_some, sym, ap, subst, ◌∙◌, ◌↔◌, IsTrue}
+use Rattle.std.proofs.Common.{is_some, ap, subst, ◌∙◌, ◌↔◌, IsTrue}
 use Rattle.tabled_grid.specs.Drawn.{Drawn}
 use Rattle.tabled_grid.specs.State.{state_at, class_draws}
 use Rattle.tabled_grid.proofs.DrawnBy.{row_left, col_left}

@@ -4,7 +4,7 @@ use Rattle.std.proofs.lemmas.List.{map-id}
 use Rattle.std.proofs.lemmas.Iterator.{items_from_drains}
 use Rattle.std.proofs.lemmas.Iterator.Adapters.{YieldsList-from_vec}
 use Rattle.tabled_kept.proofs.Ascending.{entries_made}
-use Rattle.tabled_kept.proofs.entries.map_of.Goals as goal
+use Rattle.tabled_kept.proofs.copies.map_of.Goals as goal
 
 pub returns : goal.returns
 returns g c =

@@ -1,5 +1,5 @@
 use Rattle.std.proofs.Common.{◌≡◌, ◌++◌}
-use Rattle.tabled_kept.proofs.entries.copy_of.Given as goal
+use Rattle.tabled_kept.proofs.copies.copy_of.Given as goal
 
 -- what is copied and what is left are the entries
 abbrev pub invariant-loop-key : goal.invariant-loop-key
