@@ -80,6 +80,7 @@ fn push_pieces(
 }
 
 /// Writes a character the given number of times, each by itself.
+#[inline(always)]
 fn push_each(text: &mut String, count: usize, character: char) -> Result<(), AllocError>
     ensures ok { OnOk result (string_bytes text.new ≡ string_bytes text.old ++ times count character) }
     ensures err { OnErr result ((some : ℕ) × (string_bytes text.new ≡ string_bytes text.old ++ times some character)) }
@@ -126,8 +127,10 @@ fn push_many(text: &mut String, count: usize, character: char) -> Result<(), All
     }
 }
 
-/// Writes a character the given number of times: twice by itself, and more often as copies.
-fn push_several(text: &mut String, count: usize, character: char) -> Result<(), AllocError>
+/// Writes a character the given number of times: up to twice by itself, in line, and more often as copies. Where memory is refused it may
+/// have been written fewer times.
+#[inline(always)]
+pub fn push_times(text: &mut String, count: usize, character: char) -> Result<(), AllocError>
     ensures ok { OnOk result (string_bytes text.new ≡ string_bytes text.old ++ times count character) }
     ensures err { OnErr result ((some : ℕ) × (string_bytes text.new ≡ string_bytes text.old ++ times some character)) }
 {
@@ -135,19 +138,6 @@ fn push_several(text: &mut String, count: usize, character: char) -> Result<(), 
         return push_each(text, count, character);
     }
     push_many(text, count, character)
-}
-
-/// Writes a character the given number of times. Where memory is refused it may have been written fewer times.
-#[inline(always)]
-pub fn push_times(text: &mut String, count: usize, character: char) -> Result<(), AllocError>
-    ensures ok { OnOk result (string_bytes text.new ≡ string_bytes text.old ++ times count character) }
-    ensures err { OnErr result ((some : ℕ) × (string_bytes text.new ≡ string_bytes text.old ++ times some character)) }
-{
-    if count != 1 {
-        return push_several(text, count, character);
-    }
-    text.push(character)?;
-    Ok(())
 }
 
 /// A text of `PIECE` spaces and then a character: of those that the vertical lines of tables are mostly drawn with.
