@@ -3,7 +3,7 @@
 use std::alloc::Global;
 use std::test::Fail;
 use tabled_grid::{
-    HorizontalLine, Layers, Numbered, Offset, OutOfMemory, Place, Position, Target, VerticalLine,
+    HorizontalLine, Keep, Layers, Numbered, Offset, OutOfMemory, Place, Position, Target, VerticalLine,
 };
 
 const CELL: Position = Position { row: 0, col: 0 };
@@ -125,5 +125,52 @@ fn lines_are_lent_in_rising_order(rt: HostRuntime) -> Result<(), Fail> {
     drop(store);
     made?;
     assert!(rt; in_order?);
+    Ok(())
+}
+
+/// Crossings on both sides of where what is kept stands elsewhere.
+const AT_EDGES: [(usize, usize); 12] = [
+    (255, 340),
+    (255, 341),
+    (256, 340),
+    (0, 1_023),
+    (0, 1_024),
+    (1, 0),
+    (1_000, 999),
+    (999, 1_000),
+    (0x3fff_ffff, 0x3fff_ffff),
+    (0x3fff_ffff, 0x4000_0000),
+    (0x4000_0000, 0x3fff_ffff),
+    (usize::MAX, usize::MAX),
+];
+
+/// The character of each of them.
+const SIGNS: [char; 12] = ['a', 'b', 'c', 'd', 'e', 'f', 'g', 'h', 'i', 'j', 'k', 'l'];
+
+/// Whether each crossing but those before the given number has its character.
+fn have_signs(store: &Layers<char>, from: usize) -> bool {
+    for (number, (row, col)) in AT_EDGES.into_iter().enumerate() {
+        let kept = store.kept_at(Target::Cell(Place::Cross { row, col })).copied();
+        let wanted = if number < from { None } else { SIGNS.get(number).copied() };
+        if kept != wanted {
+            return false;
+        }
+    }
+    true
+}
+
+#[test]
+fn crossings_with_great_numbers_are_told_apart(rt: HostRuntime) -> Result<(), Fail> {
+    let mut store = Layers::new(rt.alloc());
+    for (number, (row, col)) in AT_EDGES.into_iter().enumerate() {
+        store.set_cell(Place::Cross { row, col }, SIGNS[number])?;
+    }
+    let copy = store.keep(rt.alloc())?;
+    assert!(rt; have_signs(&store, 0) && have_signs(&copy, 0));
+    for (number, (row, col)) in AT_EDGES.into_iter().enumerate() {
+        store.erase_cell(Place::Cross { row, col });
+        assert!(rt; have_signs(&store, number + 1), "{row}, {col}");
+    }
+    assert!(rt; have_signs(&copy, 0));
     Ok(())
 }

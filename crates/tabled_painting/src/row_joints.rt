@@ -15,8 +15,8 @@ use tabled_printing::SideMarks;
 /// How many colors of rows have joints at most.
 const COLORS: usize = 16;
 
-/// From how many rows on joints pay where no colors are wanted.
-const MANY_ROWS: usize = 8;
+/// From how many cells on joints pay where no colors are wanted.
+const MANY_CELLS: usize = 32;
 
 /// The number of the joints in a color, if they are among these.
 fn number_of(known: &[Joints], color: Option<&ANSIBuf>) -> Option<usize>
@@ -135,12 +135,12 @@ impl<'a> TableLines<'a, '_> {
     }
 
     /// The joints of each row, if vertical lines look alike and it is known in which color each row is, in a few colors. Where no colors
-    /// are wanted they are for tables of many rows.
+    /// are wanted they are for tables of many cells.
     pub(crate) fn row_joints(&self) -> Result<Option<RowJoints<'a>>, OutOfMemory>
         ensures { IfOk result (λ found. IfSome found (AreJoined self.now)) }
     {
-        let (rows, _) = self.frame.shape;
-        if !self.frame.with_colors && rows < MANY_ROWS {
+        let (rows, cols) = self.frame.shape;
+        if !self.frame.with_colors && rows.saturating_mul(cols) < MANY_CELLS {
             return Ok(None);
         }
         let Some(sides) = self.row_sides() else {
