@@ -18,6 +18,7 @@ use Rattle.tabled_painting.specs.declared.painter.Painter.{Painter}
 use Rattle.tabled_painting.specs.Painted.{Painted, paint}
 use Rattle.tabled_painting.specs.InColor.{Paints}
 use Rattle.tabled_painting.specs.PaintedTable.{painted_mark, painted_marks, side_painted, painted_side, painted_between}
+use Rattle.tabled_painting.specs.TextsBy.{texts_by}
 use Rattle.tabled_painting.proofs.PainterLemmas.{paints_both}
 
 -- a run is its character, the given number of times
@@ -90,9 +91,13 @@ cells_same view r k count cells cell counted are =
     (λ c within. ap (λ part. painted_side view r k c ++ part) (ap (λ xs. get_or xs c []) are ∙ get_or-map-range_with_len cell 0 count c c [] (omega arith) (omega arith))))
 
 -- the texts of the row at a place
+pub row_texts_by : {A Z : Type 0} (bytes : A → List ℕ) (rows : List (Vec A Z)) (r : ℕ) (row : Vec A Z) (items : List A) → r < length rows → row ≡ get_or rows r row → items ≡ row.items
+    → map bytes items ≡ get_or (texts_by bytes rows) r []
+row_texts_by bytes rows r row items within read same = ap (map bytes) same ∙ shown_at (λ v. map bytes v.items) rows r row [] within read
+
 pub row_texts : {Z W : Type 0} (rows : List (Vec (String Z) W)) (r : ℕ) (row : Vec (String Z) W) (items : List (String Z)) → r < length rows → row ≡ get_or rows r row → items ≡ row.items
     → map string_bytes items ≡ get_or (texts rows) r []
-row_texts rows r row items within read same = ap (map string_bytes) same ∙ shown_at (λ v. map string_bytes v.items) rows r row [] within read
+row_texts = row_texts_by string_bytes
 
 -- as many cells as columns
 pub cells_count : {A B : Type 0} (f : A → B) (g : ℕ → B) (xs : List A) (n : ℕ) → map f xs ≡ map g (below n) → length xs ≡ n

@@ -13,6 +13,7 @@ pub mod Stretches
 pub mod BareCells
 pub mod Outputs
 pub mod Printable
+pub mod TextsBy
 pub mod AlikeRows
 pub mod AlikeLines
 pub mod Widths

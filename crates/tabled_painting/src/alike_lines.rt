@@ -4,7 +4,7 @@ ghost use Rattle.std.specs.Prelude.{◌≡◌, ◌<◌, ◌≤◌, ◌++◌, ◌
 ghost use Rattle.std.specs.Option.{ForSome};
 ghost use Rattle.std.specs.List.{All};
 ghost use Rattle.tabled_printing.specs.Along.{is_empty};
-ghost use Rattle.tabled_printing.specs.Texts.{Table, texts};
+ghost use Rattle.tabled_printing.specs.Texts.{Table};
 ghost use Rattle.tabled_painting.specs.AlikeRows.{AreAlikeBetween, feed_before, line_above, line_below, row_text};
 ghost use Rattle.tabled_painting.specs.Between.{IsPlainLine};
 ghost use Rattle.tabled_painting.specs.Joints.{AreJoined};
@@ -12,12 +12,14 @@ ghost use Rattle.tabled_painting.specs.Margin.{is_without_room};
 ghost use Rattle.tabled_painting.specs.Pages.{text_of_lines};
 ghost use Rattle.tabled_painting.specs.PaintedTable.{painted_by};
 ghost use Rattle.tabled_painting.specs.Printable.{AllPrintable, ArePrintable};
+ghost use Rattle.tabled_painting.specs.TextsBy.{texts_by};
 ghost use Rattle.tabled_painting.specs.Viewed.{viewed};
 
 use crate::joints::RowJoints;
 use crate::output::Output;
-use crate::table_lines::{TableLines, line_text, line_written};
+use crate::table_lines::{TableLines, line_behind, line_written};
 use std::alloc::Global;
+use std::convert::AsStr;
 use tabled_border::OutOfMemory;
 use tabled_configuration::{ColoredConfig, SpannedConfig};
 use tabled_object::{Dimension, FixedDimension};
@@ -43,37 +45,27 @@ pub struct AlikeLines<'a, 'b> {
     ghost plain: { joints ≡ None → lines.is_plain ≡ true },
 }
 
-/// The horizontal line above the first row with its line feed, if it is drawn. Columns of a terminal are given.
-fn first_line(
-    alloc: Global,
-    frame: &Frame<FixedDimension>,
-    columns: usize,
-) -> Result<String, OutOfMemory>
+/// The horizontal line above the first row with its line feed, if it is drawn. It asks for no room beforehand.
+fn first_line(alloc: Global, frame: &Frame<FixedDimension>) -> Result<String, OutOfMemory>
     ensures { IfOk result (λ text. string_bytes text ≡ line_above frame.now.with_colors (viewed frame.now) 0) }
 {
+    let room = String::new(alloc);
     if !frame.draws(0) {
-        return Ok(String::new(alloc));
+        return Ok(room);
     }
-    line_written(alloc, frame, 0, columns)
+    line_written(room, frame, 0)
 }
 
-/// A line feed and the horizontal line below the last row, if it is drawn. Columns of a terminal are given.
-fn last_line(
-    alloc: Global,
-    frame: &Frame<FixedDimension>,
-    columns: usize,
-) -> Result<String, OutOfMemory>
+/// A line feed and the horizontal line below the last row, if it is drawn. It asks for no room beforehand.
+fn last_line(alloc: Global, frame: &Frame<FixedDimension>) -> Result<String, OutOfMemory>
     ensures { IfOk result (λ text. string_bytes text ≡ line_below frame.now.with_colors (viewed frame.now)) }
 {
     let (rows, _) = frame.shape;
     if !frame.draws(rows) {
         return Ok(String::new(alloc));
     }
-    let line = line_text(alloc, frame, rows, columns)?;
-    let mut text = String::with_capacity(alloc, line.len().saturating_add(1))?;
-    text.push('\n')?;
-    text.push_str(line.as_str())?;
-    Ok(text)
+    let feed = String::from_str(alloc, "\n")?;
+    line_behind(feed, frame, rows)
 }
 
 /// Writes the line feed before what stands at a row, which the first one has not.
@@ -177,8 +169,8 @@ impl<'a, 'b> AlikeLines<'a, 'b> {
             return Ok(None);
         }
         let alloc = cfg.config().allocator();
-        let first = first_line(alloc, &lines.frame, lines.columns)?;
-        let last = last_line(alloc, &lines.frame, lines.columns)?;
+        let first = first_line(alloc, &lines.frame)?;
+        let last = last_line(alloc, &lines.frame)?;
         Ok(Some(AlikeLines {
             lines,
             first,
@@ -199,16 +191,16 @@ impl<'a, 'b> AlikeLines<'a, 'b> {
     }
 
     /// Writes the line of a row of these texts.
-    fn push_texts<O: Output>(
+    fn push_texts<O: Output, T: AsStr>(
         &self,
         out: &mut O,
         row: usize,
-        texts: &[String],
+        texts: &[T],
     ) -> Result<(), O::Error>
         requires row { row < self.now.lines.frame.shape.0 }
         requires texts { length texts.now ≡ self.now.lines.frame.shape.1 }
-        requires printable { ArePrintable (map string_bytes texts.now) }
-        ensures { OnOk result (O.gains (row_text self.now.lines row (map string_bytes texts.now)) out.old out.new) }
+        requires printable { ArePrintable (map T.text texts.now) }
+        ensures { OnOk result (O.gains (row_text self.now.lines row (map T.text texts.now)) out.old out.new) }
     {
         match &self.joints {
             Some(joints) => {
@@ -221,11 +213,16 @@ impl<'a, 'b> AlikeLines<'a, 'b> {
     }
 
     /// Writes a row, after the line above it, each after the line feed of what stands before.
-    fn push_row<O: Output>(&self, out: &mut O, row: usize, texts: &[String]) -> Result<(), O::Error>
+    fn push_row<O: Output, T: AsStr>(
+        &self,
+        out: &mut O,
+        row: usize,
+        texts: &[T],
+    ) -> Result<(), O::Error>
         requires row { row < self.now.lines.frame.shape.0 }
         requires texts { length texts.now ≡ self.now.lines.frame.shape.1 }
-        requires printable { ArePrintable (map string_bytes texts.now) }
-        ensures { OnOk result (O.gains (feed_before row ++ (line_above self.now.lines.frame.with_colors (viewed self.now.lines.frame) row ++ row_text self.now.lines row (map string_bytes texts.now))) out.old out.new) }
+        requires printable { ArePrintable (map T.text texts.now) }
+        ensures { OnOk result (O.gains (feed_before row ++ (line_above self.now.lines.frame.with_colors (viewed self.now.lines.frame) row ++ row_text self.now.lines row (map T.text texts.now))) out.old out.new) }
     {
         push_feed(out, row)?;
         self.push_above(out, row)?;
@@ -233,11 +230,11 @@ impl<'a, 'b> AlikeLines<'a, 'b> {
     }
 
     /// Writes the table of these texts, which are printable. Nothing is refused but by what it is written into.
-    pub fn write<O: Output>(&self, out: &mut O, rows: &[Vec<String>]) -> Result<(), O::Error>
+    pub fn write<O: Output, T: AsStr>(&self, out: &mut O, rows: &[Vec<T>]) -> Result<(), O::Error>
         requires rows { length rows.now ≡ self.now.lines.frame.shape.0 }
-        requires cols { All (λ row. length row ≡ self.now.lines.frame.shape.1) (texts rows.now) }
-        requires printable { AllPrintable (texts rows.now) }
-        ensures { OnOk result (O.gains (written_by self.now (texts rows.now)) out.old out.new) }
+        requires cols { All (λ row. length row ≡ self.now.lines.frame.shape.1) (texts_by T.text rows.now) }
+        requires printable { AllPrintable (texts_by T.text rows.now) }
+        ensures { OnOk result (O.gains (written_by self.now (texts_by T.text rows.now)) out.old out.new) }
     {
         for (row, texts) in rows.iter().enumerate() {
             self.push_row(out, row, texts)?;

@@ -14,26 +14,27 @@ use crate::joints::Joints;
 use crate::output::Output;
 use crate::plain_row::push_within;
 use crate::table_lines::TableLines;
+use std::convert::AsStr;
 use tabled_border::OutOfMemory;
 use tabled_object::Dimension;
 
 impl<'a> TableLines<'a, '_> {
     /// Writes the line of text of a row that has one, whose cells are bare and of printable characters, up to the space behind its last text.
-    pub(crate) fn push_cells<O: Output>(
+    pub(crate) fn push_cells<O: Output, T: AsStr>(
         &self,
         out: &mut O,
         row: usize,
-        texts: &[String],
+        texts: &[T],
         joints: &Joints,
     ) -> Result<(), O::Error>
         requires row { row < self.now.frame.shape.0 }
         requires high { 0 < slice_index self.now.frame.dims.now.heights.items row }
         requires bare { self.now.are_all_bare ≡ true }
         requires texts { length texts.now ≡ self.now.frame.shape.1 }
-        requires printable { ArePrintable (map string_bytes texts.now) }
+        requires printable { ArePrintable (map T.text texts.now) }
         requires joints { AreJointsOf self.now row joints.now }
-        ensures text { OnOk result (O.gains (colored None (colored_if self.now.frame.with_colors (cells_between self.now row (map string_bytes texts.now)))) out.old out.new) }
-        ensures color { last_color None (colored_if self.now.frame.with_colors (cells_between self.now row (map string_bytes texts.now))) ≡ own_color self.now joints.now }
+        ensures text { OnOk result (O.gains (colored None (colored_if self.now.frame.with_colors (cells_between self.now row (map T.text texts.now)))) out.old out.new) }
+        ensures color { last_color None (colored_if self.now.frame.with_colors (cells_between self.now row (map T.text texts.now))) ≡ own_color self.now joints.now }
     {
         let mut joint = joints.first.as_str();
         for (col, text) in texts.iter().enumerate() {

@@ -44,8 +44,17 @@ impl<'a> Painter<'a> {
         ensures color { option_copied result.color ≡ None }
         ensures with_colors { result.with_colors ≡ with_colors }
     {
+        Painter::behind(String::new(alloc), with_colors)
+    }
+
+    /// A painter that writes behind what a text has, which has no color.
+    pub(crate) fn behind(text: String, with_colors: bool) -> Self
+        ensures text { result.text ≡ text }
+        ensures color { option_copied result.color ≡ None }
+        ensures with_colors { result.with_colors ≡ with_colors }
+    {
         Painter {
-            text: String::new(alloc),
+            text,
             color: None,
             with_colors,
         }

@@ -1,6 +1,6 @@
 //! A row of bare cells that is written without colors.
 
-ghost use Rattle.std.specs.Prelude.{◌≡◌, ◌<◌, ◌++◌, [], true, Some, OnOk, length, map, option_map, slice_index, slice_index_or, string_bytes};
+ghost use Rattle.std.specs.Prelude.{◌≡◌, ◌<◌, ◌++◌, [], true, Some, OnOk, length, map, option_map, slice_index, slice_index_or};
 ghost use Rattle.tabled_printing.specs.Marks.{mark_of};
 ghost use Rattle.tabled_cells.specs.Placed.{times};
 ghost use Rattle.tabled_painting.specs.BareCells.{bare_text, side_in, text_within};
@@ -12,6 +12,7 @@ ghost use Rattle.tabled_painting.specs.Viewed.{viewed};
 
 use crate::output::Output;
 use crate::table_lines::TableLines;
+use std::convert::AsStr;
 use tabled_cells::free_before;
 use tabled_object::Dimension;
 use tabled_printing::Mark;
@@ -78,18 +79,18 @@ pub(crate) fn push_within<O: Output>(
 
 impl TableLines<'_, '_> {
     /// Writes the line of text of a row that has one, whose cells are bare and of printable characters, where no colors are wanted.
-    pub(crate) fn push_plain_row<O: Output>(
+    pub(crate) fn push_plain_row<O: Output, T: AsStr>(
         &self,
         out: &mut O,
         row: usize,
-        texts: &[String],
+        texts: &[T],
     ) -> Result<(), O::Error>
         requires row { row < self.now.frame.shape.0 }
         requires high { 0 < slice_index self.now.frame.dims.now.heights.items row }
         requires plain { self.now.is_plain ≡ true }
         requires texts { length texts.now ≡ self.now.frame.shape.1 }
-        requires printable { ArePrintable (map string_bytes texts.now) }
-        ensures { OnOk result (O.gains (plain (painted_between (viewed self.now.frame) row 0 (λ c. row_cell self.now row c (slice_index_or (map string_bytes texts.now) c []) 0))) out.old out.new) }
+        requires printable { ArePrintable (map T.text texts.now) }
+        ensures { OnOk result (O.gains (plain (painted_between (viewed self.now.frame) row 0 (λ c. row_cell self.now row c (slice_index_or (map T.text texts.now) c []) 0))) out.old out.new) }
     {
         push_spaces(out, 0, self.frame.side(row, 0, 0))?;
         for (col, text) in texts.iter().enumerate() {

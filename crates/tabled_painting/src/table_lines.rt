@@ -10,8 +10,7 @@ ghost use Rattle.tabled_printing.specs.Picture.{marks_along};
 ghost use Rattle.tabled_printing.specs.Texts.{texts};
 ghost use Rattle.tabled_grid.specs.declared.place.LineOf.{LineOf as Line};
 ghost use Rattle.tabled_painting.specs.InColor.{Paints};
-ghost use Rattle.tabled_painting.specs.Pages.{PaintsLines, written};
-ghost use Rattle.tabled_painting.specs.Pages as pages;
+ghost use Rattle.tabled_painting.specs.Pages.{PaintsLines, line_text, written};
 ghost use Rattle.tabled_painting.specs.PaintedTable.{painted_marks, side_painted};
 ghost use Rattle.tabled_painting.specs.Viewed as looks;
 ghost use Rattle.tabled_painting.specs.BareCells.{AreBare, AreRowColors, side_in};
@@ -25,7 +24,7 @@ use crate::joints::RowJoints;
 use crate::page::Page;
 use crate::row_colors::{RowColors, row_colors};
 use crate::{CellColors, Painter};
-use std::alloc::Global;
+use std::alloc::{AllocError, Global};
 use tabled_border::{ANSIBuf, OutOfMemory};
 use tabled_cells::Placement;
 use tabled_configuration::{ColorMap, ColoredConfig};
@@ -421,9 +420,26 @@ fn line_between(
         return Ok(None);
     }
     match first_plain_line(frame.cfg, rows) {
-        Some(row) if frame.draws(row) => Ok(Some(line_written(alloc, frame, row, columns)?)),
+        Some(row) if frame.draws(row) => {
+            let room = room_for_line(alloc, frame, columns)?;
+            Ok(Some(line_written(room, frame, row)?))
+        }
         _ => Ok(None),
     }
+}
+
+/// An empty text with room for three bytes for each of the given number of columns and for each vertical line, which is what most characters
+/// take at most, and for a line feed.
+fn room_for_line(
+    alloc: Global,
+    frame: &Frame<FixedDimension>,
+    columns: usize,
+) -> Result<String, AllocError>
+    ensures { IfOk result (λ text. string_bytes text ≡ []) }
+{
+    let (_, cols) = frame.shape;
+    let room = columns.saturating_add(cols).saturating_add(2);
+    String::with_capacity(alloc, room.saturating_mul(3))
 }
 
 /// How many columns of a terminal the columns of a table take. It saturates.
@@ -436,37 +452,32 @@ fn columns_of(frame: &Frame<FixedDimension>) -> usize {
     columns
 }
 
-/// A horizontal line as it is written. It has room for three bytes for each of the given number of columns and for each vertical line, which
-/// is what most characters take at most, and for its line feed.
-pub(crate) fn line_text(
-    alloc: Global,
+/// A horizontal line as it is written, behind what a text has.
+pub(crate) fn line_behind(
+    text: String,
     frame: &Frame<FixedDimension>,
     row: usize,
-    columns: usize,
 ) -> Result<String, OutOfMemory>
     requires { row ≤ frame.now.shape.0 }
-    ensures { IfOk result (λ text. string_bytes text ≡ pages.line_text frame.now.with_colors (painted_marks (marks_along (looks.viewed frame.now) (Line.Horizontal row)))) }
+    ensures { IfOk result (λ whole. string_bytes whole ≡ string_bytes text ++ line_text frame.now.with_colors (painted_marks (marks_along (looks.viewed frame.now) (Line.Horizontal row)))) }
 {
-    let mut painter = Painter::new(alloc, frame.with_colors);
-    let (_, cols) = frame.shape;
-    let room = columns.saturating_add(cols).saturating_add(2);
-    painter.reserve(room.saturating_mul(3))?;
+    let mut painter = Painter::behind(text, frame.with_colors);
     frame.put_line(row, &mut painter, &mut Probes::new())?;
     painter.end_last()?;
     Ok(painter.into_text())
 }
 
-/// The same with its line feed.
+/// A horizontal line as it is written, with its line feed, in the place of an empty text.
 pub(crate) fn line_written(
-    alloc: Global,
+    room: String,
     frame: &Frame<FixedDimension>,
     row: usize,
-    columns: usize,
 ) -> Result<String, OutOfMemory>
-    requires { row ≤ frame.now.shape.0 }
+    requires row { row ≤ frame.now.shape.0 }
+    requires empty { string_bytes room ≡ [] }
     ensures { IfOk result (λ text. string_bytes text ≡ written frame.now.with_colors (painted_marks (marks_along (looks.viewed frame.now) (Line.Horizontal row)))) }
 {
-    let mut text = line_text(alloc, frame, row, columns)?;
+    let mut text = line_behind(room, frame, row)?;
     text.push('\n')?;
     Ok(text)
 }

@@ -21,7 +21,7 @@ returns-in_ok-push_cells-in-Some g c =
     let view = viewed frame in
     let row = c.args.row in
     let joints = c.of-joints.result.now in
-    let cells : Painted = cells_between lines row (map string_bytes c.args.texts.now) in
+    let cells : Painted = cells_between lines row (map g.T.AsStr.text c.args.texts.now) in
     let written : List ℕ = colored None (colored_if frame.with_colors cells) in
     let high : 0 < slice_index frame.dims.now.heights.items row = (let low = c.args.self.now.low row c.requires.row in omega (arith, low)) in
     let are : AreJointsOf lines row joints = subst (AreJointsOf lines row) (sym c.of-joints.ensures) (c.args.self.now.joined c.in-Some.joints c.in-Some.is row joints c.requires.row) in
@@ -34,7 +34,7 @@ returns-in_ok-push_cells-in-Some g c =
 pub returns-in-None : goal.returns-in-None
 returns-in-None g c =
     let lines = c.args.self.now.lines in
-    let line : Painted = painted_between (viewed lines.frame) c.args.row 0 (λ col. row_cell lines c.args.row col (slice_index_or (map string_bytes c.args.texts.now) col []) 0) in
+    let line : Painted = painted_between (viewed lines.frame) c.args.row 0 (λ col. row_cell lines c.args.row col (slice_index_or (map g.T.AsStr.text c.args.texts.now) col []) 0) in
     let plain_wanted : lines.frame.with_colors ≡ false = lines.plain_colors (c.args.self.now.plain c.in-None.is) in
     same_gained g.O.Output.gains g.met.O.Output.gains_both c.push_plain_row.result _ _ c.args.out.now c.push_plain_row.new.out
     (sym (ap (λ wanted. line_text wanted line) plain_wanted ∙ uncolored_line (plain line))) c.push_plain_row.ensures

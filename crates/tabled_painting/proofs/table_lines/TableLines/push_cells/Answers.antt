@@ -16,12 +16,12 @@ loop-col-preserved g c =
     let both = g.met.O.Output.gains_both in
     let lines = c.args.self.now in
     let n = c.loop-col.col in
-    let texts : List (List ℕ) = map string_bytes c.args.texts.now in
+    let texts : List (List ℕ) = map g.T.AsStr.text c.args.texts.now in
     let first : List ℕ = string_bytes c.args.joints.now.first in
     let inner : List ℕ = string_bytes c.args.joints.now.inner in
     let part : ℕ → List ℕ = λ k. (if k == 0 then first else inner) ++ inside_of lines texts k in
     let is : c.as_str.result.now ≡ slice_index_or texts n [] =
-    c.as_str.ensures.value ∙ shown_at string_bytes c.args.texts.now n c.index-texts-col.result [] c.loop-col-test.true c.index-texts-col.is in
+    c.as_str.ensures ∙ shown_at g.T.AsStr.text c.args.texts.now n c.index-texts-col.result [] c.loop-col-test.true c.index-texts-col.is in
     record {
       text = c.as_str-joint-in-loop-col.utf8;
       joint = c.as_str-joint-in-loop-col.ensures.value ∙ ap (λ b. if b then first else inner) (sym (not_first (n + 1) (omega arith)));
@@ -44,7 +44,7 @@ returns-clause-color g c = row_ended c.args.self.now c.args.row _ c.args.joints.
 pub returns-clause-text : goal.returns-clause-text
 returns-clause-text g c =
     let lines = c.args.self.now in
-    let texts : List (List ℕ) = map string_bytes c.args.texts.now in
+    let texts : List (List ℕ) = map g.T.AsStr.text c.args.texts.now in
     let first : List ℕ = string_bytes c.args.joints.now.first in
     let inner : List ℕ = string_bytes c.args.joints.now.inner in
     let part : ℕ → List ℕ = λ k. (if k == 0 then first else inner) ++ inside_of lines texts k in

@@ -11,5 +11,5 @@ abbrev pub invariant-loop-col : goal.invariant-loop-col
 invariant-loop-col g l = record {
   text : shadow (Utf8 l.joint);
   joint : l.joint ≡ (if l.col == 0 then string_bytes l.joints.first else string_bytes l.joints.inner);
-  gained : g.O.Output.gains (flat_map (λ c. (if c == 0 then string_bytes l.joints.first else string_bytes l.joints.inner) ++ inside_of l.self (map string_bytes l.texts) c) (below l.col)) l.fn.out l.out;
+  gained : g.O.Output.gains (flat_map (λ c. (if c == 0 then string_bytes l.joints.first else string_bytes l.joints.inner) ++ inside_of l.self (map g.T.AsStr.text l.texts) c) (below l.col)) l.fn.out l.out;
 }

@@ -1,5 +1,5 @@
 -- A cell and a side more.
-use Rattle.std.proofs.Common.{◌≡◌, ℕ, ◌+◌, ◌++◌, [], true, map, option_map, slice_index, slice_index_or, string_bytes, subst, sym, ap, ◌∙◌, arith}
+use Rattle.std.proofs.Common.{◌≡◌, ℕ, ◌+◌, ◌++◌, [], true, map, option_map, slice_index, slice_index_or, subst, sym, ap, ◌∙◌, arith}
 use Rattle.std.specs.List.{flat_map, list_all}
 use Rattle.tabled_width.specs.Texts.{is_printable}
 use Rattle.tabled_object.specs.Entities.{below}
@@ -28,10 +28,10 @@ loop-col-preserved g c =
     let row = c.args.row in
     let n = c.loop-col.col in
     let text = c.as_str.result.now in
-    let is : text ≡ slice_index_or (map string_bytes c.args.texts.now) n [] =
-    c.as_str.ensures.value ∙ shown_at string_bytes c.args.texts.now n c.index-texts-col.result [] c.loop-col-test.true c.index-texts-col.is in
+    let is : text ≡ slice_index_or (map g.T.AsStr.text c.args.texts.now) n [] =
+    c.as_str.ensures ∙ shown_at g.T.AsStr.text c.args.texts.now n c.index-texts-col.result [] c.loop-col-test.true c.index-texts-col.is in
     let side : ℕ → Painted = painted_side view row 0 in
-    let cell : ℕ → Painted = λ k. row_cell lines row k (slice_index_or (map string_bytes c.args.texts.now) k []) 0 in
+    let cell : ℕ → Painted = λ k. row_cell lines row k (slice_index_or (map g.T.AsStr.text c.args.texts.now) k []) 0 in
     let alignment = c.alignment_of.result in
     let bare : IsBareCell alignment (placement_at settings row n) = lines.are_bare row n alignment c.alignment_of.ensures in
     let width = slice_index lines.frame.dims.now.widths.items n in
@@ -49,5 +49,5 @@ pub returns : goal.returns
 returns g c =
     let lines = c.args.self.now in
     let all : c.loop-col.col ≡ lines.frame.shape.1 = (let counted = c.requires.texts in omega (arith, c.loop-col-test.false, c.loop-col.auto.col-end, counted)) in
-    subst (λ n. g.O.Output.gains (plain (flat_map (λ k. painted_side (viewed lines.frame) c.args.row 0 k ++ row_cell lines c.args.row k (slice_index_or (map string_bytes c.args.texts.now) k []) 0) (below n) ++ painted_side (viewed lines.frame) c.args.row 0 n))
+    subst (λ n. g.O.Output.gains (plain (flat_map (λ k. painted_side (viewed lines.frame) c.args.row 0 k ++ row_cell lines c.args.row k (slice_index_or (map g.T.AsStr.text c.args.texts.now) k []) 0) (below n) ++ painted_side (viewed lines.frame) c.args.row 0 n))
     c.args.out.now c.loop-col.out) all c.loop-col.invariant
