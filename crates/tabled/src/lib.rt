@@ -25,4 +25,4 @@ pub mod settings;
 pub mod texts;
 
 pub use tabled_rows::Tabled;
-pub use tabled_text::{InColor, TableError, TextTable};
+pub use tabled_text::{InColor, LentTable, TableError, TextTable};

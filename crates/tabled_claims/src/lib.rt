@@ -12,6 +12,7 @@ pub mod colors;
 pub mod columns;
 pub mod formats;
 pub mod joined_colors;
+pub mod lent;
 pub mod lists;
 pub mod objects;
 pub mod options;

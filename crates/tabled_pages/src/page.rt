@@ -3,8 +3,7 @@
 ghost use Rattle.std.specs.Prelude.{◌≡◌, ◌≢◌, ◌≤◌, ◌⊎◌, List, ◌++◌, ◌∷◌, [], Some, None, true, false, length, IfOk, IfErr, IsErrOf, OnOk};
 ghost use Rattle.std.specs.Io.KnownBytes.{Appends};
 ghost use Rattle.tabled_configuration.specs.Configuration.{ConfigEvent, Shows};
-ghost use Rattle.tabled_printing.specs.Texts.{texts};
-ghost use Rattle.tabled_text.specs.TextTable.{text_of};
+ghost use Rattle.tabled_text.specs.TextTable.{lent_texts, text_of};
 ghost use Rattle.tabled_pages.specs.Input.{fault_of, have_equal_counts};
 ghost use Rattle.tabled_pages.specs.Page.{page};
 ghost use Rattle.tabled_pages.specs.Style.{styled};
@@ -17,16 +16,16 @@ use crate::rows::rows_of;
 use std::alloc::Global;
 use std::io::Write;
 use tabled_style::ReadyStyle;
-use tabled_text::{TableError, TextTable};
+use tabled_text::{LentTable, TableError};
 
 /// A table of these rows. They are refused where they differ in their counts.
-fn plain_table(alloc: Global, rows: Vec<Vec<String>>) -> Result<TextTable, ShowError>
-    ensures texts { IfOk result (λ table. table.texts ≡ texts rows.items) }
+fn plain_table<'a>(alloc: Global, rows: Vec<Vec<&'a str>>) -> Result<LentTable<'a>, ShowError>
+    ensures texts { IfOk result (λ table. table.texts ≡ lent_texts rows.entry.items) }
     ensures config { IfOk result (λ table. Shows [] table.config.spanned) }
-    ensures equal { OnOk result (have_equal_counts (texts rows.items) ≡ true) }
-    ensures refused { IfErr result (λ e. (e ≡ ShowError.OutOfMemory) ⊎ ((e ≡ ShowError.UnequalRows) × (have_equal_counts (texts rows.items) ≡ false))) }
+    ensures equal { OnOk result (have_equal_counts (lent_texts rows.entry.items) ≡ true) }
+    ensures refused { IfErr result (λ e. (e ≡ ShowError.OutOfMemory) ⊎ ((e ≡ ShowError.UnequalRows) × (have_equal_counts (lent_texts rows.entry.items) ≡ false))) }
 {
-    match TextTable::from_rows(alloc, rows) {
+    match LentTable::from_rows(alloc, rows) {
         Ok(table) => Ok(table),
         Err(TableError::OutOfMemory) => Err(ShowError::OutOfMemory),
         Err(TableError::UnequalRows { .. }) => Err(ShowError::UnequalRows),
@@ -35,15 +34,15 @@ fn plain_table(alloc: Global, rows: Vec<Vec<String>>) -> Result<TextTable, ShowE
 }
 
 /// A table of these rows to which a style was applied, and nothing else. They are refused where they differ in their counts.
-fn styled_table(
+fn styled_table<'a>(
     alloc: Global,
     style: ReadyStyle,
-    rows: Vec<Vec<String>>,
-) -> Result<TextTable, ShowError>
-    ensures texts { IfOk result (λ table. table.texts ≡ texts rows.items) }
+    rows: Vec<Vec<&'a str>>,
+) -> Result<LentTable<'a>, ShowError>
+    ensures texts { IfOk result (λ table. table.texts ≡ lent_texts rows.entry.items) }
     ensures config { IfOk result (λ table. Shows (styled style) table.config.spanned) }
-    ensures equal { OnOk result (have_equal_counts (texts rows.items) ≡ true) }
-    ensures refused { IfErr result (λ e. (e ≡ ShowError.OutOfMemory) ⊎ ((e ≡ ShowError.UnequalRows) × (have_equal_counts (texts rows.items) ≡ false))) }
+    ensures equal { OnOk result (have_equal_counts (lent_texts rows.entry.items) ≡ true) }
+    ensures refused { IfErr result (λ e. (e ≡ ShowError.OutOfMemory) ⊎ ((e ≡ ShowError.UnequalRows) × (have_equal_counts (lent_texts rows.entry.items) ≡ false))) }
 {
     let mut table = plain_table(alloc, rows)?;
     table.apply(style)?;
@@ -51,7 +50,7 @@ fn styled_table(
 }
 
 /// Writes the text of a table, and a line feed after it.
-fn write_table<W: Write>(table: &TextTable, output: &mut W) -> Result<(), ShowError>
+fn write_table<W: Write>(table: &LentTable, output: &mut W) -> Result<(), ShowError>
     ensures written { (es : List ConfigEvent) → Shows es table.now.config.spanned
         → OnOk result (Appends (W.contents output.old) (W.contents output.new) (text_of es table.now.texts ++ LINE_FEED ∷ [])) }
     ensures refused { IfErr result (λ e. (e ≡ ShowError.OutOfMemory) ⊎ (e ≡ ShowError.WriteFailed)) }

@@ -1,8 +1,9 @@
 //! The rows of an input: its lines, cut at tabs.
 
-ghost use Rattle.std.specs.Prelude.{◌≡◌, ◌<◌, [], ◌∷◌, length, map, string_bytes, IfNone, IfOk, IfSome};
+ghost use Rattle.std.specs.Prelude.{◌≡◌, ◌<◌, [], ◌∷◌, length, IfNone, IfOk, IfSome};
 ghost use Rattle.std.specs.List.{before_first, after_first};
-ghost use Rattle.tabled_printing.specs.Texts.{texts};
+ghost use Rattle.tabled_printing.specs.Pieces.{lent};
+ghost use Rattle.tabled_text.specs.TextTable.{lent_texts};
 ghost use Rattle.tabled_pages.specs.Input.{cells_of, is_byte, lines_of, rows_of};
 ghost use Rattle.tabled_pages.specs.declared.bytes.TheConstants.{LINE_FEED};
 
@@ -32,22 +33,22 @@ fn first_line(input: &str) -> Option<(&str, &str)>
     }
 }
 
-/// The cells of a line, copied. Room is made for the given number at first.
-fn cells_of(alloc: Global, line: &str, room: usize) -> Result<Vec<String>, AllocError>
-    ensures { IfOk result (λ cells. map string_bytes cells.items ≡ cells_of line.now) }
+/// The cells of a line. Room is made for the given number at first.
+fn cells_of<'a>(alloc: Global, line: &'a str, room: usize) -> Result<Vec<&'a str>, AllocError>
+    ensures { IfOk result (λ cells. lent cells.items ≡ cells_of line.now) }
 {
     let mut cells = Vec::with_capacity(alloc, room)?;
     for cell in line.split('\t') {
-        cells.push(String::from_str(alloc, cell)?)?;
+        cells.push(cell)?;
     }
     Ok(cells)
 }
 
-/// The rows of an input: the cells of each line, copied.
-pub fn rows_of(alloc: Global, input: &str) -> Result<Vec<Vec<String>>, AllocError>
-    ensures { IfOk result (λ rows. texts rows.items ≡ rows_of input.now) }
+/// The rows of an input: the cells of each line, which are not copied.
+pub fn rows_of<'a>(alloc: Global, input: &'a str) -> Result<Vec<Vec<&'a str>>, AllocError>
+    ensures { IfOk result (λ rows. lent_texts rows.items ≡ rows_of input.now) }
 {
-    let mut rows: Vec<Vec<String>> = Vec::new(alloc);
+    let mut rows: Vec<Vec<&'a str>> = Vec::new(alloc);
     let mut rest = input;
     while let Some((line, more)) = first_line(rest) {
         let room = rows.first().map_or(0, |row| row.len());

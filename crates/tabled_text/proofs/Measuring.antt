@@ -10,7 +10,7 @@ use Rattle.std.proofs.lemmas.List.FromFn.{fill_by_all}
 use Rattle.std.proofs.lemmas.Bool.{ltb-true, ltb-false, lt-ltb, le-ltb}
 use Rattle.std.proofs.lemmas.Str.{chars-nil}
 use Rattle.unicode_width.specs.Width.{str_width}
-use Rattle.tabled_printing.specs.Texts.{texts}
+use Rattle.tabled_painting.specs.TextsBy.{texts_by}
 use Rattle.tabled_text.specs.Sizes.{cell, column_count, column_width, column_widths, first_unequal, height_asked, row_height, width_asked}
 use Rattle.tabled_cells.specs.Placed.{greatest}
 
@@ -20,53 +20,53 @@ fold-max-more start [] n = refl
 fold-max-more start (m ∷ ns) n = fold-max-more (max start m) ns n
 
 -- what a walk over rows has made of the first of them, and of one more
-pub rows_so_far : {A Z W : Type 0} (f : List (List ℕ) → A) (old new : List A) (rows : List (Vec (String Z) W)) (at : ℕ) (row : List (List ℕ)) (x : A)
-    → old ≡ map f (take at (texts rows)) → at < length rows → get_or (texts rows) at [] ≡ row → x ≡ f row → new ≡ old ++ x ∷ []
-    → new ≡ map f (take (at + 1) (texts rows))
-rows_so_far f old new rows at row x made within here is pushed =
-    pushed ∙ ap (λ front. front ++ x ∷ []) made ∙ ap (λ y. map f (take at (texts rows)) ++ y ∷ []) (is ∙ ap f (sym here))
-    ∙ sym (map-append f (take at (texts rows)) (get_or (texts rows) at [] ∷ []))
-    ∙ ap (map f) (sym (take_more (texts rows) at [] (rw length-map within)))
+pub rows_so_far : {A B Z : Type 0} (bytes : B → List ℕ) (f : List (List ℕ) → A) (old new : List A) (rows : List (Vec B Z)) (at : ℕ) (row : List (List ℕ)) (x : A)
+    → old ≡ map f (take at (texts_by bytes rows)) → at < length rows → get_or (texts_by bytes rows) at [] ≡ row → x ≡ f row → new ≡ old ++ x ∷ []
+    → new ≡ map f (take (at + 1) (texts_by bytes rows))
+rows_so_far bytes f old new rows at row x made within here is pushed =
+    pushed ∙ ap (λ front. front ++ x ∷ []) made ∙ ap (λ y. map f (take at (texts_by bytes rows)) ++ y ∷ []) (is ∙ ap f (sym here))
+    ∙ sym (map-append f (take at (texts_by bytes rows)) (get_or (texts_by bytes rows) at [] ∷ []))
+    ∙ ap (map f) (sym (take_more (texts_by bytes rows) at [] (rw length-map within)))
 
-pub rows_all : {A Z W : Type 0} (f : List (List ℕ) → A) (rows : List (Vec (String Z) W)) (at : ℕ) → length rows ≤ at → map f (take at (texts rows)) ≡ map f (texts rows)
-rows_all f rows at all = ap (map f) (take_all at (texts rows) (rw length-map all))
+pub rows_all : {A B Z : Type 0} (bytes : B → List ℕ) (f : List (List ℕ) → A) (rows : List (Vec B Z)) (at : ℕ) → length rows ≤ at → map f (take at (texts_by bytes rows)) ≡ map f (texts_by bytes rows)
+rows_all bytes f rows at all = ap (map f) (take_all at (texts_by bytes rows) (rw length-map all))
 
 -- the row at a place, by its cells
-pub row_at : {Z W : Type 0} (rows : List (Vec (String Z) W)) (at : ℕ) (row : Vec (String Z) W) → at < length rows → row ≡ get_or rows at row
-    → get_or (texts rows) at [] ≡ map string_bytes row.items
-row_at rows at row within read = get_or-map (λ v. map string_bytes v.items) rows at row [] within ∙ ap (λ v. map string_bytes v.items) (sym read)
+pub row_at : {B Z : Type 0} (bytes : B → List ℕ) (rows : List (Vec B Z)) (at : ℕ) (row : Vec B Z) → at < length rows → row ≡ get_or rows at row
+    → get_or (texts_by bytes rows) at [] ≡ map bytes row.items
+row_at bytes rows at row within read = get_or-map (λ v. map bytes v.items) rows at row [] within ∙ ap (λ v. map bytes v.items) (sym read)
 
 -- how wide the first rows make a column
-abbrev pub widened : {Z W : Type 0} → List (Vec (String Z) W) → ℕ → ℕ → ℕ
-widened rows at col = greatest (map (λ row. width_asked (cell row col)) (take at (texts rows)))
+abbrev pub widened : {B Z : Type 0} → (B → List ℕ) → List (Vec B Z) → ℕ → ℕ → ℕ
+widened bytes rows at col = greatest (map (λ row. width_asked (cell row col)) (take at (texts_by bytes rows)))
 
-pub widened_more : {Z W : Type 0} (rows : List (Vec (String Z) W)) (at col old new : ℕ) (row : List (List ℕ))
-    → old ≡ widened rows at col → at < length rows → get_or (texts rows) at [] ≡ row → new ≡ max old (width_asked (cell row col))
-    → new ≡ widened rows (at + 1) col
-widened_more rows at col old new row made within here is =
+pub widened_more : {B Z : Type 0} (bytes : B → List ℕ) (rows : List (Vec B Z)) (at col old new : ℕ) (row : List (List ℕ))
+    → old ≡ widened bytes rows at col → at < length rows → get_or (texts_by bytes rows) at [] ≡ row → new ≡ max old (width_asked (cell row col))
+    → new ≡ widened bytes rows (at + 1) col
+widened_more bytes rows at col old new row made within here is =
     let asked : List (List ℕ) → ℕ = λ cells. width_asked (cell cells col) in
-    is ∙ ap (λ n. max n (asked row)) made ∙ ap (λ cells. max (widened rows at col) (asked cells)) (sym here)
-    ∙ sym (fold-max-more 0 (map asked (take at (texts rows))) (asked (get_or (texts rows) at [])))
-    ∙ ap greatest (sym (map-append asked (take at (texts rows)) (get_or (texts rows) at [] ∷ [])) ∙ ap (map asked) (sym (take_more (texts rows) at [] (rw length-map within))))
+    is ∙ ap (λ n. max n (asked row)) made ∙ ap (λ cells. max (widened bytes rows at col) (asked cells)) (sym here)
+    ∙ sym (fold-max-more 0 (map asked (take at (texts_by bytes rows))) (asked (get_or (texts_by bytes rows) at [])))
+    ∙ ap greatest (sym (map-append asked (take at (texts_by bytes rows)) (get_or (texts_by bytes rows) at [] ∷ [])) ∙ ap (map asked) (sym (take_more (texts_by bytes rows) at [] (rw length-map within))))
 
 -- once all rows have, the widths are those of the columns
-pub widened_all : {Z W : Type 0} (rows : List (Vec (String Z) W)) (at : ℕ) (widths : List ℕ) → length rows ≤ at → length widths ≡ column_count (texts rows)
-    → ((col : ℕ) → col < length widths → get_or widths col 0 ≡ widened rows at col) → widths ≡ column_widths (texts rows)
+pub widened_all : {B Z : Type 0} (bytes : B → List ℕ) (rows : List (Vec B Z)) (at : ℕ) (widths : List ℕ) → length rows ≤ at → length widths ≡ column_count (texts_by bytes rows)
+    → ((col : ℕ) → col < length widths → get_or widths col 0 ≡ widened bytes rows at col) → widths ≡ column_widths (texts_by bytes rows)
 unfolding column_widths
-widened_all rows at widths all count made =
-    fill_by_all (column_width (texts rows)) widths (column_count (texts rows)) 0 count
-    (λ col inside. made col (omega arith) ∙ ap greatest (rows_all (λ row. width_asked (cell row col)) rows at all))
+widened_all bytes rows at widths all count made =
+    fill_by_all (column_width (texts_by bytes rows)) widths (column_count (texts_by bytes rows)) 0 count
+    (λ col inside. made col (omega arith) ∙ ap greatest (rows_all bytes (λ row. width_asked (cell row col)) rows at all))
 
 -- the cell of a row at a place
-pub cell_at : {Z : Type 0} (row : List (String Z)) (col : ℕ) (text : String Z) → col < length row → text ≡ get_or row col text → cell (map string_bytes row) col ≡ string_bytes text
-cell_at row col text within read = get_or-map string_bytes row col text [] within ∙ ap string_bytes (sym read)
+pub cell_at : {B : Type 0} (bytes : B → List ℕ) (row : List B) (col : ℕ) (text : B) → col < length row → text ≡ get_or row col text → cell (map bytes row) col ≡ bytes text
+cell_at bytes row col text within read = get_or-map bytes row col text [] within ∙ ap bytes (sym read)
 
 -- past the end of a row stands the empty text, which asks for two spaces
-pub nothing_asked : {Z : Type 0} (row : List (String Z)) (col : ℕ) → length row ≤ col → 2 ≡ width_asked (cell (map string_bytes row) col)
+pub nothing_asked : {B : Type 0} (bytes : B → List ℕ) (row : List B) (col : ℕ) → length row ≤ col → 2 ≡ width_asked (cell (map bytes row) col)
 unfolding width_asked str_width
-nothing_asked row col past =
+nothing_asked bytes row col past =
     ap (λ cs. max 0 (str_width false cs) + 2) (sym chars-nil)
-    ∙ sym (ap width_asked (get_or_past (map string_bytes row) col [] (rw length-map past)))
+    ∙ sym (ap width_asked (get_or_past (map bytes row) col [] (rw length-map past)))
 
 -- a place that is counted from one later
 shift : (start n count : ℕ) (inside : Bool) → ltb n count ≡ inside
@@ -79,16 +79,16 @@ shift start n count false e =
     ∙ sym (ap (λ b. if b then Some ((start + 1) + n) else None) e)
 
 -- the first row with another number of cells, by where it stands among the rows from `start` on
-module _ {Z W : Type 0} (columns : ℕ) where
-  abbrev pub differs : Vec (String Z) W → Bool
+module _ {B Z : Type 0} (bytes : B → List ℕ) (columns : ℕ) where
+  abbrev pub differs : Vec B Z → Bool
   differs row = not (length row.items == columns)
 
-  abbrev first_that_differs : ℕ → List (Vec (String Z) W) → Option ℕ
+  abbrev first_that_differs : ℕ → List (Vec B Z) → Option ℕ
   first_that_differs start rows = if ltb (position_or_len differs rows) (length rows) then Some (start + position_or_len differs rows) else None
 
-  step : (start : ℕ) (row : Vec (String Z) W) (rows : List (Vec (String Z) W)) (same : Bool) → (length row.items == columns) ≡ same
-      → first_that_differs (start + 1) rows ≡ first_unequal columns (start + 1) (texts rows)
-      → first_that_differs start (row ∷ rows) ≡ (if same then first_unequal columns (start + 1) (texts rows) else Some start)
+  step : (start : ℕ) (row : Vec B Z) (rows : List (Vec B Z)) (same : Bool) → (length row.items == columns) ≡ same
+      → first_that_differs (start + 1) rows ≡ first_unequal columns (start + 1) (texts_by bytes rows)
+      → first_that_differs start (row ∷ rows) ≡ (if same then first_unequal columns (start + 1) (texts_by bytes rows) else Some start)
   step start row rows true e rest =
       ap (λ b. let at = cond (not (not b)) (1 + position_or_len differs rows) 0 in if ltb at (suc (length rows)) then Some (start + at) else None) e
       ∙ shift start (position_or_len differs rows) (length rows) _ refl ∙ rest
@@ -96,11 +96,11 @@ module _ {Z W : Type 0} (columns : ℕ) where
       ap (λ b. let at = cond (not (not b)) (1 + position_or_len differs rows) 0 in if ltb at (suc (length rows)) then Some (start + at) else None) e
       ∙ ap (λ b. if b then Some (start + 0) else None) (lt-ltb 0 (suc (length rows)) (omega arith)) ∙ ap Some (omega arith)
 
-  pub first_found : (start : ℕ) (rows : List (Vec (String Z) W)) → first_that_differs start rows ≡ first_unequal columns start (texts rows)
+  pub first_found : (start : ℕ) (rows : List (Vec B Z)) → first_that_differs start rows ≡ first_unequal columns start (texts_by bytes rows)
   first_found start [] = refl
   first_found start (row ∷ rows) =
       step start row rows _ refl (first_found (start + 1) rows)
-      ∙ ap (λ n. if n == columns then first_unequal columns (start + 1) (texts rows) else Some start) (sym (length-map row.items string_bytes))
+      ∙ ap (λ n. if n == columns then first_unequal columns (start + 1) (texts_by bytes rows) else Some start) (sym (length-map row.items bytes))
 
 -- ---- cells of one line each
 
@@ -127,7 +127,7 @@ pub greatest_more : {Z : Type 0} (asked : List ℕ → ℕ) (column : List (Stri
 greatest_more asked column at old new text made within read is =
     let all = map string_bytes column in
     is ∙ ap (λ n. max n (asked (string_bytes text))) made
-    ∙ ap (λ (found : List ℕ). max (greatest (map asked (take at all))) (asked found)) (sym (cell_at column at text within read))
+    ∙ ap (λ (found : List ℕ). max (greatest (map asked (take at all))) (asked found)) (sym (cell_at string_bytes column at text within read))
     ∙ sym (fold-max-more 0 (map asked (take at all)) (asked (cell all at)))
     ∙ ap greatest (sym (map-append asked (take at all) (cell all at ∷ [])) ∙ ap (map asked) (sym (take_more all at [] (rw length-map within))))
 

@@ -1,5 +1,5 @@
 -- The text of a table, plain and in color, by what its configuration keeps.
-use Rattle.std.proofs.Common.{◌≡◌, ◌<◌, ℕ, true, Option, List, [], length, get_or, sym, ap, ◌∙◌, arith}
+use Rattle.std.proofs.Common.{◌≡◌, ◌<◌, ℕ, true, false, Option, List, [], length, get_or, sym, ap, ◌∙◌, arith}
 use Rattle.std.specs.Prelude.{slice_index, slice_index_or}
 use Rattle.std.specs.List.{All, join_with_byte}
 use Rattle.std.proofs.lemmas.List.{get_or_default}
@@ -17,8 +17,9 @@ use Rattle.tabled_cells.specs.Placements.{placement_at}
 use Rattle.tabled_cells.specs.Trimmed.{lines_shown}
 use Rattle.tabled_painting.specs.Painted.{plain}
 use Rattle.tabled_painting.specs.CellLines.{coloring_at}
-use Rattle.tabled_painting.specs.PaintedTable.{painted_cells, painted_table, painted_by, plain_text}
-use Rattle.tabled_painting.proofs.Plain.{plain_cell, table_same}
+use Rattle.tabled_painting.specs.Pages.{text_of_lines}
+use Rattle.tabled_painting.specs.PaintedTable.{colored_text, painted_cells, painted_table, painted_by, plain_text}
+use Rattle.tabled_painting.proofs.Plain.{plain_cell, table_same, text_with_colors, text_without_colors}
 use Rattle.tabled_text.specs.Sizes.{column_count, column_widths, row_heights}
 use Rattle.tabled_text.specs.Cells.{cells_set, margin_set, cell_colors}
 use Rattle.tabled_text.specs.TextTable.{shape_of, look_of, painted_alone}
@@ -60,6 +61,22 @@ unfolding painted_alone
 is_colored_text cfg table shape widths heights shaped wide high es shows =
     by_events cfg.spanned table shape widths heights shaped wide high cfg.cell_colors es shows.spanned_shown
     ∙ ap (λ colors. painted_table (look_of es table) (margin_set es) (painted_cells (cells_set es) colors (column_widths table) (row_heights table) table)) shows.cell_colors_shown
+
+-- ---- a table that is lent to be printed
+
+pub plain_viewed : (cfg : Colored) (table : Table) (shape : Shape) (widths heights : List ℕ) → shape ≡ shape_of table → widths ≡ column_widths table → heights ≡ row_heights table → (es : List ConfigEvent) → borders.Shows es cfg.spanned
+    → text_of_lines false (painted_by cfg (shape.rows, shape.cols) widths heights table) ≡ plain_text (painted_alone es table)
+unfolding text_of_lines plain_text
+plain_viewed cfg table shape widths heights shaped wide high es shows =
+    ap (join_with_byte 10) (text_without_colors (painted_by cfg (shape.rows, shape.cols) widths heights table))
+    ∙ is_plain_text cfg.spanned table shape widths heights shaped wide high cfg.cell_colors es shows
+
+pub colors_viewed : (cfg : Colored) (table : Table) (shape : Shape) (widths heights : List ℕ) → shape ≡ shape_of table → widths ≡ column_widths table → heights ≡ row_heights table → (es : List ConfigEvent) → Shows es cfg
+    → text_of_lines true (painted_by cfg (shape.rows, shape.cols) widths heights table) ≡ colored_text (painted_alone es table)
+unfolding text_of_lines colored_text
+colors_viewed cfg table shape widths heights shaped wide high es shows =
+    ap (join_with_byte 10) (text_with_colors (painted_by cfg (shape.rows, shape.cols) widths heights table))
+    ∙ ap colored_text (is_colored_text cfg table shape widths heights shaped wide high es shows)
 
 -- ---- a table that is kept
 

@@ -9,3 +9,4 @@ pub mod EditedColumns
 pub mod Numeric
 pub mod Panels
 pub mod Streams
+pub mod TableViews

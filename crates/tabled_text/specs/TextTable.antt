@@ -2,6 +2,7 @@
 use Rattle.std.specs.Prelude.{◌≡◌, ℕ, true, if◌then◌else◌, List, length, map, slice_index}
 use Rattle.std.specs.Coded.{Coded, codes}
 use Rattle.std.specs.FinMap as finmap
+use Rattle.std.specs.declared.vec.Vec.{Vec}
 use Rattle.tabled_object.specs.declared.dimension.FixedDimension.{FixedDimension}
 use Rattle.tabled_object.specs.declared.records.Shape.{Shape}
 use Rattle.tabled_configuration.specs.Colored.{Colored}
@@ -77,6 +78,9 @@ text_of es table = plain_text (painted es table)
 -- the texts of rows that are lent
 abbrev pub lent_rows : List (Bor (List (Bor (List ℕ)))) → Table
 lent_rows rows = map (λ row. lent row.now) rows
+
+abbrev pub lent_texts : {Z : Type 0} → List (Vec (Bor (List ℕ)) Z) → Table
+lent_texts rows = map (λ row. lent row.items) rows
 
 -- the sizes that an option reads: those that are kept, where no cell spans and no padding is set; and else those by what is set, as it
 -- stands before the option

@@ -7,13 +7,16 @@ mod changing;
 mod display;
 mod edited;
 mod fitting;
+mod lent_table;
 mod measure;
 mod numeric;
 mod spanned;
 mod stream;
 mod table_error;
+mod table_view;
 mod text_table;
 
 pub use display::InColor;
+pub use lent_table::LentTable;
 pub use table_error::TableError;
 pub use text_table::TextTable;

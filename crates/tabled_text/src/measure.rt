@@ -5,20 +5,22 @@ ghost use Rattle.std.specs.List.{list_all};
 ghost use Rattle.tabled_object.specs.Entities.{below};
 ghost use Rattle.tabled_printing.specs.Texts.{texts, pieces, width_of_text};
 ghost use Rattle.tabled_painting.specs.Printable.{AllPrintable, ArePrintable};
+ghost use Rattle.tabled_painting.specs.TextsBy.{texts_by};
 ghost use Rattle.tabled_width.specs.Texts.{is_printable};
 ghost use Rattle.tabled_text.specs.Edited.{widths_with};
 ghost use Rattle.tabled_text.specs.EditedColumns.{heights_with};
 ghost use Rattle.tabled_text.specs.Sizes.{cell, greatest, column_count, column_width, unequal_row, width_asked, height_asked, padded_width, padded_height, column_widths, row_height, row_heights};
 
 use std::alloc::{AllocError, Global};
+use std::convert::AsStr;
 use tabled_border::OutOfMemory;
 use tabled_object::FixedDimension;
 use tabled_settings::{Indent, Sides};
 use tabled_width::{is_printable, width_of};
 
 /// How many cells the first row has.
-pub(crate) fn column_count(rows: &[Vec<String>]) -> usize
-    ensures { result ≡ column_count (texts rows.now) }
+pub(crate) fn column_count<T: AsStr>(rows: &[Vec<T>]) -> usize
+    ensures { result ≡ column_count (texts_by T.text rows.now) }
 {
     match rows.first() {
         Some(row) => row.len(),
@@ -27,8 +29,8 @@ pub(crate) fn column_count(rows: &[Vec<String>]) -> usize
 }
 
 /// The first row that has more or fewer cells than the first.
-pub(crate) fn unequal_row(rows: &[Vec<String>]) -> Option<usize>
-    ensures { result ≡ unequal_row (texts rows.now) }
+pub(crate) fn unequal_row<T: AsStr>(rows: &[Vec<T>]) -> Option<usize>
+    ensures { result ≡ unequal_row (texts_by T.text rows.now) }
 {
     let columns = column_count(rows);
     rows.iter().position(|row| row.len() != columns)
@@ -115,9 +117,9 @@ pub(crate) fn padded_height(padding: &Sides<Indent>, text: &str) -> Result<usize
 }
 
 /// Measures the cell of a row in a column.
-fn measure_at(row: &[String], col: usize) -> Result<CellSize, OutOfMemory>
-    ensures width { IfOk result (λ found. found.width ≡ width_asked (cell (map string_bytes row.now) col)) }
-    ensures printable { IfOk result (λ found. found.is_printable ≡ true → list_all is_printable (cell (map string_bytes row.now) col) ≡ true) }
+fn measure_at<T: AsStr>(row: &[T], col: usize) -> Result<CellSize, OutOfMemory>
+    ensures width { IfOk result (λ found. found.width ≡ width_asked (cell (map T.text row.now) col)) }
+    ensures printable { IfOk result (λ found. found.is_printable ≡ true → list_all is_printable (cell (map T.text row.now) col) ≡ true) }
 {
     if col < row.len() {
         measure(row[col].as_str())
@@ -130,9 +132,9 @@ fn measure_at(row: &[String], col: usize) -> Result<CellSize, OutOfMemory>
 }
 
 /// Makes each column wide enough for a row's cell in it. Returns whether all the row's texts are known to be printable.
-fn widen(widths: &mut [usize], row: &[String]) -> Result<bool, OutOfMemory>
-    ensures widths { OnOk result (EachIndex widths.new (λ col. slice_index widths.new col ≡ max (slice_index widths.old col) (width_asked (cell (map string_bytes row.now) col)))) }
-    ensures printable { IfOk result (λ are_printable. are_printable ≡ true → ArePrintable (map string_bytes row.now)) }
+fn widen<T: AsStr>(widths: &mut [usize], row: &[T]) -> Result<bool, OutOfMemory>
+    ensures widths { OnOk result (EachIndex widths.new (λ col. slice_index widths.new col ≡ max (slice_index widths.old col) (width_asked (cell (map T.text row.now) col)))) }
+    ensures printable { IfOk result (λ are_printable. are_printable ≡ true → ArePrintable (map T.text row.now)) }
 {
     let mut are_printable = row.len() <= widths.len();
     for (col, width) in widths.iter_mut().enumerate() {
@@ -144,8 +146,8 @@ fn widen(widths: &mut [usize], row: &[String]) -> Result<bool, OutOfMemory>
 }
 
 /// A zero for each column.
-fn no_widths(alloc: Global, rows: &[Vec<String>]) -> Result<Vec<usize>, AllocError>
-    ensures { IfOk result (λ widths. widths.items ≡ replicate (column_count (texts rows.now)) 0) }
+fn no_widths<T: AsStr>(alloc: Global, rows: &[Vec<T>]) -> Result<Vec<usize>, AllocError>
+    ensures { IfOk result (λ widths. widths.items ≡ replicate (column_count (texts_by T.text rows.now)) 0) }
 {
     let columns = column_count(rows);
     vec![in alloc; 0usize; columns]
@@ -163,8 +165,8 @@ fn height_asked(text: &str) -> usize
 }
 
 /// How high a row is.
-pub(crate) fn row_height(row: &[String]) -> usize
-    ensures { result ≡ row_height (map string_bytes row.now) }
+pub(crate) fn row_height<T: AsStr>(row: &[T]) -> usize
+    ensures { result ≡ row_height (map T.text row.now) }
 {
     row.iter()
         .map(|text| height_asked(text.as_str()))
@@ -173,9 +175,9 @@ pub(crate) fn row_height(row: &[String]) -> usize
 }
 
 /// How high a row is, of which it is said whether its texts are known to be printable.
-fn height_of(row: &[String], are_printable: bool) -> usize
-    requires { are_printable ≡ true → ArePrintable (map string_bytes row.now) }
-    ensures { result ≡ row_height (map string_bytes row.now) }
+fn height_of<T: AsStr>(row: &[T], are_printable: bool) -> usize
+    requires { are_printable ≡ true → ArePrintable (map T.text row.now) }
+    ensures { result ≡ row_height (map T.text row.now) }
 {
     if are_printable && !row.is_empty() {
         1
@@ -224,10 +226,10 @@ pub(crate) struct TableSize {
 }
 
 /// Measures the texts of a table.
-pub(crate) fn sizes_of(alloc: Global, rows: &[Vec<String>]) -> Result<TableSize, OutOfMemory>
-    ensures widths { IfOk result (λ found. found.sizes.widths.items ≡ column_widths (texts rows.now)) }
-    ensures heights { IfOk result (λ found. found.sizes.heights.items ≡ row_heights (texts rows.now)) }
-    ensures printable { IfOk result (λ found. found.are_printable ≡ true → AllPrintable (texts rows.now)) }
+pub(crate) fn sizes_of<T: AsStr>(alloc: Global, rows: &[Vec<T>]) -> Result<TableSize, OutOfMemory>
+    ensures widths { IfOk result (λ found. found.sizes.widths.items ≡ column_widths (texts_by T.text rows.now)) }
+    ensures heights { IfOk result (λ found. found.sizes.heights.items ≡ row_heights (texts_by T.text rows.now)) }
+    ensures printable { IfOk result (λ found. found.are_printable ≡ true → AllPrintable (texts_by T.text rows.now)) }
 {
     let mut widths = no_widths(alloc, rows)?;
     let mut heights = Vec::with_capacity(alloc, rows.len())?;
@@ -244,8 +246,8 @@ pub(crate) fn sizes_of(alloc: Global, rows: &[Vec<String>]) -> Result<TableSize,
 }
 
 /// Whether all texts of a row are printable.
-fn is_printable_row(row: &[String]) -> bool
-    ensures { result ≡ true → ArePrintable (map string_bytes row.now) }
+fn is_printable_row<T: AsStr>(row: &[T]) -> bool
+    ensures { result ≡ true → ArePrintable (map T.text row.now) }
 {
     for text in row {
         if !is_printable(text.as_str()) {
@@ -256,8 +258,8 @@ fn is_printable_row(row: &[String]) -> bool
 }
 
 /// Whether all texts are printable.
-pub(crate) fn are_printable(rows: &[Vec<String>]) -> bool
-    ensures { result ≡ true → AllPrintable (texts rows.now) }
+pub(crate) fn are_printable<T: AsStr>(rows: &[Vec<T>]) -> bool
+    ensures { result ≡ true → AllPrintable (texts_by T.text rows.now) }
 {
     for row in rows {
         if !is_printable_row(row) {

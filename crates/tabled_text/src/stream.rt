@@ -5,15 +5,16 @@ ghost use Rattle.std.specs.Char.{encode_utf8};
 ghost use Rattle.std.specs.List.{All};
 ghost use Rattle.std.specs.String.{string_capacity};
 ghost use Rattle.std.specs.Io.KnownBytes.{Appends};
-ghost use Rattle.tabled_printing.specs.Texts.{texts, times};
+ghost use Rattle.tabled_printing.specs.Texts.{times};
 ghost use Rattle.tabled_painting.specs.AlikeLines.{written_by};
 ghost use Rattle.tabled_painting.specs.Printable.{AllPrintable};
+ghost use Rattle.tabled_painting.specs.TextsBy.{texts_by};
 ghost use Rattle.tabled_text.specs.declared.stream.TheConstants.{ROOM};
 ghost use Rattle.tabled_text.specs.declared.table_error.TableError.{TableError as Refusal};
 
 use crate::TableError;
 use std::alloc::Global;
-use std::convert::Infallible;
+use std::convert::{AsStr, Infallible};
 use std::io;
 use tabled_painting::{AlikeLines, Output};
 
@@ -146,11 +147,11 @@ impl<W: io::Write> Stream<'_, W> {
     }
 
     /// Writes the texts before and after a table, and the table between them, and all that waits then.
-    fn push_all(&mut self, lines: &AlikeLines, before: &str, rows: &[Vec<String>], after: &str)
+    fn push_all<T: AsStr>(&mut self, lines: &AlikeLines, before: &str, rows: &[Vec<T>], after: &str)
         requires rows { length rows.now ≡ lines.now.lines.frame.shape.0 }
-        requires cols { All (λ row. length row ≡ lines.now.lines.frame.shape.1) (texts rows.now) }
-        requires printable { AllPrintable (texts rows.now) }
-        ensures gained { StreamGains W.contents (before.now ++ written_by lines.now (texts rows.now) ++ after.now) self.old self.new }
+        requires cols { All (λ row. length row ≡ lines.now.lines.frame.shape.1) (texts_by T.text rows.now) }
+        requires printable { AllPrintable (texts_by T.text rows.now) }
+        ensures gained { StreamGains W.contents (before.now ++ written_by lines.now (texts_by T.text rows.now) ++ after.now) self.old self.new }
         ensures empty { string_bytes self.new.waiting.now ≡ [] }
         ensures same_writer { self.new.out.ghost_name ≡ self.old.out.ghost_name }
     {
@@ -202,18 +203,18 @@ impl<W: io::Write> Output for Stream<'_, W> {
 }
 
 /// Writes a table to a stream, piece by piece, between two texts. All memory is asked for before the first byte is written.
-pub(crate) fn write_pieces<W: io::Write>(
+pub(crate) fn write_pieces<W: io::Write, T: AsStr>(
     alloc: Global,
     lines: &AlikeLines,
     before: &str,
-    rows: &[Vec<String>],
+    rows: &[Vec<T>],
     after: &str,
     out: &mut W,
 ) -> Result<(), TableError>
     requires rows { length rows.now ≡ lines.now.lines.frame.shape.0 }
-    requires cols { All (λ row. length row ≡ lines.now.lines.frame.shape.1) (texts rows.now) }
-    requires printable { AllPrintable (texts rows.now) }
-    ensures text { OnOk result (Appends (W.contents out.old) (W.contents out.new) (before.now ++ written_by lines.now (texts rows.now) ++ after.now)) }
+    requires cols { All (λ row. length row ≡ lines.now.lines.frame.shape.1) (texts_by T.text rows.now) }
+    requires printable { AllPrintable (texts_by T.text rows.now) }
+    ensures text { OnOk result (Appends (W.contents out.old) (W.contents out.new) (before.now ++ written_by lines.now (texts_by T.text rows.now) ++ after.now)) }
     ensures refusal { IfErr result (λ e. (e ≡ Refusal.OutOfMemory) ⊎ (e ≡ Refusal.Write)) }
     ensures unwritten { IfErr result (λ e. (e ≡ Refusal.Write) ⊎ (out.new ≡ out.old)) }
 {

@@ -4,6 +4,7 @@ ghost use Rattle.std.specs.Prelude.{◌≡◌, [], length, map, string_bytes, sl
 ghost use Rattle.tabled_text.specs.declared.table_error.TableError.{TableError as Refusal};
 ghost use Rattle.tabled_configuration.specs.Colored.{Shows};
 ghost use Rattle.tabled_printing.specs.Pieces.{lent};
+ghost use Rattle.tabled_painting.specs.TextsBy.{texts_by};
 ghost use Rattle.tabled_printing.specs.Texts.{texts};
 ghost use Rattle.tabled_text.specs.Refusal.{unequal as refusal_of};
 ghost use Rattle.tabled_text.specs.Sizes.{column_widths, row_heights};
@@ -22,6 +23,7 @@ mod texts;
 use crate::TableError;
 use crate::measure::{TableSize, column_count, sizes_of, unequal_row};
 use std::alloc::{AllocError, Global};
+use std::convert::AsStr;
 use std::marker::Model;
 use std::{fmt, mem};
 use tabled_border::OutOfMemory;
@@ -395,7 +397,7 @@ impl TextTable {
 }
 
 /// A configuration in which nothing is set.
-fn unset_config(alloc: Global) -> Result<Box<ColoredConfig>, OutOfMemory>
+pub(crate) fn unset_config(alloc: Global) -> Result<Box<ColoredConfig>, OutOfMemory>
     ensures { IfOk result (λ config. Shows [] config.value) }
 {
     // matched, since `?` would move what a refusal hands back, the configuration
@@ -406,8 +408,8 @@ fn unset_config(alloc: Global) -> Result<Box<ColoredConfig>, OutOfMemory>
 }
 
 /// How many cells a row has; none, if there is no such row.
-fn cells_of(rows: &[Vec<String>], row: usize) -> usize
-    ensures { result ≡ length (slice_index_or (texts rows.now) row []) }
+fn cells_of<T: AsStr>(rows: &[Vec<T>], row: usize) -> usize
+    ensures { result ≡ length (slice_index_or (texts_by T.text rows.now) row []) }
 {
     match rows.get(row) {
         Some(cells) => cells.len(),
@@ -416,8 +418,8 @@ fn cells_of(rows: &[Vec<String>], row: usize) -> usize
 }
 
 /// The refusal of rows of which one has more or fewer cells than the first.
-fn unequal(rows: &[Vec<String>], row: usize) -> TableError
-    ensures { result ≡ refusal_of (texts rows.now) row }
+pub(crate) fn unequal<T: AsStr>(rows: &[Vec<T>], row: usize) -> TableError
+    ensures { result ≡ refusal_of (texts_by T.text rows.now) row }
 {
     TableError::UnequalRows {
         row,
@@ -438,7 +440,7 @@ fn copied(alloc: Global, rows: &[&[&str]]) -> Result<Vec<Vec<String>>, AllocErro
 }
 
 /// The texts of a row, copied.
-fn copied_row(alloc: Global, row: &[&str]) -> Result<Vec<String>, AllocError>
+pub(crate) fn copied_row(alloc: Global, row: &[&str]) -> Result<Vec<String>, AllocError>
     ensures { IfOk result (λ copies. map string_bytes copies.items ≡ lent row.now) }
 {
     let mut copies = Vec::with_capacity(alloc, row.len())?;

@@ -1,31 +1,24 @@
 //! A table that is printed to a stream of bytes, alone or between two texts.
 
-ghost use Rattle.std.specs.Prelude.{◌≡◌, ◌⊎◌, ◌++◌, true, false, List, length, IfErr, IfOk, IfSome, OnOk};
-ghost use Rattle.std.specs.List.{All};
+ghost use Rattle.std.specs.Prelude.{◌≡◌, ◌⊎◌, ◌++◌, true, false, List, IfErr, OnOk, string_bytes};
 ghost use Rattle.std.specs.Io.KnownBytes.{Appends};
 ghost use Rattle.tabled_configuration.specs.Colored.{Shows};
 ghost use Rattle.tabled_configuration.specs.Configuration.{ConfigEvent};
 ghost use Rattle.tabled_configuration.specs.Configuration as borders;
 ghost use Rattle.tabled_painting.specs.PaintedTable.{colored_text, plain_text};
-ghost use Rattle.tabled_painting.specs.Printable.{AllPrintable};
 ghost use Rattle.tabled_painting.specs.Widths.{text_width};
 ghost use Rattle.tabled_printing.specs.Columns.{IsRectangle, WritesNarrow};
 ghost use Rattle.tabled_text.specs.Cells.{StandApart, leaves_sizes, margin_set};
+ghost use Rattle.tabled_text.specs.TableViews.{IsTable, text_viewed};
 ghost use Rattle.tabled_text.specs.TextTable.{look_of, look_printed, painted, painted_alone, text_of};
 ghost use Rattle.tabled_text.specs.declared.table_error.TableError.{TableError as Refusal};
 
 use super::TextTable;
 use crate::TableError;
-use crate::measure::are_printable;
-use crate::stream::{ROOM, write_pieces};
+use crate::table_view::TableView;
 use std::io;
-use tabled_border::OutOfMemory;
-use tabled_object::Shape;
-use tabled_painting::AlikeLines;
 
 impl TextTable {
-    ghost use Rattle.tabled_painting.specs.AlikeLines.{written_by};
-
     /// Writes the text of the table to a stream of bytes, such as standard output. Where it is refused by `to_text` nothing is
     /// written; where the stream fails some of the text may be.
     pub fn print_to<W: io::Write>(&self, out: &mut W) -> Result<(), TableError>
@@ -72,48 +65,27 @@ impl TextTable {
         ensures refusal { IfErr result (λ e. (e ≡ Refusal.OutOfMemory) ⊎ (e ≡ Refusal.Write)) }
         ensures unwritten { IfErr result (λ e. (e ≡ Refusal.Write) ⊎ (out.new ≡ out.old)) }
     {
-        let alloc = self.config().config().allocator();
-        if let Some(lines) = self.alike_lines(false)? {
-            return write_pieces(alloc, &lines, before, &self.cells, after, out);
+        if self.view().print_pieces(false, before, after, out)? {
+            return Ok(());
         }
         let text = self.text_alone()?;
         write_in_turn(before, text.as_str(), after, out)
     }
 
-    /// The lines of a table of which no cell spans or has padding, with its colors or without them, where it is long, and they can be written
-    /// one after another with no more memory than they have.
-    fn alike_lines(&self, with_colors: bool) -> Result<Option<AlikeLines<'_, '_>>, OutOfMemory>
-        ensures plain { (es : List ConfigEvent) → borders.Shows es self.now.config.spanned → with_colors ≡ false
-            → IfOk result (λ found. IfSome found (λ lines. written_by lines self.now.texts ≡ plain_text (painted_alone es self.now.texts))) }
-        ensures colored { (es : List ConfigEvent) → Shows es self.now.config → with_colors ≡ true
-            → IfOk result (λ found. IfSome found (λ lines. written_by lines self.now.texts ≡ colored_text (painted_alone es self.now.texts))) }
-        ensures rows { IfOk result (λ found. IfSome found (λ lines. length self.now.texts ≡ lines.lines.frame.shape.0)) }
-        ensures cols { IfOk result (λ found. IfSome found (λ lines. All (λ row. length row ≡ lines.lines.frame.shape.1) self.now.texts)) }
-        ensures printable { IfOk result (λ found. IfSome found (λ lines. AllPrintable self.now.texts)) }
-        ensures rectangle { (es : List ConfigEvent) → borders.Shows es self.now.config.spanned → WritesNarrow es → leaves_sizes es ≡ true
-            → IfOk result (λ found. IfSome found (λ lines. IsRectangle (text_width (look_of es self.now.texts) (margin_set es)) (text_of es self.now.texts))) }
+    /// The table as it is lent to be printed.
+    fn view(&self) -> TableView<'_, String>
+        ensures table { IsTable string_bytes result }
+        ensures plain { (es : List ConfigEvent) → borders.Shows es self.now.config.spanned → text_viewed string_bytes result false ≡ plain_text (painted_alone es self.now.texts) }
+        ensures colored { (es : List ConfigEvent) → Shows es self.now.config → text_viewed string_bytes result true ≡ colored_text (painted_alone es self.now.texts) }
+        ensures rectangle { (es : List ConfigEvent) → WritesNarrow es → leaves_sizes es ≡ true → IsRectangle (text_width (look_of es self.now.texts) (margin_set es)) (text_of es self.now.texts) }
     {
-        let Shape { rows, cols } = self.shape;
-        if rows == 0 || cols == 0 || !self.is_long() || !self.has_printable_texts() {
-            return Ok(None);
+        TableView {
+            rows: &self.cells,
+            shape: (self.shape.rows, self.shape.cols),
+            sizes: &self.sizes,
+            config: self.config(),
+            are_printable: self.are_printable,
         }
-        AlikeLines::new(self.config(), &self.sizes, (rows, cols), with_colors)
-    }
-
-    /// Whether its text has more bytes than wait to be written at most, as far as its sizes tell.
-    fn is_long(&self) -> bool {
-        let mut columns = 0usize;
-        for width in &self.sizes.widths {
-            columns = columns.saturating_add(*width);
-        }
-        ROOM < columns.saturating_mul(self.shape.rows)
-    }
-
-    /// Whether all its texts are printable, which is known unless some were changed.
-    fn has_printable_texts(&self) -> bool
-        ensures { result ≡ true → AllPrintable self.now.texts }
-    {
-        self.are_printable || are_printable(&self.cells)
     }
 
     /// Writes the text of the table in color to a stream of bytes, such as standard output. Where it is refused by `to_ansi`
@@ -156,9 +128,8 @@ impl TextTable {
         ensures refusal { IfErr result (λ e. (e ≡ Refusal.OutOfMemory) ⊎ (e ≡ Refusal.Write)) }
         ensures unwritten { IfErr result (λ e. (e ≡ Refusal.Write) ⊎ (out.new ≡ out.old)) }
     {
-        let alloc = self.config().config().allocator();
-        if let Some(lines) = self.alike_lines(true)? {
-            return write_pieces(alloc, &lines, before, &self.cells, after, out);
+        if self.view().print_pieces(true, before, after, out)? {
+            return Ok(());
         }
         let text = self.ansi_alone()?;
         write_in_turn(before, text.as_str(), after, out)

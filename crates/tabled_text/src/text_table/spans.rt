@@ -52,7 +52,7 @@ impl TextTable {
     }
 
     /// How wide the columns are and how high the rows, where cells span or have padding.
-    pub(super) fn sizes_with_spans(&self) -> Result<FixedDimension, OutOfMemory>
+    pub(crate) fn sizes_with_spans(&self) -> Result<FixedDimension, OutOfMemory>
         ensures widths { IfOk result (λ sizes. sizes.widths.items ≡ widths_with_spans self.now.config.spanned.settings (all_writes self.now.config.spanned) self.now.texts) }
         ensures heights { IfOk result (λ sizes. sizes.heights.items ≡ heights_with_spans self.now.config.spanned.settings (all_writes self.now.config.spanned) self.now.texts) }
         ensures columns { IfOk result (λ sizes. length sizes.widths.items ≡ column_count self.now.texts) }

@@ -14,7 +14,7 @@ loop-row-preserved g c =
     let table = texts c.args.rows.now in
     let long = length_cells change table in
     let same = length-map c.args.rows.now (λ row. map string_bytes row.items) in
-    let here = row_at c.args.rows.now c.loop-row.row c.index-rows-row.result c.loop-row-test.true c.index-rows-row.is in
+    let here = row_at string_bytes c.args.rows.now c.loop-row.row c.index-rows-row.result c.loop-row-test.true c.index-rows-row.is in
     copied_more (λ row. map string_bytes row.items) c.loop-row.found.items c.push.new.self.items c.in_ok-changed_row.field-0 (cells_changed change table) c.loop-row.row []
     c.in_ok-push.ensures.items c.loop-row.invariant (omega (arith, long, same, c.loop-row-test.true))
     (c.in_ok-changed_row.ensures ∙ ap (λ cells. row_changed (change c.loop-row.row) (map string_bytes cells)) c.deref.ensures.value

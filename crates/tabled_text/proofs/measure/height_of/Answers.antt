@@ -1,5 +1,5 @@
 -- Printable texts make a row of one line.
-use Rattle.std.proofs.Common.{◌<◌, map, length, string_bytes, arith}
+use Rattle.std.proofs.Common.{◌<◌, map, length, arith}
 use Rattle.std.proofs.lemmas.Bool.Decides.{nat_tests}
 use Rattle.std.proofs.lemmas.List.{length-map}
 use Rattle.tabled_text.specs.Sizes.{cell}
@@ -7,8 +7,8 @@ use Rattle.tabled_text.proofs.Measuring.{one_high, printable_line}
 use Rattle.tabled_text.proofs.measure.height_of.Goals as goal
 
 pub returns-then-not-is_empty : goal.returns-then-not-is_empty
-returns-then-not-is_empty c =
+returns-then-not-is_empty g c =
     let row = c.args.row.now in
-    let counted = length-map row string_bytes in
+    let counted = length-map row g.T.AsStr.text in
     let some : 0 < length row = grind (arith, nat_tests, c.is_empty.ensures, c.if-not-is_empty.true) in
-    one_high (map string_bytes row) (omega (arith, counted, some)) (λ col _. printable_line (cell (map string_bytes row) col) (c.requires c.if-are_printable.true col))
+    one_high (map g.T.AsStr.text row) (omega (arith, counted, some)) (λ col _. printable_line (cell (map g.T.AsStr.text row) col) (c.requires c.if-are_printable.true col))

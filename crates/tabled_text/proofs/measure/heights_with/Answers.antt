@@ -14,7 +14,7 @@ loop-row-preserved c =
     let row = c.loop-row.row in
     let asked : ℕ → ℕ = λ k. max (get_or heights k 0) (height_asked (cell (map string_bytes column) k)) in
     let before : c.unwrap_or-before.result ≡ get_or heights row 0 = search rules in
-    let text = cell_at column row c.index-column-row.result c.loop-row-test.true c.index-column-row.is in
+    let text = cell_at string_bytes column row c.index-column-row.result c.loop-row-test.true c.index-column-row.is in
     let value : c.max.result ≡ asked row = c.max.ensures ∙ (λ i. max (before i) ((c.height_asked.ensures ∙ ap height_asked (c.as_str.ensures.value ∙ sym text)) i)) in
     c.in_ok-push.ensures.items ∙ (λ i. c.loop-row.invariant i ++ value i ∷ []) ∙ sym (map-range_with_len_more asked 0 row row (omega arith))
 

@@ -4,4 +4,4 @@ use Rattle.tabled_text.proofs.Measuring.{nothing_asked}
 use Rattle.tabled_text.proofs.measure.measure_at.Goals as goal
 
 pub returns-else-col-row-clause-width : goal.returns-else-col-row-clause-width
-returns-else-col-row-clause-width c = nothing_asked c.args.row.now c.args.col (omega arith)
+returns-else-col-row-clause-width g c = nothing_asked g.T.AsStr.text c.args.row.now c.args.col (omega arith)

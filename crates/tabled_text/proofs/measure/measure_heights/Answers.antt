@@ -10,7 +10,7 @@ use Rattle.tabled_text.proofs.measure.measure_heights.Goals as goal
 pub loop-row-preserved : goal.loop-row-preserved
 loop-row-preserved c =
     let row = c.loop-row.row in
-    let here = row_at c.args.rows.now row c.index-rows-row.result c.loop-row-test.true c.index-rows-row.is in
+    let here = row_at string_bytes c.args.rows.now row c.index-rows-row.result c.loop-row-test.true c.index-rows-row.is in
     set_more (λ k. row_height (get_or (texts c.args.rows.now) k [])) c.loop-row.heights row c.row_height.result (omega (arith, c.requires, c.loop-row.auto.heights, c.loop-row-test.true))
     (c.row_height.ensures ∙ ap (λ items. row_height (map string_bytes items)) c.deref.ensures.value ∙ ap row_height (sym here))
     c.loop-row.invariant

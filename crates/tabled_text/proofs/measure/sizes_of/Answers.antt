@@ -1,37 +1,37 @@
 -- One row more; at the end all rows have widened the columns.
-use Rattle.std.proofs.Common.{◌<◌, subst, length, drop, get_or, map, string_bytes, ap, sym, ◌∙◌, arith}
+use Rattle.std.proofs.Common.{◌<◌, subst, length, drop, get_or, map, ap, sym, ◌∙◌, arith}
 use Rattle.std.proofs.lemmas.Bool.{and_parts}
 use Rattle.std.proofs.lemmas.List.{length-map, take_at}
 use Rattle.tabled_text.specs.Sizes.{row_height}
-use Rattle.tabled_printing.specs.Texts.{texts}
+use Rattle.tabled_painting.specs.TextsBy.{texts_by}
 use Rattle.tabled_text.proofs.Measuring.{widened_more, widened_all, rows_so_far, row_at, printable_more, all_printable}
 use Rattle.tabled_text.proofs.measure.sizes_of.Goals as goal
 
 pub loop-row-preserved : goal.loop-row-preserved
-loop-row-preserved c =
+loop-row-preserved g c =
     let kept = take_at c.widen.new.widths (drop (length c.widen.new.widths) c.loop-row.widths.items) c.loop-row.widths.len (c.widen.auto.widths ∙ c.deref_mut.ensures.len) in
-    let here = row_at c.args.rows.now c.loop-row.row-index c.row-item.result c.loop-row-test.true c.row-item.is in
+    let here = row_at g.T.AsStr.text c.args.rows.now c.loop-row.row-index c.row-item.result c.loop-row-test.true c.row-item.is in
     record {
       count = ap length kept ∙ c.widen.auto.widths ∙ ap length c.deref_mut.ensures.value ∙ c.loop-row.invariant.count;
       widths = λ col inside.
           let within = let h = inside in subst (λ items. col < length items) kept h in
           ap (λ items. get_or items col 0) kept
-          ∙ widened_more c.args.rows.now c.loop-row.row-index col _ _ (map string_bytes c.deref.result.now)
+          ∙ widened_more g.T.AsStr.text c.args.rows.now c.loop-row.row-index col _ _ (map g.T.AsStr.text c.deref.result.now)
           (ap (λ items. get_or items col 0) c.deref_mut.ensures.value ∙ c.loop-row.invariant.widths col (omega (arith, c.widen.auto.widths, ap length c.deref_mut.ensures.value, within)))
-          c.loop-row-test.true (here ∙ ap (λ items. map string_bytes items) (sym c.deref.ensures.value))
+          c.loop-row-test.true (here ∙ ap (λ items. map g.T.AsStr.text items) (sym c.deref.ensures.value))
           (c.in_ok-is_printable.ensures.widths col within);
-      heights = rows_so_far row_height _ _ c.args.rows.now c.loop-row.row-index _ _ c.loop-row.invariant.heights c.loop-row-test.true (here ∙ ap (λ items. map string_bytes items) (sym c.deref-in-loop-row.ensures.value)) c.height_of.ensures c.in_ok-push.ensures.items;
+      heights = rows_so_far g.T.AsStr.text row_height _ _ c.args.rows.now c.loop-row.row-index _ _ c.loop-row.invariant.heights c.loop-row-test.true (here ∙ ap (λ items. map g.T.AsStr.text items) (sym c.deref-in-loop-row.ensures.value)) c.height_of.ensures c.in_ok-push.ensures.items;
       printable = λ known.
           let both = and_parts c.loop-row.are_printable c.in_ok-is_printable.is_printable known in
-          printable_more (texts c.args.rows.now) c.loop-row.row-index (map string_bytes c.deref.result.now) (here ∙ ap (λ items. map string_bytes items) (sym c.deref.ensures.value))
+          printable_more (texts_by g.T.AsStr.text c.args.rows.now) c.loop-row.row-index (map g.T.AsStr.text c.deref.result.now) (here ∙ ap (λ items. map g.T.AsStr.text items) (sym c.deref.ensures.value))
           (c.loop-row.invariant.printable both.0) (c.in_ok-is_printable.ensures.printable both.1);
     }
 
 pub returns-clause-widths : goal.returns-clause-widths
-returns-clause-widths c =
+returns-clause-widths g c =
     ap (λ widths. widths.items) c.new.ensures.widths
-    ∙ widened_all c.args.rows.now c.loop-row.row-index c.loop-row.widths.items (omega arith) c.loop-row.invariant.count c.loop-row.invariant.widths
+    ∙ widened_all g.T.AsStr.text c.args.rows.now c.loop-row.row-index c.loop-row.widths.items (omega arith) c.loop-row.invariant.count c.loop-row.invariant.widths
 
 pub returns-clause-printable : goal.returns-clause-printable
-returns-clause-printable c known =
-    all_printable (texts c.args.rows.now) c.loop-row.row-index (omega (arith, c.loop-row-test.false, length-map c.args.rows.now (λ row. map string_bytes row.items))) (c.loop-row.invariant.printable known)
+returns-clause-printable g c known =
+    all_printable (texts_by g.T.AsStr.text c.args.rows.now) c.loop-row.row-index (omega (arith, c.loop-row-test.false, length-map c.args.rows.now (λ row. map g.T.AsStr.text row.items))) (c.loop-row.invariant.printable known)

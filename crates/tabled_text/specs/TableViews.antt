@@ -1,0 +1,29 @@
+-- A table as it is lent to be printed.
+use Rattle.std.specs.Prelude.{◌≡◌, ℕ, Bool, true, List, length}
+use Rattle.std.specs.List.{All}
+use Rattle.tabled_printing.specs.Texts.{Table}
+use Rattle.tabled_painting.specs.Pages.{text_of_lines}
+use Rattle.tabled_painting.specs.PaintedTable.{painted_by}
+use Rattle.tabled_painting.specs.Printable.{AllPrintable}
+use Rattle.tabled_painting.specs.TextsBy.{texts_by}
+use Rattle.tabled_text.specs.declared.table_view.TableView.{TableView}
+use denote.Ref.{Bor}
+
+-- the bytes of a text that is lent
+abbrev pub lent_bytes : Bor (List ℕ) → List ℕ
+lent_bytes text = text.now
+
+module _ {T : Type 0} (bytes : T → List ℕ) (view : TableView T) where
+  -- its texts
+  abbrev pub texts_viewed : Table
+  texts_viewed = texts_by bytes view.rows.now
+
+  -- its text, in color or without colors, where no cell spans and no padding is set
+  abbrev pub text_viewed : Bool → List ℕ
+  text_viewed with_colors = text_of_lines with_colors (painted_by view.config.now view.shape view.sizes.now.widths.items view.sizes.now.heights.items texts_viewed)
+
+  -- its texts have its shape, and are printable where that is known
+  pub record IsTable : Type 0 where
+    pub rows : length view.rows.now ≡ view.shape.0
+    pub cols : All (λ row. length row ≡ view.shape.1) texts_viewed
+    pub printable : view.are_printable ≡ true → AllPrintable texts_viewed

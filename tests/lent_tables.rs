@@ -1,0 +1,148 @@
+//! Tables of texts that are lent: they print what a table of copies does.
+
+use std::alloc::Global;
+use std::test::Fail;
+use tabled::settings::object::{Cell, Columns, Rows, Segment};
+use tabled::settings::style::{BorderColor, LineText};
+use tabled::settings::themes::Colorization;
+use tabled::settings::{Alignment, Color, Padding, Span, Style};
+use tabled::{LentTable, TableError};
+
+/// How many rows a long table has: so many that its text is longer than what waits to be written.
+const ROWS: usize = 9_000;
+
+/// A table of two rows, which is printed as a whole.
+fn short(alloc: Global) -> Result<LentTable<'static>, TableError> {
+    let first = vec![in alloc; "tea", "95"]?;
+    let second = vec![in alloc; "coffee", "7"]?;
+    LentTable::from_rows(alloc, vec![in alloc; first, second]?)
+}
+
+/// A table of many rows, which is printed piece by piece where nothing but a style is set.
+fn long(alloc: Global) -> Result<LentTable<'static>, TableError> {
+    let mut rows = Vec::new(alloc);
+    for _ in 0..ROWS {
+        rows.push(vec![in alloc; "tea", "7"]?)?;
+    }
+    LentTable::from_rows(alloc, rows)
+}
+
+/// A text, another one as often as a long table has rows, and a third one.
+fn repeated(alloc: Global, before: &str, row: &str, after: &str) -> Result<String, TableError> {
+    let mut text = String::from_str(alloc, before)?;
+    for _ in 0..ROWS {
+        text.push_str(row)?;
+    }
+    text.push_str(after)?;
+    Ok(text)
+}
+
+/// Whether a table is printed as this text, alone and between two texts.
+fn is_printed(alloc: Global, table: &LentTable, text: &str) -> Result<bool, TableError> {
+    let mut alone: Vec<u8> = Vec::new(alloc);
+    table.print_to(&mut alone)?;
+    let mut between: Vec<u8> = Vec::new(alloc);
+    table.print_between("above\n", "\nbelow", &mut between)?;
+    let whole = format!(in alloc; "above\n{text}\nbelow")?;
+    Ok(alone.as_slice() == text.as_bytes() && between.as_slice() == whole.as_bytes())
+}
+
+/// The same in color.
+fn is_printed_in_color(alloc: Global, table: &LentTable, text: &str) -> Result<bool, TableError> {
+    let mut alone: Vec<u8> = Vec::new(alloc);
+    table.print_ansi_to(&mut alone)?;
+    let mut between: Vec<u8> = Vec::new(alloc);
+    table.print_ansi_between("above\n", "\nbelow", &mut between)?;
+    let whole = format!(in alloc; "above\n{text}\nbelow")?;
+    Ok(alone.as_slice() == text.as_bytes() && between.as_slice() == whole.as_bytes())
+}
+
+#[test]
+fn a_short_table_is_printed(rt: HostRuntime) -> Result<(), Fail> {
+    let alloc = rt.alloc();
+    let mut table = short(alloc)?;
+    assert!(rt; is_printed(alloc, &table, " tea     95 \n coffee  7  ")?);
+    table.with(Style::ascii())?;
+    let text = "+--------+----+\n| tea    | 95 |\n+--------+----+\n| coffee | 7  |\n+--------+----+";
+    assert!(rt; is_printed(alloc, &table, text)?);
+    table.modify(Columns::one(1), Alignment::right())?;
+    let text = "+--------+----+\n| tea    | 95 |\n+--------+----+\n| coffee |  7 |\n+--------+----+";
+    assert!(rt; is_printed(alloc, &table, text)?);
+    table.with(LineText::new(alloc, "menu", Rows::first())?)?;
+    let text = "menu-----+----+\n| tea    | 95 |\n+--------+----+\n| coffee |  7 |\n+--------+----+";
+    assert!(rt; is_printed(alloc, &table, text)?);
+    Ok(())
+}
+
+#[test]
+fn an_option_is_applied(rt: HostRuntime) -> Result<(), Fail> {
+    let alloc = rt.alloc();
+    let mut table = short(alloc)?;
+    table.apply(Style::psql())?;
+    assert!(rt; is_printed(alloc, &table, " tea    | 95 \n--------+----\n coffee | 7  ")?);
+    assert!(rt; !table.config().config().has_spans_or_padding());
+    Ok(())
+}
+
+#[test]
+fn texts_of_any_kind_are_printed(rt: HostRuntime) -> Result<(), Fail> {
+    let alloc = rt.alloc();
+    let rows = vec![in alloc; vec![in alloc; "東京\nOslo", ""]?]?;
+    let mut table = LentTable::from_rows(alloc, rows)?;
+    table.with(Style::ascii())?;
+    assert!(rt; is_printed(alloc, &table, "+------+--+\n| 東京 |  |\n| Oslo |  |\n+------+--+")?);
+    let empty: LentTable = LentTable::from_rows(alloc, Vec::new(alloc))?;
+    assert!(rt; is_printed(alloc, &empty, "")?);
+    Ok(())
+}
+
+#[test]
+fn a_long_table_is_printed_piece_by_piece(rt: HostRuntime) -> Result<(), Fail> {
+    let alloc = rt.alloc();
+    let mut table = long(alloc)?;
+    table.with(Style::ascii())?;
+    let text = repeated(alloc, "+-----+---+", "\n| tea | 7 |\n+-----+---+", "")?;
+    assert!(rt; is_printed(alloc, &table, text.as_str())?);
+    table.with(Style::empty())?;
+    let text = repeated(alloc, "", " tea  7 \n", "")?;
+    assert!(rt; is_printed(alloc, &table, text.trim_end_matches('\n'))?);
+    Ok(())
+}
+
+#[test]
+fn a_long_table_is_printed_in_color(rt: HostRuntime) -> Result<(), Fail> {
+    let alloc = rt.alloc();
+    let mut table = long(alloc)?;
+    table.with(Style::ascii())?.with(Colorization::rows(vec![in alloc; Color::FG_RED]?))?;
+    let row = "\n|\u{1b}[31m tea \u{1b}[39m|\u{1b}[31m 7 \u{1b}[39m|\n+-----+---+";
+    let text = repeated(alloc, "+-----+---+", row, "")?;
+    assert!(rt; is_printed_in_color(alloc, &table, text.as_str())?);
+    Ok(())
+}
+
+#[test]
+fn spans_and_padding_are_printed(rt: HostRuntime) -> Result<(), Fail> {
+    let alloc = rt.alloc();
+    let mut table = short(alloc)?;
+    table.with(Style::ascii())?.modify(Cell::new(0, 0), Span::column(2))?;
+    let text = "+--------+---+\n| tea        |\n+--------+---+\n| coffee | 7 |\n+--------+---+";
+    assert!(rt; is_printed(alloc, &table, text)?);
+    let mut table = short(alloc)?;
+    table.with(Style::ascii())?.with(Padding::new(0, 0, 0, 0))?;
+    table.with(LineText::new(alloc, "menu", Rows::first())?)?;
+    let text = "menu---+--+\n|tea   |95|\n+------+--+\n|coffee|7 |\n+------+--+";
+    assert!(rt; is_printed(alloc, &table, text)?);
+    table.modify(Segment::all(), BorderColor::filled(alloc, Color::FG_RED)?)?;
+    table.with(Style::empty())?;
+    assert!(rt; is_printed_in_color(alloc, &table, "tea   95\ncoffee7 ")?);
+    Ok(())
+}
+
+#[test]
+fn rows_of_unequal_counts_are_refused(rt: HostRuntime) -> Result<(), Fail> {
+    let alloc = rt.alloc();
+    let rows = vec![in alloc; vec![in alloc; "a", "b"]?, vec![in alloc; "c"]?]?;
+    let refused = LentTable::from_rows(alloc, rows).err();
+    assert_eq!(rt; refused, Some(TableError::UnequalRows { row: 1, cells: 1, columns: 2 }));
+    Ok(())
+}
