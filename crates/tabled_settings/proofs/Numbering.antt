@@ -1,11 +1,11 @@
 -- The places of events noted anew, slot by slot.
-use Rattle.std.proofs.Common.{◌≡◌, ℕ, ◌+◌, ◌<◌, zero, suc, Bool, true, false, cond, ◌||◌, Option, Some, None, List, [], ◌∷◌, ◌++◌, length, take, get_or, is_some, Result, Ok, Err, OnOk, OnErr, refl, sym, ap, ◌∙◌, arith}
+use Rattle.std.proofs.Common.{◌≡◌, ℕ, ◌+◌, ◌<◌, zero, suc, Bool, true, false, cond, ◌||◌, Option, Some, None, List, [], ◌∷◌, ◌++◌, length, take, get_or, is_some, is_err, Result, Ok, Err, OnOk, OnErr, refl, sym, ap, ◌∙◌, arith}
 use Rattle.std.specs.BTreeMap.{BTreeMap, get, Updates}
 use Rattle.std.proofs.lemmas.List.{take_more, length-take-le}
 use Rattle.std.proofs.Math.Bool.{or-true}
 use Rattle.tabled_object.specs.declared.entity.Entity.{Entity}
 use Rattle.tabled_settings.specs.Setting.{same_entity}
-use Rattle.tabled_settings.specs.Slots.{passes, place, entity_cmp}
+use Rattle.tabled_settings.specs.Slots.{passes, place, entity_cmp, HasPlaces}
 use Rattle.tabled_settings.proofs.Entities.{entity_itself, found_entity}
 use Rattle.tabled_settings.proofs.Placing.{is_behind, place-push, place-push_hole}
 
@@ -61,3 +61,23 @@ module _ {V : Type 0} (slots : List (Option (Entity × V))) (before now : BTreeM
       let before_had : is_some (get entity_cmp before event.0) ≡ true = alike event.0 ∙ placed_there (same_entity event.0) slots at slot event inside is there (entity_itself event.0) in
       let had : is_some (get entity_cmp now event.0) ≡ true = ap is_some (so_far event.0) ∙ is_noted (place (same_entity event.0) (take at slots)) (get entity_cmp before event.0) before_had in
       absurd (let no : false ≡ true = sym (ap is_some absent) ∙ had in cc)
+
+module _ {V : Type 0} (slots : List (Option (Entity × V))) (places : BTreeMap Entity ℕ) (at : ℕ) (slot : Option (Entity × V)) (inside : at < length slots) (is : slot ≡ get_or slots at slot) (has : HasPlaces places (take at slots)) where
+  next_seen : take (at + 1) slots ≡ take at slots ++ slot ∷ []
+  next_seen = take_more slots at slot inside ∙ ap (λ s. take at slots ++ s ∷ []) (sym is)
+
+  -- where the map has the places of the slots so far, it has those of one hole more
+  pub hole_passed : slot ≡ None → HasPlaces places (take (at + 1) slots)
+  hole_passed hole entity = has entity ∙ sym (ap (place (same_entity entity)) (next_seen ∙ ap (λ s. take at slots ++ s ∷ []) hole) ∙ place-push_hole (same_entity entity) (take at slots))
+
+  -- and once an event more was noted, its place too
+  pub event_noted : {U E : Type 0} (event : Entity × V) (new : BTreeMap Entity ℕ) (result : Result U E) → slot ≡ Some event → is_err result ≡ false → OnOk result (Updates entity_cmp places new event.0 (Some at))
+      → HasPlaces new (take (at + 1) slots)
+  event_noted event new (Err _) there fine updates entity = absurd cc
+  event_noted event new (Ok _) there fine updates entity =
+      updates.0 entity
+      ∙ (λ i. cond (found_entity event.0 entity i) (Some at) (has entity i))
+      ∙ sym (
+      ap (place (same_entity entity)) (next_seen ∙ ap (λ s. take at slots ++ s ∷ []) there)
+      ∙ place-push (same_entity entity) (take at slots) event
+      ∙ ap (λ n. cond (same_entity entity event.0) (Some n) (place (same_entity entity) (take at slots))) (length-take-le at slots (omega arith)))

@@ -4,8 +4,7 @@ ghost use Rattle.std.specs.Prelude.{◌≡◌, ◌++◌, ◌∷◌, [], OnOk, On
 ghost use Rattle.tabled_settings.specs.Live.{without};
 
 use super::LastEvents;
-use crate::places::set_back;
-use crate::slots;
+use crate::{places, slots};
 use tabled_border::OutOfMemory;
 use tabled_object::Entity;
 
@@ -28,9 +27,9 @@ impl<T> LastEvents<T> {
         ensures others_err { OnErr result (others.new ≡ others.old) }
     {
         self.slots.reserve(1)?;
-        let before = self.places.insert(entity, self.slots.len())?;
+        let before = places::note_next(&mut self.places, &self.slots, entity)?;
         if let Err(refused) = others.put(entity, other) {
-            set_back(&mut self.places, entity, before);
+            places::set_back(&mut self.places, entity, before);
             return Err(refused);
         }
         self.kinds.mark(entity);
