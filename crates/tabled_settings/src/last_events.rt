@@ -65,14 +65,19 @@ impl<T> LastEvents<T> {
     }
 
     /// Adds an event, in place of an earlier one of that entity. Where memory is refused nothing changes.
-    pub(crate) fn put(&mut self, entity: Entity, value: Option<T>) -> Result<(), OutOfMemory>
+    pub(crate) fn put(
+        &mut self,
+        alloc: Global,
+        entity: Entity,
+        value: Option<T>,
+    ) -> Result<(), OutOfMemory>
     where
         T: Drop,
         ensures ok { OnOk result (self.new ≡ without entity self.old ++ (entity, value) ∷ []) }
         ensures err { OnErr result (self.new ≡ self.old) }
     {
         self.slots.reserve(1)?;
-        let before = places::note_next(&mut self.places, &self.slots, entity)?;
+        let before = places::note_next(alloc, &mut self.places, &self.slots, entity)?;
         self.kinds.mark(entity);
         slots::empty(&mut self.slots, before);
         self.slots.push_reserved(Some((entity, value)));
@@ -125,7 +130,7 @@ impl<T: Keep> Keep for LastEvents<T> {
         let mut copy = LastEvents::new(alloc);
         for slot in &self.slots {
             match slot {
-                Some((entity, value)) => copy.put(*entity, value.keep(alloc)?)?,
+                Some((entity, value)) => copy.put(alloc, *entity, value.keep(alloc)?)?,
                 None => {}
             }
         }

@@ -1,6 +1,6 @@
 //! Where the event of each entity stands: noted before events are written, and taken back. Nothing is noted while events stand in order.
 
-ghost use Rattle.std.specs.Prelude.{◌≡◌, ◌↔◌, ◌<◌, ◌≤◌, ◌+◌, ◌^◌, [], List, Option, true, take, length, is_some, IsTrue, IfOk, OnOk, OnErr, if◌then◌else◌};
+ghost use Rattle.std.specs.Prelude.{◌≡◌, ◌↔◌, ◌<◌, ◌≤◌, ◌+◌, ◌^◌, [], List, Option, true, take, length, is_some, IsTrue, IfOk, OnOk, OnErr, option_map, if◌then◌else◌};
 ghost use Rattle.std.specs.BTreeMap.{get, IsEmpty, IsFromIterResult};
 ghost use Rattle.std.specs.List.{range_with_len, zip};
 ghost use Rattle.std.specs.List.Sorted.{IsStrictlySortedBy};
@@ -21,6 +21,7 @@ const MANY_EVENTS: usize = 7;
 /// Notes where the next event will stand, which is one of the given entity, and returns where an earlier one of it stood. Where it follows
 /// in order those that stand in order, nothing is noted. Where memory is refused the places are those that they were.
 pub(crate) fn note_next<T>(
+    alloc: Global,
     places: &mut BTreeMap<Entity, usize>,
     slots: &[Slot<T>],
     entity: Entity,
@@ -34,7 +35,7 @@ pub(crate) fn note_next<T>(
     if places.is_empty() && likely_place(entity) == Some(slots.len()) {
         return Ok(None);
     }
-    note_standing(places, slots)?;
+    note_standing(alloc, places, slots)?;
     let before = places.insert(entity, slots.len())?;
     Ok(before)
 }
@@ -55,7 +56,7 @@ pub(crate) fn note_list<T>(
     if places.is_empty() && are_next(slots.len(), events) {
         return Ok(Vec::new(alloc));
     }
-    note_standing(places, slots)?;
+    note_standing(alloc, places, slots)?;
     note(alloc, places, slots.len(), events)
 }
 
@@ -72,9 +73,10 @@ fn are_next<T>(first: usize, events: &[(Entity, Option<T>)]) -> bool
     true
 }
 
-/// Notes where each event stands, if that is not noted yet. It was not noted while they stood in order, so this takes at most one
-/// insertion for each event that was put before. Where memory is refused nothing is noted.
+/// Notes where each event stands, if that is not noted yet: all at once, since nothing was noted while they came in order. Where memory is
+/// refused nothing is noted.
 fn note_standing<T>(
+    alloc: Global,
     places: &mut BTreeMap<Entity, usize>,
     slots: &[Slot<T>],
 ) -> Result<(), OutOfMemory>
@@ -82,31 +84,30 @@ fn note_standing<T>(
     ensures ok { OnOk result (HasPlaces places.new slots.now) }
     ensures err { OnErr result (IsPlaced places.new slots.now) }
 {
-    if places.is_empty() {
-        note_each(places, slots)
-    } else {
-        Ok(())
+    if !places.is_empty() {
+        return Ok(());
     }
+    *places = places_of(alloc, slots)?;
+    Ok(())
 }
 
-/// The same, where nothing is noted.
-fn note_each<T>(places: &mut BTreeMap<Entity, usize>, slots: &[Slot<T>]) -> Result<(), OutOfMemory>
-    requires { IsEmpty places.old }
-    ensures ok { OnOk result (HasPlaces places.new slots.now) }
-    ensures err { OnErr result (IsEmpty places.new) }
+/// Where the event of each entity stands.
+fn places_of<T>(alloc: Global, slots: &[Slot<T>]) -> Result<BTreeMap<Entity, usize>, OutOfMemory>
+    ensures { IfOk result (λ places. HasPlaces places slots.now) }
 {
-    for (at, slot) in slots.iter().enumerate() {
-        match slot {
-            Some((entity, _)) => {
-                if places.insert(*entity, at).is_err() {
-                    places.clear();
-                    return Err(OutOfMemory);
-                }
-            }
-            None => {}
-        }
+    let places = slots.iter().enumerate();
+    let standing = places.filter_map(|(at, slot)| entity_at(at, slot));
+    Ok(standing.collect(alloc)?)
+}
+
+/// The entity of the event in a slot, with where the slot stands, unless it is a hole.
+fn entity_at<T>(at: usize, slot: &Slot<T>) -> Option<(Entity, usize)>
+    ensures { result ≡ option_map (λ event. (event.0, at)) slot.now }
+{
+    match slot {
+        Some((entity, _)) => Some((*entity, at)),
+        None => None,
     }
-    Ok(())
 }
 
 /// Notes where the events of a list will stand, the first of them at `first`, and returns where the event of each one's entity

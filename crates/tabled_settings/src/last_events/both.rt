@@ -5,6 +5,7 @@ ghost use Rattle.tabled_settings.specs.Live.{without};
 
 use super::LastEvents;
 use crate::{places, slots};
+use std::alloc::Global;
 use tabled_border::OutOfMemory;
 use tabled_object::Entity;
 
@@ -13,6 +14,7 @@ impl<T> LastEvents<T> {
     /// refused here comes first, and is taken back where the others refuse.
     pub(crate) fn put_both<U>(
         &mut self,
+        alloc: Global,
         others: &mut LastEvents<U>,
         entity: Entity,
         value: Option<T>,
@@ -27,8 +29,8 @@ impl<T> LastEvents<T> {
         ensures others_err { OnErr result (others.new ≡ others.old) }
     {
         self.slots.reserve(1)?;
-        let before = places::note_next(&mut self.places, &self.slots, entity)?;
-        if let Err(refused) = others.put(entity, other) {
+        let before = places::note_next(alloc, &mut self.places, &self.slots, entity)?;
+        if let Err(refused) = others.put(alloc, entity, other) {
             places::set_back(&mut self.places, entity, before);
             return Err(refused);
         }
