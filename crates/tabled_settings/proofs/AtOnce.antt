@@ -1,6 +1,6 @@
 -- Events of entities that rise, noted at once where no places were noted yet.
 use Rattle.std.proofs.Common.{◌≡◌, ℕ, ◌+◌, suc, Bool, true, false, cond, Option, Some, None, List, [], ◌∷◌, length, get_or, replicate, refl, sym, ap, ◌∙◌, arith, Less, Ordering, Greater, Equal, IsTrue, ◌↔◌}
-use Rattle.std.specs.BTreeMap.{BTreeMap, get, IsEmpty, IsFromIterResult}
+use Rattle.std.specs.BTreeMap.{BTreeMap, IsEmpty, IsFromIterResult}
 use Rattle.std.specs.List.{AllByRecursion, IsAllAdjacentAnswer, range_with_len, zip}
 use Rattle.std.specs.List.Sorted.{IsStrictlySortedBy}
 use Rattle.std.specs.Map.{keys_of, update_all}

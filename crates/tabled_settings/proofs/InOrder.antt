@@ -1,6 +1,6 @@
 -- Events that stand in order, each at the likely place of its entity, so that no place is noted; and events that follow them.
 use Rattle.std.proofs.Common.{◌≡◌, ◌⊎◌, ◌↔◌, inl, inr, ℕ, ◌<◌, ◌≤◌, suc, eqb, Bool, true, false, cond, Option, Some, None, List, [], ◌∷◌, ◌++◌, length, map, is_some, refl, sym, ap, ◌∙◌, subst, arith, append_assoc, IsTrue}
-use Rattle.std.specs.BTreeMap.{BTreeMap, get, is_at, btree_map_len, IsEmpty, IsUnchanged, Updates}
+use Rattle.std.specs.BTreeMap.{BTreeMap, get, is_at, btree_map_len, IsEmpty}
 use Rattle.std.specs.Map.{lookup}
 use Rattle.std.specs.Option.{option_eq}
 use Rattle.std.proofs.lemmas.Bool.{eqb-true}
@@ -8,10 +8,9 @@ use Rattle.std.proofs.lemmas.Option.{same_Some}
 use Rattle.tabled_object.specs.declared.entity.Entity.{Entity}
 use Rattle.tabled_settings.specs.Setting.{EntityEvent, same_entity}
 use Rattle.tabled_settings.specs.Live.{put_each}
-use Rattle.tabled_settings.specs.Slots.{standing, passes, place, emptied, event_at, IsOnce, entity_cmp, HasPlaces, HasFewHoles, IsInOrder, IsPlaced, IsHeld, likely_place, AreNext, after_put, after_puts, places_before, all_emptied, FollowInOrder, ArePlaced, IsNoted}
+use Rattle.tabled_settings.specs.Slots.{standing, passes, place, emptied, event_at, IsOnce, entity_cmp, HasPlaces, HasFewHoles, IsInOrder, IsPlaced, IsHeld, likely_place, AreNext, after_put, after_puts, all_emptied, FollowInOrder, ArePlaced, IsNoted}
 use Rattle.tabled_settings.proofs.Entities.{equal_entities, entity_itself, found_entity}
-use Rattle.tabled_settings.proofs.Lasting.{places-put}
-use Rattle.tabled_settings.proofs.Placing.{place-push, standing-push, length-emptied, at_its_place}
+use Rattle.tabled_settings.proofs.Placing.{place-push, standing-push, at_its_place}
 use Rattle.tabled_settings.proofs.InARow.{TakesBack, length-push, nothing_more, length-put, length-before, place_inside, placed_at_end, stands_now, has_its_place, taken_back, all_taken_back, once-puts, standing-puts, written_at_once}
 
 -- ---- an empty map
@@ -79,9 +78,6 @@ module _ {V : Type 0} where
 
   pub placed_by_event : (places : BTreeMap Entity ℕ) (slots : List (Option (Entity × V))) (which : Entity) → HasPlaces places slots → is_some (place (same_entity which) slots) ≡ true → IsPlaced places slots
   placed_by_event places slots which has stands = record { in_order = λ empty. absurd (not_empty places slots which has stands empty); noted = λ _. has }
-
-  pub places_unchanged : (places new : BTreeMap Entity ℕ) (slots : List (Option (Entity × V))) → IsUnchanged places new → HasPlaces places slots → HasPlaces new slots
-  places_unchanged places new slots same has which = ap (λ entries. lookup (is_at (entity_cmp which)) entries) same ∙ has which
 
   -- an entity that does not stand at its likely place stands where the map has it
   pub found_else : (places : BTreeMap Entity ℕ) (slots : List (Option (Entity × V))) (entity : Entity) → IsPlaced places slots → passes (same_entity entity) (event_at slots (likely_place entity)) ≡ false

@@ -1,8 +1,7 @@
 -- What the calls of the last events leave, slot by slot.
-use Rattle.std.proofs.Common.{◌≡◌, ℕ, ◌+◌, ◌<◌, ◌≤◌, suc, Bool, true, false, cond, not, ◌||◌, ◌&&◌, ◌==◌, Option, Some, None, List, [], ◌∷◌, ◌++◌, length, take, drop, get_or, filter, is_some, refl, sym, ap, ◌∙◌, subst, arith, take-append-drop, IsTrue, ◌↔◌}
-use Rattle.std.specs.List.{list_any, last_or}
-use Rattle.std.specs.Map.{lookup}
-use Rattle.std.specs.BTreeMap.{BTreeMap, get, is_at, Updates}
+use Rattle.std.proofs.Common.{◌≡◌, ℕ, ◌+◌, ◌<◌, ◌≤◌, Bool, true, false, cond, not, ◌||◌, ◌&&◌, ◌==◌, Option, Some, None, List, [], ◌∷◌, ◌++◌, length, take, drop, get_or, filter, refl, sym, ap, ◌∙◌, subst, arith, take-append-drop, IsTrue, ◌↔◌}
+use Rattle.std.specs.List.{last_or}
+use Rattle.std.specs.BTreeMap.{BTreeMap, Updates}
 use Rattle.std.proofs.lemmas.List.{take_more, drop_more, take_all, nil_from_length}
 use Rattle.std.proofs.lemmas.List.Elements.{filter_map-append}
 use Rattle.std.proofs.lemmas.List.Folds.{list_any-append}
@@ -17,7 +16,7 @@ use Rattle.tabled_settings.specs.Live.{without, has_event}
 use Rattle.tabled_settings.specs.Slots.{standing, place, emptied, event_at, later_of, IsOnce, entity_cmp, HasPlaces, HasFewHoles}
 use Rattle.tabled_settings.specs.SameLaws.{entity_equiv}
 use Rattle.tabled_settings.proofs.Entities.{equal_entities, entity_itself, found_entity}
-use Rattle.tabled_settings.proofs.Placing.{Tells, is_placed, place-push, place-emptied, standing-emptied, standing-push, standing-push_hole, length-emptied, IsOnce-filter, IsOnce-push, none_left, none_filtered, none_before, filter_all, place_or, place_alike, last_at}
+use Rattle.tabled_settings.proofs.Placing.{Tells, place-push, place-emptied, standing-emptied, standing-push, standing-push_hole, length-emptied, IsOnce-filter, IsOnce-push, none_left, none_filtered, none_before, filter_all, place_or, place_alike, last_at}
 
 pub entities_told : Tells same_entity
 entities_told = record { equal = equal_entities; itself = entity_itself }

@@ -19,7 +19,7 @@ use tabled_object::Entity;
 const MANY_EVENTS: usize = 7;
 
 /// Notes where the next event will stand, which is one of the given entity, and returns where an earlier one of it stood. Where it follows
-/// in order those that stand in order, nothing is noted. Where memory is refused the places are those that they were.
+/// in order those that stand in order, nothing is noted. Where memory is refused each event has the place that it had.
 pub(crate) fn note_next<T>(
     alloc: Global,
     places: &mut BTreeMap<Entity, usize>,
@@ -41,7 +41,7 @@ pub(crate) fn note_next<T>(
 }
 
 /// Notes where the events of a list will stand, and returns where the event of each one's entity stood before. Where they follow in order
-/// those that stand in order, nothing is noted or returned. Where memory is refused the places are those that they were.
+/// those that stand in order, nothing is noted or returned. Where memory is refused each event has the place that it had.
 pub(crate) fn note_list<T>(
     alloc: Global,
     places: &mut BTreeMap<Entity, usize>,
