@@ -186,3 +186,80 @@ fn rows_are_found_in_whatever_order_they_were_written(rt: HostRuntime) -> Result
     }
     Ok(())
 }
+
+/// A map in which the first rows have a letter each, all written by one list.
+fn listed(alloc: Global, rows: usize) -> Result<EntityMap<char>, OutOfMemory> {
+    let mut events = Vec::new(alloc);
+    for row in 0..rows {
+        events.push((Entity::Row(row), Some(letter(row))))?;
+    }
+    let mut map = EntityMap::new(alloc, '.');
+    let (mut other, mut another) = (
+        EntityMap::new(alloc, '.'),
+        EntityMap::new(alloc, '.'),
+    );
+    let (column, cell) = (
+        event(alloc, Entity::Column(0), Some('c'))?,
+        event(alloc, Entity::Cell(0, 0), Some('z'))?,
+    );
+    map.apply_three(alloc, events, &mut other, column, &mut another, cell)?;
+    Ok(map)
+}
+
+/// The same map, made event by event, by a list, after all rows had other letters in another order, and as copies of these.
+fn made_in_each_way(alloc: Global) -> Result<[EntityMap<char>; 5], OutOfMemory> {
+    let rows = [0, 1, 2, 3, 4, 5, 6, 7];
+    let in_order = lettered(alloc, &rows)?;
+    let mut again = EntityMap::new(alloc, '.');
+    for row in [3, 1, 2, 0, 7, 5, 6, 4] {
+        again.insert(Entity::Row(row), 'X')?;
+    }
+    for row in rows {
+        again.insert(Entity::Row(row), letter(row))?;
+    }
+    let (copy, other) = (in_order.keep(alloc)?, again.keep(alloc)?);
+    Ok([in_order, listed(alloc, 8)?, again, copy, other])
+}
+
+/// One row written again, one removed, a column, the row after the last one, a list of rows of which one stands already, and the first row
+/// removed.
+fn change(alloc: Global, map: &mut EntityMap<char>) -> Result<(), OutOfMemory> {
+    map.insert(Entity::Row(3), 'X')?;
+    map.remove(Entity::Row(2))?;
+    map.insert(Entity::Column(3), 'c')?;
+    map.insert(Entity::Row(8), 'Y')?;
+    let mut rows = event(alloc, Entity::Row(9), Some('Z'))?;
+    rows.push((Entity::Row(8), None))?;
+    let (mut second, mut third) = (
+        EntityMap::new(alloc, '.'),
+        EntityMap::new(alloc, '.'),
+    );
+    let (none, neither) = (Vec::new(alloc), Vec::new(alloc));
+    map.apply_three(alloc, rows, &mut second, none, &mut third, neither)?;
+    map.remove(Entity::Row(0))
+}
+
+#[test]
+fn a_map_is_the_same_in_whatever_way_it_was_made(rt: HostRuntime) -> Result<(), Fail> {
+    let rows = [0, 1, 2, 3, 4, 5, 6, 7];
+    let mut maps = made_in_each_way(rt.alloc())?;
+    let expected = lettered(rt.alloc(), &rows)?;
+    for map in &mut maps {
+        assert!(rt; has_letters(map, &rows));
+        assert!(rt; *map == expected);
+        change(rt.alloc(), map)?;
+        assert!(rt; *map != expected);
+        for (row, found) in ['.', 'b', '.', 'X', 'e', 'f', 'g', 'h', '.', 'Z'].iter().enumerate() {
+            assert_eq!(rt; value(map, row, 0), *found);
+        }
+        assert_eq!(rt; value(map, 3, 3), 'c');
+        assert_eq!(rt; value(map, 9, 3), 'Z');
+    }
+    let mut changed = expected.keep(rt.alloc())?;
+    change(rt.alloc(), &mut changed)?;
+    for map in &maps {
+        assert!(rt; *map == changed);
+        assert!(rt; map.keep(rt.alloc())? == changed);
+    }
+    Ok(())
+}

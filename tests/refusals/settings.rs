@@ -39,12 +39,23 @@ fn new_map(alloc: Global) -> Result<EntityMap<char>, OutOfMemory> {
     Ok(EntityMap::new(alloc, '.'))
 }
 
+/// A map in which the first rows were written in order.
+fn in_order(alloc: Global) -> Result<EntityMap<char>, OutOfMemory> {
+    let mut map = EntityMap::new(alloc, '.');
+    map.insert(Entity::Row(0), 'a')?;
+    map.insert(Entity::Row(1), 'b')?;
+    Ok(map)
+}
+
 /// What becomes of a write into two maps.
-fn write_two(turn: &mut Turn) -> Result<Outcome, OutOfMemory> {
-    let (mut first, mut second) = (new_map(turn.alloc())?, new_map(turn.alloc())?);
+fn write_two(
+    turn: &mut Turn,
+    begin: fn(Global) -> Result<EntityMap<char>, OutOfMemory>,
+) -> Result<Outcome, OutOfMemory> {
+    let (mut first, mut second) = (begin(turn.alloc())?, begin(turn.alloc())?);
     let copy: EntityMap<char> = first.keep(turn.alloc())?;
     turn.spend();
-    let returned = first.insert_both(&mut second, Entity::Column(2), 'x', 'x');
+    let returned = first.insert_both(&mut second, Entity::Column(3), 'x', 'x');
     let is_done = first != copy && second == first;
     let is_as_before = first == copy && second == copy;
     Ok(Outcome::of(returned, is_done, is_as_before))
@@ -59,9 +70,12 @@ fn events(alloc: Global) -> Result<Vec<(Entity, Option<char>)>, OutOfMemory> {
 }
 
 /// What becomes of lists of events in three maps.
-fn write_three(turn: &mut Turn) -> Result<Outcome, OutOfMemory> {
+fn write_three(
+    turn: &mut Turn,
+    begin: fn(Global) -> Result<EntityMap<char>, OutOfMemory>,
+) -> Result<Outcome, OutOfMemory> {
     let alloc = turn.alloc();
-    let (mut first, mut second, mut third) = (map(alloc)?, map(alloc)?, map(alloc)?);
+    let (mut first, mut second, mut third) = (begin(alloc)?, begin(alloc)?, begin(alloc)?);
     let copy: EntityMap<char> = first.keep(alloc)?;
     let (one, two, three) = (events(alloc)?, events(alloc)?, events(alloc)?);
     turn.spend();
@@ -87,7 +101,7 @@ fn copy_map(turn: &mut Turn) -> Result<Outcome, OutOfMemory> {
 }
 
 /// Maps by entity.
-pub(crate) fn maps() -> [Named; 7] {
+pub(crate) fn maps() -> [Named; 10] {
     [
         (
             "EntityMap<T>::insert (the first)",
@@ -105,8 +119,14 @@ pub(crate) fn maps() -> [Named; 7] {
             "EntityMap<T>::remove",
             |turn| { write(turn, new_map, |map| map.remove(Entity::Cell(1, 1))) },
         ),
-        ("EntityMap<T>::insert_both", write_two),
-        ("EntityMap<T>::apply_three", write_three),
+        (
+            "EntityMap<T>::insert (after rows in order)",
+            |turn| { write(turn, in_order, |map| map.insert(Entity::Column(3), 'x')) },
+        ),
+        ("EntityMap<T>::insert_both", |turn| write_two(turn, new_map)),
+        ("EntityMap<T>::insert_both (after rows in order)", |turn| write_two(turn, in_order)),
+        ("EntityMap<T>::apply_three", |turn| write_three(turn, map)),
+        ("EntityMap<T>::apply_three (after rows in order)", |turn| write_three(turn, in_order)),
         ("<EntityMap<T> as Keep>::keep", copy_map),
     ]
 }

@@ -1,9 +1,9 @@
 -- Events of entities that rise, noted at once where no places were noted yet.
 use Rattle.std.proofs.Common.{◌≡◌, ℕ, ◌+◌, suc, Bool, true, false, cond, Option, Some, None, List, [], ◌∷◌, length, get_or, replicate, refl, sym, ap, ◌∙◌, arith, Less, Ordering, Greater, Equal, IsTrue, ◌↔◌}
-use Rattle.std.specs.BTreeMap.{BTreeMap, get, is_at, IsEmpty, IsFromIterResult}
+use Rattle.std.specs.BTreeMap.{BTreeMap, IsEmpty, IsFromIterResult}
 use Rattle.std.specs.List.{AllByRecursion, IsAllAdjacentAnswer, range_with_len, zip}
 use Rattle.std.specs.List.Sorted.{IsStrictlySortedBy}
-use Rattle.std.specs.Map.{keys_of, lookup, update_all}
+use Rattle.std.specs.Map.{keys_of, update_all}
 use Rattle.std.specs.Ordering.{is_eq, is_lt, eq_by_cmp}
 use Rattle.std.proofs.Math.ListN.{get_or-map}
 use Rattle.std.proofs.lemmas.List.{length-map}
@@ -15,6 +15,7 @@ use Rattle.tabled_settings.specs.Setting.{same_entity}
 use Rattle.tabled_settings.specs.Slots.{standing, place, emptied, entity_cmp, IsOnce, HasPlaces, after_put, after_puts, places_before}
 use Rattle.tabled_settings.proofs.Entities.{found_entity}
 use Rattle.tabled_settings.proofs.InARow.{length-put, once_put, others_stay}
+use Rattle.tabled_settings.proofs.InOrder.{no_place}
 use Rattle.tabled_settings.proofs.Placing.{place-push, length-emptied}
 
 -- an entity that comes later is another
@@ -25,10 +26,6 @@ later_entity entity which later = sym (found_entity entity which) ∙ ap is_eq l
 holds_of_each : (P : Entity → Type 0) → ((which : Entity) → P which) → (entities : List Entity) → AllByRecursion P entities
 holds_of_each P all [] = tt
 holds_of_each P all (which ∷ entities) = (all which, holds_of_each P all entities)
-
--- a map with no entries has no place
-no_place : (old : BTreeMap Entity ℕ) (which : Entity) → IsEmpty old → get entity_cmp old which ≡ None
-no_place old which empty = ap (λ entries. lookup (is_at (entity_cmp which)) entries) empty
 
 module _ {V : Type 0} where
   -- an event that was put stands at the end, and the others where they stood

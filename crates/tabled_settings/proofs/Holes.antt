@@ -1,5 +1,5 @@
 -- How many holes slots have, told by how many places are noted.
-use Rattle.std.proofs.Common.{◌≡◌, ℕ, suc, ◌/◌, ◌≤◌, Bool, true, ◌||◌, Option, Some, None, List, [], ◌∷◌, length, filter, is_some, IsSome, refl, sym, ap, ◌∙◌, subst, arith}
+use Rattle.std.proofs.Common.{◌≡◌, ℕ, suc, ◌*◌, ◌≤◌, Bool, true, ◌||◌, Option, Some, None, List, [], ◌∷◌, length, filter, is_some, IsSome, refl, sym, ap, ◌∙◌, subst, arith}
 use Rattle.std.specs.List.{list_any}
 use Rattle.std.specs.Map.{keys_of, lookup}
 use Rattle.std.specs.BTreeMap.{BTreeMap, IsOrdered, keys}
@@ -38,7 +38,7 @@ module _ {V : Type 0} (places : BTreeMap Entity ℕ) (slots : List (Option (Enti
       subst (λ n. n ≤ length (standing slots)) (length-keys_of places.entries)
       (length-le_from_keys (eq_by_cmp_equiv total-law) (keys places) (standing slots) (IsDistinct-from_sorted entity_cmp (keys places) ordered) stands)
 
-  pub few_by_places : (slot_count place_count : ℕ) → slot_count ≡ length slots → place_count ≡ length places.entries → IsOrdered entity_cmp places → slot_count / 2 ≤ place_count → HasFewHoles slots
+  pub few_by_places : (slot_count place_count : ℕ) → slot_count ≡ length slots → place_count ≡ length places.entries → IsOrdered entity_cmp places → slot_count ≤ 2 * place_count → HasFewHoles slots
   few_by_places slot_count place_count all noted ordered half = let within = places_within ordered in omega arith
 
 -- without holes there are few

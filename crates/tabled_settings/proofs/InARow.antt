@@ -8,13 +8,13 @@ use Rattle.tabled_object.specs.declared.entity.Entity.{Entity}
 use Rattle.tabled_object.specs.declared.entity.Entity.TheVariants.{Global}
 use Rattle.tabled_settings.specs.Setting.{EntityEvent, same_entity, is_global}
 use Rattle.tabled_settings.specs.Live.{Live, without, put_each, after_all, has_event}
-use Rattle.tabled_settings.specs.Slots.{standing, behind, passes, place, emptied, IsOnce, entity_cmp, HasPlaces, HasFewHoles, IsHeld, after_put, after_puts, places_before, all_emptied, IsNoted}
+use Rattle.tabled_settings.specs.Slots.{standing, behind, passes, place, emptied, IsOnce, entity_cmp, HasPlaces, after_put, after_puts, places_before, all_emptied}
 use Rattle.tabled_settings.specs.SameLaws.{entity_equiv}
 use Rattle.tabled_settings.proofs.Entities.{equal_entities, entity_itself}
 use Rattle.tabled_settings.proofs.Lasting.{entities_told, standing-put, once-put, places-put}
 use Rattle.tabled_settings.proofs.Placing.{place-push, place-emptied, length-emptied, neither, none_filtered}
 
-length-push : {A : Type 0} (items : List A) (item : A) → length (items ++ item ∷ []) ≡ suc (length items)
+pub length-push : {A : Type 0} (items : List A) (item : A) → length (items ++ item ∷ []) ≡ suc (length items)
 length-push [] item = refl
 length-push (first ∷ items) item = ap suc (length-push items item)
 
@@ -23,7 +23,7 @@ set_before [] more at item inside = absurd (omega arith)
 set_before (first ∷ items) more zero item inside = refl
 set_before (first ∷ items) more (suc at) item inside = ap (λ rest. first ∷ rest) (set_before items more at item (omega arith))
 
-nothing_more : {A : Type 0} (items : List A) → items ++ [] ≡ items
+pub nothing_more : {A : Type 0} (items : List A) → items ++ [] ≡ items
 nothing_more [] = refl
 nothing_more (item ∷ items) = ap (λ rest. item ∷ rest) (nothing_more items)
 
@@ -73,11 +73,19 @@ module _ {V : Type 0} where
       subst (HasPlaces new) (sym (puts-more slots events event))
       (places-put (after_puts slots events) (after_put (after_puts slots events) event) event.0 event.1 (once-puts slots events once) refl places new at has (end ∙ sym (length-puts slots events)) updates)
 
-  -- an entity whose event was put has a place
+  -- an event that was put stands at the end
+  pub placed_at_end : (slots : List (Option (Entity × V))) (event : Entity × V) → place (same_entity event.0) (after_put slots event) ≡ Some (length slots)
+  placed_at_end slots event =
+      place-push (same_entity event.0) (emptied (place (same_entity event.0) slots) slots) event
+      ∙ ap (λ b. cond b (Some (length (emptied (place (same_entity event.0) slots) slots))) (place (same_entity event.0) (emptied (place (same_entity event.0) slots) slots))) (entity_itself event.0)
+      ∙ ap Some (length-emptied (place (same_entity event.0) slots) slots)
+
+  pub stands_now : (slots : List (Option (Entity × V))) (event : Entity × V) → is_some (place (same_entity event.0) (after_put slots event)) ≡ true
+  stands_now slots event = ap is_some (placed_at_end slots event)
+
+  -- so its entity has a place
   pub has_its_place : (slots : List (Option (Entity × V))) (event : Entity × V) (places : BTreeMap Entity ℕ) → HasPlaces places (after_put slots event) → is_some (get entity_cmp places event.0) ≡ true
-  has_its_place slots event places has =
-      ap is_some (has event.0 ∙ place-push (same_entity event.0) (emptied (place (same_entity event.0) slots) slots) event
-      ∙ ap (λ b. cond b (Some (length (emptied (place (same_entity event.0) slots) slots))) (place (same_entity event.0) (emptied (place (same_entity event.0) slots) slots))) (entity_itself event.0))
+  has_its_place slots event places has = ap is_some (has event.0) ∙ stands_now slots event
 
   -- an event that was put moves no other entity's
   pub others_stay : (slots : List (Option (Entity × V))) (event : Entity × V) (which : Entity) → IsOnce same_entity (standing slots) → same_entity which event.0 ≡ false
@@ -101,7 +109,7 @@ module _ {V : Type 0} where
   -- ---- written at once
 
   -- where an event stands, a slot is
-  place_inside : (test : Entity → Bool) (slots : List (Option (Entity × V))) (at : ℕ) → place test slots ≡ Some at → at < length slots
+  pub place_inside : (test : Entity → Bool) (slots : List (Option (Entity × V))) (at : ℕ) → place test slots ≡ Some at → at < length slots
   place_inside test [] at h = absurd cc
   place_inside test (slot ∷ slots) at h = by_place (place test slots) (place_inside test slots) (passes test slot) h
     where
@@ -147,7 +155,7 @@ module _ {V : Type 0} where
   -- the last of what was noted is taken back
   pub one_back : (slots : List (Option (Entity × V))) (events : List (Entity × V)) (before : List (Option ℕ)) (left : ℕ) (event : Entity × V) (other : Option ℕ) (places new : BTreeMap Entity ℕ)
       → left < length before → length before ≤ length events → event ≡ get_or events left event
-      → (is_some (get entity_cmp places (get_or events left event).0) ≡ true
+      → ((is_some (get_or before left other) ≡ true → is_some (get entity_cmp places (get_or events left event).0) ≡ true)
       → (which : Entity) → get entity_cmp new which ≡ cond (same_entity which (get_or events left event).0) (get_or before left other) (get entity_cmp places which))
       → IsOnce same_entity (standing slots) → before ≡ places_before slots (take (length before) events)
       → HasPlaces places (after_puts slots (take (left + 1) events)) → HasPlaces new (after_puts slots (take left events))
@@ -156,8 +164,8 @@ module _ {V : Type 0} where
       let put : HasPlaces places (after_put (after_puts slots (take left events)) event) = subst (HasPlaces places) (ap (after_puts slots) one ∙ puts-more slots (take left events) event) has in
       taken_back (after_puts slots (take left events)) event places new (get_or before left other) (once-puts slots (take left events) once) put
       (ap (λ all. get_or all left other) was ∙ nth_before slots events (length before) left event other below (omega arith) is)
-      (subst (λ e. is_some (get entity_cmp places e.0) ≡ true → (which : Entity) → get entity_cmp new which ≡ cond (same_entity which e.0) (get_or before left other) (get entity_cmp places which)) (sym is) back
-      (has_its_place (after_puts slots (take left events)) event places put))
+      (subst (λ e. (is_some (get_or before left other) ≡ true → is_some (get entity_cmp places e.0) ≡ true) → (which : Entity) → get entity_cmp new which ≡ cond (same_entity which e.0) (get_or before left other) (get entity_cmp places which)) (sym is) back
+      (λ _. has_its_place (after_puts slots (take left events)) event places put))
 
   -- one more is noted
   pub one_noted : (slots : List (Option (Entity × V))) (events : List (Entity × V)) (at first : ℕ) (event : Entity × V) (places new : BTreeMap Entity ℕ) (before after : List (Option ℕ)) (noted : Option ℕ)
@@ -171,41 +179,18 @@ module _ {V : Type 0} where
         subst (λ all. HasPlaces new (after_puts slots all)) (sym one) (noted_more slots (take at events) event places new (first + at) once has stands updates),
       )
 
-  -- ---- a list of events that was noted
-
-  -- as many places were noted as there are events
-  pub all_noted : (slots : List (Option (Entity × V))) (given : List (Entity × V)) (before : List (Option ℕ)) → before ≡ places_before slots given → length before ≡ length given
-  all_noted slots given before was = ap length was ∙ length-before slots given
-
   -- what taking back does to the places
   abbrev pub TakesBack : List (Entity × V) → List (Option ℕ) → BTreeMap Entity ℕ → BTreeMap Entity ℕ → Type 0
   TakesBack given before noted new = (slots : List (Option (Entity × V))) → IsOnce same_entity (standing slots) → before ≡ places_before slots (take (length before) given)
       → HasPlaces noted (after_puts slots (take (length before) given)) → HasPlaces new slots
 
-  -- it was noted
-  pub noted_now : (slots reserved : List (Option (Entity × V))) (events given : List (Entity × V)) (before : List (Option ℕ)) (places : BTreeMap Entity ℕ) → reserved ≡ slots → given ≡ events
-      → IsOnce same_entity (standing slots) → HasFewHoles slots → before ≡ places_before slots given → HasPlaces places (after_puts slots given) → IsNoted places reserved events before
-  noted_now slots reserved events given before places same lent once few was has =
-      subst (λ items. IsNoted places items events before) (sym same) (subst (λ list. IsNoted places slots list before) lent (record { once = once; few_holes = few; stood = was; placed = has }))
-
-  -- all of it is taken back
-  pub given_back : (slots : List (Option (Entity × V))) (events given : List (Entity × V)) (before shown : List (Option ℕ)) (noted new : BTreeMap Entity ℕ) → given ≡ events → shown ≡ before
-      → TakesBack given shown noted new → IsNoted noted slots events before → IsHeld new slots
-  given_back slots events given before shown noted new lent seen back h =
-      let was : shown ≡ places_before slots given = seen ∙ h.stood ∙ ap (places_before slots) (sym lent) in
-      let all : given ≡ take (length shown) given = sym (take_all (length shown) given (let many : length shown ≡ length given = all_noted slots given shown was in omega arith)) in
-      (h.once, back slots h.once (was ∙ ap (places_before slots) all) (subst (λ list. HasPlaces noted (after_puts slots list)) (sym lent ∙ all) h.placed), h.few_holes)
-
-module _ {T : Type 0} where
-  -- all of it is written
-  pub written : (slots after : List (Option (EntityEvent T))) (events : List (EntityEvent T)) (before shown : List (Option ℕ)) (noted : BTreeMap Entity ℕ) → IsNoted noted slots events before
-      → shown ≡ before → after ≡ all_emptied shown (slots ++ map Some events)
-      → (IsOnce same_entity (standing after) × HasPlaces noted after) × (standing after ≡ put_each (standing slots) events)
-  written slots after events before shown noted h seen made =
-      let all : after ≡ after_puts slots events = made ∙ ap (λ places. all_emptied places (slots ++ map Some events)) (seen ∙ h.stood) ∙ written_at_once slots events in (
-        subst (λ items. IsOnce same_entity (standing items) × HasPlaces noted items) (sym all) (once-puts slots events h.once, h.placed),
-        ap standing all ∙ standing-puts slots events h.once,
-      )
+  -- where the events of a list would stand is taken back
+  pub all_taken_back : (slots : List (Option (Entity × V))) (events given : List (Entity × V)) (before shown : List (Option ℕ)) (noted new : BTreeMap Entity ℕ) → given ≡ events → shown ≡ before
+      → TakesBack given shown noted new → IsOnce same_entity (standing slots) → before ≡ places_before slots events → HasPlaces noted (after_puts slots events) → HasPlaces new slots
+  all_taken_back slots events given before shown noted new lent seen back once stood placed =
+      let was : shown ≡ places_before slots given = seen ∙ stood ∙ ap (places_before slots) (sym lent) in
+      let all : given ≡ take (length shown) given = sym (take_all (length shown) given (let many : length shown ≡ length given = ap length was ∙ length-before slots given in omega arith)) in
+      back slots once (was ∙ ap (places_before slots) all) (subst (λ list. HasPlaces noted (after_puts slots list)) (sym lent ∙ all) placed)
 
 -- ---- events of which none is one of all cells
 

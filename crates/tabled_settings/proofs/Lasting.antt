@@ -1,11 +1,11 @@
 -- What the calls of the last events leave, slot by slot.
-use Rattle.std.proofs.Common.{◌≡◌, ℕ, ◌+◌, ◌<◌, ◌≤◌, suc, Bool, true, false, cond, not, ◌||◌, ◌&&◌, ◌==◌, Option, Some, None, List, [], ◌∷◌, ◌++◌, length, take, drop, get_or, filter, is_some, refl, sym, ap, ◌∙◌, subst, arith, take-append-drop}
-use Rattle.std.specs.List.{list_any, last_or}
-use Rattle.std.specs.Map.{lookup}
-use Rattle.std.specs.BTreeMap.{BTreeMap, get, is_at, Updates}
-use Rattle.std.proofs.lemmas.List.{take_more, drop_more, take_all}
+use Rattle.std.proofs.Common.{◌≡◌, ℕ, ◌+◌, ◌<◌, ◌≤◌, Bool, true, false, cond, not, ◌||◌, ◌&&◌, ◌==◌, Option, Some, None, List, [], ◌∷◌, ◌++◌, length, take, drop, get_or, filter, refl, sym, ap, ◌∙◌, subst, arith, take-append-drop, IsTrue, ◌↔◌}
+use Rattle.std.specs.List.{last_or}
+use Rattle.std.specs.BTreeMap.{BTreeMap, Updates}
+use Rattle.std.proofs.lemmas.List.{take_more, drop_more, take_all, nil_from_length}
 use Rattle.std.proofs.lemmas.List.Elements.{filter_map-append}
 use Rattle.std.proofs.lemmas.List.Folds.{list_any-append}
+use Rattle.std.proofs.lemmas.Bool.{eqb-true}
 use mathlib.Core.Bool.{or-false}
 use Rattle.tabled_object.specs.declared.entity.Entity.{Entity}
 use Rattle.tabled_object.specs.declared.entity.Entity.TheVariants.{Global, Column, Row, Cell}
@@ -13,10 +13,10 @@ use Rattle.tabled_object.specs.declared.position.Position.{Position}
 use Rattle.tabled_object.specs.Entities.{covers}
 use Rattle.tabled_settings.specs.Setting.{EntityEvent, covering, same_entity}
 use Rattle.tabled_settings.specs.Live.{without, has_event}
-use Rattle.tabled_settings.specs.Slots.{standing, place, emptied, event_at, later_of, IsOnce, entity_cmp, HasPlaces}
+use Rattle.tabled_settings.specs.Slots.{standing, place, emptied, event_at, later_of, IsOnce, entity_cmp, HasPlaces, HasFewHoles}
 use Rattle.tabled_settings.specs.SameLaws.{entity_equiv}
 use Rattle.tabled_settings.proofs.Entities.{equal_entities, entity_itself, found_entity}
-use Rattle.tabled_settings.proofs.Placing.{Tells, is_placed, place-push, place-emptied, standing-emptied, standing-push, standing-push_hole, length-emptied, IsOnce-filter, IsOnce-push, none_left, none_filtered, none_before, filter_all, place_or, place_alike, last_at}
+use Rattle.tabled_settings.proofs.Placing.{Tells, place-push, place-emptied, standing-emptied, standing-push, standing-push_hole, length-emptied, IsOnce-filter, IsOnce-push, none_left, none_filtered, none_before, filter_all, place_or, place_alike, last_at}
 
 pub entities_told : Tells same_entity
 entities_told = record { equal = equal_entities; itself = entity_itself }
@@ -65,45 +65,30 @@ covers_by_three cell (Column col) h = refl
 covers_by_three cell (Row row) h = sym (or-false (cell.row == row))
 covers_by_three cell (Cell row col) h = sym (or-false ((cell.row == row) && (cell.col == col)))
 
-pub last_by_three : {T : Type 0} (places : BTreeMap Entity ℕ) (slots : List (Option (EntityEvent T))) (cell : Position) → HasPlaces places slots → has_event Global (standing slots) ≡ false
+pub last_by_three : {T : Type 0} (slots : List (Option (EntityEvent T))) (cell : Position) → has_event Global (standing slots) ≡ false
     → last_or None (covering (standing slots) cell)
-    ≡ event_at slots (later_of (get entity_cmp places (Cell cell.row cell.col)) (later_of (get entity_cmp places (Row cell.row)) (get entity_cmp places (Column cell.col))))
-last_by_three places slots cell has no_global =
+    ≡ event_at slots (later_of (place (same_entity (Cell cell.row cell.col)) slots) (later_of (place (same_entity (Row cell.row)) slots) (place (same_entity (Column cell.col)) slots)))
+last_by_three slots cell no_global =
     last_at (λ entity. covers entity cell) slots
     ∙ ap (event_at slots) (
     place_alike (same_entity Global) (λ entity. covers entity cell) (λ e. same_entity (Cell cell.row cell.col) e || (same_entity (Row cell.row) e || same_entity (Column cell.col) e)) (covers_by_three cell) slots no_global
     ∙ sym (
     ap (later_of (place (same_entity (Cell cell.row cell.col)) slots)) (place_or (same_entity (Row cell.row)) (same_entity (Column cell.col)) slots)
-    ∙ place_or (same_entity (Cell cell.row cell.col)) (λ e. same_entity (Row cell.row) e || same_entity (Column cell.col) e) slots)
-    ∙ sym (λ i. later_of (has (Cell cell.row cell.col) i) (later_of (has (Row cell.row) i) (has (Column cell.col) i))))
+    ∙ place_or (same_entity (Cell cell.row cell.col)) (λ e. same_entity (Row cell.row) e || same_entity (Column cell.col) e) slots))
 
 -- ---- none at all
 
-module _ {V : Type 0} (places : BTreeMap Entity ℕ) (slots : List (Option (Entity × V))) (has : HasPlaces places slots) where
-  pub none_stands : length places.entries ≡ 0 → standing slots ≡ []
-  none_stands none = by_entries places.entries refl none (standing slots) refl
-    where
-      by_entries : (es : List (Entity × ℕ)) → places.entries ≡ es → length es ≡ 0 → (events : List (Entity × V)) → standing slots ≡ events → events ≡ []
-      by_entries es is h [] stand = refl
-      by_entries (e ∷ es) is h (event ∷ events) stand = absurd (let no : suc (length es) ≡ 0 = h in omega arith)
-      by_entries [] is h (event ∷ events) stand =
-          absurd (
-          let found : is_some (place (same_entity event.0) slots) ≡ true = is_placed (same_entity event.0) slots ∙ ap (list_any (λ e. same_entity event.0 e.0)) stand ∙ ap (λ b. b || list_any (λ e. same_entity event.0 e.0) events) (entity_itself event.0) in
-          let none : false ≡ is_some (place (same_entity event.0) slots) = sym (ap (λ all. is_some (lookup (is_at (entity_cmp event.0)) all)) is) ∙ ap is_some (has event.0) in
-          let no : false ≡ true = none ∙ found in
-          cc)
+-- few holes are none where no event stands
+pub nothing_stands : {A : Type 0} (slots : List (Option A)) → HasFewHoles slots → standing slots ≡ [] → slots ≡ []
+nothing_stands [] few none = refl
+nothing_stands (slot ∷ slots) few none = absurd (let zero_stand : length (standing (slot ∷ slots)) ≡ 0 = ap length none in omega arith)
 
-  pub none_placed : standing slots ≡ [] → length places.entries ≡ 0
-  none_placed none = by_entries places.entries refl
-    where
-      by_entries : (es : List (Entity × ℕ)) → places.entries ≡ es → length es ≡ 0
-      by_entries [] is = refl
-      by_entries (e ∷ es) is =
-          absurd (
-          let here : is_some (get entity_cmp places e.0) ≡ true = ap (λ all. is_some (lookup (is_at (entity_cmp e.0)) all)) is ∙ ap (λ b. is_some (cond b (Some e.1) (lookup (is_at (entity_cmp e.0)) es))) (found_entity e.0 e.0 ∙ entity_itself e.0) in
-          let none_there : is_some (place (same_entity e.0) slots) ≡ false = is_placed (same_entity e.0) slots ∙ ap (list_any (λ event. same_entity e.0 event.0)) none in
-          let no : true ≡ false = sym here ∙ ap is_some (has e.0) ∙ none_there in
-          cc)
+-- so whether there is an event is told by whether there is a slot
+pub told_nothing : {A : Type 0} (slots : List (Option A)) (events : List A) (count : ℕ) (told : Bool) → count ≡ length slots → told ≡ (count == 0) → HasFewHoles slots → standing slots ≡ events → IsTrue told ↔ (events ≡ [])
+told_nothing slots events count told all asked few stand = (
+  λ said. sym stand ∙ ap standing (nil_from_length slots (sym all ∙ eqb-true count 0 (sym asked ∙ said))),
+  λ none. asked ∙ ap (λ n. n == 0) (all ∙ ap length (nothing_stands slots few (stand ∙ none))),
+)
 
 -- ---- copies
 

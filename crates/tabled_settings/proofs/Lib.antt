@@ -10,6 +10,7 @@ pub mod SettingsLemmas
 pub mod SameSettings
 pub mod SettingBack
 pub mod InARow
+pub mod InOrder
 pub mod AtOnce
 pub mod Paddings
 pub mod Holes

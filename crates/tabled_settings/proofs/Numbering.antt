@@ -1,12 +1,16 @@
 -- The places of events noted anew, slot by slot.
-use Rattle.std.proofs.Common.{◌≡◌, ℕ, ◌+◌, ◌<◌, zero, suc, Bool, true, false, cond, ◌||◌, Option, Some, None, List, [], ◌∷◌, ◌++◌, length, take, get_or, is_some, Result, Ok, Err, OnOk, OnErr, refl, sym, ap, ◌∙◌, arith}
-use Rattle.std.specs.BTreeMap.{BTreeMap, get, Updates}
-use Rattle.std.proofs.lemmas.List.{take_more, length-take-le}
+use Rattle.std.proofs.Common.{◌≡◌, ℕ, ◌+◌, ◌<◌, zero, suc, Bool, true, false, cond, ◌||◌, Option, Some, None, List, [], ◌∷◌, ◌++◌, length, take, get_or, is_some, option_map, filter_map, append_assoc, Result, Ok, Err, OnOk, OnErr, refl, sym, ap, ◌∙◌, arith}
+use Rattle.std.specs.BTreeMap.{BTreeMap, get, Updates, IsFromIterResult}
+use Rattle.std.specs.List.{enumerate_from}
+use Rattle.std.specs.Map.{update_all}
+use Rattle.std.specs.Ordering.{eq_by_cmp}
+use Rattle.std.proofs.lemmas.List.{take_more, length-take-le, length_push}
 use Rattle.std.proofs.Math.Bool.{or-true}
 use Rattle.tabled_object.specs.declared.entity.Entity.{Entity}
 use Rattle.tabled_settings.specs.Setting.{same_entity}
-use Rattle.tabled_settings.specs.Slots.{passes, place, entity_cmp}
+use Rattle.tabled_settings.specs.Slots.{passes, place, entity_cmp, HasPlaces}
 use Rattle.tabled_settings.proofs.Entities.{entity_itself, found_entity}
+use Rattle.tabled_settings.proofs.InARow.{nothing_more}
 use Rattle.tabled_settings.proofs.Placing.{is_behind, place-push, place-push_hole}
 
 -- the place that was found, or the one before
@@ -61,3 +65,25 @@ module _ {V : Type 0} (slots : List (Option (Entity × V))) (before now : BTreeM
       let before_had : is_some (get entity_cmp before event.0) ≡ true = alike event.0 ∙ placed_there (same_entity event.0) slots at slot event inside is there (entity_itself event.0) in
       let had : is_some (get entity_cmp now event.0) ≡ true = ap is_some (so_far event.0) ∙ is_noted (place (same_entity event.0) (take at slots)) (get entity_cmp before event.0) before_had in
       absurd (let no : false ≡ true = sym (ap is_some absent) ∙ had in cc)
+
+-- ---- all places at once
+
+module _ {V : Type 0} where
+  -- the entity of the event in a slot, with where the slot stands
+  abbrev pub entity_at : ℕ × Option (Entity × V) → Option (Entity × ℕ)
+  entity_at numbered = option_map (λ event. (event.0, numbered.0)) numbered.1
+
+  noted_on : (noted : Entity → Option ℕ) (seen slots : List (Option (Entity × V))) (at : ℕ) → at ≡ length seen → ((which : Entity) → noted which ≡ place (same_entity which) seen)
+      → (which : Entity) → update_all (eq_by_cmp entity_cmp) noted (filter_map entity_at (enumerate_from at slots)) which ≡ place (same_entity which) (seen ++ slots)
+  noted_on noted seen [] at end has which = has which ∙ ap (place (same_entity which)) (sym (nothing_more seen))
+  noted_on noted seen (None ∷ slots) at end has which =
+      noted_on noted (seen ++ None ∷ []) slots (at + 1) (ap (λ n. n + 1) end ∙ sym (length_push seen None)) (λ q. has q ∙ sym (place-push_hole (same_entity q) seen)) which
+      ∙ ap (place (same_entity which)) (append_assoc seen (None ∷ []) slots)
+  noted_on noted seen (Some event ∷ slots) at end has which =
+      noted_on (λ q. cond (eq_by_cmp entity_cmp event.0 q) (Some at) (noted q)) (seen ++ Some event ∷ []) slots (at + 1) (ap (λ n. n + 1) end ∙ sym (length_push seen (Some event)))
+      (λ q. (λ i. cond (found_entity event.0 q i) (Some (end i)) (has q i)) ∙ sym (place-push (same_entity q) seen event)) which
+      ∙ ap (place (same_entity which)) (append_assoc seen (Some event ∷ []) slots)
+
+  -- a map that is made of the entities, slot by slot, has their places
+  pub made_of_slots : (made : BTreeMap Entity ℕ) (slots : List (Option (Entity × V))) → IsFromIterResult entity_cmp (filter_map entity_at (enumerate_from 0 slots)) made → HasPlaces made slots
+  made_of_slots made slots from which = from.0 which ∙ noted_on (λ q. None) [] slots 0 refl (λ q. refl) which

@@ -64,6 +64,12 @@ module _ {K V : Type 0} (test : K → Bool) where
   pub place-none : (slots : List (Option (K × V))) → list_any (λ event. test event.0) (standing slots) ≡ false → place test slots ≡ None
   place-none slots h = none_there (place test slots) (is_placed slots ∙ h)
 
+  -- at its place an event stands that passes
+  pub at_its_place : (slots : List (Option (K × V))) (at : ℕ) → place test slots ≡ Some at → passes test (event_at slots (Some at)) ≡ true
+  at_its_place [] at h = absurd cc
+  at_its_place (slot ∷ slots) zero h = (behind_here (place test slots) (passes test slot) h).1
+  at_its_place (slot ∷ slots) (suc at) h = at_its_place slots at (behind_further (place test slots) (passes test slot) at h)
+
   any-none : (slots : List (Option (K × V))) → place test slots ≡ None → list_any (λ event. test event.0) (standing slots) ≡ false
   any-none slots h = sym (is_placed slots) ∙ ap is_some h
 

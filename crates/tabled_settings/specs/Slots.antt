@@ -1,9 +1,10 @@
 -- How an entity map keeps its events: in slots, in their order, with holes, and for each entity the place of its event.
-use Rattle.std.specs.Prelude.{◌≡◌, ◌≤◌, ◌+◌, ◌*◌, length, ℕ, suc, max, slice_get, slice_set, option_and_then, Bool, true, false, Option, Some, None, List, [], ◌∷◌, ◌++◌}
+use Rattle.std.specs.Prelude.{◌≡◌, ◌≤◌, ◌*◌, ◌⊎◌, length, ℕ, suc, max, slice_get, slice_set, option_and_then, Bool, true, false, Option, Some, None, List, [], ◌∷◌, ◌++◌}
 use Rattle.std.specs.List.{filter_map, list_any}
-use Rattle.std.specs.BTreeMap.{BTreeMap, get}
+use Rattle.std.specs.BTreeMap.{BTreeMap, get, IsEmpty}
 use Rattle.std.specs.declared.cmp.Ordering.{Ordering}
 use Rattle.tabled_object.specs.declared.entity.Entity.{Entity}
+use Rattle.tabled_object.specs.declared.entity.Entity.TheVariants.{Global, Column, Row, Cell}
 use Rattle.tabled_object.specs.contracts.entity.EntityOrd.TheImpl.{cmp-value}
 use Rattle.tabled_settings.specs.Setting.{same_entity}
 
@@ -55,13 +56,30 @@ entity_cmp a b = cmp-value.it a b
 abbrev pub HasPlaces : {V : Type 0} → BTreeMap Entity ℕ → List (Option (Entity × V)) → Type 0
 HasPlaces places slots = (entity : Entity) → get entity_cmp places entity ≡ place (same_entity entity) slots
 
--- there are at most as many holes as events, and one more
+-- there are at most as many holes as events
 abbrev pub HasFewHoles : {A : Type 0} → List (Option A) → Type 0
-HasFewHoles slots = length slots ≤ 2 * length (standing slots) + 1
+HasFewHoles slots = length slots ≤ 2 * length (standing slots)
+
+-- where the event of an entity stands if those of rows, or of columns, come in their order and before any others
+abbrev pub likely_place : Entity → Option ℕ
+likely_place Global = None
+likely_place (Column col) = Some col
+likely_place (Row row) = Some row
+likely_place (Cell row col) = None
+
+-- each event stands at the likely place of its entity, and there are few holes
+pub record IsInOrder {V : Type 0} (slots : List (Option (Entity × V))) : Type 0 where
+  pub few_holes : HasFewHoles slots
+  pub likely : (entity : Entity) (at : ℕ) → place (same_entity entity) slots ≡ Some at → likely_place entity ≡ Some at
+
+-- the map is empty while the events stand in order, and else has for each entity the place of its event
+pub record IsPlaced {V : Type 0} (places : BTreeMap Entity ℕ) (slots : List (Option (Entity × V))) : Type 0 where
+  pub in_order : IsEmpty places → IsInOrder slots
+  pub noted : (IsEmpty places → ⊥) → HasPlaces places slots
 
 -- each entity has one event, and its place, and there are few holes
 abbrev pub IsHeld : {V : Type 0} → BTreeMap Entity ℕ → List (Option (Entity × V)) → Type 0
-IsHeld places slots = IsOnce same_entity (standing slots) × HasPlaces places slots × HasFewHoles slots
+IsHeld places slots = IsOnce same_entity (standing slots) × IsPlaced places slots × HasFewHoles slots
 
 -- ---- one event after the other
 
@@ -83,9 +101,25 @@ abbrev pub all_emptied : {A : Type 0} → List (Option ℕ) → List (Option A) 
 all_emptied [] slots = slots
 all_emptied (at ∷ places) slots = all_emptied places (emptied at slots)
 
--- the slots hold no event of these yet, and the map has for each entity the place that its event will have
+-- events that come one after the other, the first of them at a place, come each at the likely place of its entity
+abbrev pub AreNext : {V : Type 0} → ℕ → List (Entity × V) → Type 0
+AreNext place [] = Unit {0}
+AreNext place (event ∷ events) = (likely_place event.0 ≡ Some place) × AreNext (suc place) events
+
+-- these events follow in order those that stand in order, so that nothing is noted of them
+pub record FollowInOrder {V : Type 0} (places : BTreeMap Entity ℕ) (slots : List (Option (Entity × V))) (events : List (Entity × V)) (before : List (Option ℕ)) : Type 0 where
+  pub nothing : IsEmpty places
+  pub none_before : before ≡ []
+  pub in_order : IsInOrder slots
+  pub next : AreNext (length slots) events
+
+-- the map has for each entity the place that its event will have once these are put
+pub record ArePlaced {V : Type 0} (places : BTreeMap Entity ℕ) (slots : List (Option (Entity × V))) (events : List (Entity × V)) (before : List (Option ℕ)) : Type 0 where
+  pub stood : before ≡ places_before slots events
+  pub placed : HasPlaces places (after_puts slots events)
+
+-- the slots hold no event of these yet, and where they will stand is noted
 pub record IsNoted {V : Type 0} (places : BTreeMap Entity ℕ) (slots : List (Option (Entity × V))) (events : List (Entity × V)) (before : List (Option ℕ)) : Type 0 where
   pub once : IsOnce same_entity (standing slots)
   pub few_holes : HasFewHoles slots
-  pub stood : before ≡ places_before slots events
-  pub placed : HasPlaces places (after_puts slots events)
+  pub noted : FollowInOrder places slots events before ⊎ ArePlaced places slots events before

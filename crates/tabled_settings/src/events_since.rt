@@ -80,7 +80,8 @@ impl<T> EventsSince<T> {
         ensures ok { OnOk result (self.new ≡ without entity self.old ++ (entity, value) ∷ []) }
         ensures err { OnErr result (self.new ≡ self.old) }
     {
-        self.events_mut()?.put(entity, value)
+        let alloc = self.alloc;
+        self.events_mut()?.put(alloc, entity, value)
     }
 
     /// Adds an event here and one of the same entity to other events. Where memory is refused neither changes.
@@ -99,8 +100,9 @@ impl<T> EventsSince<T> {
         ensures err { OnErr result (self.new ≡ self.old) }
         ensures others_err { OnErr result (others.new ≡ others.old) }
     {
+        let alloc = self.alloc;
         let events = self.events_mut()?;
-        events.put_both(others.events_mut()?, entity, value, other)
+        events.put_both(alloc, others.events_mut()?, entity, value, other)
     }
 
     /// Adds the events of a list here, and those of two other lists to others. Where memory is refused none of them changes.

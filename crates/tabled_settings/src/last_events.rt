@@ -11,6 +11,7 @@ mod both;
 mod lists;
 
 use crate::kinds::Kinds;
+use crate::places;
 use crate::slots::{self, Slot};
 use std::alloc::Global;
 use std::collections::BTreeMap;
@@ -19,12 +20,13 @@ use tabled_border::{Keep, OutOfMemory};
 use tabled_object::{Entity, Position};
 
 /// The last event of each entity, in the order of these events. In contracts it is their list. After every call there are at most as
-/// many holes as events, and one more.
+/// many holes as events.
 #[derive(Debug, Drop)]
 pub(crate) struct LastEvents<T> {
     /// The events in their order, with a hole where an entity had a later one.
     slots: Vec<Slot<T>>,
-    /// In which slot the event of each entity stands.
+    /// In which slot the event of each entity stands; nothing while each stands at the likely place of its entity, as those of rows do that
+    /// are put in order, and those of columns.
     places: BTreeMap<Entity, usize>,
     /// Of which kinds of entities there may be events.
     kinds: Kinds,
@@ -59,18 +61,23 @@ impl<T> LastEvents<T> {
     pub(crate) fn is_empty(&self) -> bool
         ensures { IsTrue result ↔ (self.now ≡ []) }
     {
-        self.places.is_empty()
+        self.slots.is_empty()
     }
 
     /// Adds an event, in place of an earlier one of that entity. Where memory is refused nothing changes.
-    pub(crate) fn put(&mut self, entity: Entity, value: Option<T>) -> Result<(), OutOfMemory>
+    pub(crate) fn put(
+        &mut self,
+        alloc: Global,
+        entity: Entity,
+        value: Option<T>,
+    ) -> Result<(), OutOfMemory>
     where
         T: Drop,
         ensures ok { OnOk result (self.new ≡ without entity self.old ++ (entity, value) ∷ []) }
         ensures err { OnErr result (self.new ≡ self.old) }
     {
         self.slots.reserve(1)?;
-        let before = self.places.insert(entity, self.slots.len())?;
+        let before = places::note_next(alloc, &mut self.places, &self.slots, entity)?;
         self.kinds.mark(entity);
         slots::empty(&mut self.slots, before);
         self.slots.push_reserved(Some((entity, value)));
@@ -123,7 +130,7 @@ impl<T: Keep> Keep for LastEvents<T> {
         let mut copy = LastEvents::new(alloc);
         for slot in &self.slots {
             match slot {
-                Some((entity, value)) => copy.put(*entity, value.keep(alloc)?)?,
+                Some((entity, value)) => copy.put(alloc, *entity, value.keep(alloc)?)?,
                 None => {}
             }
         }

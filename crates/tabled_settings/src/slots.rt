@@ -5,7 +5,7 @@ ghost use Rattle.std.specs.BTreeMap.{get};
 ghost use Rattle.std.specs.Cmp.Lexicographic.{pointwise};
 ghost use Rattle.tabled_object.specs.declared.entity.Entity.{Entity as Which};
 ghost use Rattle.tabled_settings.specs.Setting.{same_entity};
-ghost use Rattle.tabled_settings.specs.Slots.{standing, passes, place, entity_cmp, IsOnce, HasPlaces, HasFewHoles, emptied, all_emptied, event_at, later_of};
+ghost use Rattle.tabled_settings.specs.Slots.{standing, passes, place, entity_cmp, IsOnce, HasPlaces, HasFewHoles, IsPlaced, likely_place, emptied, all_emptied, event_at, later_of};
 ghost use Rattle.tabled_settings.specs.Live.{are_of_columns, are_of_rows};
 ghost use Rattle.tabled_settings.specs.Kinds.{AreMarked};
 ghost use Rattle.tabled_settings.specs.Same.{same_event};
@@ -47,16 +47,19 @@ pub(crate) fn replace_by<T: Drop>(
     }
 }
 
-/// Closes the holes where they are more than half of the slots. Each time at least as many events came since the last time as
-/// there are entities, so that a call takes a logarithm of these on the average.
+/// Closes the holes where they are more than half of the slots; events that stand in order leave none. Each time at least as many events
+/// came since the last time as there are entities, so that a call takes a logarithm of these on the average.
 pub(crate) fn close_up<T: Drop>(slots: &mut Vec<Slot<T>>, places: &mut BTreeMap<Entity, usize>)
     requires once { IsOnce same_entity (standing slots.old.items) }
-    requires placed { HasPlaces places.old slots.old.items }
+    requires placed { IsPlaced places.old slots.old.items }
     ensures events { standing slots.new.items ≡ standing slots.old.items }
-    ensures placed { HasPlaces places.new slots.new.items }
+    ensures placed { IsPlaced places.new slots.new.items }
     ensures few_holes { HasFewHoles slots.new.items }
 {
-    if slots.len() / 2 > places.len() {
+    if places.is_empty() {
+        return;
+    }
+    if slots.len() > 2 * places.len() {
         slots.retain(|slot| slot.is_some());
         number(slots, places);
     }
@@ -86,9 +89,9 @@ pub(crate) fn place_of<T>(
     entity: Entity,
 ) -> Option<usize>
     requires once { IsOnce same_entity (standing slots.now) }
-    requires placed { HasPlaces places.now slots.now }
+    requires placed { IsPlaced places.now slots.now }
     requires marked { AreMarked kinds (standing slots.now) }
-    ensures { result ≡ get entity_cmp places.now entity }
+    ensures { result ≡ place (same_entity entity) slots.now }
 {
     if !kinds.has(entity) {
         return None;
@@ -102,7 +105,9 @@ pub(crate) fn place_of<T>(
 
 /// A guess at where the event of an entity stands: options write those of rows, or of columns, mostly in their order and before any
 /// others. A wrong guess costs a comparison.
-fn likely_place(entity: Entity) -> Option<usize> {
+pub(crate) fn likely_place(entity: Entity) -> Option<usize>
+    ensures { result ≡ likely_place entity }
+{
     match entity {
         Entity::Row(row) => Some(row),
         Entity::Column(col) => Some(col),

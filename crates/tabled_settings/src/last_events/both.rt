@@ -4,8 +4,8 @@ ghost use Rattle.std.specs.Prelude.{◌≡◌, ◌++◌, ◌∷◌, [], OnOk, On
 ghost use Rattle.tabled_settings.specs.Live.{without};
 
 use super::LastEvents;
-use crate::places::set_back;
-use crate::slots;
+use crate::{places, slots};
+use std::alloc::Global;
 use tabled_border::OutOfMemory;
 use tabled_object::Entity;
 
@@ -14,6 +14,7 @@ impl<T> LastEvents<T> {
     /// refused here comes first, and is taken back where the others refuse.
     pub(crate) fn put_both<U>(
         &mut self,
+        alloc: Global,
         others: &mut LastEvents<U>,
         entity: Entity,
         value: Option<T>,
@@ -28,9 +29,9 @@ impl<T> LastEvents<T> {
         ensures others_err { OnErr result (others.new ≡ others.old) }
     {
         self.slots.reserve(1)?;
-        let before = self.places.insert(entity, self.slots.len())?;
-        if let Err(refused) = others.put(entity, other) {
-            set_back(&mut self.places, entity, before);
+        let before = places::note_next(alloc, &mut self.places, &self.slots, entity)?;
+        if let Err(refused) = others.put(alloc, entity, other) {
+            places::set_back(&mut self.places, entity, before);
             return Err(refused);
         }
         self.kinds.mark(entity);

@@ -39,7 +39,7 @@ impl<T: Drop> Noted<T> {
         ensures err { OnErr result (IsHeld places.new slots.new.items) }
     {
         slots.reserve(events.len())?;
-        let before = places::note(alloc, places, slots.len(), &events)?;
+        let before = places::note_list(alloc, places, slots, &events)?;
         Ok(Noted { events, before })
     }
 

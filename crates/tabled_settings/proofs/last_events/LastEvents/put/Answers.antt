@@ -1,22 +1,23 @@
-use Rattle.std.proofs.Common.{ap, sym, subst, ◌∙◌, [], ◌∷◌, ◌++◌, length}
+use Rattle.std.proofs.Common.{ap, sym, subst, ◌∙◌, [], ◌∷◌, ◌++◌}
 use Rattle.tabled_settings.specs.Setting.{same_entity}
 use Rattle.tabled_settings.specs.Live.{without}
-use Rattle.tabled_settings.specs.Slots.{standing, IsOnce}
-use Rattle.tabled_settings.proofs.Lasting.{slots_after, standing-put, once-put, places-put}
+use Rattle.tabled_settings.specs.Slots.{standing, place, IsOnce, IsPlaced, after_put}
+use Rattle.tabled_settings.proofs.Lasting.{slots_after, standing-put, once-put}
 use Rattle.tabled_settings.proofs.Marking.{marked-put}
 use Rattle.tabled_settings.proofs.last_events.LastEvents.put.Goals as goal
 
 pub close_up-requires : goal.close_up-requires
 close_up-requires g c =
-    let made = slots_after c.self.inside.slots.items c.reserve.new.self.items c.empty.new.slots.items c.push_reserved.new.self.items c.in_ok-before.before _ c.args.entity c.args.value c.reserve.ensures.items c.in_ok-before.ensures.old (c.self.invariant.0.1 c.args.entity) c.empty.ensures.emptied c.push_reserved.ensures.items in record {
+    let same = c.deref.ensures.value ∙ c.reserve.ensures.items in
+    let made = slots_after c.self.inside.slots.items c.reserve.new.self.items c.empty.new.slots.items c.push_reserved.new.self.items c.in_ok-before.before _ c.args.entity c.args.value c.reserve.ensures.items c.in_ok-before.ensures.before (ap (place (same_entity c.args.entity)) same) c.empty.ensures.emptied c.push_reserved.ensures.items in record {
       once = once-put c.self.inside.slots.items c.push_reserved.new.self.items c.args.entity c.args.value c.self.invariant.0.0 made;
-      placed = places-put c.self.inside.slots.items c.push_reserved.new.self.items c.args.entity c.args.value c.self.invariant.0.0 made
-          c.self.inside.places c.insert.new.self c.len.result c.self.invariant.0.1 (c.len.ensures ∙ c.reserve.new.self.ok.0 ∙ ap length c.reserve.ensures.items) c.in_ok-before.ensures.updates;
+      placed = subst (IsPlaced c.note_next.new.places) (ap (λ slots. after_put slots (c.args.entity, c.args.value)) same ∙ sym made) (c.in_ok-before.ensures.ok c.args.value);
     }
 
 pub invariant_of-self-2 : goal.invariant_of-self-2
 invariant_of-self-2 g c =
-    let made = slots_after c.self.inside.slots.items c.reserve.new.self.items c.empty.new.slots.items c.push_reserved.new.self.items c.in_ok-before.before _ c.args.entity c.args.value c.reserve.ensures.items c.in_ok-before.ensures.old (c.self.invariant.0.1 c.args.entity) c.empty.ensures.emptied c.push_reserved.ensures.items in
+    let same = c.deref.ensures.value ∙ c.reserve.ensures.items in
+    let made = slots_after c.self.inside.slots.items c.reserve.new.self.items c.empty.new.slots.items c.push_reserved.new.self.items c.in_ok-before.before _ c.args.entity c.args.value c.reserve.ensures.items c.in_ok-before.ensures.before (ap (place (same_entity c.args.entity)) same) c.empty.ensures.emptied c.push_reserved.ensures.items in
     let put = standing-put c.self.inside.slots.items c.push_reserved.new.self.items c.args.entity c.args.value c.self.invariant.0.0 made in (
       (
         subst (IsOnce same_entity) (sym c.close_up.ensures.events) (once-put c.self.inside.slots.items c.push_reserved.new.self.items c.args.entity c.args.value c.self.invariant.0.0 made),
@@ -28,7 +29,8 @@ invariant_of-self-2 g c =
 
 pub returns-clause-ok : goal.returns-clause-ok
 returns-clause-ok g c =
-    let made = slots_after c.self.inside.slots.items c.reserve.new.self.items c.empty.new.slots.items c.push_reserved.new.self.items c.in_ok-before.before _ c.args.entity c.args.value c.reserve.ensures.items c.in_ok-before.ensures.old (c.self.invariant.0.1 c.args.entity) c.empty.ensures.emptied c.push_reserved.ensures.items in
+    let same = c.deref.ensures.value ∙ c.reserve.ensures.items in
+    let made = slots_after c.self.inside.slots.items c.reserve.new.self.items c.empty.new.slots.items c.push_reserved.new.self.items c.in_ok-before.before _ c.args.entity c.args.value c.reserve.ensures.items c.in_ok-before.ensures.before (ap (place (same_entity c.args.entity)) same) c.empty.ensures.emptied c.push_reserved.ensures.items in
     c.close_up.ensures.events
     ∙ standing-put c.self.inside.slots.items c.push_reserved.new.self.items c.args.entity c.args.value c.self.invariant.0.0 made
     ∙ ap (λ events. without c.args.entity events ++ (c.args.entity, c.args.value) ∷ []) c.self.view_is

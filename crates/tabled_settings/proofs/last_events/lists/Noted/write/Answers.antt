@@ -1,7 +1,7 @@
 use Rattle.std.proofs.Common.{sym, subst, ◌∙◌}
 use Rattle.tabled_settings.specs.Setting.{same_entity}
 use Rattle.tabled_settings.specs.Slots.{standing, IsOnce}
-use Rattle.tabled_settings.proofs.InARow.{written}
+use Rattle.tabled_settings.proofs.InOrder.{written}
 use Rattle.tabled_settings.proofs.Marking.{marked-puts}
 use Rattle.tabled_settings.proofs.last_events.lists.Noted.write.Goals as goal
 
