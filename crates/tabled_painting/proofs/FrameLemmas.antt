@@ -1,5 +1,5 @@
 -- Sides, marks, rows and lines of a painted table, part by part.
-use Rattle.std.proofs.Common.{◌≡◌, ◌≢◌, ℕ, ◌+◌, ◌<◌, ◌≤◌, ◌==◌, ◌||◌, zero, suc, Bool, true, false, if◌then◌else◌, Option, Some, None, List, [], ◌∷◌, ◌++◌, map, length, get_or, refl, sym, ap, subst, ◌∙◌, arith, encode_utf8, String, Vec, string_bytes}
+use Rattle.std.proofs.Common.{◌≡◌, ◌≢◌, ℕ, ◌+◌, ◌<◌, ◌≤◌, ◌==◌, ◌||◌, zero, suc, Bool, true, false, if◌then◌else◌, Option, Some, None, List, [], ◌∷◌, ◌++◌, map, length, get_or, refl, sym, ap, subst, ◌∙◌, arith, encode_utf8, String, Vec, string_bytes, option_copied}
 use Rattle.std.specs.List.{flat_map}
 use Rattle.std.proofs.lemmas.Bool.Decides.{nat_tests}
 use Rattle.std.proofs.lemmas.List.{append-nil, append_assoc, map-append, length-map, get_or-map}
@@ -8,6 +8,7 @@ use Rattle.tabled_object.specs.Entities.{below}
 use Rattle.tabled_configuration.proofs.Below.{flat_map_below}
 use Rattle.tabled_printing.specs.Along.{is_empty}
 use Rattle.tabled_printing.specs.Texts.{texts}
+use Rattle.tabled_printing.specs.declared.mark.Mark.{Mark}
 use Rattle.tabled_printing.specs.declared.mark.Run.{Run}
 use Rattle.tabled_printing.specs.Marks.{mark_of, run_marks}
 use Rattle.tabled_printing.specs.Picture.{Look, Shown, character, mark_at}
@@ -37,6 +38,19 @@ run_painted run code is =
     ap (λ n. paint (mark_of run.mark).1 (times run.count n)) is
     ∙ ap (λ n. paint (mark_of run.mark).1 (times n (character (mark_of run.mark).0))) (sym (count_below run.count))
     ∙ sym (same_marks (mark_of run.mark) (below run.count))
+
+-- the character of a mark and then those of a run, each in its color, or where nothing has one
+pub marks_painted : (mark : Mark) (run : Run) (code edge : ℕ) → code ≡ character mark.shown → edge ≡ character run.mark.shown
+    → paint (mark_of mark).1 (times 1 code) ++ paint (mark_of run.mark).1 (times run.count edge) ≡ painted_marks (mark_of mark ∷ run_marks run)
+marks_painted mark run code edge is ends = λ i. paint (mark_of mark).1 (times 1 (is i)) ++ run_painted run edge ends i
+
+pub plain_marks_painted : (mark : Mark) (run : Run) (code edge : ℕ) → code ≡ character mark.shown → edge ≡ character run.mark.shown → option_copied mark.color ≡ None → option_copied run.mark.color ≡ None
+    → paint None (encode_utf8 code ++ times run.count edge) ≡ painted_marks (mark_of mark ∷ run_marks run)
+plain_marks_painted mark run code edge is ends plain level =
+    ap (λ bs. paint None (bs ++ times run.count edge)) (sym (append-nil (encode_utf8 code)))
+    ∙ map-append (λ byte. (byte, None)) (times 1 code) (times run.count edge)
+    ∙ (λ i. paint (sym plain i) (times 1 code) ++ paint (sym level i) (times run.count edge))
+    ∙ marks_painted mark run code edge is ends
 
 -- one thing more of a list, by what it shows
 pub one_more : {A B : Type 0} (f : A → B) (g : ℕ → B) (old new : List A) (x : A) (at : ℕ) → new ≡ old ++ x ∷ [] → map f old ≡ map g (below at) → f x ≡ g at

@@ -97,6 +97,15 @@ paints_on color bytes old new is wrote kept still =
       same_colors = still;
     }
 
+-- no color, wanted or not
+pub none_if : (wanted : Bool) → None ≡ color_if wanted None
+none_if true = refl
+none_if false = refl
+
+-- another line that is the same
+pub paints_same : (line other : Painted) (old new : Painter) → line ≡ other → Paints line old new → Paints other old new
+paints_same line other old new same p = subst (λ l. Paints l old new) same p
+
 -- a part that shows what another one shows is that one, whatever follows
 pub paints_as : (line other more : Painted) (old new : Painter) → colored_if old.with_colors line ≡ colored_if old.with_colors other → Paints (line ++ more) old new → Paints (other ++ more) old new
 paints_as line other more old new alike p =

@@ -1,12 +1,12 @@
 //! Writes painted lines.
 
 ghost use Rattle.std.specs.Prelude.{◌≡◌, ◌+◌, ◌++◌, ◌∷◌, [], None, IfOk, OnOk, option_copied, option_map, string_bytes};
-ghost use Rattle.tabled_printing.specs.Marks.{mark_of};
+ghost use Rattle.tabled_printing.specs.Marks.{mark_of, run_marks};
 ghost use Rattle.tabled_printing.specs.Sinks.{anything};
 ghost use Rattle.tabled_cells.specs.Placed.{times};
 ghost use Rattle.tabled_painting.specs.BareCells.{bare_text};
 ghost use Rattle.tabled_painting.specs.Painted.{paint};
-ghost use Rattle.tabled_painting.specs.PaintedTable.{side_painted};
+ghost use Rattle.tabled_painting.specs.PaintedTable.{painted_marks, side_painted};
 ghost use Rattle.tabled_painting.specs.InColor.{Paints, between, prefix_of, suffix_of, color_if};
 ghost use Rattle.tabled_painting.specs.Joints.{joint_text};
 ghost use Rattle.tabled_painting.specs.Put as put;
@@ -14,7 +14,7 @@ ghost use Rattle.tabled_painting.specs.Put as put;
 use crate::plain_row::push_bare;
 use std::alloc::{AllocError, Global};
 use tabled_border::{ANSIBuf, OutOfMemory};
-use tabled_printing::{Mark, Run, Sink, push_times};
+use tabled_printing::{Mark, Run, Sink, push_after, push_times};
 use tabled_settings::AlignmentHorizontal;
 
 /// How many bytes most joints have at most.
@@ -179,6 +179,27 @@ impl<'a> Painter<'a> {
         Ok(())
     }
 
+    /// Writes the character of a mark and then those of a run, each in its color.
+    fn push_marks(&mut self, mark: Mark<'a>, run: Run<'a>) -> Result<(), AllocError>
+        ensures { OnOk result (Paints (painted_marks (mark_of mark.entry ∷ run_marks run.entry)) self.old self.new) }
+    {
+        self.push_times(mark.color, 1, mark.shown.unwrap_or(' '))?;
+        self.push_times(run.mark.color, run.count, run.mark.shown.unwrap_or(' '))
+    }
+
+    /// Writes the character of a mark and then those of a run at once, where nothing has a color.
+    #[inline(always)]
+    fn push_plain_marks(&mut self, mark: Mark<'a>, run: Run<'a>) -> Result<(), AllocError>
+        requires before { option_copied self.old.color ≡ None }
+        requires mark { option_copied mark.color ≡ None }
+        requires run { option_copied run.mark.color ≡ None }
+        ensures { OnOk result (Paints (painted_marks (mark_of mark.entry ∷ run_marks run.entry)) self.old self.new) }
+    {
+        let (crossing, edge) = (mark.shown.unwrap_or(' '), run.mark.shown.unwrap_or(' '));
+        push_after(&mut self.text, crossing, run.count, edge)?;
+        Ok(())
+    }
+
     /// Writes a text in a column between spaces, all in a color: at least one before it and one after it, and as many more as the column
     /// has room for, where its alignment wants them; and then a side, if there is one. The text takes as many terminal columns as it has
     /// bytes.
@@ -271,6 +292,16 @@ impl<'a> Sink<'a> for Painter<'a> {
     #[inline(always)]
     fn put(&mut self, run: Run<'a>) -> Result<(), OutOfMemory> {
         self.push_times(run.mark.color, run.count, run.mark.shown.unwrap_or(' '))?;
+        Ok(())
+    }
+
+    #[inline(always)]
+    fn put_after(&mut self, mark: Mark<'a>, run: Run<'a>) -> Result<(), OutOfMemory> {
+        if self.color.is_none() && mark.color.is_none() && run.mark.color.is_none() {
+            self.push_plain_marks(mark, run)?;
+        } else {
+            self.push_marks(mark, run)?;
+        }
         Ok(())
     }
 

@@ -161,6 +161,30 @@ module _ (piece : List ℕ) (count character : ℕ) (is : piece ≡ times 64 32 
   pub end_of : drop (64 - count) piece ≡ end
   end_of = ap (drop (64 - count)) before_end ∙ drop_at (times (64 - count) 32) end (64 - count) before_long
 
+-- a character, and some of the many that stand after it in a text
+module _ (piece : List ℕ) (count character edge size : ℕ) (is : piece ≡ encode_utf8 character ++ times 64 edge) (within : count ≤ 64) (sized : size ≡ length (encode_utf8 edge)) where
+  abbrev first_part : List ℕ
+  first_part = encode_utf8 character ++ times count edge
+
+  then_rest : piece ≡ first_part ++ times (64 - count) edge
+  then_rest =
+      let all : 64 ≡ count + (64 - count) = omega (arith, within) in
+      is ∙ ap (λ n. encode_utf8 character ++ times n edge) all ∙ ap (λ bs. encode_utf8 character ++ bs) (times_both count (64 - count) edge)
+      ∙ sym (append_assoc (encode_utf8 character) (times count edge) (times (64 - count) edge))
+
+  first_long : length first_part ≡ length piece - (64 - count) * size
+  first_long =
+      let rest : length (times (64 - count) edge) ≡ (64 - count) * size = length-times (64 - count) edge ∙ ap (λ n. (64 - count) * n) (sym sized) in
+      omega (arith, ap length then_rest, length-append first_part (times (64 - count) edge), rest)
+
+  pub start_split : IsScalar edge → IsCharBoundary piece (length piece - (64 - count) * size)
+  start_split scalar = subst (IsCharBoundary piece) first_long (IsCharBoundary-at_seam piece first_part (times (64 - count) edge) then_rest (IsUtf8-times (64 - count) edge scalar))
+
+  pub start_of : slice_range piece 0 (length piece - (64 - count) * size) ≡ first_part
+  start_of =
+      let whole : (length piece - (64 - count) * size) - 0 ≡ length first_part = omega (arith, first_long) in
+      ap (λ k. take k piece) whole ∙ ap (take (length first_part)) then_rest ∙ take_at first_part (times (64 - count) edge) (length first_part) refl
+
 -- of a call that was refused: some were written
 pub written_some : {T E : Type 0} (r : Result T E) (P : ℕ → Type 0) (n : ℕ) → P n → OnErr r ((some : ℕ) × P some)
 written_some (Ok x) P n h = tt

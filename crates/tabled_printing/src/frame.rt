@@ -207,9 +207,12 @@ impl<'a, 'b, D: Dimension> Frame<'a, 'b, D> {
         ensures { let view = frame_look D.width_of D.height_of self.now in
             Put S.puts S.leaves result (mark_if_drawn view col (mark_of crossing.entry) ++ map (λ _. mark_of edge.entry) (below (view.widths col))) sink.old sink.new }
     {
-        self.put_crossing(sink, col, crossing)?;
         let count = self.dims.get_width(col);
-        sink.put(Run { mark: edge, count })
+        let run = Run { mark: edge, count };
+        if self.sides.at(col).is_none() {
+            return sink.put(run);
+        }
+        sink.put_after(crossing, run)
     }
 
     /// Puts the marks of a horizontal line of which four are looked up.

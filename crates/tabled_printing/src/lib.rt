@@ -5,6 +5,7 @@
 
 mod alike;
 mod columns;
+mod crossing;
 mod frame;
 mod line_parts;
 mod line_pieces;
@@ -20,6 +21,7 @@ mod sink;
 mod walk;
 
 pub use columns::draws_plainly;
+pub use crossing::push_after;
 pub use frame::Frame;
 pub use line_pieces::{crossing_line, crossing_of, edge_of, has_line, piece_size, pieces_of};
 pub use mark::{Mark, Run};

@@ -1,13 +1,13 @@
 //! What the marks of a line are put into: a text, a list of marks, a list of runs, or a number that counts them.
 
-ghost use Rattle.std.specs.Prelude.{List, [], ◌++◌};
-ghost use Rattle.tabled_printing.specs.Marks.{run_marks};
+ghost use Rattle.std.specs.Prelude.{List, [], ◌∷◌, ◌++◌};
+ghost use Rattle.tabled_printing.specs.Marks.{mark_of, run_marks};
 ghost use Rattle.tabled_printing.specs.Picture.{Shown};
 ghost use Rattle.tabled_printing.specs.Sinks.{Put};
 ghost use Rattle.tabled_printing.specs.Sinks as gains;
 
 use crate::print::printed_as;
-use crate::{Mark, Run, push_times};
+use crate::{Mark, Run, push_after, push_times};
 use tabled_border::OutOfMemory;
 
 /// What marks are put into, run by run.
@@ -21,6 +21,10 @@ pub trait Sink<'a> {
     /// Puts the marks of a run. Where memory is refused some of them may have been put.
     fn put(&mut self, run: Run<'a>) -> Result<(), OutOfMemory>
         ensures { Put puts leaves result (run_marks run.entry) self.old self.new };
+
+    /// Puts a mark, and then the marks of a run. Where memory is refused some of them may have been put.
+    fn put_after(&mut self, mark: Mark<'a>, run: Run<'a>) -> Result<(), OutOfMemory>
+        ensures { Put puts leaves result (mark_of mark.entry ∷ run_marks run.entry) self.old self.new };
 
     /// No marks leave it as it is.
     ghost puts_none: { (sink : Self) → puts [] sink sink };
@@ -46,6 +50,13 @@ impl<'a> Sink<'a> for String {
         Ok(())
     }
 
+    #[inline(always)]
+    fn put_after(&mut self, mark: Mark<'a>, run: Run<'a>) -> Result<(), OutOfMemory> {
+        let (crossing, edge) = (printed_as(mark.shown), printed_as(run.mark.shown));
+        push_after(self, crossing, run.count, edge)?;
+        Ok(())
+    }
+
     ghost puts_none = { gains.text_none };
 
     ghost puts_both = { gains.text_both };
@@ -66,6 +77,11 @@ impl<'a> Sink<'a> for Vec<Mark<'a>> {
         Ok(())
     }
 
+    fn put_after(&mut self, mark: Mark<'a>, run: Run<'a>) -> Result<(), OutOfMemory> {
+        self.push(mark)?;
+        self.put(run)
+    }
+
     ghost puts_none = { gains.marks_none };
 
     ghost puts_both = { gains.marks_both };
@@ -82,6 +98,11 @@ impl<'a> Sink<'a> for Vec<Run<'a>> {
     fn put(&mut self, run: Run<'a>) -> Result<(), OutOfMemory> {
         self.push(run)?;
         Ok(())
+    }
+
+    fn put_after(&mut self, mark: Mark<'a>, run: Run<'a>) -> Result<(), OutOfMemory> {
+        self.push(Run { mark, count: 1 })?;
+        self.put(run)
     }
 
     ghost puts_none = { gains.runs_none };
@@ -103,6 +124,11 @@ impl<'a> Sink<'a> for usize {
         };
         *self = sum;
         Ok(())
+    }
+
+    fn put_after(&mut self, mark: Mark<'a>, run: Run<'a>) -> Result<(), OutOfMemory> {
+        self.put(Run { mark, count: 1 })?;
+        self.put(run)
     }
 
     ghost puts_none = { gains.number_none };
