@@ -31,13 +31,16 @@ pub(crate) struct TableView<'a, T> {
 }
 
 impl<'a, T: AsStr> TableView<'a, T> {
-    /// Whether its text has more bytes than wait to be written at most, as far as its sizes tell.
+    /// Whether its text has more bytes than wait to be written at most, as far as its sizes tell. No further column is looked at once it has.
     fn is_long(&self) -> bool {
         let mut columns = 0usize;
         for width in &self.sizes.widths {
             columns = columns.saturating_add(*width);
+            if ROOM < columns.saturating_mul(self.shape.0) {
+                return true;
+            }
         }
-        ROOM < columns.saturating_mul(self.shape.0)
+        false
     }
 
     /// Whether all its texts are printable, which is known unless some were changed.
