@@ -13,6 +13,7 @@ use tabled_painting::{
     AlikeLines, Output, colored_spanned_text, colored_text, plain_spanned_text, plain_text,
     sizes_of_spanned,
 };
+use tabled_printing::push_after;
 use tabled_rooms::CellSizes;
 use tabled_settings::EntityMap;
 use tabled_style::ReadyStyle;
@@ -174,6 +175,37 @@ fn a_run_is_put_into_what_takes_marks(rt: HostRuntime) -> Result<(), Fail> {
     let mut most = usize::MAX;
     assert!(rt; most.put(run).is_err());
     assert_eq!(rt; most, usize::MAX);
+    Ok(())
+}
+
+#[test]
+fn a_mark_is_put_before_a_run(rt: HostRuntime) -> Result<(), Fail> {
+    let alloc = rt.alloc();
+    let (crossing, edge) = (
+        Mark {
+            shown: Some('┼'),
+            color: None,
+        },
+        Mark {
+            shown: Some('─'),
+            color: None,
+        },
+    );
+    let run = Run {
+        mark: edge,
+        count: 2,
+    };
+    let mut text = String::from_str(alloc, "line ")?;
+    text.put_after(crossing, run)?;
+    push_after(&mut text, '+', 3, '-')?;
+    assert_eq!(rt; text.as_str(), "line ┼──+---");
+    let mut marks: Vec<Mark> = Vec::new(alloc);
+    marks.put_after(crossing, run)?;
+    let mut runs: Vec<Run> = Vec::new(alloc);
+    runs.put_after(crossing, run)?;
+    let mut count = 1usize;
+    count.put_after(crossing, run)?;
+    assert_eq!(rt; (marks.len(), runs.len(), count), (3, 2, 4));
     Ok(())
 }
 
