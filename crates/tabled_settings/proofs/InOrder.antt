@@ -4,6 +4,7 @@ use Rattle.std.specs.BTreeMap.{BTreeMap, get, is_at, btree_map_len, IsEmpty}
 use Rattle.std.specs.Map.{lookup}
 use Rattle.std.specs.Option.{option_eq}
 use Rattle.std.proofs.lemmas.Bool.{eqb-true}
+use Rattle.std.proofs.lemmas.List.{nil_from_length}
 use Rattle.std.proofs.lemmas.Option.{same_Some}
 use Rattle.tabled_object.specs.declared.entity.Entity.{Entity}
 use Rattle.tabled_settings.specs.Setting.{EntityEvent, same_entity}
@@ -44,11 +45,7 @@ either_none false p q no_p no_q = no_q
 
 -- whether a map is empty was told by how many entries it has
 pub told_empty : (places : BTreeMap Entity ℕ) (told : Bool) → (IsTrue told ↔ (btree_map_len places ≡ 0)) → told ≡ true → IsEmpty places
-told_empty places told answer said = by_entries places.entries refl
-  where
-    by_entries : (es : List (Entity × ℕ)) → places.entries ≡ es → es ≡ []
-    by_entries [] is = refl
-    by_entries (e ∷ es) is = absurd (let none : length places.entries ≡ 0 = answer.0 said in let some : length places.entries ≡ suc (length es) = ap length is in omega arith)
+told_empty places told answer said = nil_from_length places.entries (answer.0 said)
 
 pub told_other : (places : BTreeMap Entity ℕ) (told : Bool) → (IsTrue told ↔ (btree_map_len places ≡ 0)) → told ≡ false → IsEmpty places → ⊥
 told_other places told answer said empty = let other : told ≡ true = answer.1 (ap length empty) in cc

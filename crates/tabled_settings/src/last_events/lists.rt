@@ -15,7 +15,8 @@ use std::collections::BTreeMap;
 use tabled_border::OutOfMemory;
 use tabled_object::Entity;
 
-/// The events of a list, which have room, and where the event of each one's entity stood before. Where they will stand is noted.
+/// The events of a list, which have room, and where the event of each one's entity stood before; nothing of that where they follow in order.
+/// Where they will stand is noted.
 #[derive(Drop)]
 struct Noted<T> {
     events: Vec<(Entity, Option<T>)>,
@@ -24,7 +25,7 @@ struct Noted<T> {
 }
 
 impl<T: Drop> Noted<T> {
-    /// Makes room for the events of a list, and notes where they will stand. Where memory is refused nothing is noted.
+    /// Makes room for the events of a list, and notes where they will stand. Where memory is refused each event has the place that it had.
     fn new(
         alloc: Global,
         slots: &mut Vec<Slot<T>>,
