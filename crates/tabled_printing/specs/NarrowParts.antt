@@ -1,5 +1,5 @@
 -- Borders, lines and class records whose characters are narrow.
-use Rattle.std.specs.Prelude.{ℕ, Bool, true, Option, Some, None, List, [], ◌∷◌}
+use Rattle.std.specs.Prelude.{ℕ, Bool, true, Option, Some, None, [], ◌∷◌}
 use Rattle.std.specs.List.{list_all}
 use Rattle.tabled_border.specs.declared.border.Border.{Border}
 use Rattle.tabled_grid.specs.CellBorder.{border_fields}

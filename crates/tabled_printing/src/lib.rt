@@ -18,6 +18,7 @@ mod repeat;
 mod seen;
 mod sides;
 mod sink;
+mod spaced_text;
 mod walk;
 
 pub use columns::draws_plainly;
@@ -32,3 +33,4 @@ pub use repeat::{push_spaces_before, push_times};
 pub use seen::{Seen, character_seen, color_seen, headline, line_seen};
 pub use sides::{SideMarks, Sides};
 pub use sink::Sink;
+pub use spaced_text::SpacedText;

@@ -4,6 +4,7 @@ ghost use Rattle.std.specs.Prelude.{◌≡◌, ◌<◌, ◌≤◌, ◌++◌, ℕ
 ghost use Rattle.std.specs.Char.{encode_utf8};
 ghost use Rattle.tabled_printing.specs.Texts.{times};
 
+use crate::SpacedText;
 use std::alloc::AllocError;
 
 /// How many characters the texts have from which pieces of a character are taken.
@@ -16,15 +17,6 @@ const HYPHENS: &str = "---------------------------------------------------------
 const LINES: &str = "────────────────────────────────────────────────────────────────";
 
 const DOUBLE_LINES: &str = "════════════════════════════════════════════════════════════════";
-
-const BEFORE_BAR: &str = "                                                                |";
-
-const BEFORE_LINE: &str = "                                                                │";
-
-const BEFORE_DOUBLE_LINE: &str =
-    "                                                                ║";
-
-const BEFORE_COLON: &str = "                                                                :";
 
 /// How many characters of ASCII, which are a byte each, are written one by one before what was written is copied.
 const FEW: usize = 16;
@@ -140,31 +132,6 @@ pub fn push_times(text: &mut String, count: usize, character: char) -> Result<()
     push_many(text, count, character)
 }
 
-/// A text of `PIECE` spaces and then a character: of those that the vertical lines of tables are mostly drawn with.
-fn spaces_before(character: char) -> Option<&'static str>
-    ensures { IfSome result (λ piece. piece.now ≡ times 64 32 ++ encode_utf8 character) }
-{
-    match character {
-        '|' => Some(BEFORE_BAR),
-        '│' => Some(BEFORE_LINE),
-        '║' => Some(BEFORE_DOUBLE_LINE),
-        ':' => Some(BEFORE_COLON),
-        _ => None,
-    }
-}
-
-/// Writes the given number of spaces at the end of a text that has spaces and then a character, and that character.
-#[inline(always)]
-fn push_end(text: &mut String, piece: &str, count: usize, character: char) -> Result<(), AllocError>
-    requires within { count ≤ 64 }
-    requires piece { piece.now ≡ times 64 32 ++ encode_utf8 character }
-    ensures ok { OnOk result (string_bytes text.new ≡ string_bytes text.old ++ times count 32 ++ encode_utf8 character) }
-    ensures err { OnErr result (string_bytes text.new ≡ string_bytes text.old) }
-{
-    text.push_str(&piece[PIECE - count..])?;
-    Ok(())
-}
-
 /// Writes the given number of spaces, and then a character, each by itself.
 fn push_in_turn(text: &mut String, count: usize, character: char) -> Result<(), AllocError>
     ensures ok { OnOk result (string_bytes text.new ≡ string_bytes text.old ++ times count 32 ++ encode_utf8 character) }
@@ -188,9 +155,9 @@ pub fn push_spaces_before(
 {
     if (1 < count || !character.is_ascii())
         && count <= PIECE
-        && let Some(piece) = spaces_before(character)
+        && let Some(spaced) = SpacedText::of(Some(character))
     {
-        push_end(text, piece, count, character)?;
+        text.push_str(spaced.part(count, 0))?;
         return Ok(());
     }
     push_in_turn(text, count, character)

@@ -1,5 +1,5 @@
 -- A line that is drawn has a mark, which is its mark beside the first row.
-use Rattle.std.proofs.Common.{true, is_some, option_map, ap, sym, ◌∙◌}
+use Rattle.std.proofs.Common.{is_some, option_map, ap, sym, ◌∙◌}
 use Rattle.tabled_printing.specs.Marks.{mark_of}
 use Rattle.tabled_printing.specs.Viewed.{frame_look}
 use Rattle.tabled_printing.proofs.AlikeLemmas.{side_drawn, drawn_mark, side_as_first, none_beside, some_beside}

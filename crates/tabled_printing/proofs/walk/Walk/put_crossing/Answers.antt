@@ -1,5 +1,5 @@
 -- A crossing that is there shows what the configuration has for it, which has no offsets.
-use Rattle.std.proofs.Common.{◌≡◌, ◌+◌, ◌*◌, true, false, [], ◌∷◌, length, map, ap, sym, ◌∙◌, arith}
+use Rattle.std.proofs.Common.{◌≡◌, ◌+◌, ◌*◌, true, [], ◌∷◌, length, map, ap, sym, ◌∙◌, arith}
 use Rattle.tabled_configuration.specs.Configuration.{all_writes}
 use Rattle.tabled_printing.specs.Picture.{Look, mark_at}
 use Rattle.tabled_printing.specs.LinePieces.{crossed, crossing_of, crossing_places}
