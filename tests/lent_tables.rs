@@ -37,24 +37,28 @@ fn repeated(alloc: Global, before: &str, row: &str, after: &str) -> Result<Strin
     Ok(text)
 }
 
-/// Whether a table is printed as this text, alone and between two texts.
+/// Whether a table has this text, and is printed as it, alone and between two texts.
 fn is_printed(alloc: Global, table: &LentTable, text: &str) -> Result<bool, TableError> {
+    let own = table.to_text()?;
     let mut alone: Vec<u8> = Vec::new(alloc);
     table.print_to(&mut alone)?;
     let mut between: Vec<u8> = Vec::new(alloc);
     table.print_between("above\n", "\nbelow", &mut between)?;
     let whole = format!(in alloc; "above\n{text}\nbelow")?;
-    Ok(alone.as_slice() == text.as_bytes() && between.as_slice() == whole.as_bytes())
+    let is_between = between.as_slice() == whole.as_bytes();
+    Ok(own.as_str() == text && alone.as_slice() == text.as_bytes() && is_between)
 }
 
 /// The same in color.
 fn is_printed_in_color(alloc: Global, table: &LentTable, text: &str) -> Result<bool, TableError> {
+    let own = table.to_ansi()?;
     let mut alone: Vec<u8> = Vec::new(alloc);
     table.print_ansi_to(&mut alone)?;
     let mut between: Vec<u8> = Vec::new(alloc);
     table.print_ansi_between("above\n", "\nbelow", &mut between)?;
     let whole = format!(in alloc; "above\n{text}\nbelow")?;
-    Ok(alone.as_slice() == text.as_bytes() && between.as_slice() == whole.as_bytes())
+    let is_between = between.as_slice() == whole.as_bytes();
+    Ok(own.as_str() == text && alone.as_slice() == text.as_bytes() && is_between)
 }
 
 #[test]
@@ -71,6 +75,20 @@ fn a_short_table_is_printed(rt: HostRuntime) -> Result<(), Fail> {
     table.with(LineText::new(alloc, "menu", Rows::first())?)?;
     let text = "menu-----+----+\n| tea    | 95 |\n+--------+----+\n| coffee |  7 |\n+--------+----+";
     assert!(rt; is_printed(alloc, &table, text)?);
+    Ok(())
+}
+
+#[test]
+fn literals_are_a_table(rt: HostRuntime) -> Result<(), Fail> {
+    let alloc = rt.alloc();
+    let rows: &[&[&str]] = &[&["tea", "95"], &["coffee", "7"]];
+    let mut table = LentTable::new(alloc, rows)?;
+    table.with(Style::modern())?;
+    let text = "┌────────┬────┐\n│ tea    │ 95 │\n├────────┼────┤\n│ coffee │ 7  │\n└────────┴────┘";
+    assert!(rt; is_printed(alloc, &table, text)?);
+    let uneven: &[&[&str]] = &[&["a", "b"], &["c"]];
+    let refused = LentTable::new(alloc, uneven).err();
+    assert_eq!(rt; refused, Some(TableError::UnequalRows { row: 1, cells: 1, columns: 2 }));
     Ok(())
 }
 

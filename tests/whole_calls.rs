@@ -9,10 +9,7 @@ use tabled_grid::{
     Borders, Entity, FixedDimension, Layers, OutOfMemory, Position, Probes, VerticalLine,
     border_writes,
 };
-use tabled_painting::{
-    AlikeLines, Output, colored_spanned_text, colored_text, plain_spanned_text, plain_text,
-    sizes_of_spanned,
-};
+use tabled_painting::{AlikeLines, Output, sizes_of_spanned, spanned_text, table_text};
 use tabled_printing::push_after;
 use tabled_rooms::CellSizes;
 use tabled_settings::EntityMap;
@@ -274,9 +271,9 @@ fn texts_are_painted_as_a_configuration_says(rt: HostRuntime) -> Result<(), Fail
     cfg.set_color(Entity::Cell(0, 0), ANSIBuf::new(alloc, "<", ">")?)?;
     let dims = FixedDimension::new(vec![in alloc; 4usize; 1]?, vec![in alloc; 1usize; 1]?);
     let rows = one_text(alloc, "a")?;
-    let plain = plain_text(&cfg, &dims, (1, 1), &rows, false)?;
+    let plain = table_text(&cfg, &dims, (1, 1), &rows, false, false)?;
     assert_eq!(rt; plain.as_str(), "+----+\n| a  |\n+----+");
-    let colored = colored_text(&cfg, &dims, (1, 1), &rows, true)?;
+    let colored = table_text(&cfg, &dims, (1, 1), &rows, true, true)?;
     assert_eq!(rt; colored.as_str(), "+----+\n| <a>  |\n+----+");
     Ok(())
 }
@@ -338,9 +335,9 @@ fn texts_of_cells_that_span_are_painted(rt: HostRuntime) -> Result<(), Fail> {
     let sizes = FixedDimension::new(vec![in alloc; 3usize; 1]?, vec![in alloc; 1usize; 2]?);
     let mut rows = one_text(alloc, "a")?;
     rows.append(&mut one_text(alloc, "b")?)?;
-    let plain = plain_spanned_text(&cfg, &sizes, (2, 1), &rows)?;
+    let plain = spanned_text(&cfg, &sizes, (2, 1), &rows, false)?;
     assert_eq!(rt; plain.as_str(), "+---+\n| a |\n+   +\n|   |\n+---+");
-    let colored = colored_spanned_text(&cfg, &sizes, (2, 1), &rows)?;
+    let colored = spanned_text(&cfg, &sizes, (2, 1), &rows, true)?;
     assert_eq!(rt; colored.as_str(), "+---+\n| <a> |\n+   +\n|   |\n+---+");
     Ok(())
 }

@@ -1,6 +1,7 @@
 //! Every call that can be refused memory, one of which is made with one of its requests refused.
 
 mod cells;
+mod lent;
 mod objects;
 mod options;
 mod pages;
@@ -54,6 +55,7 @@ fn main(rt: HostRuntime) -> ExitCode {
             &placing::calls(),
             &printing::plain(),
             &printing::tables(),
+            &lent::calls(),
             &rooms::calls(),
             &painting::texts(),
             &painting::tables(),

@@ -9,9 +9,7 @@ use tabled::{TableError, TextTable};
 use tabled_config::{PrintError, TableOption};
 use tabled_grid::{Cell, OutOfMemory, Position};
 use tabled_options::{Justification, Shadow};
-use tabled_painting::{
-    colored_spanned_text, colored_text, plain_spanned_text, plain_text, sizes_of_spanned,
-};
+use tabled_painting::{sizes_of_spanned, spanned_text, table_text};
 use tabled_style::Style;
 
 /// What becomes of the text of a configuration, in color or without.
@@ -22,11 +20,7 @@ fn paint(turn: &mut Turn, with_colors: bool) -> Result<Outcome, OutOfMemory> {
     let cells = cells_of(turn.alloc(), &[&["a", "b"], &["c", "d"]])?;
     turn.spend();
     let (cfg, sizes, shape) = (&sample.cfg, &sample.dims, (2, 2));
-    let text = if with_colors {
-        colored_text(cfg, sizes, shape, &cells, false)
-    } else {
-        plain_text(cfg, sizes, shape, &cells, false)
-    };
+    let text = table_text(cfg, sizes, shape, &cells, false, with_colors);
     Ok(Outcome::of_value(text.map(|text| text.len() > 40)))
 }
 
@@ -38,11 +32,7 @@ fn paint_spanned(turn: &mut Turn, with_colors: bool) -> Result<Outcome, OutOfMem
     let cells = cells_of(turn.alloc(), &[&["a", "b"], &["c", "d"]])?;
     turn.spend();
     let (cfg, sizes, shape) = (&sample.cfg, &sample.dims, (2, 2));
-    let text = if with_colors {
-        colored_spanned_text(cfg, sizes, shape, &cells)
-    } else {
-        plain_spanned_text(cfg, sizes, shape, &cells)
-    };
+    let text = spanned_text(cfg, sizes, shape, &cells, with_colors);
     Ok(Outcome::of_value(text.map(|text| text.len() > 10)))
 }
 
@@ -59,10 +49,10 @@ fn measure_spanned(turn: &mut Turn) -> Result<Outcome, OutOfMemory> {
 /// The text of a configuration.
 pub(crate) fn texts() -> [Named; 5] {
     [
-        ("plain_text", |turn| paint(turn, false)),
-        ("colored_text", |turn| paint(turn, true)),
-        ("plain_spanned_text", |turn| paint_spanned(turn, false)),
-        ("colored_spanned_text", |turn| paint_spanned(turn, true)),
+        ("table_text", |turn| paint(turn, false)),
+        ("table_text (in color)", |turn| paint(turn, true)),
+        ("spanned_text", |turn| paint_spanned(turn, false)),
+        ("spanned_text (in color)", |turn| paint_spanned(turn, true)),
         ("sizes_of_spanned", measure_spanned),
     ]
 }

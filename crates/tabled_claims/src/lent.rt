@@ -1,6 +1,6 @@
 //! Tables of texts that are lent.
 
-ghost use Rattle.std.specs.Prelude.{◌≡◌, ◌++◌, ◌⊎◌, List, [], Err, map, length, IfErr, IfOk, OnErr, OnOk, IsOkUnless, MatchOption};
+ghost use Rattle.std.specs.Prelude.{◌≡◌, ◌++◌, ◌⊎◌, List, [], Err, map, length, string_bytes, IfErr, IfOk, OnErr, OnOk, IsOkUnless, MatchOption};
 ghost use Rattle.std.specs.Io.KnownBytes.{Appends};
 ghost use Rattle.tabled_configuration.specs.Colored.{Shows, Changes};
 ghost use Rattle.tabled_configuration.specs.Configuration.{ConfigEvent};
@@ -8,9 +8,10 @@ ghost use Rattle.tabled_configuration.specs.Configuration as borders;
 ghost use Rattle.tabled_configuration.specs.Options.{MakesInTurn};
 ghost use Rattle.tabled_object.specs.declared.dimension.FixedDimension.{FixedDimension};
 ghost use Rattle.tabled_painting.specs.PaintedTable.{colored_text};
+ghost use Rattle.tabled_printing.specs.declared.print_error.PrintError.{PrintError as Fault};
 ghost use Rattle.tabled_text.specs.Refusal.{unequal};
 ghost use Rattle.tabled_text.specs.Sizes.{column_count, unequal_row};
-ghost use Rattle.tabled_text.specs.TextTable.{AreRead, lent_texts, painted, shape_of, text_of};
+ghost use Rattle.tabled_text.specs.TextTable.{AreRead, lent_rows, lent_texts, painted, shape_of, text_of};
 ghost use Rattle.tabled_text.specs.declared.table_error.TableError.{TableError as Refusal};
 
 use std::alloc::Global;
@@ -18,6 +19,7 @@ use std::io;
 use tabled_border::OutOfMemory;
 use tabled_configuration::{CellOption, ColoredConfig, TableOption};
 use tabled_object::{FixedDimension, Object, Shape};
+use tabled_printing::PrintError;
 use tabled_text::{LentTable, TableError};
 
 /// A table of lent texts has them and nothing else yet; rows of unequal counts are refused for that alone, as by `table_of_rows`.
@@ -30,6 +32,18 @@ pub fn table_of_lent_texts<'a>(
     ensures refusal { MatchOption (unequal_row (lent_texts rows.entry.items)) (IsOkUnless result Refusal.OutOfMemory) (λ row. result ≡ Err (unequal (lent_texts rows.entry.items) row)) }
 {
     LentTable::from_rows(alloc, rows)
+}
+
+/// The same of rows that are lent themselves; whatever else they are, memory may be refused before they are looked at.
+pub fn table_of_lent_rows<'a>(
+    alloc: Global,
+    rows: &[&[&'a str]],
+) -> Result<LentTable<'a>, TableError>
+    ensures texts { IfOk result (λ table. table.texts ≡ lent_rows rows.now) }
+    ensures config { IfOk result (λ table. Shows [] table.config) }
+    ensures refusal { MatchOption (unequal_row (lent_rows rows.now)) (IsOkUnless result Refusal.OutOfMemory) (λ row. (result ≡ Err Refusal.OutOfMemory) ⊎ (result ≡ Err (unequal (lent_rows rows.now) row))) }
+{
+    LentTable::new(alloc, rows)
 }
 
 /// An option changes it by the option's events and by nothing else, as it does any table; where memory is refused it changes nothing.
@@ -82,6 +96,22 @@ pub fn configuration_of_a_lent_table<'t>(table: &'t LentTable) -> &'t ColoredCon
     ensures { result.now ≡ table.now.config }
 {
     table.config()
+}
+
+/// Its text is that of any table with these texts and this configuration; nothing but memory is ever refused.
+pub fn text_of_lent_texts(table: &LentTable) -> Result<String, PrintError>
+    ensures text { (events : List ConfigEvent) → borders.Shows events table.now.config.spanned → IfOk result (λ text. string_bytes text ≡ text_of events table.now.texts) }
+    ensures refusal { IsOkUnless result Fault.OutOfMemory }
+{
+    table.to_text()
+}
+
+/// The same in color.
+pub fn colored_text_of_lent_texts(table: &LentTable) -> Result<String, PrintError>
+    ensures text { (events : List ConfigEvent) → Shows events table.now.config → IfOk result (λ text. string_bytes text ≡ colored_text (painted events table.now.texts)) }
+    ensures refusal { IsOkUnless result Fault.OutOfMemory }
+{
+    table.to_ansi()
 }
 
 /// It prints the text of any table with these texts and this configuration: only the stream's own fault can leave something written.

@@ -1,5 +1,5 @@
 -- Sides, marks, rows and lines of a painted table, part by part.
-use Rattle.std.proofs.Common.{◌≡◌, ◌≢◌, ℕ, ◌+◌, ◌<◌, ◌≤◌, ◌==◌, ◌||◌, zero, suc, Bool, true, false, if◌then◌else◌, Option, Some, None, List, [], ◌∷◌, ◌++◌, map, length, get_or, refl, sym, ap, subst, ◌∙◌, arith, encode_utf8, String, Vec, string_bytes, option_copied}
+use Rattle.std.proofs.Common.{◌≡◌, ◌≢◌, ℕ, ◌+◌, ◌<◌, ◌≤◌, ◌==◌, ◌||◌, zero, suc, Bool, true, false, if◌then◌else◌, Option, Some, None, List, [], ◌∷◌, ◌++◌, map, length, get_or, refl, sym, ap, subst, ◌∙◌, arith, encode_utf8, Vec, option_copied}
 use Rattle.std.specs.List.{flat_map}
 use Rattle.std.proofs.lemmas.Bool.Decides.{nat_tests}
 use Rattle.std.proofs.lemmas.List.{append-nil, append_assoc, map-append, length-map, get_or-map}
@@ -7,7 +7,6 @@ use Rattle.std.proofs.lemmas.List.FromFn.{map-range_with_len_more, length-map-ra
 use Rattle.tabled_object.specs.Entities.{below}
 use Rattle.tabled_configuration.proofs.Below.{flat_map_below}
 use Rattle.tabled_printing.specs.Along.{is_empty}
-use Rattle.tabled_printing.specs.Texts.{texts}
 use Rattle.tabled_printing.specs.declared.mark.Mark.{Mark}
 use Rattle.tabled_printing.specs.declared.mark.Run.{Run}
 use Rattle.tabled_printing.specs.Marks.{mark_of, run_marks}
@@ -105,13 +104,9 @@ cells_same view r k count cells cell counted are =
     (λ c within. ap (λ part. painted_side view r k c ++ part) (ap (λ xs. get_or xs c []) are ∙ get_or-map-range_with_len cell 0 count c c [] (omega arith) (omega arith))))
 
 -- the texts of the row at a place
-pub row_texts_by : {A Z : Type 0} (bytes : A → List ℕ) (rows : List (Vec A Z)) (r : ℕ) (row : Vec A Z) (items : List A) → r < length rows → row ≡ get_or rows r row → items ≡ row.items
+pub row_texts : {A Z : Type 0} (bytes : A → List ℕ) (rows : List (Vec A Z)) (r : ℕ) (row : Vec A Z) (items : List A) → r < length rows → row ≡ get_or rows r row → items ≡ row.items
     → map bytes items ≡ get_or (texts_by bytes rows) r []
-row_texts_by bytes rows r row items within read same = ap (map bytes) same ∙ shown_at (λ v. map bytes v.items) rows r row [] within read
-
-pub row_texts : {Z W : Type 0} (rows : List (Vec (String Z) W)) (r : ℕ) (row : Vec (String Z) W) (items : List (String Z)) → r < length rows → row ≡ get_or rows r row → items ≡ row.items
-    → map string_bytes items ≡ get_or (texts rows) r []
-row_texts = row_texts_by string_bytes
+row_texts bytes rows r row items within read same = ap (map bytes) same ∙ shown_at (λ v. map bytes v.items) rows r row [] within read
 
 -- as many cells as columns
 pub cells_count : {A B : Type 0} (f : A → B) (g : ℕ → B) (xs : List A) (n : ℕ) → map f xs ≡ map g (below n) → length xs ≡ n

@@ -4,6 +4,7 @@ pub mod CellLines
 pub mod Margin
 pub mod PaintedTable
 pub mod Joints
+pub mod PlainSides
 pub mod Pages
 pub mod Between
 pub mod Put

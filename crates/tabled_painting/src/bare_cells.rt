@@ -2,11 +2,11 @@
 
 ghost use Rattle.std.specs.Prelude.{◌≡◌, ◌<◌, ℕ, true, IfOk, IsSome, IsTrue, map};
 ghost use Rattle.tabled_object.specs.Entities.{below};
-ghost use Rattle.tabled_settings.specs.Padding.{first_padding};
+ghost use Rattle.tabled_cells.specs.Placements.{placement_at};
+ghost use Rattle.tabled_configuration.specs.Configuration.{has_no_padding};
 ghost use Rattle.tabled_painting.specs.BareCells.{AllAreBare, AreBare, IsBareCell, side_of};
 
 use std::alloc::AllocError;
-use tabled_cells::Placement;
 use tabled_configuration::SpannedConfig;
 use tabled_object::Position;
 use tabled_settings::{AlignmentHorizontal, AlignmentVertical};
@@ -49,15 +49,19 @@ impl BareColumns {
     }
 }
 
-/// Whether a cell for which no padding is set shows its text whole, at the top, between spaces.
-fn is_bare(how: &Placement) -> bool
-    requires { how.now.padding ≡ first_padding }
-    ensures { IsTrue result → IsBareCell how.now.alignment_horizontal how.now }
+/// Whether the text of a cell is shown whole, at the top, between spaces, where no padding is set.
+#[inline(always)]
+fn is_bare(cfg: &SpannedConfig, cell: Position) -> bool
+    requires { has_no_padding cfg.now ≡ true }
+    ensures { IsTrue result → IsBareCell (placement_at cfg.now.settings.cells cell.row cell.col).alignment_horizontal (placement_at cfg.now.settings.cells cell.row cell.col) }
 {
-    how.alignment_vertical == AlignmentVertical::Top
-        && !how.trim_horizontal
-        && !how.trim_vertical
-        && how.justification == ' '
+    let AlignmentVertical::Top = cfg.get_alignment_vertical(cell) else {
+        return false;
+    };
+    if cfg.get_trim_horizontal(cell) || cfg.get_trim_vertical(cell) {
+        return false;
+    }
+    cfg.get_justification(cell) == ' '
 }
 
 /// Whether all cells are known to be such ones: since all rows are placed alike, all columns too but where their texts stand, and one cell
@@ -68,9 +72,7 @@ fn has_bare_cells(cfg: &SpannedConfig) -> bool
     if !cfg.has_alike_placements() || !cfg.has_no_padding() {
         return false;
     }
-    let first = Position::new(0, 0);
-    let how = Placement::of(cfg, first);
-    is_bare(&how)
+    is_bare(cfg, Position::new(0, 0))
 }
 
 /// Where the text of the first cell of each column stands.

@@ -1,6 +1,6 @@
 //! A row of bare cells in one color, whose texts are written between joints.
 
-ghost use Rattle.std.specs.Prelude.{◌≡◌, ◌<◌, [], true, None, OnOk, length, map, option_copied, slice_index, slice_index_or, string_bytes};
+ghost use Rattle.std.specs.Prelude.{◌≡◌, ◌<◌, [], true, None, OnOk, length, map, option_copied, slice_index, slice_index_or};
 ghost use Rattle.tabled_painting.specs.InColor.{Paints, colored, last_color};
 ghost use Rattle.tabled_painting.specs.Joints.{AreJointsOf, own_color};
 ghost use Rattle.tabled_painting.specs.Painted.{colored_if};
@@ -47,22 +47,22 @@ impl<'a> TableLines<'a, '_> {
     }
 
     /// Paints the same, and the last side.
-    pub(crate) fn paint_joined(
+    pub(crate) fn paint_joined<T: AsStr>(
         &self,
         painter: &mut Painter<'a>,
         row: usize,
-        texts: &[String],
+        texts: &[T],
         joints: &Joints<'a>,
     ) -> Result<(), OutOfMemory>
         requires row { row < self.now.frame.shape.0 }
         requires high { 0 < slice_index self.now.frame.dims.now.heights.items row }
         requires bare { self.now.are_all_bare ≡ true }
         requires texts { length texts.now ≡ self.now.frame.shape.1 }
-        requires printable { ArePrintable (map string_bytes texts.now) }
+        requires printable { ArePrintable (map T.text texts.now) }
         requires joints { AreJointsOf self.now row joints.now }
         requires ended { option_copied painter.old.color ≡ None }
         requires colors { painter.old.with_colors ≡ self.now.frame.with_colors }
-        ensures { OnOk result (Paints (painted_between (viewed self.now.frame) row 0 (λ c. row_cell self.now row c (slice_index_or (map string_bytes texts.now) c []) 0)) painter.old painter.new) }
+        ensures { OnOk result (Paints (painted_between (viewed self.now.frame) row 0 (λ c. row_cell self.now row c (slice_index_or (map T.text texts.now) c []) 0)) painter.old painter.new) }
     {
         self.push_cells(&mut painter.text, row, texts, joints)?;
         painter.go_on_in(joints.color);

@@ -80,6 +80,7 @@ impl<'a> MarginSide<'a> {
     }
 
     /// Paints the lines above or below the table, each of the given number of columns.
+    #[inline(always)]
     pub(crate) fn paint_strips(
         &self,
         painter: &mut Painter<'a>,
@@ -91,6 +92,14 @@ impl<'a> MarginSide<'a> {
         if self.size == 0 {
             return Ok(());
         }
+        self.paint_each_strip(painter, long)
+    }
+
+    /// Paints them where there are some.
+    fn paint_each_strip(&self, painter: &mut Painter<'a>, long: usize) -> Result<(), AllocError>
+        requires { option_copied painter.old.color ≡ None }
+        ensures { OnOk result (PaintsWhole (replicate self.now.size (strip (side_of self.now) long)) painter.old painter.new) }
+    {
         painter.reserve(long.saturating_add(1).saturating_mul(self.size))?;
         for _ in 0..self.size {
             self.paint_strip(painter, long)?;

@@ -2,23 +2,24 @@
 
 ghost use Rattle.std.specs.Prelude.{◌≡◌, ◌+◌, true, None, List, length, IfOk, string_bytes, option_copied};
 ghost use Rattle.std.specs.List.{All};
-ghost use Rattle.tabled_printing.specs.Texts.{texts};
 ghost use Rattle.tabled_painting.specs.Margin.{side_of, between_sides};
 ghost use Rattle.tabled_painting.specs.Pages.{PaintsWhole, Strips, text_of_lines};
 ghost use Rattle.tabled_grid.specs.declared.place.LineOf.{LineOf as Line};
 ghost use Rattle.tabled_printing.specs.Picture.{marks_along};
 ghost use Rattle.tabled_painting.specs.Painted.{Painted};
 ghost use Rattle.tabled_painting.specs.PaintedSpans.{spanned_by, spanned_table};
-ghost use Rattle.tabled_painting.specs.PaintedTable.{painted_by, painted_table, plain_text, colored_text};
+ghost use Rattle.tabled_painting.specs.PaintedTable.{painted_by, painted_table};
 ghost use Rattle.tabled_painting.specs.Printable.{AllPrintable};
 ghost use Rattle.tabled_painting.specs.RoomLines.{columns_of, room_cells, rows_of};
 ghost use Rattle.tabled_painting.specs.Rows.{cells_of};
+ghost use Rattle.tabled_painting.specs.TextsBy.{texts_by};
 ghost use Rattle.tabled_painting.specs.Viewed.{viewed};
 
 use crate::page::Page;
 use crate::spanned_lines::SpannedLines;
 use crate::table_lines::TableLines;
 use crate::{MarginSides, Painter};
+use std::convert::AsStr;
 use tabled_border::OutOfMemory;
 use tabled_configuration::ColoredConfig;
 use tabled_object::FixedDimension;
@@ -56,18 +57,18 @@ fn columns_long(frame: &Frame<FixedDimension>, margin: &MarginSides) -> Result<u
 }
 
 /// Paints a table that has places, with its margin.
-fn paint_in_margin<'a>(
+fn paint_in_margin<'a, T: AsStr>(
     mut painter: Painter<'a>,
     lines: &TableLines<'a, '_>,
-    rows: &'a [Vec<String>],
+    rows: &'a [Vec<T>],
     are_printable: bool,
 ) -> Result<Painter<'a>, OutOfMemory>
     requires rows { length rows.now ≡ lines.now.frame.shape.0 }
-    requires cols { All (λ row. length row ≡ lines.now.frame.shape.1) (texts rows.now) }
-    requires printable { are_printable ≡ true → AllPrintable (texts rows.now) }
+    requires cols { All (λ row. length row ≡ lines.now.frame.shape.1) (texts_by T.text rows.now) }
+    requires printable { are_printable ≡ true → AllPrintable (texts_by T.text rows.now) }
     requires ended { option_copied painter.color ≡ None }
     requires colors { painter.with_colors ≡ lines.now.frame.with_colors }
-    ensures { IfOk result (λ painted. PaintsWhole (painted_table (viewed lines.now.frame) lines.now.frame.cfg.now.settings.margin (cells_of lines.now (texts rows.now))) painter.entry painted) }
+    ensures { IfOk result (λ painted. PaintsWhole (painted_table (viewed lines.now.frame) lines.now.frame.cfg.now.settings.margin (cells_of lines.now (texts_by T.text rows.now))) painter.entry painted) }
 {
     let margin = MarginSides::of(lines.frame.cfg);
     let high = lines_high(&lines.frame, &margin)?;
@@ -90,17 +91,17 @@ fn paint_in_margin<'a>(
 }
 
 /// Paints a table that has places and whose cells span, with its margin.
-fn paint_spanned_in_margin<'a>(
+fn paint_spanned_in_margin<'a, T: AsStr>(
     mut painter: Painter<'a>,
     spanned: &SpannedLines<'a, '_, '_>,
-    rows: &'a [Vec<String>],
+    rows: &'a [Vec<T>],
 ) -> Result<Painter<'a>, OutOfMemory>
     requires rows { length rows.now ≡ spanned.now.lines.now.frame.shape.0 }
-    requires cols { All (λ row. length row ≡ spanned.now.lines.now.frame.shape.1) (texts rows.now) }
+    requires cols { All (λ row. length row ≡ spanned.now.lines.now.frame.shape.1) (texts_by T.text rows.now) }
     requires ended { option_copied painter.color ≡ None }
     requires colors { painter.with_colors ≡ spanned.now.lines.now.frame.with_colors }
     ensures { IfOk result (λ painted. let lines = spanned.now.lines.now in
-        PaintsWhole (spanned_table (viewed lines.frame) (columns_of lines) (rows_of lines) (room_cells lines (texts rows.now)) lines.frame.cfg.now.settings.margin) painter.entry painted) }
+        PaintsWhole (spanned_table (viewed lines.frame) (columns_of lines) (rows_of lines) (room_cells lines (texts_by T.text rows.now)) lines.frame.cfg.now.settings.margin) painter.entry painted) }
 {
     let lines = spanned.lines;
     let margin = MarginSides::of(lines.frame.cfg);
@@ -123,19 +124,25 @@ fn paint_spanned_in_margin<'a>(
     Ok(painter)
 }
 
-/// The text of a table of texts as its configuration says, with its colors or without them.
-fn written<'a>(
+/// The text of a table of texts as its configuration says, in color or without colors: its cells as they are set for each, its borders, and
+/// its margin around them. `sizes` are the widths of its columns and the heights of its rows, `shape` the numbers of its rows and of its
+/// columns. It may be said that all its texts are of printable characters of ASCII. Its lines are joined by single line feeds.
+///
+/// In color, where the color changes along a line, the text that ends the last color is written and then the text that begins the next, and
+/// at the end of a line the text that ends its last color; where there is no color nothing is written. Spans are not looked at. Only memory
+/// can be refused.
+pub fn table_text<'a, T: AsStr>(
     cfg: &'a ColoredConfig,
     sizes: &FixedDimension,
     shape: (usize, usize),
-    rows: &'a [Vec<String>],
+    rows: &'a [Vec<T>],
     are_printable: bool,
     with_colors: bool,
 ) -> Result<String, OutOfMemory>
     requires rows { length rows.now ≡ shape.0 }
-    requires cols { All (λ row. length row ≡ shape.1) (texts rows.now) }
-    requires printable { are_printable ≡ true → AllPrintable (texts rows.now) }
-    ensures { IfOk result (λ text. string_bytes text ≡ text_of_lines with_colors (painted_by cfg.now shape sizes.now.widths.items sizes.now.heights.items (texts rows.now))) }
+    requires cols { All (λ row. length row ≡ shape.1) (texts_by T.text rows.now) }
+    requires printable { are_printable ≡ true → AllPrintable (texts_by T.text rows.now) }
+    ensures { IfOk result (λ text. string_bytes text ≡ text_of_lines with_colors (painted_by cfg.now shape sizes.now.widths.items sizes.now.heights.items (texts_by T.text rows.now))) }
 {
     let alloc = cfg.config().allocator();
     if shape.0 == 0 || shape.1 == 0 {
@@ -153,56 +160,20 @@ fn written<'a>(
     Ok(text)
 }
 
-/// The text of a table of texts as its configuration says, without colors: its cells as they are set for each, its borders, and its
-/// margin around them. `sizes` are the widths of its columns and the heights of its rows, `shape` the numbers of its rows and of
-/// its columns. It may be said that all its texts are of printable characters of ASCII. Its lines are joined by single line feeds. Spans
-/// are not looked at. Only memory can be refused.
-pub fn plain_text(
-    cfg: &ColoredConfig,
-    sizes: &FixedDimension,
-    shape: (usize, usize),
-    rows: &[Vec<String>],
-    are_printable: bool,
-) -> Result<String, OutOfMemory>
-    requires rows { length rows.now ≡ shape.0 }
-    requires cols { All (λ row. length row ≡ shape.1) (texts rows.now) }
-    requires printable { are_printable ≡ true → AllPrintable (texts rows.now) }
-    ensures { IfOk result (λ text. string_bytes text ≡ plain_text (painted_by cfg.now shape sizes.now.widths.items sizes.now.heights.items (texts rows.now))) }
-{
-    written(cfg, sizes, shape, rows, are_printable, false)
-}
-
-/// The same text in color: where the color changes along a line, the text that ends the last color is written and then the text that
-/// begins the next, and at the end of a line the text that ends its last color; where there is no color nothing is written. It may be said
-/// that all its texts are of printable characters of ASCII.
-pub fn colored_text(
-    cfg: &ColoredConfig,
-    sizes: &FixedDimension,
-    shape: (usize, usize),
-    rows: &[Vec<String>],
-    are_printable: bool,
-) -> Result<String, OutOfMemory>
-    requires rows { length rows.now ≡ shape.0 }
-    requires cols { All (λ row. length row ≡ shape.1) (texts rows.now) }
-    requires printable { are_printable ≡ true → AllPrintable (texts rows.now) }
-    ensures { IfOk result (λ text. string_bytes text ≡ colored_text (painted_by cfg.now shape sizes.now.widths.items sizes.now.heights.items (texts rows.now))) }
-{
-    written(cfg, sizes, shape, rows, are_printable, true)
-}
-
-/// The text of a table of texts whose cells span, with its colors or without them.
-fn spanned_written<'a>(
+/// The text of a table of texts as `table_text` gives it, where cells span several columns or rows: each that is shown has the room of all
+/// of them. `sizes` are those of `sizes_of_spanned`. Only memory can be refused.
+pub fn spanned_text<'a, T: AsStr>(
     cfg: &'a ColoredConfig,
     sizes: &FixedDimension,
     shape: (usize, usize),
-    rows: &'a [Vec<String>],
+    rows: &'a [Vec<T>],
     with_colors: bool,
 ) -> Result<String, OutOfMemory>
     requires rows { length rows.now ≡ shape.0 }
-    requires cols { All (λ row. length row ≡ shape.1) (texts rows.now) }
+    requires cols { All (λ row. length row ≡ shape.1) (texts_by T.text rows.now) }
     requires widths { length sizes.now.widths.items ≡ shape.1 }
     requires heights { length sizes.now.heights.items ≡ shape.0 }
-    ensures { IfOk result (λ text. string_bytes text ≡ text_of_lines with_colors (spanned_by cfg.now shape sizes.now.widths.items sizes.now.heights.items (texts rows.now))) }
+    ensures { IfOk result (λ text. string_bytes text ≡ text_of_lines with_colors (spanned_by cfg.now shape sizes.now.widths.items sizes.now.heights.items (texts_by T.text rows.now))) }
 {
     let alloc = cfg.config().allocator();
     if shape.0 == 0 || shape.1 == 0 {
@@ -214,37 +185,4 @@ fn spanned_written<'a>(
     let mut text = painter.into_text();
     join_lines(&mut text, 0);
     Ok(text)
-}
-
-/// The text of a table of texts as `plain_text` gives it, where cells span several columns or rows: each that is shown has the room of all
-/// of them. `sizes` are those of `sizes_of_spanned`. Only memory can be refused.
-pub fn plain_spanned_text(
-    cfg: &ColoredConfig,
-    sizes: &FixedDimension,
-    shape: (usize, usize),
-    rows: &[Vec<String>],
-) -> Result<String, OutOfMemory>
-    requires rows { length rows.now ≡ shape.0 }
-    requires cols { All (λ row. length row ≡ shape.1) (texts rows.now) }
-    requires widths { length sizes.now.widths.items ≡ shape.1 }
-    requires heights { length sizes.now.heights.items ≡ shape.0 }
-    ensures { IfOk result (λ text. string_bytes text ≡ plain_text (spanned_by cfg.now shape sizes.now.widths.items sizes.now.heights.items (texts rows.now))) }
-{
-    spanned_written(cfg, sizes, shape, rows, false)
-}
-
-/// The same text in color, as `colored_text` gives it.
-pub fn colored_spanned_text(
-    cfg: &ColoredConfig,
-    sizes: &FixedDimension,
-    shape: (usize, usize),
-    rows: &[Vec<String>],
-) -> Result<String, OutOfMemory>
-    requires rows { length rows.now ≡ shape.0 }
-    requires cols { All (λ row. length row ≡ shape.1) (texts rows.now) }
-    requires widths { length sizes.now.widths.items ≡ shape.1 }
-    requires heights { length sizes.now.heights.items ≡ shape.0 }
-    ensures { IfOk result (λ text. string_bytes text ≡ colored_text (spanned_by cfg.now shape sizes.now.widths.items sizes.now.heights.items (texts rows.now))) }
-{
-    spanned_written(cfg, sizes, shape, rows, true)
 }

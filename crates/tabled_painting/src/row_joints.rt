@@ -8,15 +8,20 @@ ghost use Rattle.tabled_painting.specs.declared.joints.Joints.{Joints as Made};
 use crate::Painter;
 use crate::joints::{Joints, RowJoints, RowSides};
 use crate::row_colors::RowColors;
+use crate::row_sides::row_sides;
 use crate::table_lines::TableLines;
 use tabled_border::{ANSIBuf, OutOfMemory};
-use tabled_printing::SideMarks;
 
 /// How many colors of rows have joints at most.
 const COLORS: usize = 16;
 
-/// From how many cells on joints pay where no colors are wanted.
+/// From how many cells on joints pay where no colors are wanted: three texts are made, and a cell takes up to 21 instructions less.
 const MANY_CELLS: usize = 32;
+
+/// Whether a table has so few cells that joints do not pay where no colors are wanted.
+pub(crate) fn has_few_cells(shape: (usize, usize)) -> bool {
+    shape.0.saturating_mul(shape.1) < MANY_CELLS
+}
 
 /// The number of the joints in a color, if they are among these.
 fn number_of(known: &[Joints], color: Option<&ANSIBuf>) -> Option<usize>
@@ -32,23 +37,6 @@ fn number_of(known: &[Joints], color: Option<&ANSIBuf>) -> Option<usize>
 }
 
 impl<'a> TableLines<'a, '_> {
-    /// What vertical lines show beside each row, if it is known that those between two columns look alike.
-    fn row_sides(&self) -> Option<RowSides<'a>>
-        ensures { IfSome result (AreRowSides self.now.frame) }
-    {
-        if !self.frame.has_alike_sides {
-            return None;
-        }
-        match &self.frame.sides.marks {
-            SideMarks::ByRank(first, inner, last) => Some(RowSides {
-                first: *first,
-                inner: *inner,
-                last: *last,
-            }),
-            SideMarks::Each(_) => None,
-        }
-    }
-
     /// The joints of rows in a color.
     fn joints_in(
         &self,
@@ -139,11 +127,10 @@ impl<'a> TableLines<'a, '_> {
     pub(crate) fn row_joints(&self) -> Result<Option<RowJoints<'a>>, OutOfMemory>
         ensures { IfOk result (λ found. IfSome found (AreJoined self.now)) }
     {
-        let (rows, cols) = self.frame.shape;
-        if !self.frame.with_colors && rows.saturating_mul(cols) < MANY_CELLS {
+        if !self.frame.with_colors && has_few_cells(self.frame.shape) {
             return Ok(None);
         }
-        let Some(sides) = self.row_sides() else {
+        let Some(sides) = row_sides(&self.frame) else {
             return Ok(None);
         };
         match self.row_colors {

@@ -1,15 +1,16 @@
 //! The lines of a table whose cells span several columns or rows.
 
-ghost use Rattle.std.specs.Prelude.{◌≡◌, ◌≤◌, ◌<◌, ◌+◌, ◌-◌, ◌++◌, ◌==◌, ◌&&◌, ℕ, [], true, false, None, IsTrue, OnOk, IfOk, length, map, option_copied, slice_index, slice_index_or, string_bytes};
+ghost use Rattle.std.specs.Prelude.{◌≡◌, ◌≤◌, ◌<◌, ◌+◌, ◌-◌, ◌++◌, ◌==◌, ◌&&◌, ℕ, [], true, false, None, IsTrue, OnOk, IfOk, length, map, option_copied, slice_index, slice_index_or};
 ghost use Rattle.std.specs.List.{All, flat_map};
 ghost use Rattle.std.specs.declared.option.Option.{Option as Maybe};
 ghost use Rattle.tabled_object.specs.Entities.{below};
-ghost use Rattle.tabled_printing.specs.Texts.{Table, texts};
+ghost use Rattle.tabled_printing.specs.Texts.{Table};
 ghost use Rattle.tabled_rooms.specs.Rooms.{first_line, room_height};
 ghost use Rattle.tabled_painting.specs.InColor.{Paints};
 ghost use Rattle.tabled_painting.specs.Pages.{PaintsLines};
 ghost use Rattle.tabled_painting.specs.RoomLines.{StandAlone, room_shown};
 ghost use Rattle.tabled_rooms.specs.declared.host.Host.{Host as Kept};
+ghost use Rattle.tabled_painting.specs.TextsBy.{texts_by};
 ghost use Rattle.tabled_painting.specs.Viewed.{viewed};
 
 use crate::Painter;
@@ -21,6 +22,7 @@ use crate::room::Room;
 use crate::spans_of::SpansOf;
 use crate::table_lines::TableLines;
 use std::alloc::Global;
+use std::convert::AsStr;
 use tabled_border::OutOfMemory;
 use tabled_kept::Probes;
 use tabled_object::{Dimension, Position};
@@ -127,13 +129,13 @@ impl<'a, 'b, 'c> SpannedLines<'a, 'b, 'c> {
     }
 
     /// Begins the rooms of the cells of a row that are shown from there on. `wides` is for their widths, whatever it had.
-    fn begin_rooms(
+    fn begin_rooms<T: AsStr>(
         &self,
         rooms: &mut [Option<Room<'a>>],
         wides: &mut [usize],
         hosts: &[Host],
         row: usize,
-        texts: &'a [String],
+        texts: &'a [T],
     ) -> Result<(), OutOfMemory>
         requires row { row < self.now.lines.now.frame.shape.0 }
         requires rooms { length rooms.old ≡ self.now.lines.now.frame.shape.1 }
@@ -141,7 +143,7 @@ impl<'a, 'b, 'c> SpannedLines<'a, 'b, 'c> {
         requires hosts { length hosts.now ≡ self.now.lines.now.frame.shape.1 }
         requires texts { length texts.now ≡ self.now.lines.now.frame.shape.1 }
         requires are { AreHosts (columns_of self.now.lines.now) (rows_of self.now.lines.now) self.now.lines.now.frame.shape row hosts.now }
-        ensures { OnOk result ((table : Table) → slice_index_or table row [] ≡ map string_bytes texts.now → let lines = self.now.lines.now in
+        ensures { OnOk result ((table : Table) → slice_index_or table row [] ≡ map T.text texts.now → let lines = self.now.lines.now in
             AreOpen (viewed lines.frame) (columns_of lines) (rows_of lines) (room_cells lines table) row rooms.old → AreRooms (viewed lines.frame) (columns_of lines) (rows_of lines) (room_cells lines table) row rooms.new) }
     {
         let frame = &self.lines.frame;
@@ -315,7 +317,7 @@ impl<'a, 'b, 'c> SpannedLines<'a, 'b, 'c> {
     /// Paints the lines of text of a row, and begins the rooms of the cells that are shown from there on. Where each of its cells is shown
     /// in its own place alone, the row is painted as it is without spans. `wides` and `cells` are for what is measured and cut, whatever
     /// they had.
-    fn paint_shown(
+    fn paint_shown<T: AsStr>(
         &self,
         page: &mut Page<'a>,
         hosts: &[Host],
@@ -323,7 +325,7 @@ impl<'a, 'b, 'c> SpannedLines<'a, 'b, 'c> {
         rooms: &mut [Option<Room<'a>>],
         cells: &mut Vec<CellLines<'a>>,
         row: usize,
-        texts: &'a [String],
+        texts: &'a [T],
     ) -> Result<(), OutOfMemory>
         requires row { row < self.now.lines.now.frame.shape.0 }
         requires texts { length texts.now ≡ self.now.lines.now.frame.shape.1 }
@@ -333,9 +335,9 @@ impl<'a, 'b, 'c> SpannedLines<'a, 'b, 'c> {
         requires are { AreHosts (columns_of self.now.lines.now) (rows_of self.now.lines.now) self.now.lines.now.frame.shape row hosts.now }
         requires ended { option_copied page.old.painter.color ≡ None }
         requires colors { page.old.painter.with_colors ≡ self.now.lines.now.frame.with_colors }
-        ensures painted { OnOk result ((table : Table) → slice_index_or table row [] ≡ map string_bytes texts.now → let lines = self.now.lines.now in
+        ensures painted { OnOk result ((table : Table) → slice_index_or table row [] ≡ map T.text texts.now → let lines = self.now.lines.now in
             AreOpen (viewed lines.frame) (columns_of lines) (rows_of lines) (room_cells lines table) row rooms.old → PaintsLines (spanned_row (viewed lines.frame) (columns_of lines) (rows_of lines) (room_cells lines table) row) page.old page.new) }
-        ensures opened { OnOk result ((table : Table) → slice_index_or table row [] ≡ map string_bytes texts.now → let lines = self.now.lines.now in
+        ensures opened { OnOk result ((table : Table) → slice_index_or table row [] ≡ map T.text texts.now → let lines = self.now.lines.now in
             AreOpen (viewed lines.frame) (columns_of lines) (rows_of lines) (room_cells lines table) row rooms.old → row + 1 < lines.frame.shape.0
             → AreOpen (viewed lines.frame) (columns_of lines) (rows_of lines) (room_cells lines table) (row + 1) rooms.new) }
     {
@@ -350,17 +352,17 @@ impl<'a, 'b, 'c> SpannedLines<'a, 'b, 'c> {
 
     /// Paints the rows of a table, each with the line above it. `hosts`, `wides`, `rooms` and `cells` are for what is shown in a row: at
     /// first nothing.
-    fn paint_rows(
+    fn paint_rows<T: AsStr>(
         &self,
         page: &mut Page<'a>,
         hosts: &mut [Host],
         wides: &mut [usize],
         rooms: &mut [Option<Room<'a>>],
         cells: &mut Vec<CellLines<'a>>,
-        rows: &'a [Vec<String>],
+        rows: &'a [Vec<T>],
     ) -> Result<(), OutOfMemory>
         requires rows { length rows.now ≡ self.now.lines.now.frame.shape.0 }
-        requires cols { All (λ row. length row ≡ self.now.lines.now.frame.shape.1) (texts rows.now) }
+        requires cols { All (λ row. length row ≡ self.now.lines.now.frame.shape.1) (texts_by T.text rows.now) }
         requires hosts { length hosts.old ≡ self.now.lines.now.frame.shape.1 }
         requires wides { length wides.old ≡ self.now.lines.now.frame.shape.1 }
         requires rooms { length rooms.old ≡ self.now.lines.now.frame.shape.1 }
@@ -368,7 +370,7 @@ impl<'a, 'b, 'c> SpannedLines<'a, 'b, 'c> {
         requires ended { option_copied page.old.painter.color ≡ None }
         requires colors { page.old.painter.with_colors ≡ self.now.lines.now.frame.with_colors }
         ensures painted { OnOk result (let lines = self.now.lines.now in let view = viewed lines.frame in
-            PaintsLines (flat_map (λ r. spanned_if_drawn view (columns_of lines) (rows_of lines) (room_cells lines (texts rows.now)) r ++ spanned_row view (columns_of lines) (rows_of lines) (room_cells lines (texts rows.now)) r) (below view.shape.0))
+            PaintsLines (flat_map (λ r. spanned_if_drawn view (columns_of lines) (rows_of lines) (room_cells lines (texts_by T.text rows.now)) r ++ spanned_row view (columns_of lines) (rows_of lines) (room_cells lines (texts_by T.text rows.now)) r) (below view.shape.0))
             page.old page.new) }
         ensures colors { OnOk result (page.new.painter.with_colors ≡ self.now.lines.now.frame.with_colors) }
     {
@@ -383,17 +385,17 @@ impl<'a, 'b, 'c> SpannedLines<'a, 'b, 'c> {
     }
 
     /// Paints the lines of a table.
-    pub(crate) fn paint(
+    pub(crate) fn paint<T: AsStr>(
         &self,
         page: &mut Page<'a>,
-        rows: &'a [Vec<String>],
+        rows: &'a [Vec<T>],
     ) -> Result<(), OutOfMemory>
         requires rows { length rows.now ≡ self.now.lines.now.frame.shape.0 }
-        requires cols { All (λ row. length row ≡ self.now.lines.now.frame.shape.1) (texts rows.now) }
+        requires cols { All (λ row. length row ≡ self.now.lines.now.frame.shape.1) (texts_by T.text rows.now) }
         requires ended { option_copied page.old.painter.color ≡ None }
         requires colors { page.old.painter.with_colors ≡ self.now.lines.now.frame.with_colors }
         ensures { OnOk result (let lines = self.now.lines.now in
-            PaintsLines (spanned_lines (viewed lines.frame) (columns_of lines) (rows_of lines) (room_cells lines (texts rows.now))) page.old page.new) }
+            PaintsLines (spanned_lines (viewed lines.frame) (columns_of lines) (rows_of lines) (room_cells lines (texts_by T.text rows.now))) page.old page.new) }
     {
         let frame = &self.lines.frame;
         let cfg = frame.cfg;

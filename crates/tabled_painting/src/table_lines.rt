@@ -7,7 +7,6 @@ ghost use Rattle.tabled_object.specs.Entities.{below};
 ghost use Rattle.tabled_printing.specs.Along.{is_empty};
 ghost use Rattle.tabled_printing.specs.Marks.{mark_of};
 ghost use Rattle.tabled_printing.specs.Picture.{marks_along};
-ghost use Rattle.tabled_printing.specs.Texts.{texts};
 ghost use Rattle.tabled_grid.specs.declared.place.LineOf.{LineOf as Line};
 ghost use Rattle.tabled_painting.specs.InColor.{Paints};
 ghost use Rattle.tabled_painting.specs.Pages.{PaintsLines, line_text, written};
@@ -15,16 +14,21 @@ ghost use Rattle.tabled_painting.specs.PaintedTable.{painted_marks, side_painted
 ghost use Rattle.tabled_painting.specs.Viewed as looks;
 ghost use Rattle.tabled_painting.specs.BareCells.{AreBare, AreRowColors, side_in};
 ghost use Rattle.tabled_painting.specs.Between.{IsBetweenRows};
+ghost use Rattle.tabled_painting.specs.PlainSides.{ArePlainSides};
 ghost use Rattle.tabled_painting.specs.Printable.{AllPrintable, ArePrintable};
+ghost use Rattle.tabled_painting.specs.TextsBy.{texts_by};
 
 use crate::alike::first_plain_line;
 use crate::bare_cells::{BareColumns, bare_columns};
 use crate::cell_lines::CellLines;
 use crate::joints::RowJoints;
 use crate::page::Page;
+use crate::plain_sides::{PlainSides, plain_sides};
 use crate::row_colors::{RowColors, row_colors};
+use crate::row_joints::has_few_cells;
 use crate::{CellColors, Painter};
 use std::alloc::{AllocError, Global};
+use std::convert::AsStr;
 use tabled_border::{ANSIBuf, OutOfMemory};
 use tabled_cells::Placement;
 use tabled_configuration::{ColorMap, ColoredConfig};
@@ -48,6 +52,9 @@ pub(crate) struct TableLines<'a, 'b> {
     pub(crate) are_all_bare: bool,
     /// Whether all cells are bare, and no colors are wanted.
     pub(crate) is_plain: bool,
+    /// What vertical lines show beside each row, between spaces, if it was made: where a table has few cells, all of them are bare, and no
+    /// colors are wanted. A table of 3 x 3 cells takes 311 instructions less by it.
+    pub(crate) plain_sides: Option<PlainSides>,
     /// In which colors the cells of a row are painted.
     pub(crate) row_colors: RowColors,
     /// A horizontal line between two rows as it is written, with its line feed, where all of them but custom ones look alike.
@@ -58,6 +65,7 @@ pub(crate) struct TableLines<'a, 'b> {
     ghost all_bare: { are_all_bare ≡ true → (c : ℕ) → c < frame.shape.1 → IsSome (side_in bare_columns c) },
     ghost plain_cells: { is_plain ≡ true → are_all_bare ≡ true },
     ghost plain_colors: { is_plain ≡ true → frame.with_colors ≡ false },
+    ghost are_plain_sides: { ForSome plain_sides (ArePlainSides frame) },
     ghost are_row_colors: { AreRowColors row_colors frame.with_colors frame.cfg.now.settings.cells colors.now },
     ghost is_between: { ForSome between (λ text. IsBetweenRows frame (string_bytes text)) },
 }
@@ -91,6 +99,11 @@ impl<'a, 'b> TableLines<'a, 'b> {
         let is_plain = is_plain(are_all_bare, with_colors);
         let row_colors = row_colors(config, colors, with_colors);
         let frame = Frame::new(config, sizes, shape, with_colors)?;
+        let plain_sides = if is_plain && has_few_cells(shape) {
+            plain_sides(&frame)
+        } else {
+            None
+        };
         let columns = columns_of(&frame);
         let between = line_between(config.allocator(), &frame, columns)?;
         Ok(TableLines {
@@ -99,6 +112,7 @@ impl<'a, 'b> TableLines<'a, 'b> {
             bare_columns,
             are_all_bare,
             is_plain,
+            plain_sides,
             row_colors,
             between,
             columns,
@@ -235,11 +249,11 @@ impl<'a, 'b> TableLines<'a, 'b> {
     }
 
     /// Paints the first line of text of a row, and keeps the cells of a row that has more.
-    fn paint_first(
+    fn paint_first<T: AsStr>(
         &self,
         painter: &mut Painter<'a>,
         row: usize,
-        texts: &'a [String],
+        texts: &'a [T],
         cells: &mut Vec<CellLines<'a>>,
         are_printable: bool,
         joints: Option<&RowJoints<'a>>,
@@ -247,12 +261,12 @@ impl<'a, 'b> TableLines<'a, 'b> {
         requires row { row < self.now.frame.shape.0 }
         requires high { 0 < slice_index self.now.frame.dims.now.heights.items row }
         requires texts { length texts.now ≡ self.now.frame.shape.1 }
-        requires printable { are_printable ≡ true → ArePrintable (map string_bytes texts.now) }
+        requires printable { are_printable ≡ true → ArePrintable (map T.text texts.now) }
         requires joints { IfSome (option_copied joints) (AreJoined self.now) }
         requires colors { painter.old.with_colors ≡ self.now.frame.with_colors }
-        ensures painted { OnOk result (Paints (painted_between (viewed self.now.frame) row 0 (λ c. row_cell self.now row c (slice_index_or (map string_bytes texts.now) c []) 0)) painter.old painter.new) }
+        ensures painted { OnOk result (Paints (painted_between (viewed self.now.frame) row 0 (λ c. row_cell self.now row c (slice_index_or (map T.text texts.now) c []) 0)) painter.old painter.new) }
         ensures kept { slice_index self.now.frame.dims.now.heights.items row ≢ 1
-            → OnOk result ((at : ℕ) → map (line_of at) cells.new.items ≡ map (λ c. row_cell self.now row c (slice_index_or (map string_bytes texts.now) c []) at) (below (length texts.now))) }
+            → OnOk result ((at : ℕ) → map (line_of at) cells.new.items ≡ map (λ c. row_cell self.now row c (slice_index_or (map T.text texts.now) c []) at) (below (length texts.now))) }
     {
         let is_low = self.frame.dims.get_height(row) == 1;
         if is_low && are_printable && self.are_all_bare && painter.color.is_none() {
@@ -269,11 +283,11 @@ impl<'a, 'b> TableLines<'a, 'b> {
     }
 
     /// Paints the first line of text of a row cell by cell, of which it is said in which color all of them are, if that is known.
-    fn paint_each(
+    fn paint_each<T: AsStr>(
         &self,
         painter: &mut Painter<'a>,
         row: usize,
-        texts: &'a [String],
+        texts: &'a [T],
         cells: &mut Vec<CellLines<'a>>,
         bare: Option<Option<&'a ANSIBuf>>,
     ) -> Result<(), OutOfMemory>
@@ -283,9 +297,9 @@ impl<'a, 'b> TableLines<'a, 'b> {
         requires colors { painter.old.with_colors ≡ self.now.frame.with_colors }
         requires color { IfSome bare (λ color. IsRowColor self.now.frame.with_colors self.now.frame.cfg.now.settings.cells self.now.colors.now row (option_copied color)) }
         requires low { IsSome bare → slice_index self.now.frame.dims.now.heights.items row ≡ 1 }
-        ensures painted { OnOk result (Paints (painted_between (viewed self.now.frame) row 0 (λ c. row_cell self.now row c (slice_index_or (map string_bytes texts.now) c []) 0)) painter.old painter.new) }
+        ensures painted { OnOk result (Paints (painted_between (viewed self.now.frame) row 0 (λ c. row_cell self.now row c (slice_index_or (map T.text texts.now) c []) 0)) painter.old painter.new) }
         ensures kept { slice_index self.now.frame.dims.now.heights.items row ≢ 1
-            → OnOk result ((at : ℕ) → map (line_of at) cells.new.items ≡ map (λ c. row_cell self.now row c (slice_index_or (map string_bytes texts.now) c []) at) (below (length texts.now))) }
+            → OnOk result ((at : ℕ) → map (line_of at) cells.new.items ≡ map (λ c. row_cell self.now row c (slice_index_or (map T.text texts.now) c []) at) (below (length texts.now))) }
     {
         let is_low = self.frame.dims.get_height(row) == 1;
         if !is_low {
@@ -323,22 +337,22 @@ impl<'a, 'b> TableLines<'a, 'b> {
 
     /// Paints the lines of text of a row. `cells` is for its cells, whatever it had. It may be said that its texts are printable.
     #[inline(always)]
-    pub(crate) fn paint_row(
+    pub(crate) fn paint_row<T: AsStr>(
         &self,
         page: &mut Page<'a>,
         row: usize,
-        texts: &'a [String],
+        texts: &'a [T],
         cells: &mut Vec<CellLines<'a>>,
         are_printable: bool,
         joints: Option<&RowJoints<'a>>,
     ) -> Result<(), OutOfMemory>
         requires row { row < self.now.frame.shape.0 }
         requires texts { length texts.now ≡ self.now.frame.shape.1 }
-        requires printable { are_printable ≡ true → ArePrintable (map string_bytes texts.now) }
+        requires printable { are_printable ≡ true → ArePrintable (map T.text texts.now) }
         requires joints { IfSome (option_copied joints) (AreJoined self.now) }
         requires ended { option_copied page.old.painter.color ≡ None }
         requires colors { page.old.painter.with_colors ≡ self.now.frame.with_colors }
-        ensures { OnOk result (PaintsLines (row_painted self.now row (map string_bytes texts.now)) page.old page.new) }
+        ensures { OnOk result (PaintsLines (row_painted self.now row (map T.text texts.now)) page.old page.new) }
     {
         let height = self.frame.dims.get_height(row);
         if height == 0 {
@@ -356,18 +370,18 @@ impl<'a, 'b> TableLines<'a, 'b> {
     }
 
     /// Paints the lines of a table. It may be said that all its texts are printable.
-    pub(crate) fn paint(
+    pub(crate) fn paint<T: AsStr>(
         &self,
         page: &mut Page<'a>,
-        rows: &'a [Vec<String>],
+        rows: &'a [Vec<T>],
         are_printable: bool,
     ) -> Result<(), OutOfMemory>
         requires rows { length rows.now ≡ self.now.frame.shape.0 }
-        requires cols { All (λ row. length row ≡ self.now.frame.shape.1) (texts rows.now) }
-        requires printable { are_printable ≡ true → AllPrintable (texts rows.now) }
+        requires cols { All (λ row. length row ≡ self.now.frame.shape.1) (texts_by T.text rows.now) }
+        requires printable { are_printable ≡ true → AllPrintable (texts_by T.text rows.now) }
         requires ended { option_copied page.old.painter.color ≡ None }
         requires colors { page.old.painter.with_colors ≡ self.now.frame.with_colors }
-        ensures { OnOk result (PaintsLines (painted_lines (viewed self.now.frame) (cells_of self.now (texts rows.now))) page.old page.new) }
+        ensures { OnOk result (PaintsLines (painted_lines (viewed self.now.frame) (cells_of self.now (texts_by T.text rows.now))) page.old page.new) }
     {
         let mut cells = Vec::new(self.frame.cfg.allocator());
         let made = self.row_joints()?;

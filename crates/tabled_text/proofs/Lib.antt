@@ -12,6 +12,7 @@ pub mod Totals
 pub mod EditedLemmas
 pub mod NumericLemmas
 pub mod SpanLemmas
+pub mod ViewLemmas
 pub mod ColumnLemmas
 pub mod TextLemmas
 pub mod PanelLemmas

@@ -1,11 +1,15 @@
 -- A table as it is lent to be printed.
 use Rattle.std.specs.Prelude.{◌≡◌, ℕ, Bool, true, List, length}
 use Rattle.std.specs.List.{All}
+use Rattle.tabled_configuration.specs.Configuration.{all_writes}
 use Rattle.tabled_printing.specs.Texts.{Table}
 use Rattle.tabled_painting.specs.Pages.{text_of_lines}
+use Rattle.tabled_painting.specs.PaintedSpans.{spanned_by}
 use Rattle.tabled_painting.specs.PaintedTable.{painted_by}
 use Rattle.tabled_painting.specs.Printable.{AllPrintable}
 use Rattle.tabled_painting.specs.TextsBy.{texts_by}
+use Rattle.tabled_text.specs.Sizes.{column_count, column_widths, row_heights}
+use Rattle.tabled_text.specs.TextTable.{heights_with_spans, widths_with_spans}
 use Rattle.tabled_text.specs.declared.table_view.TableView.{TableView}
 use denote.Ref.{Bor}
 
@@ -22,8 +26,21 @@ module _ {T : Type 0} (bytes : T → List ℕ) (view : TableView T) where
   abbrev pub text_viewed : Bool → List ℕ
   text_viewed with_colors = text_of_lines with_colors (painted_by view.config.now view.shape view.sizes.now.widths.items view.sizes.now.heights.items texts_viewed)
 
-  -- its texts have its shape, and are printable where that is known
+  -- how wide its columns are and how high its rows where cells span or have padding, and its text then
+  abbrev pub widths_viewed : List ℕ
+  widths_viewed = widths_with_spans view.config.now.spanned.settings (all_writes view.config.now.spanned) texts_viewed
+
+  abbrev pub heights_viewed : List ℕ
+  heights_viewed = heights_with_spans view.config.now.spanned.settings (all_writes view.config.now.spanned) texts_viewed
+
+  abbrev pub spanned_viewed : Bool → List ℕ
+  spanned_viewed with_colors = text_of_lines with_colors (spanned_by view.config.now view.shape widths_viewed heights_viewed texts_viewed)
+
+  -- its texts have its shape and its sizes, and are printable where that is known
   pub record IsTable : Type 0 where
     pub rows : length view.rows.now ≡ view.shape.0
     pub cols : All (λ row. length row ≡ view.shape.1) texts_viewed
+    pub shape : view.shape ≡ (length texts_viewed, column_count texts_viewed)
+    pub widths : view.sizes.now.widths.items ≡ column_widths texts_viewed
+    pub heights : view.sizes.now.heights.items ≡ row_heights texts_viewed
     pub printable : view.are_printable ≡ true → AllPrintable texts_viewed

@@ -2,24 +2,23 @@
 
 ghost use Rattle.std.specs.Prelude.{◌≡◌, [], true, IfOk};
 ghost use Rattle.tabled_configuration.specs.Colored.{Shows};
-ghost use Rattle.tabled_printing.specs.Texts.{texts};
-ghost use Rattle.tabled_text.specs.TextTable.{lent_texts};
+ghost use Rattle.tabled_text.specs.TextTable.{lent_rows, lent_texts};
 ghost use Rattle.tabled_text.specs.declared.table_error.TableError.{TableError as Refusal};
 
+use crate::TableError;
 use crate::measure::{TableSize, column_count, sizes_of, unequal_row};
 use crate::table_view::TableView;
-use crate::text_table::{copied_row, unequal, unset_config};
-use crate::{TableError, TextTable};
+use crate::text_table::{unequal, unset_config};
 use std::alloc::{AllocError, Global};
+use std::io;
 use std::marker::Model;
-use std::{io, mem};
-use tabled_border::{Keep, OutOfMemory};
+use tabled_border::OutOfMemory;
 use tabled_configuration::{CellOption, ColoredConfig, TableOption, modify};
 use tabled_object::{FixedDimension, Object, Shape};
+use tabled_printing::PrintError;
 
-/// A table of texts that are lent to it, such as the lines and words of one input: options draw its borders, it prints itself as a
-/// `TextTable` of the same texts does, and a long table of plain cells without copying one of them. Where cells span or have padding, where a
-/// text is not printable ASCII, and where the table is short, the texts are copied before it is printed.
+/// A table of texts that are lent to it, such as the words of one input, or literals: options draw its borders, and it prints itself as a
+/// `TextTable` of the same texts does. No text is copied.
 ///
 /// A page of 10 MB with 1,250,000 cells takes half of the memory that a `TextTable` of it takes.
 pub struct LentTable<'a> {
@@ -68,18 +67,32 @@ impl<'a> Model for LentTable<'a> {
 }
 
 impl<'a> LentTable<'a> {
-    ghost use Rattle.std.specs.Prelude.{◌≡◌, ◌++◌, ◌⊎◌, ℕ, List, [], true, false, Err, map, length, take, IfErr, IfOk, OnErr, OnOk, IsOkUnless, MatchOption};
+    ghost use Rattle.std.specs.Prelude.{◌≡◌, ◌++◌, ◌⊎◌, ℕ, List, [], true, false, Err, map, length, take, string_bytes, IfErr, IfOk, OnErr, OnOk, IsOkUnless, MatchOption};
     ghost use Rattle.std.specs.Io.KnownBytes.{Appends};
     ghost use Rattle.tabled_object.specs.declared.dimension.FixedDimension.{FixedDimension};
     ghost use Rattle.tabled_configuration.specs.Colored.{Shows, Changes};
     ghost use Rattle.tabled_configuration.specs.Configuration.{ConfigEvent, all_writes, is_sized_by_texts};
     ghost use Rattle.tabled_configuration.specs.Configuration as borders;
     ghost use Rattle.tabled_configuration.specs.Options.{MakesInTurn};
-    ghost use Rattle.tabled_painting.specs.PaintedTable.{colored_text, plain_text};
+    ghost use Rattle.tabled_painting.specs.PaintedTable.{colored_text};
+    ghost use Rattle.tabled_printing.specs.declared.print_error.PrintError.{PrintError as Fault};
     ghost use Rattle.tabled_text.specs.Refusal.{unequal};
     ghost use Rattle.tabled_text.specs.Sizes.{column_count, unequal_row};
-    ghost use Rattle.tabled_text.specs.TableViews.{IsTable, lent_bytes, text_viewed};
-    ghost use Rattle.tabled_text.specs.TextTable.{AreRead, heights_with_spans, lent_texts, painted, painted_alone, shape_of, text_of, widths_with_spans};
+    ghost use Rattle.tabled_text.specs.TableViews.{IsTable, lent_bytes, texts_viewed};
+    ghost use Rattle.tabled_text.specs.TextTable.{AreRead, heights_with_spans, lent_rows, lent_texts, painted, shape_of, text_of, widths_with_spans};
+
+    /// A table of these rows of texts, which are lent and not copied. Refused as by `from_rows`.
+    ///
+    /// `LentTable::new(alloc, &[&["a", "b"], &["c", "d"]])?` prints what a `TextTable` does.
+    pub fn new(alloc: Global, rows: &[&[&'a str]]) -> Result<Self, TableError>
+        ensures texts { IfOk result (λ table. table.texts ≡ lent_rows rows.now) }
+        ensures config { IfOk result (λ table. Shows [] table.config) }
+        ensures refusal { MatchOption (unequal_row (lent_rows rows.now)) (IsOkUnless result Refusal.OutOfMemory) (λ row. (result ≡ Err Refusal.OutOfMemory) ⊎ (result ≡ Err (unequal (lent_rows rows.now) row))) }
+    {
+        let rows = held(alloc, rows)?;
+        let table = LentTable::from_rows(alloc, rows)?;
+        Ok(table)
+    }
 
     /// A table of these rows of texts. Refused where a row has more or fewer cells than row 0, with the number of the first such row and
     /// both counts, or where memory is refused.
@@ -149,10 +162,10 @@ impl<'a> LentTable<'a> {
         ensures sizes { self.new.sizes ≡ self.old.sizes }
         ensures err { OnErr result (self.new ≡ self.old) }
     {
-        if self.stands_alone() {
-            return self.apply_alone(option);
+        if self.config().config().has_spans_or_padding() {
+            return self.apply_with_spans(option);
         }
-        self.apply_with_spans(option)
+        self.apply_alone(option)
     }
 
     /// Applies an option to a table of which no cell spans or has padding: it reads the sizes that are kept.
@@ -187,8 +200,7 @@ impl<'a> LentTable<'a> {
         ensures widths { IfOk result (λ sizes. sizes.widths.items ≡ widths_with_spans self.now.config.spanned.settings (all_writes self.now.config.spanned) self.now.texts) }
         ensures heights { IfOk result (λ sizes. sizes.heights.items ≡ heights_with_spans self.now.config.spanned.settings (all_writes self.now.config.spanned) self.now.texts) }
     {
-        let copy = self.copied()?;
-        let sizes = copy.sizes_with_spans()?;
+        let sizes = self.view().sizes_with_spans()?;
         Ok(sizes)
     }
 
@@ -219,8 +231,8 @@ impl<'a> LentTable<'a> {
     /// The table as it is lent to be printed.
     fn view(&self) -> TableView<'_, &'a str>
         ensures table { IsTable lent_bytes result }
-        ensures plain { (es : List ConfigEvent) → borders.Shows es self.now.config.spanned → text_viewed lent_bytes result false ≡ plain_text (painted_alone es self.now.texts) }
-        ensures colored { (es : List ConfigEvent) → Shows es self.now.config → text_viewed lent_bytes result true ≡ colored_text (painted_alone es self.now.texts) }
+        ensures config { result.config.now ≡ self.now.config }
+        ensures texts { texts_viewed lent_bytes result ≡ self.now.texts }
     {
         TableView {
             rows: &self.cells,
@@ -231,20 +243,22 @@ impl<'a> LentTable<'a> {
         }
     }
 
-    /// The same table with copies of its texts. Its rows are equal, so only memory can be refused.
-    fn copied(&self) -> Result<TextTable, OutOfMemory>
-        ensures texts { IfOk result (λ table. table.texts ≡ self.now.texts) }
-        ensures config { IfOk result (λ table. table.config ≡ self.now.config) }
+    /// The text of the table without colors, as `TextTable::to_text` gives it. Only memory can be refused.
+    pub fn to_text(&self) -> Result<String, PrintError>
+        ensures text { (es : List ConfigEvent) → borders.Shows es self.now.config.spanned → IfOk result (λ text. string_bytes text ≡ text_of es self.now.texts) }
+        ensures refusal { IsOkUnless result Fault.OutOfMemory }
     {
-        let alloc = self.config().config().allocator();
-        let config: ColoredConfig = self.config().keep(alloc)?;
-        let cells = copied_rows(alloc, &self.cells)?;
-        let mut table = match TextTable::from_rows(alloc, cells) {
-            Ok(table) => table,
-            Err(_) => return Err(OutOfMemory),
-        };
-        drop(mem::replace(table.config_mut(), config));
-        Ok(table)
+        let text = self.view().text(false)?;
+        Ok(text)
+    }
+
+    /// The text of the table in color, as `TextTable::to_ansi` gives it. Only memory can be refused.
+    pub fn to_ansi(&self) -> Result<String, PrintError>
+        ensures text { (es : List ConfigEvent) → Shows es self.now.config → IfOk result (λ text. string_bytes text ≡ colored_text (painted es self.now.texts)) }
+        ensures refusal { IsOkUnless result Fault.OutOfMemory }
+    {
+        let text = self.view().text(true)?;
+        Ok(text)
     }
 
     /// Writes the text of the table to a stream of bytes, such as standard output. Where memory is refused nothing is written; where the
@@ -269,10 +283,7 @@ impl<'a> LentTable<'a> {
         ensures refusal { IfErr result (λ e. (e ≡ Refusal.OutOfMemory) ⊎ (e ≡ Refusal.Write)) }
         ensures unwritten { IfErr result (λ e. (e ≡ Refusal.Write) ⊎ (out.new ≡ out.old)) }
     {
-        if self.stands_alone() && self.view().print_pieces(false, before, after, out)? {
-            return Ok(());
-        }
-        self.copied()?.print_between(before, after, out)
+        self.view().print(false, before, after, out)
     }
 
     /// Writes the text of the table in color to a stream of bytes, as `print_to` writes the plain one.
@@ -295,27 +306,17 @@ impl<'a> LentTable<'a> {
         ensures refusal { IfErr result (λ e. (e ≡ Refusal.OutOfMemory) ⊎ (e ≡ Refusal.Write)) }
         ensures unwritten { IfErr result (λ e. (e ≡ Refusal.Write) ⊎ (out.new ≡ out.old)) }
     {
-        if self.stands_alone() && self.view().print_pieces(true, before, after, out)? {
-            return Ok(());
-        }
-        self.copied()?.print_ansi_between(before, after, out)
-    }
-
-    /// Whether no cell spans and no padding is set.
-    fn stands_alone(&self) -> bool
-        ensures { result ≡ is_sized_by_texts self.now.config.spanned }
-    {
-        !self.config().config().has_spans_or_padding()
+        self.view().print(true, before, after, out)
     }
 }
 
-/// Rows of texts, copied.
-fn copied_rows(alloc: Global, rows: &[Vec<&str>]) -> Result<Vec<Vec<String>>, AllocError>
-    ensures { IfOk result (λ copies. texts copies.items ≡ lent_texts rows.now) }
+/// Rows of texts that are lent, held as they are.
+fn held<'a>(alloc: Global, rows: &[&[&'a str]]) -> Result<Vec<Vec<&'a str>>, AllocError>
+    ensures { IfOk result (λ found. lent_texts found.items ≡ lent_rows rows.now) }
 {
-    let mut copies = Vec::with_capacity(alloc, rows.len())?;
+    let mut found = Vec::with_capacity(alloc, rows.len())?;
     for row in rows {
-        copies.push(copied_row(alloc, row)?)?;
+        found.push(row.to_vec(alloc)?)?;
     }
-    Ok(copies)
+    Ok(found)
 }

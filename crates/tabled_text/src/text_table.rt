@@ -317,11 +317,7 @@ impl TextTable {
             → IfOk result (λ text. StandsStraightIn (look_of es self.now.texts) (margin_set es) c (pieces (string_bytes text))) }
         ensures refusal { IsOkUnless result Fault.OutOfMemory }
     {
-        if self.config().config().has_spans_or_padding() {
-            let spanned = self.text_with_spans()?;
-            return Ok(spanned);
-        }
-        let text = self.text_alone()?;
+        let text = self.view().text(false)?;
         Ok(text)
     }
 
@@ -357,11 +353,7 @@ impl TextTable {
         ensures characters { IfOk result (λ _. (es : List ConfigEvent) → text_of es self.now.texts ≡ plain_text (painted es self.now.texts)) }
         ensures refusal { IsOkUnless result Fault.OutOfMemory }
     {
-        if self.config().config().has_spans_or_padding() {
-            let spanned = self.ansi_with_spans()?;
-            return Ok(spanned);
-        }
-        let text = self.ansi_alone()?;
+        let text = self.view().text(true)?;
         Ok(text)
     }
 

@@ -1,8 +1,8 @@
 -- The lines above, the table between its sides, and the lines below.
 use Rattle.std.proofs.Common.{[]}
-use Rattle.tabled_printing.specs.Texts.{texts}
 use Rattle.tabled_painting.specs.PaintedTable.{painted_lines, painted_table}
 use Rattle.tabled_painting.specs.Rows.{cells_of}
+use Rattle.tabled_painting.specs.TextsBy.{texts_by}
 use Rattle.tabled_painting.specs.Viewed.{viewed}
 use Rattle.tabled_painting.proofs.PageLemmas.{none_whole, whole_both}
 use Rattle.tabled_painting.proofs.MarginLemmas.{in_its_margin, painted_in_margin, lines_count, lines_whole}
@@ -10,10 +10,10 @@ use Rattle.tabled_painting.proofs.painting.paint_in_margin.Goals as goal
 
 pub returns : goal.returns
 unfolding painted_table
-returns c =
+returns g c =
     let lines = c.args.lines.now in
     let frame = lines.frame in
-    let cells = cells_of lines (texts c.args.rows.now) in
+    let cells = cells_of lines (texts_by g.T.AsStr.text c.args.rows.now) in
     let sides = c.of-margin.ensures in
     painted_in_margin c.args.painter c.paint_strips.new.painter c.paint.new.page.painter c.paint_strips-2.new.painter _ _ _ _
     (in_its_margin (viewed frame) c.of-margin.result frame.cfg.now.settings.margin (painted_lines (viewed frame) cells) c.in_ok-high.high c.in_ok-long.long

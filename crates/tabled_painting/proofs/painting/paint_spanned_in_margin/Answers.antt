@@ -1,8 +1,8 @@
 -- The lines above, the table between its sides, and the lines below.
 use Rattle.std.proofs.Common.{[]}
-use Rattle.tabled_printing.specs.Texts.{texts}
 use Rattle.tabled_painting.specs.PaintedSpans.{spanned_lines, spanned_table}
 use Rattle.tabled_painting.specs.RoomLines.{columns_of, room_cells, rows_of}
+use Rattle.tabled_painting.specs.TextsBy.{texts_by}
 use Rattle.tabled_painting.specs.Viewed.{viewed}
 use Rattle.tabled_painting.proofs.PageLemmas.{none_whole, whole_both}
 use Rattle.tabled_painting.proofs.MarginLemmas.{in_its_margin, painted_in_margin, lines_whole}
@@ -11,11 +11,11 @@ use Rattle.tabled_painting.proofs.painting.paint_spanned_in_margin.Goals as goal
 
 pub returns : goal.returns
 unfolding spanned_table
-returns c =
+returns g c =
     let lines = c.args.spanned.now.lines.now in
     let frame = lines.frame in
     let view = viewed frame in
-    let cells = room_cells lines (texts c.args.rows.now) in
+    let cells = room_cells lines (texts_by g.T.AsStr.text c.args.rows.now) in
     let painted = spanned_lines view (columns_of lines) (rows_of lines) cells in
     let sides = c.of-margin.ensures in
     painted_in_margin c.args.painter c.paint_strips.new.painter c.paint.new.page.painter c.paint_strips-2.new.painter _ _ _ _

@@ -1,5 +1,5 @@
 -- The cells and the last side, or the whole row as it is without colors.
-use Rattle.std.proofs.Common.{◌≡◌, ◌<◌, ◌++◌, ℕ, [], false, None, List, map, slice_index, slice_index_or, string_bytes, refl, sym, ap, subst, ◌∙◌, arith}
+use Rattle.std.proofs.Common.{◌≡◌, ◌<◌, ◌++◌, ℕ, [], false, None, List, map, slice_index, slice_index_or, refl, sym, ap, subst, ◌∙◌, arith}
 use Rattle.tabled_printing.specs.Beside.{mark_beside}
 use Rattle.tabled_painting.specs.InColor.{colored, in_color}
 use Rattle.tabled_painting.specs.Joints.{AreJointsOf, own_color}

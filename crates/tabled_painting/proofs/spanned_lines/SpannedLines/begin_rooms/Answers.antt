@@ -1,5 +1,5 @@
 -- A column more: a room begins there, or none does.
-use Rattle.std.proofs.Common.{◌≡◌, ◌==◌, ◌&&◌, ◌<◌, false, [], length, slice_index_or, string_bytes, refl, sym, ap, ◌∙◌, arith}
+use Rattle.std.proofs.Common.{◌≡◌, ◌==◌, ◌&&◌, ◌<◌, false, [], length, slice_index_or, refl, sym, ap, ◌∙◌, arith}
 use Rattle.std.specs.Prelude.{slice_index}
 use Rattle.tabled_rooms.specs.Hosts.{host}
 use Rattle.tabled_rooms.specs.Holding.{held}
@@ -12,7 +12,7 @@ use Rattle.tabled_painting.proofs.SpannedLemmas.{begun_all, begun_more, begun_no
 use Rattle.tabled_painting.proofs.spanned_lines.SpannedLines.begin_rooms.Goals as goal
 
 pub loop-col-init : goal.loop-col-init
-loop-col-init c =
+loop-col-init g c =
     let lines = c.args.self.now.lines.now in
     record {
       count = refl;
@@ -20,7 +20,7 @@ loop-col-init c =
     }
 
 pub begin_room-requires-clause-row : goal.begin_room-requires-clause-row
-begin_room-requires-clause-row c =
+begin_room-requires-clause-row g c =
     let lines = c.args.self.now.lines.now in
     let n = c.loop-col.col in
     let inside : n < length c.args.hosts.now = omega (arith, c.requires.hosts, c.requires.texts, c.loop-col-test.true) in
@@ -29,14 +29,14 @@ begin_room-requires-clause-row c =
     omega (arith, is, least, c.requires.row)
 
 pub begin_room-requires-clause-bottom : goal.begin_room-requires-clause-bottom
-begin_room-requires-clause-bottom c =
+begin_room-requires-clause-bottom g c =
     let n = c.loop-col.col in
     let inside : n < length c.args.hosts.now = omega (arith, c.requires.hosts, c.requires.texts, c.loop-col-test.true) in
     let is = ap (λ (h : Host). h.bottom) (c.requires.are n (record { row = 0; col = 0; bottom = 0; right = 0 }) inside) in
     omega (arith, is)
 
 pub loop-col-preserved : goal.loop-col-preserved
-loop-col-preserved c =
+loop-col-preserved g c =
     let lines = c.args.self.now.lines.now in
     let view = viewed lines.frame in
     let columns = columns_of lines in
@@ -55,7 +55,7 @@ loop-col-preserved c =
     record {
       count = omega (arith, c.loop-col.invariant.count);
       begun = λ table there opened.
-          let said = c.as_str.ensures.value ∙ shown_at string_bytes c.args.texts.now n c.index-texts-col.result [] c.loop-col-test.true c.index-texts-col.is ∙ ap (λ row. slice_index_or row n []) (sym there) in
+          let said = c.as_str.ensures ∙ shown_at g.T.AsStr.text c.args.texts.now n c.index-texts-col.result [] c.loop-col-test.true c.index-texts-col.is ∙ ap (λ row. slice_index_or row n []) (sym there) in
           begun_more view columns rows (room_cells lines table) r n c.loop-col.rooms c.begin_room.new.rooms (omega arith) in_rooms
           (λ own first room line. c.in_ok-begin_room.ensures.begun ((λ i. ((is i).row == r) && ((is i).col == n)) ∙ (λ i. own i && first i)) room line
           ∙ room_is view columns rows lines.frame.cfg.now.settings.cells lines.colors.now table r n (slice_index c.room_widths.new.wides n) line c.as_str.result.now kept is own first wide said)
@@ -64,7 +64,7 @@ loop-col-preserved c =
     }
 
 pub returns : goal.returns
-returns c = λ table there opened.
+returns g c = λ table there opened.
     let lines = c.args.self.now.lines.now in
     begun_all (viewed lines.frame) (columns_of lines) (rows_of lines) (room_cells lines table) c.args.row c.loop-col.col c.loop-col.rooms
     (omega (arith, c.requires.rooms, c.requires.texts, c.loop-col-test.false, c.loop-col.invariant.count)) (c.loop-col.invariant.begun table there opened)

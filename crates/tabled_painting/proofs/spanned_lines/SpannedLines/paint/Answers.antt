@@ -12,7 +12,7 @@ use Rattle.tabled_painting.proofs.PageLemmas.{lines_both}
 use Rattle.tabled_painting.proofs.spanned_lines.SpannedLines.paint.Goals as goal
 
 pub paint_rows-requires-clause-above : goal.paint_rows-requires-clause-above
-paint_rows-requires-clause-above c =
+paint_rows-requires-clause-above g c =
     let lines = c.args.self.now.lines.now in
     let kept : Host = record { row = 0; col = 0; bottom = 0; right = 0 } in
     subst (λ (hosts : List Host). AreAbove (columns_of lines) (rows_of lines) lines.frame.shape 0 hosts) (sym (c.deref_mut.ensures.value ∙ c.in_ok-hosts.ensures.none))
@@ -20,7 +20,7 @@ paint_rows-requires-clause-above c =
 
 pub returns : goal.returns
 unfolding spanned_lines
-returns c =
+returns g c =
     let view = viewed c.args.self.now.lines.now.frame in
     lines_both _ (painted_if_drawn view view.shape.0) c.args.page.now c.paint_rows.new.page c.paint_line.new.page c.in_ok-paint_rows.ensures.painted
     (subst (λ n. PaintsLines (painted_if_drawn view n) c.paint_rows.new.page c.paint_line.new.page) c.requires.rows c.in_ok-paint_line.ensures)

@@ -1,13 +1,13 @@
 -- A row more: the line above it and its own lines.
-use Rattle.std.proofs.Common.{◌≡◌, ◌++◌, [], length, refl, ap, sym, subst, ◌∙◌, arith, string_bytes, map}
+use Rattle.std.proofs.Common.{◌≡◌, ◌++◌, [], length, refl, ap, sym, subst, ◌∙◌, arith, map}
 use Rattle.std.specs.List.{flat_map}
 use Rattle.std.proofs.lemmas.List.{length-map}
 use Rattle.tabled_object.specs.Entities.{below}
-use Rattle.tabled_printing.specs.Texts.{texts}
 use Rattle.tabled_rooms.proofs.HostLemmas.{hosts_above}
 use Rattle.tabled_painting.specs.Pages.{PaintsLines}
 use Rattle.tabled_painting.specs.PaintedSpans.{spanned_if_drawn, spanned_row}
 use Rattle.tabled_painting.specs.RoomLines.{columns_of, room_cells, rows_of}
+use Rattle.tabled_painting.specs.TextsBy.{texts_by}
 use Rattle.tabled_painting.specs.Viewed.{viewed}
 use Rattle.tabled_painting.proofs.FrameLemmas.{row_texts}
 use Rattle.tabled_painting.proofs.PageLemmas.{row_more, no_lines}
@@ -15,7 +15,7 @@ use Rattle.tabled_painting.proofs.SpannedLemmas.{none_open}
 use Rattle.tabled_painting.proofs.spanned_lines.SpannedLines.paint_rows.Goals as goal
 
 pub loop-row-init : goal.loop-row-init
-loop-row-init c =
+loop-row-init g c =
     let lines = c.args.self.now.lines.now in
     record {
       ended = c.requires.ended;
@@ -24,38 +24,38 @@ loop-row-init c =
       wides_count = c.requires.wides;
       rooms_count = c.requires.rooms;
       above = c.requires.above;
-      opened = λ some. none_open (viewed lines.frame) (columns_of lines) (rows_of lines) (room_cells lines (texts c.args.rows.now)) c.args.rooms.now;
+      opened = λ some. none_open (viewed lines.frame) (columns_of lines) (rows_of lines) (room_cells lines (texts_by g.T.AsStr.text c.args.rows.now)) c.args.rooms.now;
       painted = no_lines c.args.page.now c.requires.ended;
     }
 
 pub paint_shown-requires-clause-texts : goal.paint_shown-requires-clause-texts
-paint_shown-requires-clause-texts c =
+paint_shown-requires-clause-texts g c =
     let rows = c.args.rows.now in
-    let there = row_texts rows c.loop-row.row c.index-rows-row.result c.deref.result.now c.loop-row-test.true c.index-rows-row.is c.deref.ensures.value in
-    sym (length-map c.deref.result.now string_bytes) ∙ ap length there
-    ∙ c.requires.cols c.loop-row.row [] (omega (arith, c.loop-row-test.true, length-map rows (λ row. map string_bytes row.items)))
+    let there = row_texts g.T.AsStr.text rows c.loop-row.row c.index-rows-row.result c.deref.result.now c.loop-row-test.true c.index-rows-row.is c.deref.ensures.value in
+    sym (length-map c.deref.result.now g.T.AsStr.text) ∙ ap length there
+    ∙ c.requires.cols c.loop-row.row [] (omega (arith, c.loop-row-test.true, length-map rows (λ row. map g.T.AsStr.text row.items)))
 
 pub paint_shown-requires-clause-ended : goal.paint_shown-requires-clause-ended
-paint_shown-requires-clause-ended c =
+paint_shown-requires-clause-ended g c =
     let lines = c.args.self.now.lines.now in
-    (c.in_ok-paint_line.ensures (room_cells lines (texts c.args.rows.now)) (c.loop-row.invariant.opened (omega (arith, c.loop-row-test.true, c.requires.rows)))).ended
+    (c.in_ok-paint_line.ensures (room_cells lines (texts_by g.T.AsStr.text c.args.rows.now)) (c.loop-row.invariant.opened (omega (arith, c.loop-row-test.true, c.requires.rows)))).ended
 
 pub paint_shown-requires-clause-colors : goal.paint_shown-requires-clause-colors
-paint_shown-requires-clause-colors c =
+paint_shown-requires-clause-colors g c =
     let lines = c.args.self.now.lines.now in
-    (c.in_ok-paint_line.ensures (room_cells lines (texts c.args.rows.now)) (c.loop-row.invariant.opened (omega (arith, c.loop-row-test.true, c.requires.rows)))).same_colors ∙ c.loop-row.invariant.colors
+    (c.in_ok-paint_line.ensures (room_cells lines (texts_by g.T.AsStr.text c.args.rows.now)) (c.loop-row.invariant.opened (omega (arith, c.loop-row-test.true, c.requires.rows)))).same_colors ∙ c.loop-row.invariant.colors
 
 pub loop-row-preserved : goal.loop-row-preserved
-loop-row-preserved c =
+loop-row-preserved g c =
     let lines = c.args.self.now.lines.now in
     let view = viewed lines.frame in
     let rows = c.args.rows.now in
     let r = c.loop-row.row in
-    let cells = room_cells lines (texts rows) in
-    let there = row_texts rows r c.index-rows-row.result c.deref.result.now c.loop-row-test.true c.index-rows-row.is c.deref.ensures.value in
+    let cells = room_cells lines (texts_by g.T.AsStr.text rows) in
+    let there = row_texts g.T.AsStr.text rows r c.index-rows-row.result c.deref.result.now c.loop-row-test.true c.index-rows-row.is c.deref.ensures.value in
     let opened = c.loop-row.invariant.opened (omega (arith, c.loop-row-test.true, c.requires.rows)) in
     let lines_above = c.in_ok-paint_line.ensures cells opened in
-    let own = c.in_ok-paint_shown.ensures.painted (texts rows) (sym there) opened in
+    let own = c.in_ok-paint_shown.ensures.painted (texts_by g.T.AsStr.text rows) (sym there) opened in
     record {
       ended = own.ended;
       colors = own.same_colors ∙ lines_above.same_colors ∙ c.loop-row.invariant.colors;
@@ -63,16 +63,16 @@ loop-row-preserved c =
       wides_count = omega (arith, c.loop-row.invariant.wides_count);
       rooms_count = omega (arith, c.loop-row.invariant.rooms_count);
       above = hosts_above (columns_of lines) (rows_of lines) lines.frame.shape r c.next_hosts.new.hosts c.next_hosts.ensures.hosts;
-      opened = c.in_ok-paint_shown.ensures.opened (texts rows) (sym there) opened;
+      opened = c.in_ok-paint_shown.ensures.opened (texts_by g.T.AsStr.text rows) (sym there) opened;
       painted =
           row_more (spanned_if_drawn view (columns_of lines) (rows_of lines) cells) (spanned_row view (columns_of lines) (rows_of lines) cells) r _ _ _ _ _ refl
           c.loop-row.invariant.painted lines_above own;
     }
 
 pub returns-clause-painted : goal.returns-clause-painted
-returns-clause-painted c =
+returns-clause-painted g c =
     let lines = c.args.self.now.lines.now in
     let view = viewed lines.frame in
-    let cells = room_cells lines (texts c.args.rows.now) in
+    let cells = room_cells lines (texts_by g.T.AsStr.text c.args.rows.now) in
     let all : c.loop-row.row ≡ view.shape.0 = (let rows_are = c.requires.rows in omega (arith, c.loop-row-test.false, c.loop-row.auto.row-end, rows_are)) in
     subst (λ n. PaintsLines (flat_map (λ r. spanned_if_drawn view (columns_of lines) (rows_of lines) cells r ++ spanned_row view (columns_of lines) (rows_of lines) cells r) (below n)) c.args.page.now c.loop-row.page) all c.loop-row.invariant.painted

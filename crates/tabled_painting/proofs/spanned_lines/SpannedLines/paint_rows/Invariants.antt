@@ -2,19 +2,19 @@
 use Rattle.std.proofs.Common.{◌≡◌, ◌<◌, ◌++◌, None, length, option_copied}
 use Rattle.std.specs.List.{flat_map}
 use Rattle.tabled_object.specs.Entities.{below}
-use Rattle.tabled_printing.specs.Texts.{texts}
 use Rattle.tabled_rooms.specs.Holding.{AreAbove}
 use Rattle.tabled_painting.specs.Pages.{PaintsLines}
 use Rattle.tabled_painting.specs.PaintedSpans.{spanned_if_drawn, spanned_row}
 use Rattle.tabled_painting.specs.RoomLines.{AreOpen, columns_of, room_cells, rows_of}
+use Rattle.tabled_painting.specs.TextsBy.{texts_by}
 use Rattle.tabled_painting.specs.Viewed.{viewed}
 use Rattle.tabled_painting.proofs.spanned_lines.SpannedLines.paint_rows.Given as goal
 
 abbrev pub invariant-loop-row : goal.invariant-loop-row
-invariant-loop-row l =
+invariant-loop-row g l =
     let lines = l.self.lines.now in
     let view = viewed lines.frame in
-    let cells = room_cells lines (texts l.rows) in
+    let cells = room_cells lines (texts_by g.T.AsStr.text l.rows) in
     record {
       ended : option_copied l.page.painter.color ≡ None;
       colors : l.page.painter.with_colors ≡ lines.frame.with_colors;

@@ -1,5 +1,5 @@
 -- The sides and cells so far, the side after them, and the cells that are kept.
-use Rattle.std.proofs.Common.{◌≡◌, ℕ, ◌++◌, false, [], map, slice_index_or, string_bytes}
+use Rattle.std.proofs.Common.{◌≡◌, ℕ, ◌++◌, false, [], map, slice_index_or}
 use Rattle.std.specs.List.{flat_map}
 use Rattle.tabled_object.specs.Entities.{below}
 use Rattle.tabled_painting.specs.Rows.{line_of}
@@ -10,8 +10,8 @@ use Rattle.tabled_painting.specs.Viewed.{viewed}
 use Rattle.tabled_painting.proofs.table_lines.TableLines.paint_each.Given as goal
 
 abbrev pub invariant-loop-col : goal.invariant-loop-col
-invariant-loop-col l = record {
-  painted : Paints (flat_map (λ c. painted_side (viewed l.self.frame) l.row 0 c ++ row_cell l.self l.row c (slice_index_or (map string_bytes l.texts) c []) 0) (below l.col) ++ painted_side (viewed l.self.frame) l.row 0 l.col)
+invariant-loop-col g l = record {
+  painted : Paints (flat_map (λ c. painted_side (viewed l.self.frame) l.row 0 c ++ row_cell l.self l.row c (slice_index_or (map g.T.AsStr.text l.texts) c []) 0) (below l.col) ++ painted_side (viewed l.self.frame) l.row 0 l.col)
       l.fn.painter l.painter;
-  kept : l.is_low ≡ false → (at : ℕ) → map (line_of at) l.cells.items ≡ map (λ c. row_cell l.self l.row c (slice_index_or (map string_bytes l.texts) c []) at) (below l.col);
+  kept : l.is_low ≡ false → (at : ℕ) → map (line_of at) l.cells.items ≡ map (λ c. row_cell l.self l.row c (slice_index_or (map g.T.AsStr.text l.texts) c []) at) (below l.col);
 }

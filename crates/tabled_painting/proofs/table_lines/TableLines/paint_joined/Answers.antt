@@ -10,11 +10,11 @@ use Rattle.tabled_painting.proofs.PainterLemmas.{paints_both}
 use Rattle.tabled_painting.proofs.table_lines.TableLines.paint_joined.Goals as goal
 
 pub returns : goal.returns
-returns c =
+returns g c =
     let lines = c.args.self.now in
     let view = viewed lines.frame in
     let row = c.args.row in
-    let cells = cells_between lines row (map string_bytes c.args.texts.now) in
+    let cells = cells_between lines row (map g.T.AsStr.text c.args.texts.now) in
     let old = c.args.painter.now in
     let middle = c.go_on_in.new.self in
     let new = c.push_side.new.self in

@@ -1,5 +1,5 @@
 -- The lines so far, and the cells of the others.
-use Rattle.std.proofs.Common.{◌≡◌, [], None, map, slice_index_or, string_bytes, option_copied}
+use Rattle.std.proofs.Common.{◌≡◌, [], None, map, slice_index_or, option_copied}
 use Rattle.tabled_object.specs.Entities.{below}
 use Rattle.tabled_painting.specs.Pages.{PaintsLines}
 use Rattle.tabled_painting.specs.PaintedTable.{painted_between}
@@ -8,7 +8,7 @@ use Rattle.tabled_painting.specs.Viewed.{viewed}
 use Rattle.tabled_painting.proofs.table_lines.TableLines.paint_row.Given as goal
 
 abbrev pub invariant-loop-at : goal.invariant-loop-at
-invariant-loop-at l = record {
+invariant-loop-at g l = record {
   ended : option_copied l.page.painter.color ≡ None;
-  painted : PaintsLines (map (λ k. painted_between (viewed l.self.frame) l.row k (λ c. row_cell l.self l.row c (slice_index_or (map string_bytes l.texts) c []) k)) (below l.at)) l.fn.page l.page;
+  painted : PaintsLines (map (λ k. painted_between (viewed l.self.frame) l.row k (λ c. row_cell l.self l.row c (slice_index_or (map g.T.AsStr.text l.texts) c []) k)) (below l.at)) l.fn.page l.page;
 }

@@ -1,26 +1,26 @@
--- The table with spans or without any.
-use Rattle.std.proofs.Common.{◌≡◌, ◌++◌, true, not, if◌then◌else◌, OnOk, ap, sym, subst, ◌∙◌}
+-- What is lent is printed as the table; its text is even.
+use Rattle.std.proofs.Common.{◌++◌, Result, Ok, Err, OnOk, refl, sym, subst}
 use Rattle.std.specs.Io.KnownBytes.{Appends}
-use Rattle.tabled_configuration.specs.Configuration.{is_sized_by_texts}
-use Rattle.tabled_painting.specs.Widths.{text_width}
-use Rattle.tabled_printing.specs.Columns.{IsRectangle}
-use Rattle.tabled_text.specs.Cells.{leaves_sizes, margin_set}
-use Rattle.tabled_text.specs.TextTable.{look_of, look_with_spans, text_of}
-use Rattle.tabled_text.proofs.SpanLemmas.{none_set, text_without}
+use Rattle.tabled_configuration.specs.Configuration as borders
+use Rattle.tabled_text.specs.Sizes.{column_count}
+use Rattle.tabled_text.specs.TextTable.{text_of}
+use Rattle.tabled_text.proofs.EqualRows.{all_equal}
+use Rattle.tabled_text.proofs.SpannedEven.{printed_even}
 use Rattle.tabled_text.proofs.text_table.TextTable.print_between.Goals as goal
 
 pub returns-clause-text : goal.returns-clause-text
 returns-clause-text g c es shows =
-    let drawing = c.args.self.now in
-    let is = c.has_spans_or_padding.ensures ∙ ap (λ cfg. not (is_sized_by_texts cfg)) (c.config-2.ensures ∙ ap (λ cfg. cfg.spanned) c.config.ensures) in
-    let none : leaves_sizes es ≡ true = none_set es drawing.config.spanned c.has_spans_or_padding.result shows is c.if-has_spans_or_padding.false in
-    subst (λ bytes. OnOk c.print_alone.result (Appends (g.W.Write.contents c.args.out.now) (g.W.Write.contents c.print_alone.new.out) (c.args.before.now ++ bytes ++ c.args.after.now)))
-    (sym (text_without es drawing.texts none)) (c.print_alone.ensures.text es shows)
+    let is = c.view.ensures in
+    subst (λ table. OnOk c.print.result (Appends (g.W.Write.contents c.args.out.now) (g.W.Write.contents c.print.new.out) (c.args.before.now ++ text_of es table ++ c.args.after.now))) is.texts
+    (c.print.ensures.plain refl es (subst (λ cfg. borders.Shows es cfg.spanned) (sym is.config) shows))
+
+-- what holds anyway holds where a call succeeds
+anyway : {T E P : Type 0} (r : Result T E) → P → OnOk r P
+anyway (Ok x) p = p
+anyway (Err e) p = tt
 
 pub returns-clause-rectangle : goal.returns-clause-rectangle
 returns-clause-rectangle g c es shows narrow apart =
-    let drawing = c.args.self.now in
-    let is = c.has_spans_or_padding.ensures ∙ ap (λ cfg. not (is_sized_by_texts cfg)) (c.config-2.ensures ∙ ap (λ cfg. cfg.spanned) c.config.ensures) in
-    let none : leaves_sizes es ≡ true = none_set es drawing.config.spanned c.has_spans_or_padding.result shows is c.if-has_spans_or_padding.false in
-    subst (λ leaves. OnOk c.print_alone.result (IsRectangle (text_width (if leaves then look_of es drawing.texts else look_with_spans es drawing.texts) (margin_set es)) (text_of es drawing.texts))) (sym none)
-    (c.print_alone.ensures.rectangle es shows narrow none)
+    let table = c.args.self.now.texts in
+    let is = c.view.ensures in
+    anyway c.print.result (printed_even es table (all_equal (column_count table) 0 table is.equal) is.utf8 narrow apart)

@@ -1,54 +1,35 @@
 -- What is lent is the table.
-use Rattle.std.proofs.Common.{false, true, map, length, sym, ap, subst, ◌∙◌, string_bytes}
+use Rattle.std.proofs.Common.{◌≡◌, ℕ, [], None, map, length, slice_index_or, sym, ap, subst, ◌∙◌, string_bytes}
+use Rattle.std.specs.Str.{IsUtf8}
 use Rattle.std.proofs.lemmas.List.{length-map}
-use Rattle.tabled_configuration.specs.Colored.{Shows}
-use Rattle.tabled_configuration.specs.Configuration as borders
 use Rattle.tabled_printing.specs.Texts.{texts}
-use Rattle.tabled_painting.specs.Pages.{text_of_lines}
-use Rattle.tabled_painting.specs.PaintedTable.{colored_text, painted_by, plain_text}
 use Rattle.tabled_painting.specs.Printable.{AllPrintable}
-use Rattle.tabled_painting.specs.Widths.{text_width}
-use Rattle.tabled_printing.specs.Columns.{IsRectangle}
-use Rattle.tabled_text.specs.Sizes.{column_count}
-use Rattle.tabled_text.specs.Cells.{margin_set}
-use Rattle.tabled_text.specs.TextTable.{Drawing, look_of, painted_alone, text_of}
+use Rattle.tabled_text.specs.Sizes.{cell, column_count, column_widths, row_heights, unequal_row}
+use Rattle.tabled_text.specs.TextTable.{Drawing}
 use Rattle.tabled_text.proofs.EqualRows.{all_equal}
-use Rattle.tabled_text.proofs.Even.{text_even, utf8_cells}
-use Rattle.tabled_text.proofs.Painting.{colors_viewed, plain_viewed, rows_equal}
+use Rattle.tabled_text.proofs.Even.{utf8_cells}
+use Rattle.tabled_text.proofs.Painting.{rows_equal}
 use Rattle.tabled_text.proofs.text_table.TextTable.view.Goals as goal
 
 pub returns-clause-table : goal.returns-clause-table
 returns-clause-table c =
     let table = c.self.inside in
     let rows = texts table.cells.items in
-    let kept = c.deref.ensures.value in
+    let kept = sym (ap texts c.deref.ensures.value) in
     record {
-      rows = ap length kept ∙ sym (length-map table.cells.items (λ row. map string_bytes row.items)) ∙ ap (λ shape. shape.rows) (sym c.self.invariant.1);
-      cols = rows_equal rows (texts c.deref.result.now) table.shape (ap texts kept) c.self.invariant.1 (all_equal (column_count rows) 0 rows c.self.invariant.0);
-      printable = λ known. subst AllPrintable (sym (ap texts kept)) (c.self.invariant.4 known);
+      rows = ap length c.deref.ensures.value ∙ sym (length-map table.cells.items (λ row. map string_bytes row.items)) ∙ ap (λ shape. shape.rows) (sym c.self.invariant.1);
+      cols = rows_equal rows (texts c.deref.result.now) table.shape (sym kept) c.self.invariant.1 (all_equal (column_count rows) 0 rows c.self.invariant.0);
+      shape = ap (λ shape. (shape.rows, shape.cols)) c.self.invariant.1 ∙ ap (λ table. (length table, column_count table)) kept;
+      widths = c.self.invariant.2 ∙ ap column_widths kept;
+      heights = c.self.invariant.3 ∙ ap row_heights kept;
+      printable = λ known. subst AllPrintable kept (c.self.invariant.4 known);
     }
 
-pub returns-clause-plain : goal.returns-clause-plain
-returns-clause-plain c es shows =
-    let table = c.self.inside in
-    let cfg = c.config.result.now in
-    let shown : borders.Shows es cfg.spanned = subst (λ cfg. borders.Shows es cfg.spanned) (sym c.config.ensures) shows in
-    ap (λ items. text_of_lines false (painted_by cfg (table.shape.rows, table.shape.cols) table.sizes.widths.items table.sizes.heights.items (texts items))) c.deref.ensures.value
-    ∙ plain_viewed cfg (texts table.cells.items) table.shape table.sizes.widths.items table.sizes.heights.items c.self.invariant.1 c.self.invariant.2 c.self.invariant.3 es shown
-    ∙ ap (λ drawing. plain_text (painted_alone es drawing.texts)) c.self.view_is
+pub returns-clause-texts : goal.returns-clause-texts
+returns-clause-texts c = ap texts c.deref.ensures.value ∙ ap (λ drawing. drawing.texts) c.self.view_is
 
-pub returns-clause-colored : goal.returns-clause-colored
-returns-clause-colored c es shows =
-    let table = c.self.inside in
-    let cfg = c.config.result.now in
-    let shown : Shows es cfg = subst (Shows es) (sym c.config.ensures) shows in
-    ap (λ items. text_of_lines true (painted_by cfg (table.shape.rows, table.shape.cols) table.sizes.widths.items table.sizes.heights.items (texts items))) c.deref.ensures.value
-    ∙ colors_viewed cfg (texts table.cells.items) table.shape table.sizes.widths.items table.sizes.heights.items c.self.invariant.1 c.self.invariant.2 c.self.invariant.3 es shown
-    ∙ ap (λ drawing. colored_text (painted_alone es drawing.texts)) c.self.view_is
+pub returns-clause-equal : goal.returns-clause-equal
+returns-clause-equal c = subst (λ (drawing : Drawing). unequal_row drawing.texts ≡ None) c.self.view_is c.self.invariant.0
 
-pub returns-clause-rectangle : goal.returns-clause-rectangle
-returns-clause-rectangle c es narrow none =
-    let rows = c.self.inside.cells.items in
-    let table = texts rows in
-    let of_view : Drawing → Type 0 = λ drawing. IsRectangle (text_width (look_of es drawing.texts) (margin_set es)) (text_of es drawing.texts) in
-    subst of_view c.self.view_is (text_even es table (all_equal (column_count table) 0 table c.self.invariant.0) (utf8_cells rows) narrow none)
+pub returns-clause-utf8 : goal.returns-clause-utf8
+returns-clause-utf8 c = subst (λ (drawing : Drawing). (row col : ℕ) → IsUtf8 (cell (slice_index_or drawing.texts row []) col)) c.self.view_is (utf8_cells c.self.inside.cells.items)

@@ -1,0 +1,49 @@
+-- The text of a table that is lent to be printed is that after the events that its configuration shows.
+use Rattle.std.proofs.Common.{◌≡◌, ℕ, true, false, Bool, List, not, refl, sym, ap, ◌∙◌}
+use Rattle.std.specs.List.{join_with_byte}
+use Rattle.tabled_object.specs.declared.records.Shape.{Shape}
+use Rattle.tabled_configuration.specs.Configuration as borders
+use Rattle.tabled_configuration.specs.Configuration.{ConfigEvent, is_sized_by_texts}
+use Rattle.tabled_configuration.specs.Colored.{Shows}
+use Rattle.tabled_painting.specs.Pages.{text_of_lines}
+use Rattle.tabled_painting.specs.PaintedSpans.{spanned_by}
+use Rattle.tabled_painting.specs.PaintedTable.{colored_text, plain_text}
+use Rattle.tabled_painting.proofs.Plain.{text_with_colors, text_without_colors}
+use Rattle.tabled_text.specs.TableViews.{IsTable, heights_viewed, spanned_viewed, text_viewed, texts_viewed, widths_viewed}
+use Rattle.tabled_text.specs.TextTable.{painted, shape_of, text_of}
+use Rattle.tabled_text.specs.declared.table_view.TableView.{TableView}
+use Rattle.tabled_text.proofs.Painting.{colors_viewed, plain_viewed}
+use Rattle.tabled_text.proofs.SpanLemmas.{is_spanned_color, is_spanned_text, none_set, painted_spanned, painted_without, some_set, text_spanned, text_without}
+
+module _ {T : Type 0} (bytes : T → List ℕ) (view : TableView T) (is : IsTable bytes view) (es : List ConfigEvent) (some : Bool) (found : some ≡ not (is_sized_by_texts view.config.now.spanned)) where
+  abbrev shape : Shape
+  shape = record { rows = view.shape.0; cols = view.shape.1 }
+
+  shaped : shape ≡ shape_of (texts_viewed bytes view)
+  shaped = ap (λ (counts : ℕ × ℕ). record { rows = counts.0; cols = counts.1 }) is.shape
+
+  module _ (shows : borders.Shows es view.config.now.spanned) where
+    pub plain_alone : some ≡ false → text_viewed bytes view false ≡ text_of es (texts_viewed bytes view)
+    plain_alone without =
+        plain_viewed view.config.now (texts_viewed bytes view) shape view.sizes.now.widths.items view.sizes.now.heights.items shaped is.widths is.heights es shows
+        ∙ sym (text_without es (texts_viewed bytes view) (none_set es view.config.now.spanned some shows found without))
+
+    pub plain_spanned : some ≡ true → spanned_viewed bytes view false ≡ text_of es (texts_viewed bytes view)
+    unfolding text_of_lines plain_text
+    plain_spanned any =
+        ap (join_with_byte 10) (text_without_colors (spanned_by view.config.now view.shape (widths_viewed bytes view) (heights_viewed bytes view) (texts_viewed bytes view)))
+        ∙ is_spanned_text view.config.now.spanned (texts_viewed bytes view) es shows shape (widths_viewed bytes view) (heights_viewed bytes view) shaped refl refl view.config.now.cell_colors
+        ∙ sym (text_spanned es (texts_viewed bytes view) (some_set es view.config.now.spanned some shows found any))
+
+  module _ (shows : Shows es view.config.now) where
+    pub colors_alone : some ≡ false → text_viewed bytes view true ≡ colored_text (painted es (texts_viewed bytes view))
+    colors_alone without =
+        colors_viewed view.config.now (texts_viewed bytes view) shape view.sizes.now.widths.items view.sizes.now.heights.items shaped is.widths is.heights es shows
+        ∙ ap colored_text (sym (painted_without es (texts_viewed bytes view) (none_set es view.config.now.spanned some shows.spanned_shown found without)))
+
+    pub colors_spanned : some ≡ true → spanned_viewed bytes view true ≡ colored_text (painted es (texts_viewed bytes view))
+    unfolding text_of_lines colored_text
+    colors_spanned any =
+        ap (join_with_byte 10) (text_with_colors (spanned_by view.config.now view.shape (widths_viewed bytes view) (heights_viewed bytes view) (texts_viewed bytes view)))
+        ∙ ap colored_text (is_spanned_color view.config.now (texts_viewed bytes view) shape (widths_viewed bytes view) (heights_viewed bytes view) shaped refl refl es shows)
+        ∙ ap colored_text (sym (painted_spanned es (texts_viewed bytes view) (some_set es view.config.now.spanned some shows.spanned_shown found any)))
