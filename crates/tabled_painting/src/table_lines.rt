@@ -22,12 +22,13 @@ use crate::alike::first_plain_line;
 use crate::bare_cells::{BareColumns, bare_columns};
 use crate::cell_lines::CellLines;
 use crate::joints::RowJoints;
+use crate::line_room::{columns_of, room_for_line};
 use crate::page::Page;
 use crate::plain_sides::{PlainSides, plain_sides};
 use crate::row_colors::{RowColors, row_colors};
 use crate::row_joints::has_few_cells;
 use crate::{CellColors, Painter};
-use std::alloc::{AllocError, Global};
+use std::alloc::Global;
 use std::convert::AsStr;
 use tabled_border::{ANSIBuf, OutOfMemory};
 use tabled_cells::Placement;
@@ -440,30 +441,6 @@ fn line_between(
         }
         _ => Ok(None),
     }
-}
-
-/// An empty text with room for three bytes for each of the given number of columns and for each vertical line, which is what most characters
-/// take at most, and for a line feed.
-fn room_for_line(
-    alloc: Global,
-    frame: &Frame<FixedDimension>,
-    columns: usize,
-) -> Result<String, AllocError>
-    ensures { IfOk result (λ text. string_bytes text ≡ []) }
-{
-    let (_, cols) = frame.shape;
-    let room = columns.saturating_add(cols).saturating_add(2);
-    String::with_capacity(alloc, room.saturating_mul(3))
-}
-
-/// How many columns of a terminal the columns of a table take. It saturates.
-fn columns_of(frame: &Frame<FixedDimension>) -> usize {
-    let (_, cols) = frame.shape;
-    let mut columns = 0usize;
-    for col in 0..cols {
-        columns = columns.saturating_add(frame.dims.get_width(col));
-    }
-    columns
 }
 
 /// A horizontal line as it is written, behind what a text has.
