@@ -18,3 +18,4 @@ pub mod AloneLemmas
 pub mod DrawnLemmas
 pub mod AlikeLineLemmas
 pub mod OutputLemmas
+pub mod PlainLineLemmas

@@ -79,7 +79,7 @@ fn push_feed<O: Output>(out: &mut O, row: usize) -> Result<(), O::Error>
 }
 
 /// Whether nothing stands around a table.
-fn has_no_margin(cfg: &SpannedConfig) -> bool
+pub(crate) fn has_no_margin(cfg: &SpannedConfig) -> bool
     ensures { result ≡ is_without_room cfg.now.settings.margin }
 {
     let size = cfg.get_margin();
@@ -87,7 +87,7 @@ fn has_no_margin(cfg: &SpannedConfig) -> bool
 }
 
 /// Whether each row is one line high.
-fn are_low(frame: &Frame<FixedDimension>) -> bool
+pub(crate) fn are_low(frame: &Frame<FixedDimension>) -> bool
     ensures { result ≡ true → (r : ℕ) → r < frame.now.shape.0 → slice_index frame.now.dims.now.heights.items r ≡ 1 }
 {
     let (rows, _) = frame.shape;

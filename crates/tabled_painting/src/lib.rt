@@ -19,6 +19,7 @@ mod output;
 mod page;
 mod painter;
 mod painting;
+mod plain_lines;
 mod plain_row;
 mod plain_sides;
 mod room;

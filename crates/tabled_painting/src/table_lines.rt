@@ -24,6 +24,7 @@ use crate::cell_lines::CellLines;
 use crate::joints::RowJoints;
 use crate::line_room::{columns_of, room_for_line};
 use crate::page::Page;
+use crate::plain_lines::FEW_COLUMNS;
 use crate::plain_sides::{PlainSides, plain_sides};
 use crate::row_colors::{RowColors, row_colors};
 use crate::row_joints::has_few_cells;
@@ -58,7 +59,8 @@ pub(crate) struct TableLines<'a, 'b> {
     pub(crate) plain_sides: Option<PlainSides>,
     /// In which colors the cells of a row are painted.
     pub(crate) row_colors: RowColors,
-    /// A horizontal line between two rows as it is written, with its line feed, where all of them but custom ones look alike.
+    /// A horizontal line between two rows as it is written, with its line feed, where all of them but custom ones look alike, unless the
+    /// table is small.
     pub(crate) between: Option<String>,
     /// How many columns of a terminal its columns take, as far as a number says it.
     pub(crate) columns: usize,
@@ -106,7 +108,11 @@ impl<'a, 'b> TableLines<'a, 'b> {
             None
         };
         let columns = columns_of(&frame);
-        let between = line_between(config.allocator(), &frame, columns)?;
+        let between = if plain_sides.is_some() && columns < FEW_COLUMNS {
+            None
+        } else {
+            line_between(config.allocator(), &frame, columns)?
+        };
         Ok(TableLines {
             frame,
             colors,
@@ -120,14 +126,13 @@ impl<'a, 'b> TableLines<'a, 'b> {
         })
     }
 
-    /// The line that is painted between two rows as a whole: it is no custom one, and nothing stands at its sides.
-    fn whole_line(&self, page: &Page<'a>, row: usize) -> Option<&str>
-        ensures written { IfSome result (λ text. (0 < row) × (row < self.now.frame.shape.0) × (text.now ≡ written self.now.frame.with_colors (painted_marks (marks_along (viewed self.now.frame) (Line.Horizontal row))))) }
-        ensures sides { IfSome result (λ text. (page.now.left.size ≡ 0) × (page.now.right.size ≡ 0)) }
+    /// The line that is painted between two rows as it was written before: it is no custom one.
+    fn whole_line(&self, row: usize) -> Option<&str>
+        ensures { IfSome result (λ text. (0 < row) × (row < self.now.frame.shape.0) × (text.now ≡ written self.now.frame.with_colors (painted_marks (marks_along (viewed self.now.frame) (Line.Horizontal row))))) }
     {
         let line = self.between.as_ref()?;
         let is_between = 0 < row && row < self.frame.shape.0;
-        if !is_between || page.has_sides() || self.frame.cfg.has_custom_line(row) {
+        if !is_between || self.frame.cfg.has_custom_line(row) {
             return None;
         }
         Some(line.as_str())
@@ -144,7 +149,9 @@ impl<'a, 'b> TableLines<'a, 'b> {
         if !self.frame.draws(row) {
             return Ok(());
         }
-        if let Some(line) = self.whole_line(page, row) {
+        if !page.has_sides()
+            && let Some(line) = self.whole_line(row)
+        {
             return page.push_line(line);
         }
         page.begin_line()?;
