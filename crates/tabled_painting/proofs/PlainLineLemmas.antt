@@ -10,7 +10,7 @@ use Rattle.tabled_painting.specs.declared.painter.Painter.{Painter}
 use Rattle.tabled_painting.specs.Painted.{Painted}
 use Rattle.tabled_painting.specs.PaintedTable.{Cells, painted_between, painted_row}
 use Rattle.tabled_painting.specs.InColor.{Paints, suffix_of}
-use Rattle.tabled_painting.specs.Pages.{PaintsWhole, written}
+use Rattle.tabled_painting.specs.Pages.{PaintsWhole}
 use Rattle.tabled_painting.proofs.PageLemmas.{none_whole, whole_both, whole_more}
 
 pub nothing_whole : (painter : Painter) → option_copied painter.color ≡ None → PaintsWhole [] painter painter

@@ -56,7 +56,7 @@ fn columns_long(frame: &Frame<FixedDimension>, margin: &MarginSides) -> Result<u
     sum_of(left, margin.right.size)
 }
 
-/// Paints a table that has places, with its margin.
+/// Paints a table that has places, with its margin, if it has one: a small table stands alone without it.
 fn paint_in_margin<'a, T: AsStr>(
     mut painter: Painter<'a>,
     lines: &TableLines<'a, '_>,
@@ -70,6 +70,11 @@ fn paint_in_margin<'a, T: AsStr>(
     requires colors { painter.with_colors ≡ lines.now.frame.with_colors }
     ensures { IfOk result (λ painted. PaintsWhole (painted_table (viewed lines.now.frame) lines.now.frame.cfg.now.settings.margin (cells_of lines.now (texts_by T.text rows.now))) painter.entry painted) }
 {
+    if are_printable && lines.stand_alone() {
+        painter.reserve(lines.room_alone())?;
+        lines.paint_alone(&mut painter, rows)?;
+        return Ok(painter);
+    }
     let margin = MarginSides::of(lines.frame.cfg);
     let high = lines_high(&lines.frame, &margin)?;
     let long = columns_long(&lines.frame, &margin)?;
@@ -87,28 +92,6 @@ fn paint_in_margin<'a, T: AsStr>(
     lines.paint(&mut page, rows, are_printable)?;
     let Page { mut painter, .. } = page;
     margin.bottom.paint_strips(&mut painter, long)?;
-    Ok(painter)
-}
-
-/// Paints a table that has places: its lines as they stand alone, if they do, and else with its margin.
-fn paint_whole<'a, T: AsStr>(
-    mut painter: Painter<'a>,
-    lines: &TableLines<'a, '_>,
-    rows: &'a [Vec<T>],
-    are_printable: bool,
-) -> Result<Painter<'a>, OutOfMemory>
-    requires rows { length rows.now ≡ lines.now.frame.shape.0 }
-    requires cols { All (λ row. length row ≡ lines.now.frame.shape.1) (texts_by T.text rows.now) }
-    requires printable { are_printable ≡ true → AllPrintable (texts_by T.text rows.now) }
-    requires ended { option_copied painter.color ≡ None }
-    requires colors { painter.with_colors ≡ lines.now.frame.with_colors }
-    ensures { IfOk result (λ painted. PaintsWhole (painted_table (viewed lines.now.frame) lines.now.frame.cfg.now.settings.margin (cells_of lines.now (texts_by T.text rows.now))) painter.entry painted) }
-{
-    if !are_printable || !lines.stand_alone() {
-        return paint_in_margin(painter, lines, rows, are_printable);
-    }
-    painter.reserve(lines.room_alone())?;
-    lines.paint_alone(&mut painter, rows)?;
     Ok(painter)
 }
 
@@ -171,7 +154,7 @@ pub fn table_text<'a, T: AsStr>(
         return Ok(String::new(alloc));
     }
     let lines = TableLines::new(cfg, sizes, shape, with_colors)?;
-    let painter = paint_whole(
+    let painter = paint_in_margin(
         Painter::new(alloc, with_colors),
         &lines,
         rows,
