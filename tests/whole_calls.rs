@@ -10,10 +10,10 @@ use tabled_grid::{
     border_writes,
 };
 use tabled_painting::{AlikeLines, Output, sizes_of_spanned, spanned_text, table_text};
-use tabled_printing::push_after;
+use tabled_printing::{ClassLook, Stretch, push_after};
 use tabled_rooms::CellSizes;
 use tabled_settings::EntityMap;
-use tabled_style::ReadyStyle;
+use tabled_style::{ReadyStyle, Style};
 
 const CELL: Position = Position { row: 0, col: 1 };
 
@@ -203,6 +203,39 @@ fn a_mark_is_put_before_a_run(rt: HostRuntime) -> Result<(), Fail> {
     let mut count = 1usize;
     count.put_after(crossing, run)?;
     assert_eq!(rt; (marks.len(), runs.len(), count), (3, 2, 4));
+    Ok(())
+}
+
+#[test]
+fn a_crossing_is_written_with_the_edge_after_it(rt: HostRuntime) -> Result<(), Fail> {
+    let mut text = String::from_str(rt.alloc(), "line ")?;
+    Stretch::of(Some('┬'), '─').push(&mut text, 3)?;
+    Stretch::of(Some('#'), '─').push(&mut text, 1)?;
+    Stretch::of(None, '=').push(&mut text, 2)?;
+    Stretch::of(Some('┼'), '─').push(&mut text, 0)?;
+    assert_eq!(rt; text.as_str(), "line ┬───#─==┼");
+    Stretch::of(Some('┼'), '─').push(&mut text, 65)?;
+    assert_eq!(rt; text.chars().count(), 80);
+    Ok(())
+}
+
+#[test]
+fn a_line_of_a_class_record_is_written(rt: HostRuntime) -> Result<(), Fail> {
+    let alloc = rt.alloc();
+    let mut cfg = SpannedConfig::new(alloc);
+    let dims = FixedDimension::new(vec![in alloc; 2usize; 3]?, vec![in alloc; 1usize; 2]?);
+    cfg.set_borders(Style::modern().get_borders());
+    let Some(look) = ClassLook::of(&cfg, &dims, (2, 3)) else {
+        return Ok(assert!(rt; false));
+    };
+    let mut text = String::from_str(alloc, "lines\n")?;
+    look.push_line(&mut text, 0)?;
+    look.push_line(&mut text, 1)?;
+    assert_eq!(rt; text.as_str(), "lines\n┌──┬──┬──┐\n├──┼──┼──┤\n");
+    assert_eq!(rt; (look.first, look.inner, look.last), (Some('│'), Some('│'), Some('│')));
+    assert!(rt; ClassLook::of(&cfg, &dims, (2, 4)).is_none());
+    cfg.insert_vertical_line(1, VerticalLine::empty())?;
+    assert!(rt; ClassLook::of(&cfg, &dims, (2, 3)).is_none());
     Ok(())
 }
 

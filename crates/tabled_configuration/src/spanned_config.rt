@@ -185,6 +185,7 @@ impl SpannedConfig {
     }
 
     /// Whether horizontal line `line` is drawn in a table of `rows` rows.
+    #[inline(always)]
     pub fn has_horizontal(&self, line: usize, rows: usize) -> bool
         ensures { IsTrue result ↔ Drawn (state_at self.now.characters) rows (Line.Horizontal line) }
     {

@@ -17,5 +17,6 @@ pub mod SpannedLemmas
 pub mod AloneLemmas
 pub mod DrawnLemmas
 pub mod AlikeLineLemmas
-pub mod OutputLemmas
 pub mod PlainLineLemmas
+mod SmallLemmas
+pub mod OutputLemmas

@@ -1,25 +1,17 @@
 -- What is written without colors, part by part: sides, cells, and the line of a row.
-use Rattle.std.proofs.Common.{◌≡◌, ℕ, ◌+◌, ◌-◌, ◌<◌, ◌≤◌, arith, length, nat_lt, refl, Bool, true, if◌then◌else◌, false, Option, Some, None, List, [], ◌++◌, sym, ap, subst, ◌∙◌, option_map, encode_utf8, option_copied, string_bytes, Result, Ok, Err, OnOk}
+use Rattle.std.proofs.Common.{◌≡◌, ℕ, ◌+◌, ◌-◌, ◌<◌, arith, length, false, Option, Some, None, List, [], ◌++◌, sym, ap, subst, ◌∙◌, option_map, encode_utf8, option_copied, string_bytes, Result, Ok, Err, OnOk}
 use Rattle.std.specs.List.{flat_map}
-use Rattle.std.proofs.lemmas.Bool.Decides.{nat_tests}
 use Rattle.std.proofs.lemmas.List.{append-nil, append_assoc}
 use Rattle.tabled_object.specs.Entities.{below}
 use Rattle.tabled_printing.specs.Marks.{mark_of}
 use Rattle.tabled_printing.specs.Picture.{character}
 use Rattle.tabled_printing.specs.declared.mark.Mark.{Mark}
-use Rattle.std.specs.Prelude.{slice_index}
-use Rattle.tabled_object.specs.declared.dimension.FixedDimension.{FixedDimension}
 use Rattle.tabled_settings.specs.declared.alignment.AlignmentHorizontal.{AlignmentHorizontal}
-use Rattle.tabled_printing.specs.Texts.{shown_bytes}
-use Rattle.tabled_printing.specs.declared.frame.Frame.{Frame}
 use Rattle.tabled_printing.proofs.TimesLemmas.{times_both}
 use Rattle.tabled_cells.specs.Placed.{free_before, times}
 use Rattle.tabled_painting.specs.BareCells.{bare_text, text_behind_space}
-use Rattle.tabled_painting.specs.PlainSides.{ArePlainSides}
-use Rattle.tabled_painting.specs.Viewed.{viewed}
-use Rattle.tabled_painting.specs.declared.plain_sides.PlainSides.{PlainSides}
 use Rattle.tabled_painting.specs.Painted.{Painted, paint, plain, colored_if}
-use Rattle.tabled_painting.specs.PaintedTable.{painted_side, side_painted}
+use Rattle.tabled_painting.specs.PaintedTable.{side_painted}
 use Rattle.tabled_painting.specs.InColor.{Paints, colored, last_color}
 use Rattle.tabled_painting.specs.declared.painter.Painter.{Painter}
 use Rattle.tabled_painting.proofs.PainterLemmas.{plain_paint, goes_on, stays}
@@ -83,17 +75,6 @@ spaces_in_two before shown rest many =
     ∙ ap (λ bs. bs ++ rest) (sym (append_assoc (times (before - 64) 32) (times 64 32) shown))
     ∙ ap (λ bs. (bs ++ shown) ++ rest) (sym (times_both (before - 64) 64 32))
     ∙ ap (λ n. (times n 32 ++ shown) ++ rest) all
-
--- what is shown beside a column
-pub side_before : (frame : Frame FixedDimension) (sides : PlainSides) (r c : ℕ) → ArePlainSides frame sides → r < frame.shape.0 → 0 < slice_index frame.dims.now.heights.items r → 0 < c → c ≤ frame.shape.1
-    → shown_bytes (if nat_lt c frame.shape.1 then sides.inner else sides.last).shown ≡ plain (painted_side (viewed frame) r 0 c)
-side_before frame sides r c are row high some within = by_case (nat_lt c frame.shape.1) refl
-  where
-    by_case : (b : Bool) → nat_lt c frame.shape.1 ≡ b → shown_bytes (if b then sides.inner else sides.last).shown ≡ plain (painted_side (viewed frame) r 0 c)
-    by_case true is = are.inner r c row high some (grind (arith, nat_tests, is))
-    by_case false is =
-        let last : c ≡ frame.shape.1 = (let far : frame.shape.1 ≤ c = grind (arith, nat_tests, is) in omega (arith, far, within)) in
-        are.last r row high ∙ ap (λ k. plain (painted_side (viewed frame) r 0 k)) (sym last)
 
 -- characters written where no color is wanted and none goes on are painted
 pub paints_plain : (line : Painted) (old new : Painter) → old.with_colors ≡ false → option_copied old.color ≡ None → string_bytes new.text ≡ string_bytes old.text ++ plain line

@@ -16,6 +16,7 @@ pub mod Outputs
 pub mod Printable
 pub mod TextsBy
 pub mod AlikeRows
+pub mod SmallTables
 pub mod AlikeLines
 pub mod Widths
 pub mod PaintedSpans

@@ -1,9 +1,10 @@
 //! Where the texts of bare cells stand: those that are shown as they are.
 
-ghost use Rattle.std.specs.Prelude.{◌≡◌, ◌<◌, ℕ, true, IfOk, IsSome, IsTrue, map};
+ghost use Rattle.std.specs.Prelude.{◌≡◌, ◌<◌, ℕ, true, IfOk, IfSome, IsSome, IsTrue, map};
 ghost use Rattle.tabled_object.specs.Entities.{below};
 ghost use Rattle.tabled_cells.specs.Placements.{placement_at};
 ghost use Rattle.tabled_configuration.specs.Configuration.{has_no_padding};
+ghost use Rattle.tabled_painting.specs.declared.bare_cells.BareColumns.{BareColumns as Columns};
 ghost use Rattle.tabled_painting.specs.BareCells.{AllAreBare, AreBare, IsBareCell, side_of};
 
 use std::alloc::AllocError;
@@ -84,6 +85,16 @@ fn first_sides(cfg: &SpannedConfig, columns: usize) -> Result<Vec<AlignmentHoriz
         sides.push(cfg.get_alignment_horizontal(Position::new(0, col)))?;
     }
     Ok(sides)
+}
+
+/// Where the texts of all columns stand, if they stand alike, and all cells are known to be bare.
+pub(crate) fn one_alignment(cfg: &SpannedConfig) -> Option<AlignmentHorizontal>
+    ensures { IfSome result (λ side. AreBare cfg.now.settings.cells (Columns.Alike side)) }
+{
+    if !has_bare_cells(cfg) || !cfg.has_one_alignment() {
+        return None;
+    }
+    Some(cfg.get_alignment_horizontal(Position::new(0, 0)))
 }
 
 /// Where the texts of so many columns stand, if all cells are known to be bare. Where all columns are alike it takes no memory.

@@ -26,6 +26,7 @@ mod room;
 mod row_colors;
 mod row_joints;
 mod row_sides;
+mod small_table;
 mod spanned_lines;
 mod spanned_sizes;
 mod spans_of;

@@ -1,10 +1,11 @@
 //! The text of a table with its colors and its margin.
 
-ghost use Rattle.std.specs.Prelude.{◌≡◌, ◌+◌, true, None, List, length, IfOk, string_bytes, option_copied};
+ghost use Rattle.std.specs.Prelude.{◌≡◌, ◌+◌, true, false, None, List, length, IfOk, string_bytes, option_copied};
 ghost use Rattle.std.specs.List.{All};
 ghost use Rattle.tabled_painting.specs.Margin.{side_of, between_sides};
 ghost use Rattle.tabled_painting.specs.Pages.{PaintsWhole, Strips, text_of_lines};
 ghost use Rattle.tabled_grid.specs.declared.place.LineOf.{LineOf as Line};
+ghost use Rattle.tabled_printing.specs.Along.{is_empty};
 ghost use Rattle.tabled_printing.specs.Picture.{marks_along};
 ghost use Rattle.tabled_painting.specs.Painted.{Painted};
 ghost use Rattle.tabled_painting.specs.PaintedSpans.{spanned_by, spanned_table};
@@ -16,6 +17,8 @@ ghost use Rattle.tabled_painting.specs.TextsBy.{texts_by};
 ghost use Rattle.tabled_painting.specs.Viewed.{viewed};
 
 use crate::page::Page;
+use crate::plain_lines::room_of;
+use crate::small_table::SmallTable;
 use crate::spanned_lines::SpannedLines;
 use crate::table_lines::TableLines;
 use crate::{MarginSides, Painter};
@@ -71,7 +74,7 @@ fn paint_in_margin<'a, T: AsStr>(
     ensures { IfOk result (λ painted. PaintsWhole (painted_table (viewed lines.now.frame) lines.now.frame.cfg.now.settings.margin (cells_of lines.now (texts_by T.text rows.now))) painter.entry painted) }
 {
     if are_printable && lines.stand_alone() {
-        painter.reserve(lines.room_alone())?;
+        painter.reserve(room_of(lines.columns, lines.frame.shape))?;
         lines.paint_alone(&mut painter, rows)?;
         return Ok(painter);
     }
@@ -129,6 +132,35 @@ fn paint_spanned_in_margin<'a, T: AsStr>(
     Ok(painter)
 }
 
+/// The text of a table of texts that has places, painted. Out of line, so that no room is made for its lines where a small table is written.
+#[inline(never)]
+fn painted_text<'a, T: AsStr>(
+    cfg: &'a ColoredConfig,
+    sizes: &FixedDimension,
+    shape: (usize, usize),
+    rows: &'a [Vec<T>],
+    are_printable: bool,
+    with_colors: bool,
+) -> Result<String, OutOfMemory>
+    requires places { is_empty shape ≡ false }
+    requires rows { length rows.now ≡ shape.0 }
+    requires cols { All (λ row. length row ≡ shape.1) (texts_by T.text rows.now) }
+    requires printable { are_printable ≡ true → AllPrintable (texts_by T.text rows.now) }
+    ensures { IfOk result (λ text. string_bytes text ≡ text_of_lines with_colors (painted_by cfg.now shape sizes.now.widths.items sizes.now.heights.items (texts_by T.text rows.now))) }
+{
+    let alloc = cfg.config().allocator();
+    let lines = TableLines::new(cfg, sizes, shape, with_colors)?;
+    let painter = paint_in_margin(
+        Painter::new(alloc, with_colors),
+        &lines,
+        rows,
+        are_printable,
+    )?;
+    let mut text = painter.into_text();
+    join_lines(&mut text, 0);
+    Ok(text)
+}
+
 /// The text of a table of texts as its configuration says, in color or without colors: its cells as they are set for each, its borders, and
 /// its margin around them. `sizes` are the widths of its columns and the heights of its rows, `shape` the numbers of its rows and of its
 /// columns. It may be said that all its texts are of printable characters of ASCII. Its lines are joined by single line feeds.
@@ -153,16 +185,13 @@ pub fn table_text<'a, T: AsStr>(
     if shape.0 == 0 || shape.1 == 0 {
         return Ok(String::new(alloc));
     }
-    let lines = TableLines::new(cfg, sizes, shape, with_colors)?;
-    let painter = paint_in_margin(
-        Painter::new(alloc, with_colors),
-        &lines,
-        rows,
-        are_printable,
-    )?;
-    let mut text = painter.into_text();
-    join_lines(&mut text, 0);
-    Ok(text)
+    if are_printable
+        && !with_colors
+        && let Some(table) = SmallTable::of(cfg.config(), sizes, shape)
+    {
+        return table.text(rows);
+    }
+    painted_text(cfg, sizes, shape, rows, are_printable, with_colors)
 }
 
 /// The text of a table of texts as `table_text` gives it, where cells span several columns or rows: each that is shown has the room of all

@@ -20,6 +20,14 @@ use tabled_kept::Probes;
 /// How many columns of a terminal the columns of a small table take at most, and one more.
 pub(crate) const FEW_COLUMNS: usize = 256;
 
+/// How many bytes the lines of a table take at most where each of its characters takes three, as most borders do. It saturates.
+pub(crate) fn room_of(columns: usize, shape: (usize, usize)) -> usize {
+    let (rows, cols) = shape;
+    let line = columns.saturating_add(cols).saturating_add(2);
+    let lines = rows.saturating_mul(2).saturating_add(1);
+    line.saturating_mul(3).saturating_mul(lines)
+}
+
 impl<'a> TableLines<'a, '_> {
     /// Whether the table is small, nothing stands around it, and each of its rows is one line of plain cells.
     pub(crate) fn stand_alone(&self) -> bool
@@ -32,14 +40,6 @@ impl<'a> TableLines<'a, '_> {
             && self.columns < FEW_COLUMNS
             && has_no_margin(self.frame.cfg)
             && are_low(&self.frame)
-    }
-
-    /// How many bytes the lines of a small table take at most where each of its characters takes three, as most borders do. It saturates.
-    pub(crate) fn room_alone(&self) -> usize {
-        let (rows, cols) = self.frame.shape;
-        let line = self.columns.saturating_add(cols).saturating_add(2);
-        let lines = rows.saturating_mul(2).saturating_add(1);
-        line.saturating_mul(3).saturating_mul(lines)
     }
 
     /// Paints a horizontal line, which is not past the last one, if the line is drawn.

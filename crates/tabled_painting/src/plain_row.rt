@@ -85,7 +85,7 @@ const SPACES: usize = 64;
 
 /// Writes spaces, what a vertical line shows, and a few further spaces.
 #[inline(always)]
-fn push_spaced<O: Output>(
+pub(crate) fn push_spaced<O: Output>(
     out: &mut O,
     before: usize,
     spaced: SpacedText,
@@ -104,7 +104,7 @@ fn push_spaced<O: Output>(
 /// Writes a text in a column, behind one of the spaces before it, with the other ones, the spaces after it, what the vertical line after
 /// them shows, and a few further spaces. The text takes as many terminal columns as it has bytes.
 #[inline(always)]
-fn push_cell<O: Output>(
+pub(crate) fn push_cell<O: Output>(
     out: &mut O,
     alignment: AlignmentHorizontal,
     width: usize,
@@ -124,7 +124,7 @@ fn push_cell<O: Output>(
 
 /// How many spaces are written before a column together with the line before it: one, if there is such a column.
 #[inline(always)]
-fn space_before(col: usize, cols: usize) -> usize
+pub(crate) fn space_before(col: usize, cols: usize) -> usize
     ensures { result ≡ min 1 (cols - col) }
 {
     cols.saturating_sub(col).min(1)
@@ -164,7 +164,7 @@ impl TableLines<'_, '_> {
         requires plain { self.now.is_plain ≡ true }
         requires texts { length texts.now ≡ self.now.frame.shape.1 }
         requires printable { ArePrintable (map T.text texts.now) }
-        requires sides { ArePlainSides self.now.frame sides.now }
+        requires sides { ArePlainSides (viewed self.now.frame) sides.now }
         ensures { OnOk result (O.gains (plain (painted_between (viewed self.now.frame) row 0 (λ c. row_cell self.now row c (slice_index_or (map T.text texts.now) c []) 0))) out.old out.new) }
     {
         let cols = texts.len();

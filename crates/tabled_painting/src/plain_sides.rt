@@ -5,11 +5,13 @@ ghost use Rattle.tabled_printing.specs.Marks.{mark_of};
 ghost use Rattle.tabled_printing.specs.Texts.{shown_bytes};
 ghost use Rattle.tabled_painting.specs.Painted.{plain};
 ghost use Rattle.tabled_painting.specs.PaintedTable.{side_painted};
+ghost use Rattle.tabled_printing.specs.ClassLooks.{plain_look};
 ghost use Rattle.tabled_painting.specs.PlainSides.{ArePlainSides};
+ghost use Rattle.tabled_painting.specs.Viewed.{viewed};
 
 use crate::row_sides::row_sides;
 use tabled_object::FixedDimension;
-use tabled_printing::{Frame, Mark, SpacedText};
+use tabled_printing::{ClassLook, Frame, Mark, SpacedText};
 
 /// What vertical lines show beside each row, between spaces: the first one, those between two columns, and the last one.
 #[derive(Clone, Copy)]
@@ -41,12 +43,24 @@ fn spaced(side: Option<Mark>) -> Option<SpacedText>
 
 /// What vertical lines show beside each row, if it is known that those between two columns look alike, and there are texts of all that.
 pub(crate) fn plain_sides(frame: &Frame<FixedDimension>) -> Option<PlainSides>
-    ensures { IfSome result (ArePlainSides frame.now) }
+    ensures { IfSome result (ArePlainSides (viewed frame.now)) }
 {
     let sides = row_sides(frame)?;
     Some(PlainSides {
         first: spaced(sides.first)?,
         inner: spaced(sides.inner)?,
         last: spaced(sides.last)?,
+    })
+}
+
+/// The same where the class record alone decides what shows.
+#[inline(always)]
+pub(crate) fn class_sides(look: &ClassLook) -> Option<PlainSides>
+    ensures { IfSome result (ArePlainSides (plain_look look.now.cfg.now look.now.shape look.now.sizes.now)) }
+{
+    Some(PlainSides {
+        first: SpacedText::of(look.first)?,
+        inner: SpacedText::of(look.inner)?,
+        last: SpacedText::of(look.last)?,
     })
 }

@@ -12,6 +12,7 @@ ghost use Rattle.tabled_painting.specs.InColor.{Paints};
 ghost use Rattle.tabled_painting.specs.Pages.{PaintsLines, line_text, written};
 ghost use Rattle.tabled_painting.specs.PaintedTable.{painted_marks, side_painted};
 ghost use Rattle.tabled_painting.specs.Viewed as looks;
+ghost use Rattle.tabled_painting.specs.Viewed.{viewed};
 ghost use Rattle.tabled_painting.specs.BareCells.{AreBare, AreRowColors, side_in};
 ghost use Rattle.tabled_painting.specs.Between.{IsBetweenRows};
 ghost use Rattle.tabled_painting.specs.PlainSides.{ArePlainSides};
@@ -68,7 +69,7 @@ pub(crate) struct TableLines<'a, 'b> {
     ghost all_bare: { are_all_bare ≡ true → (c : ℕ) → c < frame.shape.1 → IsSome (side_in bare_columns c) },
     ghost plain_cells: { is_plain ≡ true → are_all_bare ≡ true },
     ghost plain_colors: { is_plain ≡ true → frame.with_colors ≡ false },
-    ghost are_plain_sides: { ForSome plain_sides (ArePlainSides frame) },
+    ghost are_plain_sides: { ForSome plain_sides (ArePlainSides (viewed frame)) },
     ghost are_row_colors: { AreRowColors row_colors frame.with_colors frame.cfg.now.settings.cells colors.now },
     ghost is_between: { ForSome between (λ text. IsBetweenRows frame (string_bytes text)) },
 }

@@ -268,11 +268,11 @@ ranked_sides cfg wanted shape one two end c places lines is_first is_inner is_en
         is_inner ∙ side_as_second cfg wanted shape places lines c some less
 
 -- a line is drawn where it has a mark
-there : {A B : Type 0} (f : A → B) (found : Option A) → is_some (option_map f found) ≡ is_some found
+pub there : {A B : Type 0} (f : A → B) (found : Option A) → is_some (option_map f found) ≡ is_some found
 there f None = refl
 there f (Some x) = refl
 
-if_there : {X : Type 0} (b : Bool) (x : X) → is_some (if b then Some x else None) ≡ b
+pub if_there : {X : Type 0} (b : Bool) (x : X) → is_some (if b then Some x else None) ≡ b
 if_there true x = refl
 if_there false x = refl
 

@@ -193,16 +193,16 @@ pub shown_utf8 : (shown : Option ℕ) → ((character : ℕ) → shown ≡ Some 
 shown_utf8 None scalar = IsUtf8-nil
 shown_utf8 (Some character) scalar = IsUtf8-encode character (scalar character refl)
 
--- a character, and some of the many that stand after it in a text
-module _ (piece : List ℕ) (count character edge size : ℕ) (is : piece ≡ encode_utf8 character ++ times 64 edge) (within : count ≤ 64) (sized : size ≡ length (encode_utf8 edge)) where
+-- the beginning of a text, and some of the many characters that stand after it
+module _ (piece head : List ℕ) (count edge size : ℕ) (is : piece ≡ head ++ times 64 edge) (within : count ≤ 64) (sized : size ≡ length (encode_utf8 edge)) where
   abbrev first_part : List ℕ
-  first_part = encode_utf8 character ++ times count edge
+  first_part = head ++ times count edge
 
   then_rest : piece ≡ first_part ++ times (64 - count) edge
   then_rest =
       let all : 64 ≡ count + (64 - count) = omega (arith, within) in
-      is ∙ ap (λ n. encode_utf8 character ++ times n edge) all ∙ ap (λ bs. encode_utf8 character ++ bs) (times_both count (64 - count) edge)
-      ∙ sym (append_assoc (encode_utf8 character) (times count edge) (times (64 - count) edge))
+      is ∙ ap (λ n. head ++ times n edge) all ∙ ap (λ bs. head ++ bs) (times_both count (64 - count) edge)
+      ∙ sym (append_assoc (head) (times count edge) (times (64 - count) edge))
 
   first_long : length first_part ≡ length piece - (64 - count) * size
   first_long =

@@ -39,7 +39,7 @@ anything old new = ⊤
 both_parts : {A : Type 0} (start first second x y : List A) → first ≡ start ++ x → second ≡ first ++ y → second ≡ start ++ (x ++ y)
 both_parts start first second x y p q = q ∙ ap (λ xs. xs ++ y) p ∙ append_assoc start x y
 
-text_of_both : (ms ns : List Shown) → text_marked (ms ++ ns) ≡ text_marked ms ++ text_marked ns
+pub text_of_both : (ms ns : List Shown) → text_marked (ms ++ ns) ≡ text_marked ms ++ text_marked ns
 text_of_both ms ns =
     ap (λ shown. encode_utf8_all (map character shown)) (map-append (λ mark. mark.0) ms ns)
     ∙ ap encode_utf8_all (map-append character (map (λ mark. mark.0) ms) (map (λ mark. mark.0) ns))

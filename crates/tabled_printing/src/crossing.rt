@@ -1,8 +1,9 @@
 //! Writes a character and then another many times, as horizontal lines have a crossing and the edge after it.
 
-ghost use Rattle.std.specs.Prelude.{◌≡◌, ◌≤◌, ◌++◌, List, ℕ, IfSome, OnErr, OnOk, string_bytes};
+ghost use Rattle.std.specs.Prelude.{◌≡◌, ◌++◌, List, ℕ, IfSome, IsSome, OnErr, OnOk, string_bytes};
 ghost use Rattle.std.specs.Char.{encode_utf8};
-ghost use Rattle.tabled_printing.specs.Texts.{times};
+ghost use Rattle.std.specs.Option.{ForSome};
+ghost use Rattle.tabled_printing.specs.Texts.{shown_bytes, times};
 
 use crate::repeat::push_times;
 use std::alloc::AllocError;
@@ -43,26 +44,68 @@ fn lines_after(character: char) -> Option<&'static str>
     }
 }
 
-/// Writes the beginning of a text that has a character and then `LINES` lines: the character, and the given number of lines.
-#[inline(always)]
-fn push_start(
-    text: &mut String,
-    piece: &str,
-    count: usize,
-    _character: char,
-) -> Result<(), AllocError>
-    requires within { count ≤ 64 }
-    requires piece { piece.now ≡ encode_utf8 _character ++ times 64 9472 }
-    ensures ok { OnOk result (string_bytes text.new ≡ string_bytes text.old ++ (encode_utf8 _character ++ times count 9472)) }
-    ensures err { OnErr result (string_bytes text.new ≡ string_bytes text.old) }
-{
-    let left_out = (LINES - count) * '─'.len_utf8();
-    text.push_str(&piece[..piece.len() - left_out])?;
-    Ok(())
+/// What a horizontal line shows at a crossing, if that is there, and along the edge after it.
+#[derive(Clone, Copy, Debug)]
+pub struct Stretch {
+    /// The character of the crossing.
+    pub crossing: Option<char>,
+    /// The character of the edge.
+    pub edge: char,
+    /// The crossing and `LINES` lines, if there is a text of these.
+    text: Option<&'static str>,
+    ghost is: { ForSome text (λ piece. piece.now ≡ shown_bytes crossing ++ times 64 edge) },
+    ghost is_line: { IsSome text → edge ≡ 9472 },
+}
+
+impl Stretch {
+    /// That of these characters.
+    pub fn of(crossing: Option<char>, edge: char) -> Stretch
+        ensures crossing { result.crossing ≡ crossing }
+        ensures edge { result.edge ≡ edge }
+    {
+        let text = match crossing {
+            Some(character) if edge == '─' => lines_after(character),
+            _ => None,
+        };
+        Stretch {
+            crossing,
+            edge,
+            text,
+        }
+    }
+
+    /// Writes the character of the crossing, and that of the edge the given number of times.
+    #[inline(never)]
+    fn push_parts(self, text: &mut String, count: usize) -> Result<(), AllocError>
+        ensures ok { OnOk result (string_bytes text.new ≡ string_bytes text.old ++ (shown_bytes self.crossing ++ times count self.edge)) }
+        ensures err { OnErr result ((some : List ℕ) × (string_bytes text.new ≡ string_bytes text.old ++ some)) }
+    {
+        if let Some(character) = self.crossing {
+            text.push(character)?;
+        }
+        push_times(text, count, self.edge)
+    }
+
+    /// Writes the same at once, where that can be. Where memory is refused some of it may have been written. A piece of a line between two
+    /// columns takes a third of the instructions that it takes in two parts.
+    #[inline(always)]
+    pub fn push(self, text: &mut String, count: usize) -> Result<(), AllocError>
+        ensures ok { OnOk result (string_bytes text.new ≡ string_bytes text.old ++ (shown_bytes self.crossing ++ times count self.edge)) }
+        ensures err { OnErr result ((some : List ℕ) × (string_bytes text.new ≡ string_bytes text.old ++ some)) }
+    {
+        if let Some(piece) = self.text
+            && count <= LINES
+        {
+            let left_out = (LINES - count) * '─'.len_utf8();
+            text.push_str(&piece[..piece.len() - left_out])?;
+            return Ok(());
+        }
+        self.push_parts(text, count)
+    }
 }
 
 /// Writes a character, and then another the given number of times: at once, where that can be. Where memory is refused some of it may have
-/// been written. A piece of a line between two columns takes a third of the instructions that it takes in two parts.
+/// been written.
 #[inline(always)]
 pub fn push_after(
     text: &mut String,
@@ -73,13 +116,5 @@ pub fn push_after(
     ensures ok { OnOk result (string_bytes text.new ≡ string_bytes text.old ++ (encode_utf8 character ++ times count edge)) }
     ensures err { OnErr result ((some : List ℕ) × (string_bytes text.new ≡ string_bytes text.old ++ some)) }
 {
-    if edge == '─'
-        && count <= LINES
-        && let Some(piece) = lines_after(character)
-    {
-        push_start(text, piece, count, character)?;
-        return Ok(());
-    }
-    text.push(character)?;
-    push_times(text, count, edge)
+    Stretch::of(Some(character), edge).push(text, count)
 }

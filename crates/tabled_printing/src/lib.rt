@@ -4,6 +4,7 @@
 #![tactic(auto)]
 
 mod alike;
+mod class_look;
 mod columns;
 mod crossing;
 mod frame;
@@ -21,8 +22,9 @@ mod sink;
 mod spaced_text;
 mod walk;
 
+pub use class_look::ClassLook;
 pub use columns::draws_plainly;
-pub use crossing::push_after;
+pub use crossing::{Stretch, push_after};
 pub use frame::Frame;
 pub use line_pieces::{crossing_line, crossing_of, edge_of, has_line, piece_size, pieces_of};
 pub use mark::{Mark, Run};

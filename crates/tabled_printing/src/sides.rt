@@ -138,7 +138,7 @@ fn mark_beside<'a>(
 
 /// The same, if the line is drawn.
 #[inline(always)]
-fn side<'a>(
+pub(crate) fn side<'a>(
     cfg: &'a SpannedConfig,
     shape: (usize, usize),
     col: usize,

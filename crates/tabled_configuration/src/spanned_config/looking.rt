@@ -17,6 +17,7 @@ use tabled_kept::Meter;
 impl<M: Meter> SpannedConfig<M> {
     /// Whether a line is drawn, of the lines 0 to `count` of its direction. At most six readings are made.
     #[inline(always)]
+    #[inline(always)]
     pub fn draws(&self, line: LineOf, count: usize, probes: &mut M) -> bool
         ensures drawn { IsTrue result ↔ Drawn (state_at self.now.characters) count line }
         ensures probes { IsRaised 6 (M.made probes.old) (M.made probes.new) }

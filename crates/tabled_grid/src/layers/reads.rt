@@ -429,6 +429,7 @@ fn class_crossing<'a, T, M: Meter>(
 }
 
 /// Whether the class record draws a line: one reading.
+#[inline(always)]
 fn class_draws<T, M: Meter>(
     class: &One<Borders<T>, M>,
     line: LineOf,

@@ -15,7 +15,8 @@ use Rattle.tabled_painting.specs.Rows.{row_cell}
 use Rattle.tabled_painting.specs.Viewed.{viewed}
 use Rattle.tabled_painting.proofs.BareLemmas.{bare_plain}
 use Rattle.tabled_painting.proofs.FrameLemmas.{shown_at}
-use Rattle.tabled_painting.proofs.OutputLemmas.{behind_space, both_gained, cell_more, next_cell, side_before}
+use Rattle.tabled_painting.proofs.OutputLemmas.{behind_space, both_gained, cell_more, next_cell}
+use Rattle.tabled_painting.proofs.SmallLemmas.{side_before}
 use Rattle.tabled_painting.proofs.table_lines.TableLines.push_between.Goals as goal
 
 pub loop-col-init : goal.loop-col-init
@@ -51,7 +52,7 @@ loop-col-preserved g c =
     let one : min 1 (lines.frame.shape.1 - n) ≡ 1 = omega (arith, within) in
     let shown : shown_bytes c.before-side.result.shown ≡ plain (side (n + 1)) =
     ap (λ (spaced : SpacedText). shown_bytes spaced.shown) (c.before-side.ensures ∙ ap (λ k. if nat_lt (n + 1) k then c.args.sides.now.inner else c.args.sides.now.last) cols)
-    ∙ side_before lines.frame c.args.sides.now row (n + 1) c.requires.sides c.requires.row c.requires.high (omega arith) (omega (arith, within)) in
+    ∙ side_before view c.args.sides.now row (n + 1) c.requires.sides c.requires.row c.requires.high (omega arith) (omega (arith, within)) in
     both_gained g.O.Output.gains g.met.O.Output.gains_both _ _ _ c.args.out.now c.loop-col.out c.push_cell.new.out
     ((λ i. (front ++ times (one i) 32) ++ ((text_behind_space alignment c.get_width-width.result text ++ shown i) ++ times ((c.space_before-after.ensures ∙ ap (λ k. min 1 (k - (n + 1))) cols) i) 32))
     ∙ next_cell front _ (bare_text alignment c.get_width-width.result text) (plain (side (n + 1))) _ behind (behind_space alignment c.get_width-width.result text)
