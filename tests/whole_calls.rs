@@ -10,7 +10,7 @@ use tabled_grid::{
     border_writes,
 };
 use tabled_painting::{AlikeLines, Output, sizes_of_spanned, spanned_text, table_text};
-use tabled_printing::{ClassLook, Stretch, push_after};
+use tabled_printing::{PlainLook, Stretch, push_after};
 use tabled_rooms::CellSizes;
 use tabled_settings::EntityMap;
 use tabled_style::{ReadyStyle, Style};
@@ -225,7 +225,7 @@ fn a_line_of_a_class_record_is_written(rt: HostRuntime) -> Result<(), Fail> {
     let mut cfg = SpannedConfig::new(alloc);
     let dims = FixedDimension::new(vec![in alloc; 2usize; 3]?, vec![in alloc; 1usize; 2]?);
     cfg.set_borders(Style::modern().get_borders());
-    let Some(look) = ClassLook::of(&cfg, &dims, (2, 3)) else {
+    let Some(look) = PlainLook::of(&cfg, &dims, (2, 3)) else {
         return Ok(assert!(rt; false));
     };
     let mut text = String::from_str(alloc, "lines\n")?;
@@ -233,9 +233,9 @@ fn a_line_of_a_class_record_is_written(rt: HostRuntime) -> Result<(), Fail> {
     look.push_line(&mut text, 1)?;
     assert_eq!(rt; text.as_str(), "lines\n┌──┬──┬──┐\n├──┼──┼──┤\n");
     assert_eq!(rt; (look.first, look.inner, look.last), (Some('│'), Some('│'), Some('│')));
-    assert!(rt; ClassLook::of(&cfg, &dims, (2, 4)).is_none());
+    assert!(rt; PlainLook::of(&cfg, &dims, (2, 4)).is_none());
     cfg.insert_vertical_line(1, VerticalLine::empty())?;
-    assert!(rt; ClassLook::of(&cfg, &dims, (2, 3)).is_none());
+    assert!(rt; PlainLook::of(&cfg, &dims, (2, 3)).is_none());
     Ok(())
 }
 

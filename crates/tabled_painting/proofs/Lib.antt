@@ -17,6 +17,5 @@ pub mod SpannedLemmas
 pub mod AloneLemmas
 pub mod DrawnLemmas
 pub mod AlikeLineLemmas
-pub mod PlainLineLemmas
 mod SmallLemmas
 pub mod OutputLemmas

@@ -7,7 +7,7 @@ use Rattle.tabled_object.specs.Entities.{below}
 use Rattle.tabled_grid.specs.declared.place.Place.{Place}
 use Rattle.tabled_layout.specs.declared.margin.Margin.{Margin}
 use Rattle.tabled_printing.specs.Along.{is_empty}
-use Rattle.tabled_printing.specs.ClassLooks.{character_beside}
+use Rattle.tabled_printing.specs.PlainLooks.{character_beside}
 use Rattle.tabled_printing.specs.Picture.{Look, Shown, character, line_if_drawn, mark_at}
 use Rattle.tabled_printing.specs.Texts.{shown_bytes}
 use Rattle.tabled_painting.specs.Margin.{is_without_room}

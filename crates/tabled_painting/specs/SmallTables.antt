@@ -2,7 +2,7 @@
 use Rattle.std.specs.Prelude.{ℕ, Option, List, [], slice_index, slice_index_or}
 use Rattle.tabled_border.specs.Texts.{Texts}
 use Rattle.tabled_settings.specs.Live.{Live}
-use Rattle.tabled_printing.specs.ClassLooks.{plain_look}
+use Rattle.tabled_printing.specs.PlainLooks.{plain_look}
 use Rattle.tabled_painting.specs.Painted.{plain}
 use Rattle.tabled_painting.specs.PaintedTable.{painted_between, painted_cell}
 use Rattle.tabled_painting.specs.declared.small_table.SmallTable.{SmallTable}

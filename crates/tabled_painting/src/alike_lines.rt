@@ -86,13 +86,15 @@ pub(crate) fn has_no_margin(cfg: &SpannedConfig) -> bool
     size.left.size == 0 && size.right.size == 0 && size.top.size == 0 && size.bottom.size == 0
 }
 
-/// Whether each row is one line high.
-pub(crate) fn are_low(frame: &Frame<FixedDimension>) -> bool
-    ensures { result ≡ true → (r : ℕ) → r < frame.now.shape.0 → slice_index frame.now.dims.now.heights.items r ≡ 1 }
+/// Whether all rows are one line high.
+pub(crate) fn are_low(heights: &[usize], rows: usize) -> bool
+    ensures { result ≡ true → (r : ℕ) → r < rows → slice_index heights.now r ≡ 1 }
 {
-    let (rows, _) = frame.shape;
+    if heights.len() != rows {
+        return false;
+    }
     for row in 0..rows {
-        if frame.dims.get_height(row) != 1 {
+        if heights[row] != 1 {
             return false;
         }
     }
@@ -161,7 +163,7 @@ impl<'a, 'b> AlikeLines<'a, 'b> {
             return Ok(None);
         }
         let lines = TableLines::new(cfg, sizes, shape, with_colors)?;
-        if !lines.are_all_bare || !are_low(&lines.frame) || !lines.are_alike_between() {
+        if !lines.are_all_bare || !are_low(&sizes.heights, shape.0) || !lines.are_alike_between() {
             return Ok(None);
         }
         let joints = lines.row_joints()?;

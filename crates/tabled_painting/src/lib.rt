@@ -19,7 +19,6 @@ mod output;
 mod page;
 mod painter;
 mod painting;
-mod plain_lines;
 mod plain_row;
 mod plain_sides;
 mod room;

@@ -17,7 +17,6 @@ ghost use Rattle.tabled_painting.specs.TextsBy.{texts_by};
 ghost use Rattle.tabled_painting.specs.Viewed.{viewed};
 
 use crate::page::Page;
-use crate::plain_lines::room_of;
 use crate::small_table::SmallTable;
 use crate::spanned_lines::SpannedLines;
 use crate::table_lines::TableLines;
@@ -59,7 +58,7 @@ fn columns_long(frame: &Frame<FixedDimension>, margin: &MarginSides) -> Result<u
     sum_of(left, margin.right.size)
 }
 
-/// Paints a table that has places, with its margin, if it has one: a small table stands alone without it.
+/// Paints a table that has places, with its margin.
 fn paint_in_margin<'a, T: AsStr>(
     mut painter: Painter<'a>,
     lines: &TableLines<'a, '_>,
@@ -73,11 +72,6 @@ fn paint_in_margin<'a, T: AsStr>(
     requires colors { painter.with_colors ≡ lines.now.frame.with_colors }
     ensures { IfOk result (λ painted. PaintsWhole (painted_table (viewed lines.now.frame) lines.now.frame.cfg.now.settings.margin (cells_of lines.now (texts_by T.text rows.now))) painter.entry painted) }
 {
-    if are_printable && lines.stand_alone() {
-        painter.reserve(room_of(lines.columns, lines.frame.shape))?;
-        lines.paint_alone(&mut painter, rows)?;
-        return Ok(painter);
-    }
     let margin = MarginSides::of(lines.frame.cfg);
     let high = lines_high(&lines.frame, &margin)?;
     let long = columns_long(&lines.frame, &margin)?;

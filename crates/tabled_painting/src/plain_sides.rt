@@ -5,13 +5,13 @@ ghost use Rattle.tabled_printing.specs.Marks.{mark_of};
 ghost use Rattle.tabled_printing.specs.Texts.{shown_bytes};
 ghost use Rattle.tabled_painting.specs.Painted.{plain};
 ghost use Rattle.tabled_painting.specs.PaintedTable.{side_painted};
-ghost use Rattle.tabled_printing.specs.ClassLooks.{plain_look};
+ghost use Rattle.tabled_printing.specs.PlainLooks.{plain_look};
 ghost use Rattle.tabled_painting.specs.PlainSides.{ArePlainSides};
 ghost use Rattle.tabled_painting.specs.Viewed.{viewed};
 
 use crate::row_sides::row_sides;
 use tabled_object::FixedDimension;
-use tabled_printing::{ClassLook, Frame, Mark, SpacedText};
+use tabled_printing::{Frame, Mark, PlainLook, SpacedText};
 
 /// What vertical lines show beside each row, between spaces: the first one, those between two columns, and the last one.
 #[derive(Clone, Copy)]
@@ -53,9 +53,9 @@ pub(crate) fn plain_sides(frame: &Frame<FixedDimension>) -> Option<PlainSides>
     })
 }
 
-/// The same where the class record alone decides what shows.
+/// The same of a table that looks alike along its lines.
 #[inline(always)]
-pub(crate) fn class_sides(look: &ClassLook) -> Option<PlainSides>
+pub(crate) fn look_sides(look: &PlainLook) -> Option<PlainSides>
     ensures { IfSome result (ArePlainSides (plain_look look.now.cfg.now look.now.shape look.now.sizes.now)) }
 {
     Some(PlainSides {

@@ -1,11 +1,11 @@
-//! A small table whose class record alone decides how it looks, as it is written without colors: line by line, with no page and no painter.
+//! A small table that looks alike along its lines, as it is written without colors: line by line, with no page and no painter.
 
 ghost use Rattle.std.specs.Prelude.{◌≡◌, ◌<◌, ◌++◌, ◌∷◌, [], ℕ, Option, true, false, IfOk, IfSome, OnOk, length, map, string_bytes, slice_index};
 ghost use Rattle.std.specs.List.{All};
 ghost use Rattle.tabled_settings.specs.Live.{Live};
 ghost use Rattle.tabled_border.specs.Texts.{Texts};
 ghost use Rattle.tabled_printing.specs.Along.{is_empty};
-ghost use Rattle.tabled_printing.specs.ClassLooks.{plain_look};
+ghost use Rattle.tabled_printing.specs.PlainLooks.{plain_look};
 ghost use Rattle.tabled_painting.specs.BareCells.{AreBare};
 ghost use Rattle.tabled_painting.specs.declared.bare_cells.BareColumns.{BareColumns};
 ghost use Rattle.tabled_painting.specs.Margin.{is_without_room};
@@ -14,25 +14,27 @@ ghost use Rattle.tabled_painting.specs.PlainSides.{ArePlainSides};
 ghost use Rattle.tabled_painting.specs.Printable.{AllPrintable, ArePrintable};
 ghost use Rattle.tabled_painting.specs.TextsBy.{texts_by};
 
-use crate::alike_lines::has_no_margin;
+use crate::alike_lines::{are_low, has_no_margin};
 use crate::bare_cells::one_alignment;
-use crate::plain_lines::{FEW_COLUMNS, room_of};
 use crate::plain_row::{push_cell, push_spaced, space_before};
-use crate::plain_sides::{PlainSides, class_sides};
+use crate::plain_sides::{PlainSides, look_sides};
 use crate::row_joints::has_few_cells;
 use std::convert::AsStr;
 use tabled_border::OutOfMemory;
 use tabled_configuration::SpannedConfig;
 use tabled_object::FixedDimension;
-use tabled_printing::{ClassLook, join_lines};
+use tabled_printing::{PlainLook, join_lines};
 use tabled_settings::AlignmentHorizontal;
+
+/// How many columns of a terminal the columns of a small table take at most, and one more.
+pub(crate) const FEW_COLUMNS: usize = 256;
 
 /// A small table that has places, with nothing around it, all of whose cells are bare, and each of whose rows is one line high. One of 3 x 3
 /// cells takes 1,200 instructions less by it than as it is painted else.
 #[derive(Clone, Copy)]
 pub(crate) struct SmallTable<'a> {
     /// How its lines look.
-    look: ClassLook<'a>,
+    look: PlainLook<'a>,
     /// What vertical lines show beside each row, between spaces.
     sides: PlainSides,
     /// Where the texts of all columns stand.
@@ -45,21 +47,6 @@ pub(crate) struct SmallTable<'a> {
     ghost low: { (r : ℕ) → r < look.shape.0 → slice_index look.sizes.now.heights.items r ≡ 1 },
 }
 
-/// Whether all rows are one line high.
-fn are_low(heights: &[usize], rows: usize) -> bool
-    ensures { result ≡ true → (r : ℕ) → r < rows → slice_index heights.now r ≡ 1 }
-{
-    if heights.len() != rows {
-        return false;
-    }
-    for row in 0..rows {
-        if heights[row] != 1 {
-            return false;
-        }
-    }
-    true
-}
-
 /// How many columns of a terminal some columns take. It saturates.
 fn sum_of(widths: &[usize]) -> usize {
     let mut columns = 0usize;
@@ -67,6 +54,14 @@ fn sum_of(widths: &[usize]) -> usize {
         columns = columns.saturating_add(*width);
     }
     columns
+}
+
+/// How many bytes the lines of a table take at most where each of its characters takes three, as most borders do. It saturates.
+fn room_of(columns: usize, shape: (usize, usize)) -> usize {
+    let (rows, cols) = shape;
+    let line = columns.saturating_add(cols).saturating_add(2);
+    let lines = rows.saturating_mul(2).saturating_add(1);
+    line.saturating_mul(3).saturating_mul(lines)
 }
 
 impl<'a> SmallTable<'a> {
@@ -87,13 +82,13 @@ impl<'a> SmallTable<'a> {
         if !has_few_cells(shape) {
             return None;
         }
-        let look = ClassLook::of(cfg, sizes, shape)?;
+        let look = PlainLook::of(cfg, sizes, shape)?;
         let columns = sum_of(&sizes.widths);
         if FEW_COLUMNS <= columns || !has_no_margin(cfg) || !are_low(&sizes.heights, shape.0) {
             return None;
         }
         let alignment = one_alignment(cfg)?;
-        let sides = class_sides(&look)?;
+        let sides = look_sides(&look)?;
         Some(SmallTable {
             look,
             sides,

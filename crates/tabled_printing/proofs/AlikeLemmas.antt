@@ -1,6 +1,7 @@
 -- What edges, crossings and vertical lines have in common, where nothing is kept for single places or single lines.
 use Rattle.std.proofs.Common.{◌≡◌, ℕ, ◌+◌, ◌==◌, ◌<◌, ◌≤◌, zero, suc, Bool, true, false, ◌&&◌, nat_le, nat_lt, if◌then◌else◌, Option, Some, None, unwrap_or, is_some, option_map, option_and_then, List, [], ◌∷◌, ◌++◌, map, get_or, refl, sym, ap, ◌∙◌, arith}
 use Rattle.std.specs.FinMap.{FinMap, empty, get, get-empty}
+use Rattle.std.specs.Option.{option_or}
 use Rattle.std.specs.Ordering.{nat_cmp}
 use Rattle.std.specs.declared.cmp.Ordering.{Ordering}
 use Rattle.std.proofs.lemmas.Bool.{lt-ltb, le-leb}
@@ -21,7 +22,7 @@ use Rattle.tabled_grid.specs.declared.site.Site.{Site}
 use Rattle.tabled_grid.specs.declared.site.Site.TheVariants.{Default as the_default, Class as of_class, Line as of_line, Cell as at_spot, Offset as at_offset}
 use Rattle.tabled_grid.specs.Drawn.{draws, drawn, Drawn}
 use Rattle.tabled_grid.specs.Reading.{direction_of}
-use Rattle.tabled_grid.specs.Site.{rank, stands}
+use Rattle.tabled_grid.specs.Site.{class_value, rank, stands}
 use Rattle.tabled_grid.specs.Value.{has_spot, sign_or, plain_value}
 use Rattle.tabled_grid.specs.State.{State, state_at, horizontal_part, vertical_part, HasNoCells, HasNoOffsets}
 use Rattle.tabled_grid.specs.Keys.{spot_cmp}
@@ -56,6 +57,12 @@ between count n some within =
 
     not_last : (n m : ℕ) → n < m → (n == m) ≡ false
     not_last n m within = grind (arith, nat_tests)
+
+-- what is kept at one site, or else at another
+own_or : {T : Type 0} (own default : Option T) → sign_or (option_map sign own) (sign_or (option_map sign default) None) ≡ option_or own default
+own_or (Some x) default = refl
+own_or None (Some x) = refl
+own_or None None = refl
 
 module _ {T : Type 0} (state : State T) (shape : ℕ × ℕ) where
   by_class : Class → Option T
@@ -119,6 +126,32 @@ module _ {T : Type 0} (state : State T) (shape : ℕ × ℕ) where
       sign_or (option_map sign (absent spot_cmp state.cells (Edge Vertical 0 c) cells i))
       (sign_or (option_and_then (vertical_part main_edges) (absent nat_cmp state.vertical_lines c lines i)) (by_class (edges Vertical (rank shape.1 c))))
       else None
+
+  -- where no custom line stands, the class decides, or the default
+  by_class_is : (class : Class) → by_class class ≡ option_or (class_value class state.class_record) state.default_value
+  unfolding by_class
+  by_class_is class = own_or (class_value class state.class_record) state.default_value
+
+  pub edge_by_class : (r : ℕ) → HasNoCells state → get state.horizontal_lines r ≡ None → has_spot shape (Place.Horizontal r 0 0) ≡ true
+      → plain_value (state_at state) shape (Place.Horizontal r 0 0) ≡ option_or (class_value (edges Horizontal (rank shape.0 r)) state.class_record) state.default_value
+  unfolding edge_below
+  edge_by_class r cells none there =
+      edge_by_line (LineOf.Horizontal r) 0 cells
+      ∙ (λ i. if there i then sign_or (option_and_then (horizontal_part main_edges) (none i)) (by_class (edges Horizontal (rank shape.0 r))) else None)
+      ∙ by_class_is (edges Horizontal (rank shape.0 r))
+
+  pub crossing_by_class : (r n : ℕ) → HasNoCells state → state.vertical_lines ≡ empty → get state.horizontal_lines r ≡ None → has_spot shape (Place.Cross r n) ≡ true
+      → plain_value (state_at state) shape (Place.Cross r n) ≡ option_or (class_value (crossings (rank shape.0 r) (rank shape.1 n)) state.class_record) state.default_value
+  unfolding crossing_below
+  crossing_by_class r n cells lines none there =
+      crossing_by_line r n cells lines
+      ∙ (λ i. if there i then sign_or (option_and_then (horizontal_part (meeting (rank shape.1 n))) (none i)) (by_class (crossings (rank shape.0 r) (rank shape.1 n))) else None)
+      ∙ by_class_is (crossings (rank shape.0 r) (rank shape.1 n))
+
+  pub side_by_default : (c : ℕ) → HasNoCells state → state.vertical_lines ≡ empty → has_spot shape (Place.Vertical 0 c 0) ≡ true
+      → plain_value (state_at state) shape (Place.Vertical 0 c 0) ≡ option_or (class_value (edges Vertical (rank shape.1 c)) state.class_record) state.default_value
+  side_by_default c cells lines there =
+      side_by_class c cells lines ∙ ap (λ b. if b then by_class (edges Vertical (rank shape.1 c)) else None) there ∙ by_class_is (edges Vertical (rank shape.1 c))
 
   sides_same : (n m : ℕ) → HasNoCells state → state.vertical_lines ≡ empty → 0 < n → n < shape.1 → 0 < m → m < shape.1
       → plain_value (state_at state) shape (Place.Vertical 0 n 0) ≡ plain_value (state_at state) shape (Place.Vertical 0 m 0)

@@ -4,7 +4,7 @@ pub mod LookLemmas
 pub mod LineLemmas
 pub mod MarkLemmas
 pub mod AlikeLemmas
-pub mod ClassLookLemmas
+pub mod PlainLookLemmas
 pub mod TextLemmas
 pub mod PieceLemmas
 pub mod TimesLemmas

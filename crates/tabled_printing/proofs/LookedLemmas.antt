@@ -24,16 +24,16 @@ use Rattle.tabled_printing.proofs.AlikeLemmas.{between}
 use Rattle.tabled_printing.proofs.MarkLemmas.{mark_by}
 
 -- of a line that is there: the table has columns, its first edge, and each of its crossings
-has_cols : (shape : ℕ × ℕ) (row : ℕ) → has_line shape (LineOf.Horizontal row) ≡ true → 0 < shape.1
+pub has_cols : (shape : ℕ × ℕ) (row : ℕ) → has_line shape (LineOf.Horizontal row) ≡ true → 0 < shape.1
 has_cols shape row there = grind (arith, nat_tests)
 
-edge_there : (shape : ℕ × ℕ) (row : ℕ) → has_line shape (LineOf.Horizontal row) ≡ true → has_spot shape (Place.Horizontal row 0 0) ≡ true
+pub edge_there : (shape : ℕ × ℕ) (row : ℕ) → has_line shape (LineOf.Horizontal row) ≡ true → has_spot shape (Place.Horizontal row 0 0) ≡ true
 edge_there shape row there = grind (arith, nat_tests)
 
-crossing_there : (shape : ℕ × ℕ) (row n : ℕ) → has_line shape (LineOf.Horizontal row) ≡ true → n ≤ shape.1 → has_spot shape (Place.Cross row n) ≡ true
+pub crossing_there : (shape : ℕ × ℕ) (row n : ℕ) → has_line shape (LineOf.Horizontal row) ≡ true → n ≤ shape.1 → has_spot shape (Place.Cross row n) ≡ true
 crossing_there shape row n there within = grind (arith, nat_tests)
 
-last_one : (count : ℕ) → 0 < count → rank count count ≡ last
+pub last_one : (count : ℕ) → 0 < count → rank count count ≡ last
 last_one count some = grind (arith, nat_tests)
 
 -- a mark without a color, where no colors are wanted
@@ -64,7 +64,7 @@ module _ (cfg : Configuration) (wanted : Bool) (shape : ℕ × ℕ) (row : ℕ) 
       ∙ sym (decides.shows shape (Place.Cross row shape.1) (crossing_there shape row shape.1 there (omega arith))))
 
 -- and a vertical line beside the first row
-side_there : (shape : ℕ × ℕ) (c : ℕ) → is_empty shape ≡ false → c ≤ shape.1 → has_spot shape (Place.Vertical 0 c 0) ≡ true
+pub side_there : (shape : ℕ × ℕ) (c : ℕ) → is_empty shape ≡ false → c ≤ shape.1 → has_spot shape (Place.Vertical 0 c 0) ≡ true
 side_there shape c any within = grind (arith, nat_tests)
 
 pub side_looks : (cfg : Configuration) (wanted : Bool) (shape : ℕ × ℕ) (c : ℕ) → is_empty shape ≡ false → c ≤ shape.1 → (class : Borders ℕ) → ClassDecides cfg wanted class

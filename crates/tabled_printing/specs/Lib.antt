@@ -10,7 +10,7 @@ pub mod Beside
 pub mod SideMarks
 pub mod Sides
 pub mod Viewed
-pub mod ClassLooks
+pub mod PlainLooks
 pub mod TextOrder
 pub mod Refusal
 pub mod Headline

@@ -4,7 +4,6 @@
 #![tactic(auto)]
 
 mod alike;
-mod class_look;
 mod columns;
 mod crossing;
 mod frame;
@@ -12,6 +11,7 @@ mod line_parts;
 mod line_pieces;
 mod mark;
 mod marks;
+mod plain_look;
 mod print;
 mod print_error;
 mod refusals;
@@ -22,13 +22,13 @@ mod sink;
 mod spaced_text;
 mod walk;
 
-pub use class_look::ClassLook;
 pub use columns::draws_plainly;
 pub use crossing::{Stretch, push_after};
 pub use frame::Frame;
 pub use line_pieces::{crossing_line, crossing_of, edge_of, has_line, piece_size, pieces_of};
 pub use mark::{Mark, Run};
 pub use marks::{line_marks, line_runs};
+pub use plain_look::PlainLook;
 pub use print::{join_lines, print_plain};
 pub use print_error::PrintError;
 pub use repeat::{push_spaces_before, push_times};

@@ -3,4 +3,4 @@ use Rattle.std.proofs.Common.{◌≡◌, ℕ, ◌<◌, slice_index}
 use Rattle.tabled_painting.proofs.alike_lines.are_low.Given as goal
 
 abbrev pub invariant-loop-row : goal.invariant-loop-row
-invariant-loop-row l = (r : ℕ) → r < l.row → slice_index l.frame.dims.now.heights.items r ≡ 1
+invariant-loop-row l = (r : ℕ) → r < l.row → slice_index l.heights r ≡ 1

@@ -1,23 +1,12 @@
--- The lines above, the table between its sides, and the lines below; without a margin the lines are all.
-use Rattle.std.proofs.Common.{[], refl, sym, subst}
-use Rattle.tabled_painting.specs.Pages.{PaintsWhole}
+-- The lines above, the table between its sides, and the lines below.
+use Rattle.std.proofs.Common.{[]}
 use Rattle.tabled_painting.specs.PaintedTable.{painted_lines, painted_table}
 use Rattle.tabled_painting.specs.Rows.{cells_of}
 use Rattle.tabled_painting.specs.TextsBy.{texts_by}
 use Rattle.tabled_painting.specs.Viewed.{viewed}
-use Rattle.tabled_painting.proofs.AlikeLineLemmas.{alone_in_margin}
 use Rattle.tabled_painting.proofs.PageLemmas.{none_whole, whole_both}
 use Rattle.tabled_painting.proofs.MarginLemmas.{in_its_margin, painted_in_margin, lines_count, lines_whole}
 use Rattle.tabled_painting.proofs.painting.paint_in_margin.Goals as goal
-
-pub returns-then-stand_alone : goal.returns-then-stand_alone
-returns-then-stand_alone g c =
-    let frame = c.args.lines.now.frame in
-    let old = c.args.painter in
-    subst (λ lines. PaintsWhole lines old c.paint_alone.new.painter)
-    (sym (alone_in_margin (viewed frame) frame.cfg.now.settings.margin (cells_of c.args.lines.now (texts_by g.T.AsStr.text c.args.rows.now)) frame.has_places (c.if-stand_alone.ensures.no_room refl)))
-    (whole_both [] _ old c.reserve.new.self _
-    (none_whole old c.reserve.new.self c.requires.ended c.reserve.ensures.text c.reserve.ensures.color c.reserve.ensures.same_colors) c.in_ok-paint_alone.ensures)
 
 pub returns : goal.returns
 unfolding painted_table
@@ -29,5 +18,5 @@ returns g c =
     painted_in_margin c.args.painter c.paint_strips.new.painter c.paint.new.page.painter c.paint_strips-2.new.painter _ _ _ _
     (in_its_margin (viewed frame) c.of-margin.result frame.cfg.now.settings.margin (painted_lines (viewed frame) cells) c.in_ok-high.high c.in_ok-long.long
     sides.left sides.right sides.top sides.bottom frame.has_places c.in_ok-long.ensures (c.in_ok-high.ensures (painted_lines (viewed frame) cells) (lines_count (viewed frame) cells frame.has_places)))
-    (whole_both [] _ c.args.painter c.reserve-2.new.self c.paint_strips.new.painter
-    (none_whole c.args.painter c.reserve-2.new.self c.requires.ended c.reserve-2.ensures.text c.reserve-2.ensures.color c.reserve-2.ensures.same_colors) c.in_ok-paint_strips.ensures) (lines_whole _ _ c.paint.new.page c.in_ok-paint.ensures) c.in_ok-paint_strips-2.ensures
+    (whole_both [] _ c.args.painter c.reserve.new.self c.paint_strips.new.painter
+    (none_whole c.args.painter c.reserve.new.self c.requires.ended c.reserve.ensures.text c.reserve.ensures.color c.reserve.ensures.same_colors) c.in_ok-paint_strips.ensures) (lines_whole _ _ c.paint.new.page c.in_ok-paint.ensures) c.in_ok-paint_strips-2.ensures

@@ -4,7 +4,7 @@ use Rattle.std.specs.Prelude.{IfOk}
 use Rattle.std.specs.List.{join_with_byte}
 use Rattle.tabled_configuration.specs.Configuration.{Configuration, all_writes}
 use Rattle.tabled_object.specs.declared.dimension.FixedDimension.{FixedDimension}
-use Rattle.tabled_printing.specs.ClassLooks.{plain_look}
+use Rattle.tabled_printing.specs.PlainLooks.{plain_look}
 use Rattle.tabled_printing.specs.Picture.{Look, look}
 use Rattle.tabled_painting.specs.Pages.{text_of_lines}
 use Rattle.tabled_painting.specs.PaintedTable.{Cells, painted_by, painted_cells, painted_lines, painted_table, plain_text}

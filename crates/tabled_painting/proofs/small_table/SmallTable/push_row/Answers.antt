@@ -6,7 +6,7 @@ use Rattle.tabled_width.specs.Texts.{is_printable}
 use Rattle.tabled_object.specs.Entities.{below}
 use Rattle.tabled_cells.specs.Placements.{placement_at}
 use Rattle.tabled_cells.specs.Placed.{times}
-use Rattle.tabled_printing.specs.ClassLooks.{plain_look}
+use Rattle.tabled_printing.specs.PlainLooks.{plain_look}
 use Rattle.tabled_printing.specs.Texts.{shown_bytes}
 use Rattle.tabled_printing.specs.declared.spaced_text.SpacedText.{SpacedText}
 use Rattle.tabled_printing.proofs.TextLemmas.{line_fed}

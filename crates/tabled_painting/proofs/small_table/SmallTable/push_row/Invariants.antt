@@ -5,7 +5,7 @@ use Rattle.tabled_border.specs.Texts.{Texts}
 use Rattle.tabled_object.specs.Entities.{below}
 use Rattle.tabled_settings.specs.Live.{Live}
 use Rattle.tabled_cells.specs.Placed.{times}
-use Rattle.tabled_printing.specs.ClassLooks.{plain_look}
+use Rattle.tabled_printing.specs.PlainLooks.{plain_look}
 use Rattle.tabled_painting.specs.Painted.{plain}
 use Rattle.tabled_painting.specs.PaintedTable.{painted_cell, painted_side}
 use Rattle.tabled_painting.proofs.small_table.SmallTable.push_row.Given as goal

@@ -4,7 +4,7 @@ use Rattle.std.specs.List.{flat_map, join_with_byte}
 use Rattle.std.proofs.lemmas.List.{length-map}
 use Rattle.std.proofs.lemmas.List.Concat.{flat_map-append}
 use Rattle.tabled_object.specs.Entities.{below}
-use Rattle.tabled_printing.specs.ClassLooks.{plain_look}
+use Rattle.tabled_printing.specs.PlainLooks.{plain_look}
 use Rattle.tabled_printing.specs.Picture.{line_if_drawn}
 use Rattle.tabled_printing.proofs.TextLemmas.{ended, rows_more, written_both}
 use Rattle.tabled_painting.specs.PaintedTable.{Cells, painted_cells, plain_text}

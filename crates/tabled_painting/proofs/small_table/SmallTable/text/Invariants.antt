@@ -5,7 +5,7 @@ use Rattle.tabled_border.specs.Texts.{Texts}
 use Rattle.tabled_object.specs.Entities.{below}
 use Rattle.tabled_settings.specs.Live.{Live}
 use Rattle.tabled_printing.proofs.TextLemmas.{ended}
-use Rattle.tabled_printing.specs.ClassLooks.{plain_look}
+use Rattle.tabled_printing.specs.PlainLooks.{plain_look}
 use Rattle.tabled_painting.specs.PaintedTable.{painted_cells}
 use Rattle.tabled_painting.specs.TextsBy.{texts_by}
 use Rattle.tabled_painting.proofs.SmallLemmas.{small_part}

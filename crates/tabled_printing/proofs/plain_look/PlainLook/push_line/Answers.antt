@@ -1,9 +1,9 @@
 -- The line is drawn where the configuration says so.
 use Rattle.std.proofs.Common.{sym, slice_index, ◌∙◌}
-use Rattle.tabled_printing.specs.ClassLooks.{plain_look}
+use Rattle.tabled_printing.specs.PlainLooks.{plain_look}
 use Rattle.tabled_printing.proofs.LookLemmas.{own_horizontal}
 use Rattle.tabled_printing.proofs.TextLemmas.{line_fed, line_drawn, line_not_drawn}
-use Rattle.tabled_printing.proofs.class_look.ClassLook.push_line.Goals as goal
+use Rattle.tabled_printing.proofs.plain_look.PlainLook.push_line.Goals as goal
 
 pub returns-in_ok-push : goal.returns-in_ok-push
 returns-in_ok-push c =

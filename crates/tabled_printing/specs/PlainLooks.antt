@@ -1,6 +1,10 @@
 -- How a table looks without colors.
 use Rattle.std.specs.Prelude.{◌≡◌, ℕ, ◌<◌, Option, is_some, option_map, slice_index, false}
 use Rattle.tabled_configuration.specs.Configuration.{Configuration, all_writes}
+use Rattle.tabled_grid.specs.State.{state_at}
+use Rattle.tabled_grid.specs.Value.{plain_value}
+use Rattle.tabled_grid.specs.declared.lines.HorizontalLine.{HorizontalLine}
+use Rattle.tabled_grid.specs.declared.place.Place.{Place}
 use Rattle.tabled_object.specs.declared.dimension.FixedDimension.{FixedDimension}
 use Rattle.tabled_printing.specs.Beside.{mark_beside}
 use Rattle.tabled_printing.specs.Picture.{Look, character, look}
@@ -9,6 +13,14 @@ use Rattle.tabled_printing.specs.Viewed.{with_colors_if}
 -- how a table of a configuration, a shape and sizes looks without colors
 abbrev pub plain_look : Configuration → ℕ × ℕ → FixedDimension → Look
 plain_look cfg shape sizes = with_colors_if false (look (all_writes cfg) shape (slice_index sizes.widths.items) (slice_index sizes.heights.items))
+
+-- what is kept for the places of horizontal line r, without offsets: along its first edge, and at its first crossing, its second one if it
+-- is not the last, and its last one
+pub record IsKept (cfg : Configuration) (shape : ℕ × ℕ) (r : ℕ) (line : HorizontalLine ℕ) : Type 0 where
+  pub main : line.main ≡ plain_value (state_at cfg.characters) shape (Place.Horizontal r 0 0)
+  pub left : line.left ≡ plain_value (state_at cfg.characters) shape (Place.Cross r 0)
+  pub intersection : 1 < shape.1 → line.intersection ≡ plain_value (state_at cfg.characters) shape (Place.Cross r 1)
+  pub right : line.right ≡ plain_value (state_at cfg.characters) shape (Place.Cross r shape.1)
 
 -- the character that vertical line c shows at one line of text of row r, if the line is drawn
 abbrev pub character_beside : Look → ℕ → ℕ → ℕ → Option ℕ

@@ -1,9 +1,9 @@
 -- Each is the text around what its line shows.
 use Rattle.std.proofs.Common.{ap, ◌∙◌}
-use Rattle.tabled_printing.specs.ClassLooks.{plain_look}
+use Rattle.tabled_printing.specs.PlainLooks.{plain_look}
 use Rattle.tabled_printing.specs.Texts.{shown_bytes}
 use Rattle.tabled_painting.proofs.SmallLemmas.{beside_bytes}
-use Rattle.tabled_painting.proofs.plain_sides.class_sides.Goals as goal
+use Rattle.tabled_painting.proofs.plain_sides.look_sides.Goals as goal
 
 pub returns : goal.returns
 returns c =

@@ -1,33 +1,32 @@
-//! How a table looks without colors, where its class record alone decides that.
+//! How a table looks without colors, where nothing is kept for single places and no vertical line is a custom one.
 
-ghost use Rattle.std.specs.Prelude.{◌≡◌, ◌<◌, ◌≤◌, ◌++◌, ◌∷◌, [], false, if◌then◌else◌, Some, None, is_some, IfSome, OnOk, length, option_map, string_bytes};
+ghost use Rattle.std.specs.Prelude.{◌≡◌, ◌<◌, ◌≤◌, ◌++◌, ◌∷◌, [], false, if◌then◌else◌, Some, None, is_some, IfSome, length, option_map};
 ghost use Rattle.std.specs.Coded.{codes};
 ghost use Rattle.std.specs.FinMap as finmap;
 ghost use Rattle.std.specs.List.{flat_map};
 ghost use Rattle.tabled_grid.specs.declared.place.LineOf.{LineOf as Line};
 ghost use Rattle.tabled_grid.specs.declared.site.Direction.TheVariants.{Horizontal, Vertical};
 ghost use Rattle.tabled_printing.specs.Along.{is_empty};
-ghost use Rattle.tabled_printing.specs.Alike.{ClassDecides, NoneForPlaces, NoneForLines};
+ghost use Rattle.tabled_printing.specs.Alike.{NoneForPlaces, NoneForLines};
 ghost use Rattle.tabled_printing.specs.Beside.{plain_side};
-ghost use Rattle.tabled_printing.specs.ClassLooks.{AreBeside, plain_look};
 ghost use Rattle.tabled_printing.specs.Picture.{character, line_if_drawn, marks_along, text_marked};
+ghost use Rattle.tabled_printing.specs.PlainLooks.{AreBeside, IsKept, plain_look};
+ghost use Rattle.tabled_printing.specs.Texts.{Appends};
 
 use crate::Stretch;
-use crate::alike::{class_deciding, has_none_for_lines, has_none_for_places};
+use crate::alike::{has_none_for_lines, has_none_for_places};
 use crate::print::printed_as;
-use crate::sides::side;
 use tabled_border::OutOfMemory;
 use tabled_configuration::SpannedConfig;
-use tabled_grid::{Borders, LineOf, Rank};
+use tabled_grid::{HorizontalLine, LineOf, Place, Rank};
+use tabled_kept::Probes;
 use tabled_object::FixedDimension;
 
-/// How a table that has places looks without colors, where its class record alone decides that.
+/// How a table that has places looks without colors, where nothing is kept for single places and no vertical line is a custom one.
 #[derive(Clone, Copy)]
-pub struct ClassLook<'a> {
+pub struct PlainLook<'a> {
     /// The configuration.
     pub cfg: &'a SpannedConfig,
-    /// The class record.
-    pub class: &'a Borders<char>,
     /// How wide the columns are, of which there are as many as the shape says, and how high the rows.
     pub sizes: &'a FixedDimension,
     /// The number of rows and of columns.
@@ -40,27 +39,26 @@ pub struct ClassLook<'a> {
     pub last: Option<char>,
     ghost has_places: { is_empty shape ≡ false },
     ghost has_widths: { length sizes.now.widths.items ≡ shape.1 },
-    ghost decides: { ClassDecides cfg.now false class.now },
     ghost level: { NoneForPlaces cfg.now false Horizontal } by { Prim.hlevel (codes, finmap.code) },
     ghost columns: { NoneForLines cfg.now false Vertical } by { Prim.hlevel (codes, finmap.code) },
     ghost beside: { AreBeside (plain_look cfg.now shape sizes.now) first inner last },
 }
 
-/// What a vertical line shows beside the first row, if it is drawn.
+/// What a vertical line shows beside the first row, if it is drawn: where it is no custom one, its class decides that, or the default.
 #[inline(always)]
-fn character_of(
-    cfg: &SpannedConfig,
-    shape: (usize, usize),
-    col: usize,
-    class: &Borders<char>,
-) -> Option<char>
+fn character_of(cfg: &SpannedConfig, shape: (usize, usize), col: usize) -> Option<char>
     requires shape { is_empty shape ≡ false }
     requires col { col ≤ shape.1 }
-    requires class { ClassDecides cfg.now false class.now }
+    requires places { NoneForPlaces cfg.now false Vertical }
+    requires lines { NoneForLines cfg.now false Vertical }
     ensures { result ≡ option_map (λ mark. character mark.0) (plain_side cfg.now false shape col) }
 {
-    let mark = side(cfg, shape, col, false, Some(class))?;
-    Some(printed_as(mark.shown))
+    let (_, cols) = shape;
+    if !cfg.draws(LineOf::Vertical(col), cols, &mut Probes::new()) {
+        return None;
+    }
+    let class = cfg.get_borders().vertical_line(Rank::of(col, cols));
+    Some(printed_as(class.main.or(cfg.get_border_default())))
 }
 
 /// What a horizontal line shows where it crosses a vertical line, if that one shows something beside rows.
@@ -74,8 +72,9 @@ fn crossing_shown(beside: Option<char>, shown: Option<char>) -> Option<char>
     }
 }
 
-impl<'a> ClassLook<'a> {
-    /// How a table that has places looks without colors, where its class record alone decides that, and it has as many widths as columns.
+impl<'a> PlainLook<'a> {
+    /// How a table that has places looks without colors, if nothing is kept for single places, no vertical line is a custom one, and it has
+    /// as many widths as columns.
     #[inline(always)]
     pub fn of(
         cfg: &'a SpannedConfig,
@@ -96,25 +95,51 @@ impl<'a> ClassLook<'a> {
         {
             return None;
         }
-        let class = class_deciding(cfg, false)?;
-        Some(ClassLook {
+        Some(PlainLook {
             cfg,
-            class,
             sizes,
             shape,
-            first: character_of(cfg, shape, 0, class),
-            inner: character_of(cfg, shape, 1, class),
-            last: character_of(cfg, shape, cols, class),
+            first: character_of(cfg, shape, 0),
+            inner: character_of(cfg, shape, 1),
+            last: character_of(cfg, shape, cols),
         })
+    }
+
+    /// What is kept for the places of a horizontal line: along its edges, and at the crossings. Where it is no custom line, and there is no
+    /// default, the class record is read.
+    #[inline(always)]
+    fn line(&self, row: usize) -> HorizontalLine<char>
+        requires { row ≤ self.now.shape.0 }
+        ensures { IsKept self.now.cfg.now self.now.shape row result }
+    {
+        if self.cfg.has_custom_line(row) || self.cfg.get_border_default().is_some() {
+            return self.looked_up(row);
+        }
+        let (rows, _) = self.shape;
+        self.cfg.get_borders().horizontal_line(Rank::of(row, rows))
+    }
+
+    /// The same, looked up place by place.
+    fn looked_up(&self, row: usize) -> HorizontalLine<char>
+        ensures { IsKept self.now.cfg.now self.now.shape row result }
+    {
+        let (cfg, shape) = (self.cfg, self.shape);
+        HorizontalLine {
+            main: cfg.plain_char_at(Place::Horizontal { row, col: 0, at: 0 }, shape),
+            left: cfg.plain_char_at(Place::Cross { row, col: 0 }, shape),
+            intersection: cfg.plain_char_at(Place::Cross { row, col: 1 }, shape),
+            right: cfg.plain_char_at(Place::Cross { row, col: shape.1 }, shape),
+        }
     }
 
     /// Writes the characters of a horizontal line.
     fn push_marks(&self, text: &mut String, row: usize) -> Result<(), OutOfMemory>
         requires { row ≤ self.now.shape.0 }
-        ensures { OnOk result (string_bytes text.new ≡ string_bytes text.old ++ text_marked (marks_along (plain_look self.now.cfg.now self.now.shape self.now.sizes.now) (Line.Horizontal row))) }
+        ensures { let view = plain_look self.now.cfg.now self.now.shape self.now.sizes.now in
+            Appends result text.old text.new (text_marked (marks_along view (Line.Horizontal row))) }
     {
-        let (rows, cols) = self.shape;
-        let line = self.class.horizontal_line(Rank::of(row, rows));
+        let (_, cols) = self.shape;
+        let line = self.line(row);
         let edge = printed_as(line.main);
         let first = Stretch::of(crossing_shown(self.first, line.left), edge);
         let inner = Stretch::of(crossing_shown(self.inner, line.intersection), edge);
@@ -128,10 +153,12 @@ impl<'a> ClassLook<'a> {
         Ok(())
     }
 
-    /// Writes a horizontal line and a line feed, if the line is drawn.
+    /// Writes a horizontal line and a line feed, if the line is drawn. Where memory is refused some of it may have been written behind
+    /// what stood there.
     pub fn push_line(&self, text: &mut String, row: usize) -> Result<(), OutOfMemory>
         requires { row ≤ self.now.shape.0 }
-        ensures { OnOk result (string_bytes text.new ≡ string_bytes text.old ++ flat_map (λ line. line ++ 10 ∷ []) (line_if_drawn (plain_look self.now.cfg.now self.now.shape self.now.sizes.now) row)) }
+        ensures { let view = plain_look self.now.cfg.now self.now.shape self.now.sizes.now in
+            Appends result text.old text.new (flat_map (λ line. line ++ 10 ∷ []) (line_if_drawn view row)) }
     {
         let (rows, _) = self.shape;
         if self.cfg.has_horizontal(row, rows) {

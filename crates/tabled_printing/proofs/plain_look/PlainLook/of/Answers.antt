@@ -1,7 +1,7 @@
 -- Nothing is kept for single places or lines, and what vertical lines show beside the first row they show beside each.
 use Rattle.std.proofs.Common.{refl, arith}
-use Rattle.tabled_printing.proofs.ClassLookLemmas.{are_beside}
-use Rattle.tabled_printing.proofs.class_look.ClassLook.of.Goals as goal
+use Rattle.tabled_printing.proofs.PlainLookLemmas.{are_beside}
+use Rattle.tabled_printing.proofs.plain_look.PlainLook.of.Goals as goal
 
 pub invariant_of-result : goal.invariant_of-result
 invariant_of-result c =
@@ -11,7 +11,6 @@ invariant_of-result c =
     record {
       has_places = c.requires;
       has_widths = omega (arith, c.len.ensures, c.if-len-cols.false);
-      decides = c.class_deciding.ensures c.in_ok-class.class c.in_ok-class.was;
       level = c.if-not-has_none_for_places.ensures.0 refl;
       columns = columns;
       beside = are_beside cfg c.args.shape c.args.sizes.now upright columns c.character_of.result c.character_of-2.result c.character_of-3.result c.character_of.ensures c.character_of-2.ensures c.character_of-3.ensures;
