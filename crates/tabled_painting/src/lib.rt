@@ -12,6 +12,7 @@ mod cell_lines;
 mod drawn;
 mod joined_row;
 mod joints;
+mod line_marks;
 mod line_room;
 mod margin_side;
 mod margin_sides;

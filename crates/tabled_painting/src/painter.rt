@@ -1,6 +1,6 @@
 //! Writes painted lines.
 
-ghost use Rattle.std.specs.Prelude.{◌≡◌, ◌+◌, ◌++◌, ◌∷◌, [], None, IfOk, OnOk, option_copied, option_map, string_bytes};
+ghost use Rattle.std.specs.Prelude.{◌≡◌, ◌+◌, ◌++◌, ◌∷◌, [], true, false, None, IfOk, OnOk, option_copied, option_map, string_bytes};
 ghost use Rattle.tabled_printing.specs.Marks.{mark_of, run_marks};
 ghost use Rattle.tabled_printing.specs.Sinks.{anything};
 ghost use Rattle.tabled_cells.specs.Placed.{times};
@@ -70,6 +70,14 @@ impl<'a> Painter<'a> {
             with_colors: _,
         } = self;
         text
+    }
+
+    /// Whether no colors are wanted, and none goes on.
+    pub(crate) fn is_plain(&self) -> bool
+        ensures colors { result ≡ true → self.now.with_colors ≡ false }
+        ensures ended { result ≡ true → option_copied self.now.color ≡ None }
+    {
+        !self.with_colors && self.color.is_none()
     }
 
     /// Asks for room for the given number of bytes more, so that a text that no memory holds is refused before any of it is written.

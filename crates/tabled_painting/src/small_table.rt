@@ -30,7 +30,7 @@ use tabled_settings::AlignmentHorizontal;
 pub(crate) const FEW_COLUMNS: usize = 256;
 
 /// A small table that has places, with nothing around it, all of whose cells are bare, and each of whose rows is one line high. One of 3 x 3
-/// cells takes 1,200 instructions less by it than as it is painted else.
+/// cells takes 2,200 instructions less by it than as it is painted else, and 4,300 less where a custom line stands in it.
 #[derive(Clone, Copy)]
 pub(crate) struct SmallTable<'a> {
     /// How its lines look.

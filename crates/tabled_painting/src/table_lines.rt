@@ -23,6 +23,7 @@ use crate::alike::first_plain_line;
 use crate::bare_cells::{BareColumns, bare_columns};
 use crate::cell_lines::CellLines;
 use crate::joints::RowJoints;
+use crate::line_marks::put_marks;
 use crate::line_room::{columns_of, room_for_line};
 use crate::page::Page;
 use crate::plain_sides::{PlainSides, plain_sides};
@@ -35,7 +36,6 @@ use std::convert::AsStr;
 use tabled_border::{ANSIBuf, OutOfMemory};
 use tabled_cells::Placement;
 use tabled_configuration::{ColorMap, ColoredConfig};
-use tabled_kept::Probes;
 use tabled_object::{Dimension, FixedDimension, Position};
 use tabled_printing::{Frame, Mark};
 use tabled_width::is_printable;
@@ -156,8 +156,7 @@ impl<'a, 'b> TableLines<'a, 'b> {
             return page.push_line(line);
         }
         page.begin_line()?;
-        let probes = &mut Probes::new();
-        self.frame.put_line(row, &mut page.painter, probes)?;
+        put_marks(&self.frame, row, &mut page.painter)?;
         page.end_line()?;
         Ok(())
     }
@@ -461,7 +460,7 @@ pub(crate) fn line_behind(
     ensures { IfOk result (λ whole. string_bytes whole ≡ string_bytes text ++ line_text frame.now.with_colors (painted_marks (marks_along (looks.viewed frame.now) (Line.Horizontal row)))) }
 {
     let mut painter = Painter::behind(text, frame.with_colors);
-    frame.put_line(row, &mut painter, &mut Probes::new())?;
+    put_marks(frame, row, &mut painter)?;
     painter.end_last()?;
     Ok(painter.into_text())
 }

@@ -1,6 +1,6 @@
 //! Writes a character and then another many times, as horizontal lines have a crossing and the edge after it.
 
-ghost use Rattle.std.specs.Prelude.{◌≡◌, ◌++◌, List, ℕ, IfSome, IsSome, OnErr, OnOk, string_bytes};
+ghost use Rattle.std.specs.Prelude.{◌≡◌, ◌≢◌, ◌++◌, List, ℕ, IfSome, IsSome, OnErr, OnOk, length, string_bytes};
 ghost use Rattle.std.specs.Char.{encode_utf8};
 ghost use Rattle.std.specs.Option.{ForSome};
 ghost use Rattle.tabled_printing.specs.Texts.{shown_bytes, times};
@@ -8,7 +8,7 @@ ghost use Rattle.tabled_printing.specs.Texts.{shown_bytes, times};
 use crate::repeat::push_times;
 use std::alloc::AllocError;
 
-/// How many lines the texts have after their first character.
+/// How many lines, or hyphens, the texts have after their first character.
 const LINES: usize = 64;
 
 const TOP_LEFT: &str = "┌────────────────────────────────────────────────────────────────";
@@ -27,6 +27,10 @@ const ROUND_TOP_LEFT: &str = "╭───────────────�
 
 const ROUND_BOTTOM_LEFT: &str = "╰────────────────────────────────────────────────────────────────";
 
+const PLUS: &str = "+----------------------------------------------------------------";
+
+const BAR: &str = "|----------------------------------------------------------------";
+
 /// A text of a character and then `LINES` lines: of those that the lines of tables mostly cross in.
 fn lines_after(character: char) -> Option<&'static str>
     ensures { IfSome result (λ piece. piece.now ≡ encode_utf8 character ++ times 64 9472) }
@@ -44,6 +48,17 @@ fn lines_after(character: char) -> Option<&'static str>
     }
 }
 
+/// A text of a character and then `LINES` hyphens.
+fn hyphens_after(character: char) -> Option<&'static str>
+    ensures { IfSome result (λ piece. piece.now ≡ encode_utf8 character ++ times 64 45) }
+{
+    match character {
+        '+' => Some(PLUS),
+        '|' => Some(BAR),
+        _ => None,
+    }
+}
+
 /// What a horizontal line shows at a crossing, if that is there, and along the edge after it.
 #[derive(Clone, Copy, Debug)]
 pub struct Stretch {
@@ -51,10 +66,10 @@ pub struct Stretch {
     pub crossing: Option<char>,
     /// The character of the edge.
     pub edge: char,
-    /// The crossing and `LINES` lines, if there is a text of these.
+    /// The crossing and `LINES` times the edge, if there is a text of these.
     text: Option<&'static str>,
     ghost is: { ForSome text (λ piece. piece.now ≡ shown_bytes crossing ++ times 64 edge) },
-    ghost is_line: { IsSome text → edge ≡ 9472 },
+    ghost is_line: { IsSome text → edge ≢ 45 → edge ≡ 9472 },
 }
 
 impl Stretch {
@@ -63,14 +78,27 @@ impl Stretch {
         ensures crossing { result.crossing ≡ crossing }
         ensures edge { result.edge ≡ edge }
     {
-        let text = match crossing {
-            Some(character) if edge == '─' => lines_after(character),
+        let text = match (crossing, edge) {
+            (Some(character), '─') => lines_after(character),
+            (Some(character), '-') => hyphens_after(character),
             _ => None,
         };
         Stretch {
             crossing,
             edge,
             text,
+        }
+    }
+
+    /// How many bytes the character of the edge takes, where there is a text.
+    #[inline(always)]
+    fn size(self) -> usize
+        ensures { IsSome self.text → result ≡ length (encode_utf8 self.edge) }
+    {
+        if self.edge == '-' {
+            '-'.len_utf8()
+        } else {
+            '─'.len_utf8()
         }
     }
 
@@ -96,7 +124,7 @@ impl Stretch {
         if let Some(piece) = self.text
             && count <= LINES
         {
-            let left_out = (LINES - count) * '─'.len_utf8();
+            let left_out = (LINES - count) * self.size();
             text.push_str(&piece[..piece.len() - left_out])?;
             return Ok(());
         }

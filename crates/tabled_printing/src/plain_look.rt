@@ -1,6 +1,6 @@
 //! How a table looks without colors, where nothing is kept for single places and no vertical line is a custom one.
 
-ghost use Rattle.std.specs.Prelude.{◌≡◌, ◌<◌, ◌≤◌, ◌++◌, ◌∷◌, [], false, if◌then◌else◌, Some, None, is_some, IfSome, length, option_map};
+ghost use Rattle.std.specs.Prelude.{◌≡◌, ◌<◌, ◌≤◌, ◌++◌, ◌∷◌, [], false, if◌then◌else◌, Some, None, is_some, IfSome, IsSome, length, option_map};
 ghost use Rattle.std.specs.Coded.{codes};
 ghost use Rattle.std.specs.FinMap as finmap;
 ghost use Rattle.std.specs.List.{flat_map};
@@ -85,6 +85,8 @@ impl<'a> PlainLook<'a> {
         ensures cfg { IfSome result (λ look. look.cfg.now ≡ cfg.now) }
         ensures sizes { IfSome result (λ look. look.sizes.now ≡ sizes.now) }
         ensures shape { IfSome result (λ look. look.shape ≡ shape) }
+        ensures made { length sizes.now.widths.items ≡ shape.1 → NoneForPlaces cfg.now false Horizontal → NoneForPlaces cfg.now false Vertical
+            → NoneForLines cfg.now false Vertical → IsSome result }
     {
         let (level, upright) = (LineOf::Horizontal(0), LineOf::Vertical(0));
         let (_, cols) = shape;
@@ -132,8 +134,9 @@ impl<'a> PlainLook<'a> {
         }
     }
 
-    /// Writes the characters of a horizontal line.
-    fn push_marks(&self, text: &mut String, row: usize) -> Result<(), OutOfMemory>
+    /// Writes the characters of a horizontal line, drawn or not. Where memory is refused some of them may have been written behind what
+    /// stood there.
+    pub fn push_marks(&self, text: &mut String, row: usize) -> Result<(), OutOfMemory>
         requires { row ≤ self.now.shape.0 }
         ensures { let view = plain_look self.now.cfg.now self.now.shape self.now.sizes.now in
             Appends result text.old text.new (text_marked (marks_along view (Line.Horizontal row))) }
