@@ -136,6 +136,7 @@ impl<'a> PlainLook<'a> {
 
     /// Writes the characters of a horizontal line, drawn or not. Where memory is refused some of them may have been written behind what
     /// stood there.
+    #[inline(always)]
     pub fn push_marks(&self, text: &mut String, row: usize) -> Result<(), OutOfMemory>
         requires { row ≤ self.now.shape.0 }
         ensures { let view = plain_look self.now.cfg.now self.now.shape self.now.sizes.now in
