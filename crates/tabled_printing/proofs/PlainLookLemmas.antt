@@ -1,5 +1,5 @@
 -- What vertical lines show beside rows, and the pieces of horizontal lines, where nothing is kept for single places or lines, and no colors are wanted.
-use Rattle.std.proofs.Common.{◌≡◌, ℕ, ◌+◌, ◌<◌, ◌≤◌, ◌||◌, arith, false, Bool, true, if◌then◌else◌, Option, Some, None, is_some, option_map, List, [], ◌∷◌, ◌++◌, map, slice_index, refl, sym, ap, ◌∙◌, append_assoc, get_or}
+use Rattle.std.proofs.Common.{◌≡◌, ◌≢◌, ◌==◌, ℕ, length, encode_utf8, IsSome, ◌+◌, ◌<◌, ◌≤◌, ◌||◌, arith, false, Bool, true, if◌then◌else◌, Option, Some, None, is_some, option_map, List, [], ◌∷◌, ◌++◌, map, slice_index, refl, sym, ap, ◌∙◌, append_assoc, get_or}
 use Rattle.std.proofs.lemmas.Bool.Decides.{nat_tests}
 use Rattle.std.proofs.lemmas.Grind.{get_or_default_zero}
 use Rattle.std.specs.FinMap.{get}
@@ -27,6 +27,7 @@ use Rattle.tabled_printing.specs.LinePieces.{has_line, places_before}
 use Rattle.tabled_printing.specs.Picture.{Look, Shown, character, mark_at, marks_along, text_marked}
 use Rattle.tabled_printing.specs.Sinks.{text_of_both}
 use Rattle.tabled_printing.specs.Texts.{shown_bytes, times}
+use Rattle.tabled_printing.specs.declared.crossing.Stretch.{Stretch}
 use Rattle.tabled_printing.specs.declared.plain_look.PlainLook.{PlainLook}
 use Rattle.tabled_printing.proofs.AlikeLemmas.{between, crossing_as_second, crossing_by_class, crossing_shows, edge_as_first, edge_by_class, side_by_default, if_there, last_alike, piece_alike, side_as_first, side_as_second, there}
 use Rattle.tabled_printing.proofs.LookedLemmas.{crossing_there, edge_there, has_cols, last_one, side_there}
@@ -134,6 +135,19 @@ closed_text view r there =
     ap text_marked (marks_are view (LineOf.Horizontal r) there ∙ marks_closed view (LineOf.Horizontal r) ∙ ap (λ marks. so_far ++ marks) (last_alike view r crossing refl))
     ∙ text_of_both so_far (mark_if_drawn view view.shape.1 crossing)
     ∙ ap (λ bs. text_marked so_far ++ bs) (text_if (view.vertical view.shape.1) crossing)
+
+-- how many bytes the edge of a stretch takes
+pub sized_by : (stretch : Stretch) (edge size : ℕ) → stretch.edge ≡ edge → (edge ≡ 45 → size ≡ length (encode_utf8 45)) → (edge ≢ 45 → size ≡ length (encode_utf8 9472))
+    → IsSome stretch.text → size ≡ length (encode_utf8 stretch.edge)
+sized_by stretch edge size same hyphen other some = by_case (edge == 45) refl
+  where
+    by_case : (b : Bool) → (edge == 45) ≡ b → size ≡ length (encode_utf8 stretch.edge)
+    by_case true is =
+        let one : edge ≡ 45 = grind (arith, nat_tests) in
+        hyphen one ∙ ap (λ e. length (encode_utf8 e)) (sym one ∙ sym same)
+    by_case false is =
+        let none : edge ≢ 45 = λ one. absurd (let no : true ≡ false = grind (arith, nat_tests) in cc) in
+        other none ∙ ap (λ e. length (encode_utf8 e)) (sym (stretch.is_line some (λ one. none (sym same ∙ one))))
 
 -- where its vertical line shows something beside rows
 pub crossing_by : (view : Look) (r n : ℕ) (beside shown : Option ℕ) → is_some beside ≡ view.vertical n → shown ≡ (mark_at view (Place.Cross r n)).0

@@ -1,6 +1,6 @@
 //! Writes a character and then another many times, as horizontal lines have a crossing and the edge after it.
 
-ghost use Rattle.std.specs.Prelude.{◌≡◌, ◌++◌, List, ℕ, IfSome, IsSome, OnErr, OnOk, string_bytes};
+ghost use Rattle.std.specs.Prelude.{◌≡◌, ◌≢◌, ◌++◌, List, ℕ, IfSome, IsSome, OnErr, OnOk, length, string_bytes};
 ghost use Rattle.std.specs.Char.{encode_utf8};
 ghost use Rattle.std.specs.Option.{ForSome};
 ghost use Rattle.tabled_printing.specs.Texts.{shown_bytes, times};
@@ -10,9 +10,6 @@ use std::alloc::AllocError;
 
 /// How many lines, or hyphens, the texts have after their first character.
 const LINES: usize = 64;
-
-/// From how many hyphens on they are written at once with what stands before them.
-const FEW: usize = 3;
 
 const TOP_LEFT: &str = "┌────────────────────────────────────────────────────────────────";
 
@@ -69,10 +66,10 @@ pub struct Stretch {
     pub crossing: Option<char>,
     /// The character of the edge.
     pub edge: char,
-    /// The crossing and `LINES` lines, if there is a text of these.
+    /// The crossing and `LINES` times the edge, if there is a text of these.
     text: Option<&'static str>,
     ghost is: { ForSome text (λ piece. piece.now ≡ shown_bytes crossing ++ times 64 edge) },
-    ghost is_line: { IsSome text → edge ≡ 9472 },
+    ghost is_line: { IsSome text → edge ≢ 45 → edge ≡ 9472 },
 }
 
 impl Stretch {
@@ -81,8 +78,9 @@ impl Stretch {
         ensures crossing { result.crossing ≡ crossing }
         ensures edge { result.edge ≡ edge }
     {
-        let text = match crossing {
-            Some(character) if edge == '─' => lines_after(character),
+        let text = match (crossing, edge) {
+            (Some(character), '─') => lines_after(character),
+            (Some(character), '-') => hyphens_after(character),
             _ => None,
         };
         Stretch {
@@ -92,26 +90,50 @@ impl Stretch {
         }
     }
 
-    /// Writes the character of the crossing, and that of the edge the given number of times: some hyphens at once with the crossing.
+    /// How many bytes the character of the edge takes, where there is a text.
+    #[inline(always)]
+    pub(crate) fn size(self) -> usize
+        ensures { IsSome self.text → result ≡ length (encode_utf8 self.edge) }
+    {
+        if self.edge == '-' {
+            '-'.len_utf8()
+        } else {
+            '─'.len_utf8()
+        }
+    }
+
+    /// Writes the character of the crossing, and that of the edge the given number of times.
     #[inline(never)]
     fn push_parts(self, text: &mut String, count: usize) -> Result<(), AllocError>
         ensures ok { OnOk result (string_bytes text.new ≡ string_bytes text.old ++ (shown_bytes self.crossing ++ times count self.edge)) }
         ensures err { OnErr result ((some : List ℕ) × (string_bytes text.new ≡ string_bytes text.old ++ some)) }
     {
-        let Some(character) = self.crossing else {
-            return push_times(text, count, self.edge);
-        };
-        if self.edge == '-'
-            && FEW <= count
+        if let Some(character) = self.crossing {
+            text.push(character)?;
+        }
+        push_times(text, count, self.edge)
+    }
+
+    /// Writes the same at once, where that can be: `size` is how many bytes the character of the edge takes, where there is a text.
+    #[inline(always)]
+    pub(crate) fn push_sized(
+        self,
+        text: &mut String,
+        count: usize,
+        size: usize,
+    ) -> Result<(), AllocError>
+        requires { IsSome self.text → size ≡ length (encode_utf8 self.edge) }
+        ensures ok { OnOk result (string_bytes text.new ≡ string_bytes text.old ++ (shown_bytes self.crossing ++ times count self.edge)) }
+        ensures err { OnErr result ((some : List ℕ) × (string_bytes text.new ≡ string_bytes text.old ++ some)) }
+    {
+        if let Some(piece) = self.text
             && count <= LINES
-            && let Some(piece) = hyphens_after(character)
         {
-            let left_out = (LINES - count) * '-'.len_utf8();
+            let left_out = (LINES - count) * size;
             text.push_str(&piece[..piece.len() - left_out])?;
             return Ok(());
         }
-        text.push(character)?;
-        push_times(text, count, self.edge)
+        self.push_parts(text, count)
     }
 
     /// Writes the same at once, where that can be. Where memory is refused some of it may have been written. A piece of a line between two
@@ -121,14 +143,7 @@ impl Stretch {
         ensures ok { OnOk result (string_bytes text.new ≡ string_bytes text.old ++ (shown_bytes self.crossing ++ times count self.edge)) }
         ensures err { OnErr result ((some : List ℕ) × (string_bytes text.new ≡ string_bytes text.old ++ some)) }
     {
-        if let Some(piece) = self.text
-            && count <= LINES
-        {
-            let left_out = (LINES - count) * '─'.len_utf8();
-            text.push_str(&piece[..piece.len() - left_out])?;
-            return Ok(());
-        }
-        self.push_parts(text, count)
+        self.push_sized(text, count, self.size())
     }
 }
 

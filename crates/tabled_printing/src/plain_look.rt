@@ -1,6 +1,7 @@
 //! How a table looks without colors, where nothing is kept for single places and no vertical line is a custom one.
 
-ghost use Rattle.std.specs.Prelude.{◌≡◌, ◌<◌, ◌≤◌, ◌++◌, ◌∷◌, [], false, if◌then◌else◌, Some, None, is_some, IfSome, IsSome, length, option_map};
+ghost use Rattle.std.specs.Prelude.{◌≡◌, ◌≢◌, ◌<◌, ◌≤◌, ◌++◌, ◌∷◌, [], false, if◌then◌else◌, Some, None, is_some, IfSome, IsSome, length, option_map};
+ghost use Rattle.std.specs.Char.{encode_utf8};
 ghost use Rattle.std.specs.Coded.{codes};
 ghost use Rattle.std.specs.FinMap as finmap;
 ghost use Rattle.std.specs.List.{flat_map};
@@ -134,6 +135,37 @@ impl<'a> PlainLook<'a> {
         }
     }
 
+    /// Writes the characters of a horizontal line of which this is kept, and each of whose edges' characters takes so many bytes: one where
+    /// it is a hyphen, and else, where there are texts of it, as many as a line.
+    #[inline(always)]
+    fn push_pieces(
+        &self,
+        text: &mut String,
+        row: usize,
+        line: HorizontalLine<char>,
+        size: usize,
+    ) -> Result<(), OutOfMemory>
+        requires row { row ≤ self.now.shape.0 }
+        requires kept { IsKept self.now.cfg.now self.now.shape row line }
+        requires hyphen { character line.main ≡ 45 → size ≡ length (encode_utf8 45) }
+        requires other { character line.main ≢ 45 → size ≡ length (encode_utf8 9472) }
+        ensures { let view = plain_look self.now.cfg.now self.now.shape self.now.sizes.now in
+            Appends result text.old text.new (text_marked (marks_along view (Line.Horizontal row))) }
+    {
+        let (_, cols) = self.shape;
+        let edge = printed_as(line.main);
+        let first = Stretch::of(crossing_shown(self.first, line.left), edge);
+        let inner = Stretch::of(crossing_shown(self.inner, line.intersection), edge);
+        first.push_sized(text, self.sizes.widths[0], size)?;
+        for col in 1..cols {
+            inner.push_sized(text, self.sizes.widths[col], size)?;
+        }
+        if let Some(character) = crossing_shown(self.last, line.right) {
+            text.push(character)?;
+        }
+        Ok(())
+    }
+
     /// Writes the characters of a horizontal line, drawn or not. Where memory is refused some of them may have been written behind what
     /// stood there.
     #[inline(always)]
@@ -142,19 +174,11 @@ impl<'a> PlainLook<'a> {
         ensures { let view = plain_look self.now.cfg.now self.now.shape self.now.sizes.now in
             Appends result text.old text.new (text_marked (marks_along view (Line.Horizontal row))) }
     {
-        let (_, cols) = self.shape;
         let line = self.line(row);
-        let edge = printed_as(line.main);
-        let first = Stretch::of(crossing_shown(self.first, line.left), edge);
-        let inner = Stretch::of(crossing_shown(self.inner, line.intersection), edge);
-        first.push(text, self.sizes.widths[0])?;
-        for col in 1..cols {
-            inner.push(text, self.sizes.widths[col])?;
+        if printed_as(line.main) == '-' {
+            return self.push_pieces(text, row, line, '-'.len_utf8());
         }
-        if let Some(character) = crossing_shown(self.last, line.right) {
-            text.push(character)?;
-        }
-        Ok(())
+        self.push_pieces(text, row, line, '─'.len_utf8())
     }
 
     /// Writes a horizontal line and a line feed, if the line is drawn. Where memory is refused some of it may have been written behind

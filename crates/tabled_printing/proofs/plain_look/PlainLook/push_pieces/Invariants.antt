@@ -4,7 +4,7 @@ use Rattle.tabled_grid.specs.declared.place.LineOf.{LineOf}
 use Rattle.tabled_printing.specs.PlainLooks.{plain_look}
 use Rattle.tabled_printing.specs.LinePieces.{places_before}
 use Rattle.tabled_printing.specs.Picture.{mark_at, text_marked}
-use Rattle.tabled_printing.proofs.plain_look.PlainLook.push_marks.Given as goal
+use Rattle.tabled_printing.proofs.plain_look.PlainLook.push_pieces.Given as goal
 
 abbrev pub invariant-loop-col : goal.invariant-loop-col
 invariant-loop-col l =
