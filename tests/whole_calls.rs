@@ -6,8 +6,8 @@ use std::test::Fail;
 use tabled_border::{ANSIBuf, Border};
 use tabled_config::{ColoredConfig, Frame, Mark, Run, Sink, SpannedConfig};
 use tabled_grid::{
-    Borders, Entity, FixedDimension, Layers, OutOfMemory, Position, Probes, VerticalLine,
-    border_writes,
+    Borders, Entity, FixedDimension, HorizontalLine, Layers, OutOfMemory, Position, Probes,
+    VerticalLine, border_writes,
 };
 use tabled_painting::{AlikeLines, Output, sizes_of_spanned, spanned_text, table_text};
 use tabled_printing::{PlainLook, Stretch, push_after};
@@ -216,6 +216,15 @@ fn a_crossing_is_written_with_the_edge_after_it(rt: HostRuntime) -> Result<(), F
     assert_eq!(rt; text.as_str(), "line ┬───#─==┼");
     Stretch::of(Some('┼'), '─').push(&mut text, 65)?;
     assert_eq!(rt; text.chars().count(), 80);
+    let mut text = String::from_str(rt.alloc(), "line ")?;
+    Stretch::of(Some('+'), '-').push(&mut text, 3)?;
+    Stretch::of(Some('|'), '-').push(&mut text, 2)?;
+    Stretch::of(Some('#'), '-').push(&mut text, 1)?;
+    Stretch::of(Some('+'), '=').push(&mut text, 2)?;
+    Stretch::of(Some('+'), '-').push(&mut text, 0)?;
+    assert_eq!(rt; text.as_str(), "line +---|--#-+==+");
+    Stretch::of(Some('|'), '-').push(&mut text, 65)?;
+    assert_eq!(rt; text.len(), 84);
     Ok(())
 }
 
@@ -236,6 +245,37 @@ fn a_line_of_a_class_record_is_written(rt: HostRuntime) -> Result<(), Fail> {
     assert!(rt; PlainLook::of(&cfg, &dims, (2, 4)).is_none());
     cfg.insert_vertical_line(1, VerticalLine::empty())?;
     assert!(rt; PlainLook::of(&cfg, &dims, (2, 3)).is_none());
+    Ok(())
+}
+
+#[test]
+fn a_line_of_a_look_is_a_custom_one_or_its_class_or_the_default(rt: HostRuntime) -> Result<(), Fail> {
+    let alloc = rt.alloc();
+    let dims = FixedDimension::new(vec![in alloc; 2usize; 3]?, vec![in alloc; 1usize; 2]?);
+    let mut cfg = SpannedConfig::new(alloc);
+    cfg.set_borders(ascii_borders());
+    let line = HorizontalLine {
+        main: Some('='),
+        ..HorizontalLine::empty()
+    };
+    cfg.insert_horizontal_line(1, line)?;
+    let Some(look) = PlainLook::of(&cfg, &dims, (2, 3)) else {
+        return Ok(assert!(rt; false));
+    };
+    let mut text = String::new(alloc);
+    for row in 0..3 {
+        look.push_line(&mut text, row)?;
+    }
+    assert_eq!(rt; text.as_str(), "+--+--+--+\n+==+==+==+\n+--+--+--+\n");
+    let mut dotted = SpannedConfig::new(alloc);
+    dotted.set_border_default('.');
+    let Some(look) = PlainLook::of(&dotted, &dims, (2, 3)) else {
+        return Ok(assert!(rt; false));
+    };
+    let mut text = String::from_str(alloc, "dots ")?;
+    look.push_marks(&mut text, 1)?;
+    assert_eq!(rt; text.as_str(), "dots ..........");
+    assert_eq!(rt; (look.first, look.inner, look.last), (Some('.'), Some('.'), Some('.')));
     Ok(())
 }
 
