@@ -1,7 +1,9 @@
 //! Alignments as values.
 
+use std::test::Fail;
+use tabled_config::SpannedConfig;
+use tabled_grid::{AlignmentHorizontal, AlignmentVertical, Entity, Position};
 use tabled_options::Alignment;
-use tabled_settings::{AlignmentHorizontal, AlignmentVertical};
 
 #[test]
 fn horizontal_alignments_come_first(rt: HostRuntime) {
@@ -29,4 +31,18 @@ fn an_alignment_gives_its_part_as_an_option(rt: HostRuntime) {
     assert!(rt; center == Some(AlignmentHorizontal::Center));
     assert!(rt; none == None);
     assert!(rt; vertical == Some(AlignmentVertical::Center));
+}
+
+#[test]
+fn several_entities_are_aligned_at_once(rt: HostRuntime) -> Result<(), Fail> {
+    let mut cfg = SpannedConfig::new(rt.alloc());
+    cfg.set_alignment_horizontal(Entity::Row(1), AlignmentHorizontal::Center)?;
+    let mut list = Vec::new(rt.alloc());
+    list.push((Entity::Column(1), Some(AlignmentHorizontal::Right)))?;
+    list.push((Entity::Cell(1, 1), None))?;
+    cfg.set_alignments_horizontal(list)?;
+    assert!(rt; cfg.get_alignment_horizontal(Position::new(0, 1)) == AlignmentHorizontal::Right);
+    assert!(rt; cfg.get_alignment_horizontal(Position::new(1, 1)) == AlignmentHorizontal::Left);
+    assert!(rt; cfg.get_alignment_horizontal(Position::new(1, 0)) == AlignmentHorizontal::Center);
+    Ok(())
 }

@@ -5,7 +5,7 @@ use std::test::Fail;
 use tabled::settings::object::Rows;
 use tabled::settings::style::LineText;
 use tabled::settings::{Alignment, Style};
-use tabled::texts::{cleaned, is_clean, steers};
+use tabled::texts::{cleaned, cleaned_line, is_clean, steers};
 use tabled::{TableError, TextTable};
 use tabled_border::OutOfMemory;
 
@@ -47,6 +47,17 @@ fn a_table_is_cleaned_and_measured_again(rt: HostRuntime) -> Result<(), TableErr
     table.clean()?;
     let expected = "+--------+---+\n| a␛[31m | b |\n+--------+---+\n| c      | \u{fffd} |\n| d      |   |\n+--------+---+";
     assert_eq!(rt; table.to_text()?.as_str(), expected);
+    Ok(())
+}
+
+#[test]
+fn a_line_feed_does_not_break_a_line(rt: HostRuntime) -> Result<(), TableError> {
+    let mut table = TextTable::new(rt.alloc(), &[&["some text"]])?;
+    let title = LineText::new(rt.alloc(), "a\r\nb\nc", Rows::first())?;
+    table.with(Style::ascii())?;
+    table.with(title.clean(rt.alloc())?)?;
+    assert_eq!(rt; table.to_text()?.as_str(), "a␊b␊c-------+\n| some text |\n+-----------+");
+    assert_eq!(rt; cleaned_line(rt.alloc(), "\n\u{1b}\r")?.as_str(), "␊␛␍");
     Ok(())
 }
 

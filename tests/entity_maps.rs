@@ -112,6 +112,21 @@ fn event(
     Ok(events)
 }
 
+/// What a cell has after a list of one event, of the given entity, beside one of a row and one of a column.
+fn after_a_list(alloc: Global, entity: Entity, value_given: Option<char>) -> Result<char, OutOfMemory> {
+    let mut map = row_and_column(alloc)?;
+    map.apply_list(alloc, event(alloc, entity, value_given)?)?;
+    Ok(value(&map, 1, 2))
+}
+
+#[test]
+fn a_list_is_made_in_its_order(rt: HostRuntime) -> Result<(), Fail> {
+    assert!(rt; after_a_list(rt.alloc(), Entity::Cell(1, 2), Some('x'))? == 'x');
+    assert!(rt; after_a_list(rt.alloc(), Entity::Cell(1, 2), None)? == '.');
+    assert!(rt; after_a_list(rt.alloc(), Entity::Global, Some('x'))? == 'x');
+    Ok(())
+}
+
 /// What a cell has in three maps after an event of a row, of the given entity, and a removal of all cells.
 fn after_three(alloc: Global, entity: Entity) -> Result<[char; 3], OutOfMemory> {
     let mut first = EntityMap::new(alloc, '.');

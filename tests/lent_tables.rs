@@ -98,6 +98,8 @@ fn an_option_is_applied(rt: HostRuntime) -> Result<(), Fail> {
     let mut table = short(alloc)?;
     table.apply(Style::psql())?;
     assert!(rt; is_printed(alloc, &table, " tea    | 95 \n--------+----\n coffee | 7  ")?);
+    table.apply_to(&Columns::one(1), &Alignment::right())?;
+    assert!(rt; is_printed(alloc, &table, " tea    | 95 \n--------+----\n coffee |  7 ")?);
     assert!(rt; !table.config().config().has_spans_or_padding());
     Ok(())
 }

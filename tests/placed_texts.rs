@@ -8,8 +8,9 @@ use tabled::settings::object::{Columns, Rows};
 use tabled::settings::{Alignment, Style};
 use tabled::{TableError, TextTable};
 use tabled_cells::{Placement, aligned, line_parts, lines_above, show_lines, widest};
-use tabled_config::{SpannedConfig, push_spaces_before, push_times};
+use tabled_config::SpannedConfig;
 use tabled_grid::{Entity, Position};
+use tabled_printing::{push_spaces_before, push_times};
 use tabled_settings::{AlignmentHorizontal, AlignmentVertical};
 
 /// A cell of one line beside one of four, and a longer one below it.

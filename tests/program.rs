@@ -1,7 +1,8 @@
 //! What the program does with its words, a reader and a writer: pages that are drawn by hand, and each refusal of an input.
 
 use std::alloc::{AllocError, Global};
-use std::io::Cursor;
+use std::io;
+use std::io::{Cursor, ErrorKind, Read};
 use tabled_pages::{ShowError, run};
 
 /// Words that are given between spaces.
@@ -159,4 +160,37 @@ fn inputs_are_refused(rt: HostRuntime) {
         let refused = refuses(rt.alloc(), "ascii", input.as_bytes(), refusal);
         assert!(rt; refused, "{input}");
     }
+}
+
+/// A reader of so many bytes, which fails behind them.
+#[derive(Drop)]
+struct Broken {
+    left: usize,
+}
+
+impl Read for Broken {
+    fn read(&mut self, buf: &mut [u8]) -> io::Result<usize> {
+        if self.left == 0 {
+            return Err(io::Error::from(ErrorKind::Other));
+        }
+        let count = self.left.min(buf.len());
+        self.left = self.left.saturating_sub(count);
+        Ok(count)
+    }
+}
+
+/// Why the program refuses so many bytes.
+fn refused(alloc: Global, count: usize) -> Result<Option<ShowError>, AllocError> {
+    let words = words_of(alloc, "ascii")?;
+    let mut written = Vec::new(alloc);
+    Ok(run(alloc, &words, &mut Broken { left: count }, &mut written).err())
+}
+
+#[test]
+fn an_input_has_16_777_216_bytes_at_most(rt: HostRuntime) -> Result<(), AllocError> {
+    // who has read as many as may be asks whether there is more
+    assert!(rt; refused(rt.alloc(), 16_777_216)? == Some(ShowError::ReadFailed));
+    assert!(rt; refused(rt.alloc(), 16_777_217)? == Some(ShowError::TooLong));
+    assert!(rt; ShowError::TooLong.status() == 5);
+    Ok(())
 }

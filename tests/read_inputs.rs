@@ -3,11 +3,21 @@
 use std::alloc::Global;
 use std::io::Cursor;
 use std::test::Fail;
-use tabled_input::{Cells, InputError, read_rows};
+use tabled_input::{Cells, InputError, read_input, read_rows};
 
 /// The rows of an input, or why it has none.
 fn rows(alloc: Global, cells: Cells, input: &[u8]) -> Result<Vec<Vec<String>>, InputError> {
     read_rows(alloc, cells, &mut Cursor::new(input))
+}
+
+#[test]
+fn bytes_are_read(rt: HostRuntime) {
+    for (limit, bytes) in [(2, Ok(b"ab".as_slice())), (3, Ok(b"ab".as_slice())), (1, Err(InputError::TooLong))] {
+        match (read_input(rt.alloc(), limit, &mut Cursor::new(b"ab".as_slice())), bytes) {
+            (Ok(read), Ok(bytes)) => assert!(rt; read.as_slice() == bytes, "{limit}"),
+            (read, bytes) => assert!(rt; read.err() == bytes.err(), "{limit}"),
+        }
+    }
 }
 
 #[test]

@@ -4,13 +4,13 @@ use crate::common::configs::{ascii_borders, begins, config, prints, seen};
 use std::alloc::{AllocError, Global};
 use std::test::Fail;
 use tabled_border::{ANSIBuf, Border};
-use tabled_config::{ColoredConfig, Frame, Mark, Run, Sink, SpannedConfig};
+use tabled_config::{ColoredConfig, Mark, Run, SpannedConfig};
 use tabled_grid::{
     Borders, Entity, FixedDimension, HorizontalLine, Layers, OutOfMemory, Position, Probes,
     VerticalLine, border_writes,
 };
 use tabled_painting::{AlikeLines, Output, sizes_of_spanned, spanned_text, table_text};
-use tabled_printing::{PlainLook, Stretch, push_after};
+use tabled_printing::{Frame, PlainLook, Sink, Stretch, push_after};
 use tabled_rooms::CellSizes;
 use tabled_settings::EntityMap;
 use tabled_style::{ReadyStyle, Style};

@@ -49,8 +49,8 @@ fn the_words_are_all_that_follow_the_name(rt: HostRuntime) {
     let alloc = rt.alloc();
     assert!(rt; has_words(alloc, &["tabled_show"], &[]) == Ok(true));
     assert!(rt; has_words(alloc, &["tabled_show", "dots"], &["dots"]) == Ok(true));
-    let words = ["dots", "", "漢字", "dots"];
-    assert!(rt; has_words(alloc, &["x", "dots", "", "漢字", "dots"], &words) == Ok(true));
+    let arguments = ["x", "dots", "", "漢字", "dots", "5", "6", "7", "8", "9", "10"];
+    assert!(rt; has_words(alloc, &arguments, &arguments[1..]) == Ok(true));
 }
 
 #[test]
@@ -59,4 +59,18 @@ fn a_word_that_is_longer_than_any_style_is_refused(rt: HostRuntime) {
     let longer = "12345678901234567890123456789012345678901234567890123456789012345";
     assert!(rt; has_words(rt.alloc(), &["x", "dots", longest], &["dots", longest]) == Ok(true));
     assert!(rt; has_words(rt.alloc(), &["x", "dots", longer], &[]) == Err(ShowError::Usage));
+}
+
+#[test]
+fn all_words_are_given(rt: HostRuntime) {
+    let arguments = ["tabled_view", "--left", "1", "", "漢字", "a", "b", "c", "d", "e"];
+    match tabled_request::all_words(rt.alloc(), &Called { arguments: &arguments }) {
+        Ok(words) => {
+            assert!(rt; words.len() == arguments.len() - 1);
+            for (word, text) in words.iter().zip(&arguments[1..]) {
+                assert!(rt; word.as_str() == *text, "{text}");
+            }
+        }
+        Err(_) => assert!(rt; false),
+    }
 }

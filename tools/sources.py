@@ -1,4 +1,5 @@
-"""What scripts of this repository share: its crates, scratch repositories over them, wrong edits, and the blocks of code of a page."""
+"""What scripts of this repository share: its crates, scratch repositories over them, wrong edits, the blocks of code of a page, free memory."""
+import contextlib
 import pathlib
 import re
 
@@ -52,3 +53,24 @@ def blocks(text):
         (found[1].strip(), found[2], found.start())
         for found in re.finditer(r"^```([^\n]*)\n(.*?)(?:^```[ \t]*$|\Z)", text, re.M | re.S)
     ]
+
+
+def limits_of_groups():
+    """What the limits of the groups that this belongs to leave, in megabytes: of the first kind of groups, and of the second."""
+    for line in pathlib.Path("/proc/self/cgroup").read_text().splitlines():
+        _, kinds, path = line.split(":", 2)
+        if kinds not in ("", "memory"):
+            continue
+        top = pathlib.Path("/sys/fs/cgroup", kinds)
+        limit, used = ("memory.limit_in_bytes", "memory.usage_in_bytes") if kinds else ("memory.max", "memory.current")
+        for folder in [top / path.lstrip("/"), *(top / path.lstrip("/")).parents]:
+            with contextlib.suppress(OSError, ValueError):
+                # (files that were read count as used, and are let go)
+                kept = re.search(r"^(?:total_)?inactive_file (\d+)$", (folder / "memory.stat").read_text(), re.M)
+                yield int((folder / limit).read_text()) - int((folder / used).read_text()) + int(kept[1]) >> 20
+
+
+def free_memory():
+    """How much memory there is to take, in megabytes."""
+    free = re.search(r"^MemAvailable:\s+(\d+) kB$", pathlib.Path("/proc/meminfo").read_text(), re.M)
+    return min([int(free[1]) >> 10, *limits_of_groups()])

@@ -64,13 +64,16 @@ fn apply(turn: &mut Turn, is_lent: bool) -> Result<Outcome, OutOfMemory> {
     Ok(Outcome::of(returned, !is_as_before, is_as_before))
 }
 
-/// What becomes of an option on a cell.
-fn modify(turn: &mut Turn) -> Result<Outcome, OutOfMemory> {
+/// What becomes of an option on a cell, by a call that lends the table again, or by one that does not.
+fn modify(turn: &mut Turn, is_lent: bool) -> Result<Outcome, OutOfMemory> {
     let (mut table, copy) = table(turn.alloc())?;
+    let (cell, border) = (Cell::new(0, 1), Border::filled('#'));
     turn.spend();
-    let returned = table
-        .modify(Cell::new(0, 1), Border::filled('#'))
-        .map(|_| ());
+    let returned = if is_lent {
+        table.modify(cell, border).map(|_| ())
+    } else {
+        table.apply_to(&cell, &border)
+    };
     let is_as_before = is_same(table.config(), &copy);
     Ok(Outcome::of(returned, !is_as_before, is_as_before))
 }
@@ -134,13 +137,14 @@ fn print_between(turn: &mut Turn, with_colors: bool) -> Result<Outcome, OutOfMem
 }
 
 /// The calls of these tables.
-pub(crate) fn calls() -> [Named; 11] {
+pub(crate) fn calls() -> [Named; 12] {
     [
         ("LentTable<'a>::new", make),
         ("LentTable<'a>::from_rows", make_of_rows),
         ("LentTable<'a>::with", |turn| apply(turn, true)),
         ("LentTable<'a>::apply", |turn| apply(turn, false)),
-        ("LentTable<'a>::modify", modify),
+        ("LentTable<'a>::modify", |turn| modify(turn, true)),
+        ("LentTable<'a>::apply_to", |turn| modify(turn, false)),
         ("LentTable<'a>::to_text", |turn| text(turn, false)),
         ("LentTable<'a>::to_ansi", |turn| text(turn, true)),
         ("LentTable<'a>::print_to", |turn| print(turn, false)),

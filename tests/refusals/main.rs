@@ -2,6 +2,7 @@
 
 mod cells;
 mod lent;
+mod lines;
 mod objects;
 mod options;
 mod pages;
@@ -64,6 +65,8 @@ fn main(rt: HostRuntime) -> ExitCode {
             &rows::values(),
             &rows::tables(),
             &pages::calls(),
+            &pages::views(),
+            &lines::calls(),
         ],
     )
 }

@@ -1,12 +1,16 @@
-//! What the program does with its words, its input and its output.
+//! What both programs do with their words, their input and their output.
 
 use crate::turn::{Named, Outcome, Turn};
 use std::alloc::Global;
 use std::env::{Env, FillError};
 use std::io;
 use std::io::{Cursor, ErrorKind, Write};
+use tabled_csv::{CsvError, csv};
 use tabled_grid::OutOfMemory;
+use tabled_input::{Cells, InputError, read_input, read_rows};
 use tabled_pages::{ShowError, all_words, run};
+use tabled_request::{GivenError, Request, Surroundings, all_sides, named_cells};
+use tabled_viewing::{ViewError, said, understood};
 
 /// A writer that keeps what it is given, and takes no memory.
 #[derive(Drop)]
@@ -47,11 +51,41 @@ impl Write for Page {
     }
 }
 
-/// The word of a style.
-fn words(alloc: Global, style: &str) -> Result<Vec<String>, OutOfMemory> {
+/// Words that are given between spaces.
+fn words(alloc: Global, text: &str) -> Result<Vec<String>, OutOfMemory> {
     let mut words = Vec::new(alloc);
-    words.push(String::from_str(alloc, style)?)?;
+    for word in text.split_whitespace() {
+        words.push(String::from_str(alloc, word)?)?;
+    }
     Ok(words)
+}
+
+/// What becomes of a call that makes a value, or gives this refusal of memory.
+fn made<E: Copy + Drop + PartialEq>(value: Result<bool, E>, refused: E) -> Outcome {
+    match value {
+        Err(refusal) if refusal != refused => Outcome::Changed,
+        value => Outcome::of_value(value),
+    }
+}
+
+/// What becomes of a run of `tabled_view`, which writes this page.
+fn view(turn: &mut Turn, text: &str, input: &str, page: &str) -> Result<Outcome, OutOfMemory> {
+    let words = words(turn.alloc(), text)?;
+    let around = Surroundings {
+        takes_utf8: false,
+        forbids_color: true,
+        columns: None,
+    };
+    let (mut reader, mut writer) = (Cursor::new(input.as_bytes()), Page::new());
+    turn.spend();
+    let returned = match understood(&words) {
+        Ok(request) => tabled_viewing::run(turn.alloc(), request, &words, around, &mut reader, &mut writer),
+        Err(refusal) => Err(refusal),
+    };
+    Ok(match returned {
+        Err(_) if !writer.has("") => Outcome::Changed,
+        returned => made(returned.map(|()| writer.has(page)), ViewError::OutOfMemory),
+    })
 }
 
 /// What becomes of a run, which writes this page or gives this refusal where memory is not refused.
@@ -115,20 +149,66 @@ const PAGE: &str = "+---+----+\n| a | b  |\n+---+----+\n| 1 | 22 |\n+---+----+\n
 /// The program's calls.
 pub(crate) fn calls() -> [Named; 6] {
     [
-        ("run", |turn| show(turn, "ascii", "a\tb\n1\t22\n", Ok(PAGE))),
-        ("run (of nothing)", |turn| show(turn, "ascii", "", Ok(""))),
+        ("tabled_pages::run", |turn| show(turn, "ascii", "a\tb\n1\t22\n", Ok(PAGE))),
+        ("tabled_pages::run (of nothing)", |turn| show(turn, "ascii", "", Ok(""))),
         (
-            "run (an unknown style)",
+            "tabled_pages::run (an unknown style)",
             |turn| show(turn, "fancy", "a\n", Err(ShowError::Usage)),
         ),
         (
-            "run (a byte out of range)",
+            "tabled_pages::run (a byte out of range)",
             |turn| { show(turn, "dots", "a\r\n", Err(ShowError::ByteOutOfRange)) },
         ),
         (
-            "run (unequal rows)",
+            "tabled_pages::run (unequal rows)",
             |turn| { show(turn, "dots", "a\tb\nc\n", Err(ShowError::UnequalRows)) },
         ),
-        ("all_words", gather),
+        ("tabled_pages::all_words", gather),
+    ]
+}
+
+/// The calls of the other program.
+pub(crate) fn views() -> [Named; 10] {
+    [
+        ("tabled_viewing::run", |turn| view(turn, "--style ascii --no-numbers", "a\tb\n1\t22\n", PAGE)),
+        ("tabled_viewing::run (of CSV)", |turn| view(turn, "--style ascii --no-numbers --csv --fill", "a,b\n1,22\n", PAGE)),
+        ("tabled_viewing::run (of itself)", |turn| view(turn, "--version", "", "tabled_view 0.1.0\n")),
+        ("tabled_request::all_words", |turn| {
+            turn.spend();
+            let words = tabled_request::all_words(turn.alloc(), &Called);
+            Ok(made(words.map(|words| words.len() == 1), GivenError::OutOfMemory))
+        }),
+        ("named_cells", |turn| {
+            turn.spend();
+            Ok(Outcome::of_value(named_cells(turn.alloc(), "1:2,3:*").map(|named| named.len() == 2)))
+        }),
+        ("all_sides", |turn| {
+            let (none, none_given) = (Request::of_no_words(), Vec::new(turn.alloc()));
+            let mut rows = Vec::new(turn.alloc());
+            rows.push(words(turn.alloc(), "a 1")?)?;
+            turn.spend();
+            Ok(Outcome::of_value(all_sides(turn.alloc(), none, &none_given, &rows).map(|sides| sides.len() == 2)))
+        }),
+        ("said", |turn| {
+            let words = Vec::new(turn.alloc());
+            turn.spend();
+            let says = said(turn.alloc(), &words, false, ViewError::WriteFailed);
+            Ok(Outcome::of_value(says.map(|text| text.as_str().starts_with("the output can't be written"))))
+        }),
+        ("csv", |turn| {
+            turn.spend();
+            let rows = csv(turn.alloc(), "a,\"b\"\n\"\"\"\"\n", ',');
+            Ok(made(rows.map(|rows| rows.len() == 2 && rows[1][0].as_str() == "\""), CsvError::OutOfMemory))
+        }),
+        ("read_input", |turn| {
+            turn.spend();
+            let bytes = read_input(turn.alloc(), 2, &mut Cursor::new(b"ab".as_slice()));
+            Ok(made(bytes.map(|bytes| bytes.as_slice() == b"ab".as_slice()), InputError::OutOfMemory))
+        }),
+        ("read_rows", |turn| {
+            turn.spend();
+            let rows = read_rows(turn.alloc(), Cells::Quoted(','), &mut Cursor::new(b"a,\"b\"\n".as_slice()));
+            Ok(made(rows.map(|rows| rows.len() == 1 && rows[0].len() == 2), InputError::OutOfMemory))
+        }),
     ]
 }

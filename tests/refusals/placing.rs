@@ -2,8 +2,9 @@
 
 use crate::turn::{Named, Outcome, Turn};
 use tabled_cells::{Placement, line_parts, show_lines};
-use tabled_config::{SpannedConfig, push_spaces_before, push_times};
+use tabled_config::SpannedConfig;
 use tabled_grid::{Entity, OutOfMemory, Position};
+use tabled_printing::{push_spaces_before, push_times};
 use tabled_settings::AlignmentHorizontal;
 
 const CELL: Position = Position { row: 0, col: 0 };

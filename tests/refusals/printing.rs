@@ -5,12 +5,11 @@ use crate::turn::{Named, Outcome, Turn};
 use std::alloc::Global;
 use std::fmt::Write;
 use tabled::{TableError, TextTable};
-use tabled_config::{
-    ColoredConfig, Frame, Mark, PrintError, Run, Sink, line_marks, line_runs, print_plain,
-};
+use tabled_config::{ColoredConfig, Mark, PrintError, Run, line_marks, line_runs, print_plain};
 use tabled_grid::{Cell, FixedDimension, Keep, LineOf, OutOfMemory, Probes};
 use tabled_object::Rows;
 use tabled_options::LineText;
+use tabled_printing::{Frame, Sink};
 use tabled_style::{Border, HorizontalLine, Style};
 
 /// The texts of rows.
@@ -152,9 +151,9 @@ pub(crate) fn plain() -> [Named; 12] {
             |turn| { print(turn, SHORT, Err(PrintError::ColumnCount(1))) },
         ),
         ("Frame<'a, 'b, D>::new", frame_a_table),
-        ("Frame<'a, 'b, D>::put_line", put_a_line),
+        ("Frame<'a, 'b, D, M>::put_line", put_a_line),
         (
-            "Frame<'a, 'b, D>::put_line_crossing",
+            "Frame<'a, 'b, D, M>::put_line_crossing",
             |turn| {
                 put_a_part(
                     turn,
@@ -163,7 +162,7 @@ pub(crate) fn plain() -> [Named; 12] {
             },
         ),
         (
-            "Frame<'a, 'b, D>::put_line_piece",
+            "Frame<'a, 'b, D, M>::put_line_piece",
             |turn| {
                 put_a_part(
                     turn,

@@ -72,6 +72,13 @@ fn changed(
     Ok(Outcome::of(returned, (rows, cols) == after, (rows, cols) == (2, 2)))
 }
 
+/// Whether these columns, and no others, of a row of four have their texts at the right.
+fn are_right(table: &TextTable, columns: [bool; 4]) -> bool {
+    let config = table.config().config();
+    let side = |col| config.get_alignment_horizontal(Position::new(0, col));
+    columns.iter().enumerate().all(|(col, right)| (side(col) == AlignmentHorizontal::Right) == *right)
+}
+
 /// What becomes of records that are changed so that there are so many, and so many columns.
 fn built(
     turn: &mut Turn,
@@ -132,12 +139,10 @@ pub(crate) fn tables() -> [Named; 21] {
         ("TextTable::insert_title", |turn| changed(turn, |table, _row| table.insert_title("e").is_ok(), (3, 2))),
         ("TextTable::insert_footer", |turn| changed(turn, |table, _row| table.insert_footer("e").is_ok(), (3, 2))),
         ("TextTable::align_numbers", |turn| {
-            let mut table = TextTable::new(turn.alloc(), &[&["1", "2"]]).map_err(|_refused| OutOfMemory)?;
+            let mut table = TextTable::new(turn.alloc(), &[&["1", "a", "2", "3"]]).map_err(|_refused| OutOfMemory)?;
             turn.spend();
             let returned = table.align_numbers(0);
-            let first = table.config().config().get_alignment_horizontal(Position::new(0, 1));
-            let is_set = first == AlignmentHorizontal::Right;
-            Ok(Outcome::of(returned, is_set, !is_set))
+            Ok(Outcome::of(returned, are_right(&table, [true, false, true, true]), are_right(&table, [false; 4])))
         }),
         ("separated", |turn| {
             turn.spend();

@@ -69,6 +69,20 @@ fn events(alloc: Global) -> Result<Vec<(Entity, Option<char>)>, OutOfMemory> {
     Ok(events)
 }
 
+/// What becomes of a list of events in a map.
+fn write_list(
+    turn: &mut Turn,
+    begin: fn(Global) -> Result<EntityMap<char>, OutOfMemory>,
+) -> Result<Outcome, OutOfMemory> {
+    let alloc = turn.alloc();
+    let mut map = begin(alloc)?;
+    let copy: EntityMap<char> = map.keep(alloc)?;
+    let events = events(alloc)?;
+    turn.spend();
+    let returned = map.apply_list(alloc, events);
+    Ok(Outcome::of(returned, map != copy, map == copy))
+}
+
 /// What becomes of lists of events in three maps.
 fn write_three(
     turn: &mut Turn,
@@ -101,7 +115,7 @@ fn copy_map(turn: &mut Turn) -> Result<Outcome, OutOfMemory> {
 }
 
 /// Maps by entity.
-pub(crate) fn maps() -> [Named; 10] {
+pub(crate) fn maps() -> [Named; 12] {
     [
         (
             "EntityMap<T>::insert (the first)",
@@ -125,6 +139,8 @@ pub(crate) fn maps() -> [Named; 10] {
         ),
         ("EntityMap<T>::insert_both", |turn| write_two(turn, new_map)),
         ("EntityMap<T>::insert_both (after rows in order)", |turn| write_two(turn, in_order)),
+        ("EntityMap<T>::apply_list", |turn| write_list(turn, map)),
+        ("EntityMap<T>::apply_list (after rows in order)", |turn| write_list(turn, in_order)),
         ("EntityMap<T>::apply_three", |turn| write_three(turn, map)),
         ("EntityMap<T>::apply_three (after rows in order)", |turn| write_three(turn, in_order)),
         ("<EntityMap<T> as Keep>::keep", copy_map),
@@ -254,6 +270,16 @@ fn call_with(
     turn.spend();
     let returned = call(&mut sample.cfg, color);
     Ok(sample.outcome(returned, &copy, &changed.cfg))
+}
+
+/// Two columns whose texts are to stand at the right.
+fn at_the_right(
+    alloc: Global,
+) -> Result<Vec<(Entity, Option<AlignmentHorizontal>)>, OutOfMemory> {
+    let mut list = Vec::new(alloc);
+    list.push((Entity::Column(0), Some(AlignmentHorizontal::Right)))?;
+    list.push((Entity::Column(1), Some(AlignmentHorizontal::Right)))?;
+    Ok(list)
 }
 
 /// A border of each side and corner.
@@ -570,7 +596,7 @@ fn remove_color(turn: &mut Turn) -> Result<Outcome, OutOfMemory> {
 }
 
 /// Colors of cells, and spans.
-pub(crate) fn colors_and_spans() -> [Named; 7] {
+pub(crate) fn colors_and_spans() -> [Named; 8] {
     [
         (
             "ColoredConfig::set_color",
@@ -603,6 +629,10 @@ pub(crate) fn colors_and_spans() -> [Named; 7] {
                     |cfg| cfg.set_row_span(Position::new(0, 0), usize::MAX),
                 )
             },
+        ),
+        (
+            "SpannedConfig::set_alignments_horizontal",
+            |turn| call(turn, Sample::bare, |cfg| cfg.set_alignments_horizontal(at_the_right(cfg.allocator())?)),
         ),
         (
             "SpannedConfig::set_column_spans",

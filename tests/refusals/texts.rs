@@ -5,7 +5,7 @@ use std::alloc::Global;
 use tabled::settings::object::{Rows, Segment};
 use tabled::settings::style::LineText;
 use tabled::texts::{
-    Height, Overflow, TextLimit, Width, cleaned, shortened, tabs_expanded, truncated, wrapped,
+    Height, Overflow, TextLimit, Width, cleaned, cleaned_line, shortened, tabs_expanded, truncated, wrapped,
     wrapped_words,
 };
 use tabled::{TableError, TextTable};
@@ -22,8 +22,9 @@ fn made(turn: &mut Turn, make: fn(Global) -> Result<String, OutOfMemory>) -> Res
 }
 
 /// The calls that make a text of another one.
-pub(crate) fn calls() -> [Named; 10] {
+pub(crate) fn calls() -> [Named; 11] {
     [
+        ("cleaned_line", |turn| made(turn, |alloc| cleaned_line(alloc, "a\nb"))),
         ("cleaned", |turn| made(turn, |alloc| cleaned(alloc, "a\u{1b}b\r\nc"))),
         ("wrapped", |turn| made(turn, |alloc| wrapped(alloc, TEXT, 4))),
         ("tabs_expanded", |turn| made(turn, |alloc| tabs_expanded(alloc, "ab\tcd", 8))),

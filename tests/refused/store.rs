@@ -97,6 +97,21 @@ impl<T, M: Meter> Layers<T, M> {
         self.class_record.get().top.is_some() //~ the method `get` takes `self` as `&One<V>` //= self.class_record.read(probes).top.is_some()
     }
 
+    /// Looks at the numbers of custom lines where they are kept.
+    pub fn numbers_where_they_are_kept(&self, probes: &mut M) -> bool {
+        probes.raise();
+        let numbers = self.vertical_numbers.kept; //~ field `kept` of struct `KeptNumbers` is private //= let numbers = self.vertical_numbers.read(crate::Rank::First, probes);
+        let _ = numbers;
+        true
+    }
+
+    /// Looks at the class record where it is kept.
+    pub fn class_where_it_is_kept(&self, probes: &mut M) -> bool {
+        probes.raise();
+        let class = &self.class_record.kept; //~ field `kept` of struct `One` is private //= let class = self.class_record.read(probes);
+        class.top.is_some()
+    }
+
     /// Looks at the numbers of custom lines without a reading.
     pub fn numbers_by_a_getter(&self, probes: &mut M) -> bool {
         probes.raise();

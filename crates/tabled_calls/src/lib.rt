@@ -1,8 +1,8 @@
 //! What each call gives or leaves, in its contract once more: of most calls a promise for all of its kind in a row, and once more backwards,
 //! so that none may touch what another one has set.
 //!
-//! Nothing is defined here, and nobody calls these functions: where the contract of a call were to say less, one of them would no longer be
-//! proved. What the library promises as a whole stands in `tabled_claims`, with the calls that keep it.
+//! Nothing is defined here, and nobody calls these functions: where a clause that one of them restates were to say less, it would no longer
+//! be proved. What the library promises as a whole stands in `tabled_claims`, with the calls that keep it.
 #![tactic(auto)]
 
 pub mod border_color_calls;

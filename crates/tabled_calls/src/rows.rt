@@ -1,6 +1,6 @@
 //! Rows: of values, put into a table and taken out, and records of which one is built.
 
-ghost use Rattle.std.specs.Prelude.{◌≡◌, ◌+◌, ◌∷◌, ◌++◌, [], ℕ, true, false, take, Err, min, length, map, option_map, slice_get, string_bytes, IfOk, OnOk, OnErr, IsOkUnless};
+ghost use Rattle.std.specs.Prelude.{◌≡◌, ◌⊎◌, ◌+◌, ◌∷◌, ◌++◌, [], ℕ, true, false, Err, min, length, map, option_map, slice_get, string_bytes, IfErr, IfOk, OnOk, OnErr, IsOkUnless};
 ghost use Rattle.std.specs.List.{AllZip, insert, remove};
 ghost use Rattle.tabled_builder.specs.Records.{columns, filled, with_column};
 ghost use Rattle.tabled_configuration.specs.Colored.{Changes, Shows};
@@ -11,6 +11,7 @@ ghost use Rattle.tabled_text.specs.Edited.{goes_in, text_at, text_set};
 ghost use Rattle.tabled_text.specs.EditedColumns.{column_at, column_goes_in, with_column as column_in, without_column};
 ghost use Rattle.tabled_text.specs.Numeric.{at_right, numeric_columns};
 ghost use Rattle.tabled_text.specs.Panels.{IsSpannedBy, panel, panel_columns};
+ghost use Rattle.tabled_text.specs.Refusal.{AreUnequal};
 ghost use Rattle.tabled_text.specs.Sizes.{column_count};
 ghost use Rattle.tabled_text.specs.declared.table_error.TableError.{TableError as Refusal};
 
@@ -21,10 +22,12 @@ use tabled_object::Position;
 use tabled_rows::{Tabled, fill_rows, put_column, remove_column, reserve_column};
 use tabled_text::{TableError, TextTable};
 
-/// A table of values of any type has what their type says, row by row, below what stands above their cells.
+/// A table of values of any type has what their type says, row by row, below what stands above their cells. Where a value has more or fewer
+/// texts it is refused with the number of its row and both counts.
 pub fn table_of_values<T: Tabled>(alloc: Global, values: &[T]) -> Result<TextTable, TableError>
     ensures rows { IfOk result (λ table. AllZip IsRow (T.known_headers ∷ map T.known_fields values.now) table.texts) }
     ensures config { IfOk result (λ table. Shows [] table.config) }
+    ensures refusal { IfErr result (λ e. (e ≡ Refusal.OutOfMemory) ⊎ AreUnequal (T.known_headers ∷ map T.known_fields values.now) e) }
 {
     TextTable::of(alloc, values)
 }
@@ -120,12 +123,12 @@ pub fn text_replaced(
     table.set_text(position, text)
 }
 
-/// The columns of numbers stand at the right, and nothing else changes; where memory is refused, the first ones of them.
+/// The columns of numbers stand at the right, and nothing else changes; where memory is refused, nothing at all.
 pub fn numbers_aligned(table: &mut TextTable, headings: usize) -> Result<(), OutOfMemory>
     ensures config { OnOk result (Changes (at_right (numeric_columns headings table.old.texts)) table.old.config table.new.config) }
     ensures texts { table.new.texts ≡ table.old.texts }
     ensures sizes { table.new.sizes ≡ table.old.sizes }
-    ensures err { OnErr result ((count : ℕ) × Changes (at_right (take count (numeric_columns headings table.old.texts))) table.old.config table.new.config) }
+    ensures err { OnErr result (table.new ≡ table.old) }
 {
     table.align_numbers(headings)
 }

@@ -2,6 +2,7 @@
 
 ghost use Rattle.std.specs.Prelude.{◌++◌, ◌<◌, ◌≡◌, IsOk, IsTrue, OnErr, OnOk, not, option_copied, [], ◌∷◌};
 ghost use Rattle.tabled_configuration.specs.Configuration.{Changes, by_column_span, by_margin, by_row_span, by_setting, has_no_padding, has_no_spans, is_sized_by_texts};
+ghost use Rattle.tabled_configuration.specs.EntitiesAligned.{entities_aligned};
 ghost use Rattle.tabled_grid.specs.Table.{table};
 ghost use Rattle.tabled_layout.specs.Covering.{covered_by_both_spans, covered_by_column_span, covered_by_row_span};
 ghost use Rattle.tabled_layout.specs.Margin.{of_color, of_offset, of_size};
@@ -222,6 +223,17 @@ pub fn row_span_set(
     ensures always { rows < 2 → IsOk result }
 {
     cfg.set_row_span(position, rows)
+}
+
+/// The texts of several entities are set between left and right at once; or none of them is.
+pub fn alignments_set(
+    cfg: &mut SpannedConfig,
+    list: Vec<(Entity, Option<AlignmentHorizontal>)>,
+) -> Result<(), OutOfMemory>
+    ensures changed { OnOk result (Changes (entities_aligned list.items) cfg.old cfg.new) }
+    ensures unchanged { OnErr result (cfg.new ≡ cfg.old) }
+{
+    cfg.set_alignments_horizontal(list)
 }
 
 /// Several cells span at once, over as many columns each; or none of them does.

@@ -2,7 +2,8 @@
 
 ghost use Rattle.std.specs.Prelude.{◌≡◌, ◌++◌, ◌∷◌, ◌≤◌, ◌<◌, ◌-◌, [], ℕ, true, false, min, length, sum, slice_index, chars, string_bytes, if◌then◌else◌, IfOk, IfSome, OnOk, OnErr, MatchOption};
 ghost use Rattle.std.specs.List.{list_all};
-ghost use Rattle.tabled_clean.specs.Steering.{steers, without_steering, cleaned, is_clean};
+ghost use Rattle.tabled_clean.specs.Line.{cleaned_line, on_one_line};
+ghost use Rattle.tabled_clean.specs.Steering.{steers, cleaned, is_clean};
 ghost use Rattle.tabled_numbers.specs.Numbers.{is_number};
 ghost use Rattle.tabled_object.specs.Listing.{covered};
 ghost use Rattle.tabled_object.specs.declared.position.Position.{Position as At};
@@ -45,12 +46,19 @@ pub fn text_cleaned(alloc: Global, text: &str) -> Result<String, OutOfMemory>
     tabled_clean::cleaned(alloc, text)
 }
 
-/// A text on a line without them.
+/// A text on one line without such characters.
+pub fn text_cleaned_on_one_line(alloc: Global, text: &str) -> Result<String, OutOfMemory>
+    ensures { IfOk result (λ line. string_bytes line ≡ cleaned_line text.now) }
+{
+    tabled_clean::cleaned_line(alloc, text)
+}
+
+/// A text on a line without them, and on one line.
 pub fn title_cleaned<Line: Drop>(
     title: LineText<Line>,
     alloc: Global,
 ) -> Result<LineText<Line>, OutOfMemory>
-    ensures { IfOk result (λ given. given ≡ record title { text = without_steering title.text }) }
+    ensures { IfOk result (λ given. given ≡ record title { text = on_one_line title.text }) }
 {
     title.clean(alloc)
 }

@@ -25,7 +25,8 @@ use Rattle.tabled_width.specs.Limited.{IsPrintableText}
 use Rattle.tabled_printing.proofs.Ranges.{plainly_narrow}
 use Rattle.tabled_printing.specs.Texts.{pieces, width_of_text}
 use Rattle.tabled_printing.proofs.PieceTexts.{IsUtf8-piece, piece_lacks}
-use Rattle.tabled_printing.proofs.Tiles.{IsOther, Lacks, Tile, Tile-append, Tile-narrow, Tile-same, Tile-space, Tile-times, Splits-append, Splits-encoded, Splits-utf8, char_lacks, spaces_simple, spaces_printable, space_first, from_space}
+use Rattle.tabled_width.proofs.AfterSpace.{IsUtf8-spaces, one_space, space_read, spaces_before, spaces_printable, spaces_simple, widths_add}
+use Rattle.tabled_printing.proofs.Tiles.{IsOther, Lacks, Tile, Tile-append, Tile-narrow, Tile-same, Tile-space, Tile-times, Splits-append, Splits-encoded, Splits-utf8, char_lacks}
 use Rattle.tabled_cells.specs.declared.placement.Placement.{Placement}
 use Rattle.tabled_cells.specs.Trimmed.{without_first, without_ends, is_space, is_blank, line_shown, lines_shown}
 use Rattle.tabled_cells.specs.Placements.{placement_at}
@@ -58,25 +59,6 @@ greatest_bound f a (x ∷ xs) zero d within = omega (arith, fold-max-start (max 
 greatest_bound f a (x ∷ xs) (suc k) d within = greatest_bound f (max a (f x)) xs k d (omega arith)
 
 -- ---- spaces before a text and after it
-
-IsUtf8-spaces : (n : ℕ) → IsUtf8 (replicate n 32)
-IsUtf8-spaces n = IsUtf8-from_ascii (replicate n 32) (IsAscii-spaces n)
-
-space_read : (text : List ℕ) → chars (32 ∷ text) ≡ 32 ∷ chars text
-space_read text = chars-append (32 ∷ []) text (IsUtf8-spaces 1) ∙ ap (λ cs. cs ++ chars text) (chars-IsAscii (32 ∷ []) (IsAscii-spaces 1))
-
-one_space : (text : List ℕ) → width_of_text (32 ∷ text) ≡ width_of_text text + 1
-one_space text = ap (str_width false) (space_read text) ∙ space_first (chars text)
-
--- what stands before a space does not join it
-pub widths_add : (front text : List ℕ) → IsUtf8 front → width_of_text (front ++ 32 ∷ text) ≡ width_of_text front + width_of_text (32 ∷ text)
-widths_add front text u =
-    ap (str_width false) (chars-append front (32 ∷ text) u ∙ ap (λ cs. chars front ++ cs) (space_read text)) ∙ from_space (chars front) (chars text)
-    ∙ ap (λ cs. width_of_text front + str_width false cs) (sym (space_read text))
-
-spaces_before : (n : ℕ) (text : List ℕ) → width_of_text (replicate n 32 ++ text) ≡ n + width_of_text text
-spaces_before zero text = omega arith
-spaces_before (suc n) text = let rest = spaces_before n text in let here = one_space (replicate n 32 ++ text) in omega (arith, here, rest)
 
 spaces_after : (text : List ℕ) (n : ℕ) → IsUtf8 text → width_of_text (text ++ replicate n 32) ≡ width_of_text text + n
 spaces_after text n u =

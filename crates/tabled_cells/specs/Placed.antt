@@ -1,6 +1,7 @@
 -- A cell as it is printed: where its text stands in it, and what fills the rest.
 pub use Rattle.tabled_printing.specs.Texts.{times}
-use Rattle.std.specs.Prelude.{◌≡◌, ℕ, true, ◌+◌, ◌-◌, ◌/◌, ◌==◌, ◌&&◌, not, max, fold, if◌then◌else◌, List, ◌++◌, map}
+pub use Rattle.tabled_rooms.specs.Sizes.{greatest}
+use Rattle.std.specs.Prelude.{◌≡◌, ℕ, true, ◌+◌, ◌-◌, ◌/◌, ◌==◌, ◌&&◌, not, if◌then◌else◌, List, ◌++◌, map}
 use Rattle.tabled_settings.specs.declared.alignment.AlignmentHorizontal.{AlignmentHorizontal}
 use Rattle.tabled_settings.specs.declared.alignment.AlignmentVertical.{AlignmentVertical}
 use Rattle.tabled_settings.specs.declared.indent.Indent.{Indent}
@@ -55,10 +56,6 @@ filled padding character before after line =
 abbrev pub fill_of : Sides Indent → ℕ → ℕ → ℕ → ℕ → List ℕ → ℕ
 fill_of padding character width before after line =
     if not (character == 10) && (width_of_text (filled padding character before after line) == width) then character else 32
-
--- the greatest of some numbers, 0 of none
-abbrev pub greatest : List ℕ → ℕ
-greatest = fold max 0
 
 -- how a line in a column is filled, where something as wide as `aligned` is aligned: the line stands where that begins
 unfoldable pub line_parts : Placement → ℕ → ℕ → List ℕ → LineParts

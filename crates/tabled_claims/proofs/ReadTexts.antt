@@ -1,5 +1,6 @@
 -- The cells of an input are texts where it is one.
 use Rattle.std.proofs.Common.{◌≡◌, ◌==◌, ◌&&◌, ℕ, ◌-◌, ◌<◌, ◌≤◌, nat_lt, Bool, true, false, if◌then◌else◌, List, [], ◌∷◌, ◌++◌, take, length, get_or, chars, encode_utf8, lit<, append-nil, refl, sym, subst, arith, ⊎_elim}
+use Rattle.std.specs.List.{slice_index}
 use Rattle.std.specs.List.{All, slice_split}
 use Rattle.std.specs.Str.{IsUtf8}
 use Rattle.std.specs.Str.Lines.{lines, lines_of_parts, strip_carriage_return}
@@ -9,7 +10,7 @@ use Rattle.std.proofs.lemmas.List.{get_or_past}
 use Rattle.std.proofs.lemmas.List.Elements.{All-nil, All-cons, All-head, All-tail, All-map}
 use Rattle.std.proofs.lemmas.Str.{scalars-chars, IsUtf8-append, IsUtf8-nil, IsUtf8-take, IsCharBoundary-before_ascii}
 use Rattle.tabled_csv.specs.Lines.{cut_at, separated}
-use Rattle.tabled_csv.specs.Quoted.{begins_with_line_feed, cell_before, csv_rows, left_at, letter_before, nothing_left, row_before, step_at, without_returns}
+use Rattle.tabled_csv.specs.Quoted.{cell_before, csv_rows, left_at, letter_before, nothing_left, row_before, step_at, without_returns}
 use Rattle.tabled_csv.specs.declared.reader.At.{At}
 use Rattle.tabled_csv.specs.declared.reader.At.TheVariants.{RowStart, CellStart, Bare, Quoted, AfterQuote}
 use Rattle.tabled_csv.specs.declared.reader.Step.{Step}
@@ -109,7 +110,7 @@ unfolding without_returns
 returns_dropped [] are = refl
 returns_dropped (c ∷ more) are =
     let here = and_parts (scalar c) (scalars more) are in
-    by ((c == 13) && begins_with_line_feed more) here.0 (returns_dropped more here.1)
+    by ((c == 13) && (slice_index more 0 == 10)) here.0 (returns_dropped more here.1)
   where
     by : (b : Bool) → scalar c ≡ true → scalars (without_returns more) ≡ true → scalars (if b then without_returns more else c ∷ without_returns more) ≡ true
     by true one rest = rest

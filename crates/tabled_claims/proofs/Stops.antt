@@ -7,17 +7,8 @@ use Rattle.unicode_width.specs.Width.{str_width}
 use Rattle.tabled_width.specs.Texts.{width_of_text}
 use Rattle.tabled_width.specs.Tabs.{spaces_to_stop, up_to_stop}
 use Rattle.tabled_width.proofs.Printing.{printable_ascii}
-use Rattle.tabled_width.proofs.TabLemmas.{spaces_printable, width_and_spaces}
-use Rattle.tabled_printing.proofs.Tiles.{space_first}
-use Rattle.tabled_cells.proofs.Fits.{widths_add}
-
-spaces_text : (n : ℕ) → IsUtf8 (replicate n 32)
-spaces_text n = IsUtf8-from_ascii (replicate n 32) (printable_ascii (replicate n 32) (spaces_printable n))
-
-one_space : (text : List ℕ) → width_of_text (32 ∷ text) ≡ width_of_text text + 1
-one_space text =
-    ap (str_width false) (chars-append (32 ∷ []) text (spaces_text 1) ∙ ap (λ cs. cs ++ chars text) (chars-IsAscii (32 ∷ []) (printable_ascii (32 ∷ []) (spaces_printable 1))))
-    ∙ space_first (chars text)
+use Rattle.tabled_width.proofs.AfterSpace.{IsUtf8-spaces, one_space, widths_add}
+use Rattle.tabled_width.proofs.TabLemmas.{width_and_spaces}
 
 last_space : (n : ℕ) (front text : List ℕ) → (front ++ replicate (n + 1) 32) ++ text ≡ (front ++ replicate n 32) ++ 32 ∷ text
 last_space n front text =
@@ -26,7 +17,7 @@ last_space n front text =
 
 spaced_adds : (n : ℕ) (front text : List ℕ) → IsUtf8 front → width_of_text ((front ++ replicate (n + 1) 32) ++ text) ≡ width_of_text (front ++ replicate (n + 1) 32) + width_of_text text
 spaced_adds n front text u =
-    let apart = ap width_of_text (last_space n front text) ∙ widths_add (front ++ replicate n 32) text (IsUtf8-append front (replicate n 32) u (spaces_text n)) in
+    let apart = ap width_of_text (last_space n front text) ∙ widths_add (front ++ replicate n 32) text (IsUtf8-append front (replicate n 32) u (IsUtf8-spaces n)) in
     let after = one_space text in
     let fewer = width_and_spaces front n u in
     let whole = width_and_spaces front (n + 1) u in

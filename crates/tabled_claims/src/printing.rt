@@ -23,7 +23,7 @@ ghost use Rattle.tabled_printing.specs.Viewed.{frame_look, with_colors_if};
 use tabled_border::OutOfMemory;
 use tabled_configuration::SpannedConfig;
 use tabled_grid::LineOf;
-use tabled_kept::Probes;
+use tabled_kept::{Meter, Probes};
 use tabled_object::Dimension;
 use tabled_printing::{
     Frame, Mark, PrintError, Run, Sides, Sink, join_lines, line_marks, line_runs, print_plain,
@@ -48,35 +48,35 @@ pub fn printed_or_refused<D: Dimension>(
 }
 
 /// The marks of a line are the character and the color of each place along it, in order, for every list of events that the
-/// configuration shows, whether the line is drawn or not. They take at most twelve readings for each place, six for each line that
-/// meets this one and four for the line, and are refused for memory alone.
-pub fn marks_of_a_line<'a, D: Dimension>(
-    cfg: &'a SpannedConfig,
+/// configuration shows, whether the line is drawn or not. They take at most twelve readings for each place and six for each line that
+/// meets this one, whatever the type of the meter that counts them, and are refused for memory alone.
+pub fn marks_of_a_line<'a, D: Dimension, M: Meter>(
+    cfg: &'a SpannedConfig<M>,
     dims: &D,
     shape: (usize, usize),
     line: LineOf,
-    probes: &mut Probes,
+    probes: &mut M,
 ) -> Result<Vec<Mark<'a>>, OutOfMemory>
     ensures marks { (events : List ConfigEvent) → Shows events cfg.now
         → IfOk result (λ found. map mark_of found.items ≡ marks events shape (D.width_of dims.now) (D.height_of dims.now) line) }
     ensures readings { (events : List ConfigEvent) → Shows events cfg.now
-        → IsRaised (12 * length (marks events shape (D.width_of dims.now) (D.height_of dims.now) line) + 6 * lines_met shape line + 4) probes.old probes.new }
+        → IsRaised (12 * length (marks events shape (D.width_of dims.now) (D.height_of dims.now) line) + 6 * lines_met shape line) (M.made probes.old) (M.made probes.new) }
 {
     line_marks(cfg, dims, shape, line, probes)
 }
 
 /// The runs of a line have the same marks, in as many readings.
-pub fn runs_of_a_line<'a, D: Dimension>(
-    cfg: &'a SpannedConfig,
+pub fn runs_of_a_line<'a, D: Dimension, M: Meter>(
+    cfg: &'a SpannedConfig<M>,
     dims: &D,
     shape: (usize, usize),
     line: LineOf,
-    probes: &mut Probes,
+    probes: &mut M,
 ) -> Result<Vec<Run<'a>>, OutOfMemory>
     ensures marks { (events : List ConfigEvent) → Shows events cfg.now
         → IfOk result (λ found. marks_of found.items ≡ marks events shape (D.width_of dims.now) (D.height_of dims.now) line) }
     ensures readings { (events : List ConfigEvent) → Shows events cfg.now
-        → IsRaised (12 * length (marks events shape (D.width_of dims.now) (D.height_of dims.now) line) + 6 * lines_met shape line + 4) probes.old probes.new }
+        → IsRaised (12 * length (marks events shape (D.width_of dims.now) (D.height_of dims.now) line) + 6 * lines_met shape line) (M.made probes.old) (M.made probes.new) }
 {
     line_runs(cfg, dims, shape, line, probes)
 }
@@ -96,16 +96,16 @@ pub fn frame_of_a_table<'a, 'b, D: Dimension>(
 
 /// The marks of a horizontal line of a frame, put into whatever takes marks, and what a refusal leaves of that; where nothing is kept
 /// for single places and no vertical line is a custom one, in at most 45 readings, however long the line is.
-pub fn line_put_into_a_sink<'a, D: Dimension, S: Sink<'a>>(
-    frame: &Frame<'a, '_, D>,
+pub fn line_put_into_a_sink<'a, D: Dimension, S: Sink<'a>, M: Meter>(
+    frame: &Frame<'a, '_, D, M>,
     row: usize,
     sink: &mut S,
-    probes: &mut Probes,
+    probes: &mut M,
 ) -> Result<(), OutOfMemory>
     requires { row ≤ frame.now.shape.0 }
     ensures put { MatchResult result (λ _. S.puts (marks_along (frame_look D.width_of D.height_of frame.now) (Line.Horizontal row)) sink.old sink.new) (λ _. S.leaves sink.old sink.new) }
-    ensures readings { IsRaised (12 * length (marks_along (frame_look D.width_of D.height_of frame.now) (Line.Horizontal row)) + 6 * (frame.now.shape.1 + 1) + 45) probes.old probes.new }
-    ensures looked_up_once { NoneForPlaces frame.now.cfg.now frame.now.with_colors Horizontal → NoneForLines frame.now.cfg.now frame.now.with_colors Vertical → IsRaised 45 probes.old probes.new }
+    ensures readings { IsRaised (12 * length (marks_along (frame_look D.width_of D.height_of frame.now) (Line.Horizontal row)) + 6 * (frame.now.shape.1 + 1) + 45) (M.made probes.old) (M.made probes.new) }
+    ensures looked_up_once { NoneForPlaces frame.now.cfg.now frame.now.with_colors Horizontal → NoneForLines frame.now.cfg.now frame.now.with_colors Vertical → IsRaised 45 (M.made probes.old) (M.made probes.new) }
 {
     frame.put_line(row, sink, probes)
 }

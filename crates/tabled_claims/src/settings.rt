@@ -85,6 +85,20 @@ where
     map.insert_both(other, entity, value, other_value)
 }
 
+/// Makes the writes and removals of a list in its order, or, where memory is refused, none of them.
+pub fn applied_to_a_map<T>(
+    map: &mut EntityMap<T>,
+    alloc: Global,
+    events: Vec<(Entity, Option<T>)>,
+) -> Result<(), OutOfMemory>
+where
+    T: Keep + Drop,
+    ensures written { OnOk result (map.new ≡ after_all map.old events.items) }
+    ensures unchanged { OnErr result (map.new ≡ map.old) }
+{
+    map.apply_list(alloc, events)
+}
+
 /// Makes the writes and removals of a list here, in its order, and those of two other lists in two other maps: a value is written
 /// for an entity, and where there is none the entity's is removed. Where memory is refused none of the maps changes. It costs the
 /// lists and not what the maps held, unless an event is one of all cells.

@@ -287,10 +287,14 @@ pub fn text_without_margin()
 {}
 
 /// The text of a table in color is that of its painted lines, whose characters are the table's text: what its options make of its
-/// cells, draw around them and leave as a margin, each character with the color that they give it. It is refused as the plain text is.
+/// cells, draw around them and leave as a margin, each character with the color that they give it. So without the texts of the colors it is a
+/// rectangle where the plain text is one. It is refused as the plain text is.
 pub fn text_in_color(table: &TextTable) -> Result<String, PrintError>
     ensures text { (events : List ConfigEvent) → Shows events table.now.config → IfOk result (λ text. string_bytes text ≡ colored_text (painted events table.now.texts)) }
-    ensures characters { IfOk result (λ _. (events : List ConfigEvent) → text_of events table.now.texts ≡ plain_text (painted events table.now.texts)) }
+    ensures characters { (events : List ConfigEvent) → Shows events table.now.config
+        → IfOk result (λ text. (lines : List Painted) × (string_bytes text ≡ colored_text lines) × (plain_text lines ≡ text_of events table.now.texts)) }
+    ensures rectangle { (events : List ConfigEvent) → Shows events table.now.config → WritesNarrow events → StandApart events table.now.texts
+        → IfOk result (λ text. (lines : List Painted) × (string_bytes text ≡ colored_text lines) × IsRectangle (text_width (look_printed events table.now.texts) (margin_set events)) (plain_text lines)) }
     ensures refusal { IsOkUnless result Fault.OutOfMemory }
 {
     table.to_ansi()

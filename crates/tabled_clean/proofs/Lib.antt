@@ -1,1 +1,2 @@
 pub mod SteeringLemmas
+pub mod LineLemmas

@@ -1,5 +1,6 @@
 -- Characters that steer, and texts without them.
 use Rattle.std.proofs.Common.{◌≡◌, ◌==◌, ℕ, ◌+◌, ◌<◌, ◌≤◌, Bool, true, false, not, ◌&&◌, ◌||◌, nat_lt, nat_le, if◌then◌else◌, cond, ◌/◌, ◌%◌, List, [], ◌∷◌, ◌++◌, get_or, chars, encode_utf8, encode_utf8_all, lit≤, append_assoc, append-nil, refl, sym, ap, ◌∙◌, arith}
+use Rattle.std.specs.List.{slice_index}
 use Rattle.std.specs.List.{list_all}
 use Rattle.std.specs.Str.{IsUtf8}
 use Rattle.std.proofs.lemmas.Str.{chars-IsAscii, chars-encodes, chars-nil, scalars-chars, encodes-chars}
@@ -8,7 +9,7 @@ use Rattle.std.proofs.lemmas.List.Sums.{AllPass-from_list_all}
 use Rattle.std.proofs.lemmas.Str.Ascii.{IsAscii-from_all}
 use lib.Utf8.{scalar, scalars, low_scalar, encode}
 use Rattle.std.proofs.lemmas.Bool.Decides.{nat_tests}
-use Rattle.tabled_clean.specs.Steering.{steers, picture, shown_for, begins_with_line_feed, without_steering, cleaned, is_clean, is_printable, going_on}
+use Rattle.tabled_clean.specs.Steering.{steers, picture, shown_for, without_steering, cleaned, is_clean, is_printable, going_on}
 
 -- characters above all that steer
 pub above : (c : ℕ) → 0x2400 ≤ c → steers c ≡ false
@@ -47,7 +48,7 @@ last_return_shown = refl
 
 pub other_shown : (c : ℕ) (more : List ℕ) → (c == 13) ≡ false → without_steering (c ∷ more) ≡ shown_for c ∷ without_steering more
 unfolding without_steering
-other_shown c more e = ap (λ b. if b && begins_with_line_feed more then without_steering more else shown_for c ∷ without_steering more) e
+other_shown c more e = ap (λ b. if b && (slice_index more 0 == 10) then without_steering more else shown_for c ∷ without_steering more) e
 
 -- ---- whole texts
 
@@ -59,7 +60,7 @@ step P false c more rest first = first rest
 pub along : (P : List ℕ → Type 0) (cs : List ℕ) → P [] → ((c : ℕ) (xs : List ℕ) → P xs → P (shown_for c ∷ xs)) → P (without_steering cs)
 unfolding without_steering
 along P [] none next = none
-along P (c ∷ cs) none next = step P ((c == 13) && begins_with_line_feed cs) c cs (along P cs none next) (next c (without_steering cs))
+along P (c ∷ cs) none next = step P ((c == 13) && (slice_index cs 0 == 10)) c cs (along P cs none next) (next c (without_steering cs))
 
 -- ---- what is written, and the rest
 
@@ -109,27 +110,27 @@ scalar_by : (c : ℕ) (b : Bool) → scalar c ≡ true → scalar (if b then pic
 scalar_by c true e = scalar_picture (nat_lt c 32) (c == 0x7F) c refl
 scalar_by c false e = e
 
-first_of : (a b : Bool) → (a && b) ≡ true → a ≡ true
+pub first_of : (a b : Bool) → (a && b) ≡ true → a ≡ true
 first_of true b e = refl
 first_of false b e = e
 
-rest_of : (a b : Bool) → (a && b) ≡ true → b ≡ true
+pub rest_of : (a b : Bool) → (a && b) ≡ true → b ≡ true
 rest_of true b e = e
 rest_of false b e = absurd cc
 
-both_true : (a b : Bool) → a ≡ true → b ≡ true → (a && b) ≡ true
+pub both_true : (a b : Bool) → a ≡ true → b ≡ true → (a && b) ≡ true
 both_true a b e f = ap (λ x. x && b) e ∙ f
 
 if_scalars : (b : Bool) (xs ys : List ℕ) → scalars xs ≡ true → scalars ys ≡ true → scalars (if b then xs else ys) ≡ true
 if_scalars true xs ys e f = e
 if_scalars false xs ys e f = f
 
-scalars_kept : (cs : List ℕ) → scalars cs ≡ true → scalars (without_steering cs) ≡ true
+pub scalars_kept : (cs : List ℕ) → scalars cs ≡ true → scalars (without_steering cs) ≡ true
 unfolding without_steering
 scalars_kept [] e = refl
 scalars_kept (c ∷ cs) e =
     let rest = scalars_kept cs (rest_of (scalar c) (scalars cs) e) in
-    if_scalars ((c == 13) && begins_with_line_feed cs) (without_steering cs) (shown_for c ∷ without_steering cs) rest
+    if_scalars ((c == 13) && (slice_index cs 0 == 10)) (without_steering cs) (shown_for c ∷ without_steering cs) rest
     (both_true (scalar (shown_for c)) (scalars (without_steering cs)) (scalar_by c (steers c) (first_of (scalar c) (scalars cs) e)) rest)
 
 -- ---- a text without such characters stays

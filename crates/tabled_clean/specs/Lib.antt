@@ -1,1 +1,2 @@
 pub mod Steering
+pub mod Line

@@ -1,5 +1,5 @@
 -- Characters that steer a terminal, and texts without them.
-use Rattle.std.specs.Prelude.{◌≡◌, ℕ, ◌+◌, Bool, true, false, not, ◌&&◌, ◌||◌, ◌==◌, nat_lt, nat_le, if◌then◌else◌, List, [], ◌∷◌, ◌++◌, chars, encode_utf8_all}
+use Rattle.std.specs.Prelude.{◌≡◌, ℕ, ◌+◌, Bool, true, false, not, ◌&&◌, ◌||◌, ◌==◌, nat_lt, nat_le, if◌then◌else◌, List, [], ◌∷◌, ◌++◌, chars, encode_utf8_all, slice_index}
 use Rattle.std.specs.List.{list_all}
 use Rattle.std.specs.Str.{IsUtf8}
 
@@ -29,16 +29,11 @@ picture c = if nat_lt c 32 then 0x2400 + c else if c == 0x7F then 0x2421 else 0x
 abbrev pub shown_for : ℕ → ℕ
 shown_for c = if steers c then picture c else c
 
--- whether characters begin with a line feed
-abbrev pub begins_with_line_feed : List ℕ → Bool
-begins_with_line_feed [] = false
-begins_with_line_feed (c ∷ more) = c == 10
-
 -- characters of which none steers: a carriage return before a line feed is left out
 unfoldable pub without_steering : List ℕ → List ℕ
 without_steering [] = []
 without_steering (c ∷ more) =
-    if (c == 13) && begins_with_line_feed more then without_steering more else shown_for c ∷ without_steering more
+    if (c == 13) && (slice_index more 0 == 10) then without_steering more else shown_for c ∷ without_steering more
 
 -- a text, cleaned
 unfoldable pub cleaned : List ℕ → List ℕ

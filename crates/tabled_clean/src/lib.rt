@@ -4,5 +4,7 @@
 #![tactic(auto)]
 
 mod cleaning;
+mod line;
 
 pub use cleaning::{cleaned, is_clean, steers};
+pub use line::cleaned_line;

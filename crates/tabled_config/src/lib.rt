@@ -1,6 +1,6 @@
 //! Configurations and the printer of padded cells, under one name. Nothing is defined here: configurations stand in
-//! `tabled_configuration`, those that are plain records in `tabled_compact`, and what a line shows with the printer in
-//! `tabled_printing`.
+//! `tabled_configuration`, those that are plain records in `tabled_compact`, values by entity in `tabled_settings`, and what a line
+//! shows with the printer in `tabled_printing`, which has what the printer is made of too.
 #![tactic(auto)]
 
 pub use tabled_compact::{CompactConfig, CompactMultilineConfig, Formatting};
@@ -9,7 +9,7 @@ pub use tabled_configuration::{
     TableOption, modify,
 };
 pub use tabled_printing::{
-    Frame, Mark, PrintError, Run, Seen, Sides, Sink, character_seen, color_seen, crossing_line,
-    crossing_of, draws_plainly, edge_of, has_line, headline, join_lines, line_marks, line_runs,
-    line_seen, piece_size, pieces_of, print_plain, push_spaces_before, push_times,
+    Mark, PrintError, Run, Seen, character_seen, color_seen, draws_plainly, headline, line_marks,
+    line_runs, line_seen, print_plain,
 };
+pub use tabled_settings::EntityMap;

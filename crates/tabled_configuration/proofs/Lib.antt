@@ -7,4 +7,5 @@ pub mod Replacing
 pub mod SecondTime
 pub mod EntitiesColoredLemmas
 pub mod BothLemmas
+pub mod AlignedLemmas
 pub mod Below

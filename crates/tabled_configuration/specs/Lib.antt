@@ -6,4 +6,5 @@ pub mod SameConfiguration
 pub mod Options
 pub mod Compact
 pub mod EntitiesColored
+pub mod EntitiesAligned
 pub mod AlikeCells

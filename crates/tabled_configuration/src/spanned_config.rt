@@ -61,6 +61,13 @@ impl<M> Model for SpannedConfig<M> {
     ghost view = { λ cfg. record { characters = cfg.characters; colors = cfg.colors; settings = cfg.settings } };
 }
 
+impl<M> SpannedConfig<M> {
+    /// The allocator that the configuration keeps.
+    pub fn allocator(&self) -> Global {
+        self.characters.allocator()
+    }
+}
+
 impl SpannedConfig {
     ghost use Rattle.tabled_grid.specs.declared.place.LineOf.{LineOf as Line};
     ghost use Rattle.tabled_grid.specs.Drawn.{Drawn};
@@ -77,11 +84,6 @@ impl SpannedConfig {
             colors: Layers::new(alloc),
             settings: TableSettings::new(alloc),
         }
-    }
-
-    /// The allocator that the configuration keeps.
-    pub fn allocator(&self) -> Global {
-        self.characters.allocator()
     }
 
     /// Sets the class record whole: what it had before is gone, also where the new record has nothing.

@@ -1,6 +1,7 @@
 -- Carriage returns before line feeds.
 use Rattle.std.proofs.Common.{◌≡◌, ◌==◌, ℕ, Bool, true, false, ◌&&◌, if◌then◌else◌, List, [], ◌∷◌, sym, ap, ◌∙◌}
-use Rattle.tabled_csv.specs.Quoted.{begins_with_line_feed, without_returns}
+use Rattle.std.specs.List.{slice_index}
+use Rattle.tabled_csv.specs.Quoted.{without_returns}
 use Rattle.tabled_csv.specs.Reading.{going_on}
 
 pub releases_none : (is_held : Bool) (more : List ℕ) → is_held ≡ false → going_on false more ≡ going_on is_held more
@@ -18,7 +19,7 @@ keeps_return is_held next more e f =
 
 pub takes_other : (c : ℕ) (more : List ℕ) → (c == 13) ≡ false → c ∷ going_on false more ≡ going_on false (c ∷ more)
 unfolding without_returns
-takes_other c more e = ap (λ b. if b && begins_with_line_feed more then without_returns more else c ∷ without_returns more) (sym e)
+takes_other c more e = ap (λ b. if b && (slice_index more 0 == 10) then without_returns more else c ∷ without_returns more) (sym e)
 
 pub holds_return : (c : ℕ) (more : List ℕ) → c ≡ 13 → going_on true more ≡ going_on false (c ∷ more)
 holds_return c more e = ap (λ n. going_on false (n ∷ more)) (sym e)

@@ -7,7 +7,7 @@ use Rattle.tabled_csv.specs.declared.reader.Step.TheVariants as step
 use Rattle.tabled_csv.specs.Quoted.{step_at, left_at, end_at, row_before, cell_before, letter_before, nothing_left, is_row_start}
 use Rattle.tabled_csv.specs.Reading.{onto}
 
-abbrev Rows : Type 0
+abbrev pub Rows : Type 0
 Rows = List (List (List ℕ))
 
 onto_row : (row : List (List ℕ)) (cell : List ℕ) (rows : Rows) → onto row cell (row_before rows) ≡ (row ++ cell ∷ []) ∷ rows
@@ -56,6 +56,22 @@ module _ (separator : ℕ) (at : At) (c : ℕ) (more : List ℕ) where
   unfolding end_at last
   end_by s e = ap last e
 
+  pub left_by_row : step.Row ≡ step_at separator at c → row_before (left_at separator RowStart more) ≡ left_at separator at (c ∷ more)
+  unfolding left
+  left_by_row e = left_by step.Row e
+
+  pub left_by_cell : step.Cell ≡ step_at separator at c → cell_before (left_at separator CellStart more) ≡ left_at separator at (c ∷ more)
+  unfolding left
+  left_by_cell e = left_by step.Cell e
+
+  pub left_by_letter : (next : At) → step.Letter next ≡ step_at separator at c → letter_before c (left_at separator next more) ≡ left_at separator at (c ∷ more)
+  unfolding left
+  left_by_letter next e = left_by (step.Letter next) e
+
+  pub left_by_nothing : (next : At) → step.Nothing next ≡ step_at separator at c → left_at separator next more ≡ left_at separator at (c ∷ more)
+  unfolding left
+  left_by_nothing next e = left_by (step.Nothing next) e
+
   pub end_by_row : (same : ℕ) → same ≡ separator → step.Row ≡ step_at separator at c → end_at same RowStart more ≡ end_at separator at (c ∷ more)
   unfolding last
   end_by_row same k e = ap (λ n. end_at n RowStart more) k ∙ end_by step.Row e
@@ -75,7 +91,6 @@ module _ (separator : ℕ) (at : At) (c : ℕ) (more : List ℕ) where
   pub row_taken : (same : ℕ) (old new : Rows) (row row_after : List (List ℕ)) (cell cell_after : List ℕ) → same ≡ separator → step.Row ≡ step_at separator at c
       → new ≡ old ++ (row ++ cell ∷ []) ∷ [] → row_after ≡ [] → cell_after ≡ []
       → new ++ onto row_after cell_after (left_at same RowStart more) ≡ old ++ onto row cell (left_at separator at (c ∷ more))
-  unfolding left
   row_taken same old new row row_after cell cell_after k e rows none nothing =
       ap (λ n. new ++ onto row_after cell_after (left_at n RowStart more)) k
       ∙ ap (λ cells. new ++ onto cells cell_after (left_at separator RowStart more)) none
@@ -84,33 +99,30 @@ module _ (separator : ℕ) (at : At) (c : ℕ) (more : List ℕ) where
       ∙ ap (λ front. front ++ left_at separator RowStart more) rows
       ∙ append_assoc old ((row ++ cell ∷ []) ∷ []) (left_at separator RowStart more)
       ∙ ap (λ rest. old ++ rest) (sym (onto_row row cell (left_at separator RowStart more)))
-      ∙ ap (λ rest. old ++ onto row cell rest) (left_by step.Row e)
+      ∙ ap (λ rest. old ++ onto row cell rest) (left_by_row e)
 
   pub cell_taken : (same : ℕ) (old new : Rows) (row row_after : List (List ℕ)) (cell cell_after : List ℕ) → same ≡ separator → step.Cell ≡ step_at separator at c
       → new ≡ old → row_after ≡ row ++ cell ∷ [] → cell_after ≡ []
       → new ++ onto row_after cell_after (left_at same CellStart more) ≡ old ++ onto row cell (left_at separator at (c ∷ more))
-  unfolding left
   cell_taken same old new row row_after cell cell_after k e rows cells nothing =
       ap (λ n. new ++ onto row_after cell_after (left_at n CellStart more)) k
       ∙ ap (λ cs. new ++ onto cs cell_after (left_at separator CellStart more)) cells
       ∙ ap (λ bytes. new ++ onto (row ++ cell ∷ []) bytes (left_at separator CellStart more)) nothing
       ∙ ap (λ front. front ++ onto (row ++ cell ∷ []) [] (left_at separator CellStart more)) rows
       ∙ ap (λ rest. old ++ rest) (sym (onto_cell row cell (left_at separator CellStart more)))
-      ∙ ap (λ rest. old ++ onto row cell rest) (left_by step.Cell e)
+      ∙ ap (λ rest. old ++ onto row cell rest) (left_by_cell e)
 
   pub letter_taken : (next : At) (old : Rows) (row : List (List ℕ)) (cell cell_after : List ℕ) → step.Letter next ≡ step_at separator at c
       → cell_after ≡ cell ++ encode_utf8 c
       → old ++ onto row cell_after (left_at separator next more) ≡ old ++ onto row cell (left_at separator at (c ∷ more))
-  unfolding left
   letter_taken next old row cell cell_after e put =
       ap (λ bytes. old ++ onto row bytes (left_at separator next more)) put
       ∙ ap (λ rest. old ++ rest) (sym (onto_letter row cell c (left_at separator next more)))
-      ∙ ap (λ rest. old ++ onto row cell rest) (left_by (step.Letter next) e)
+      ∙ ap (λ rest. old ++ onto row cell rest) (left_by_letter next e)
 
   pub nothing_taken : (next : At) (old : Rows) (row : List (List ℕ)) (cell : List ℕ) → step.Nothing next ≡ step_at separator at c
       → old ++ onto row cell (left_at separator next more) ≡ old ++ onto row cell (left_at separator at (c ∷ more))
-  unfolding left
-  nothing_taken next old row cell e = ap (λ rest. old ++ onto row cell rest) (left_by (step.Nothing next) e)
+  nothing_taken next old row cell e = ap (λ rest. old ++ onto row cell rest) (left_by_nothing next e)
 
 -- ---- the end of a text
 

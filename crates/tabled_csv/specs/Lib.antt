@@ -1,3 +1,4 @@
 pub mod Lines
 pub mod Quoted
 pub mod Reading
+pub mod Written

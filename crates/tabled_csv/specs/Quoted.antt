@@ -6,21 +6,16 @@
 --     cell     quote {character, or two quotes} quote, or characters but separators and line feeds
 --
 -- What no such text has stands for itself: a quote in a cell that begins with none, and what follows the quote that ends a cell.
-use Rattle.std.specs.Prelude.{ℕ, Bool, true, false, ◌==◌, ◌&&◌, if◌then◌else◌, List, [], ◌∷◌, ◌++◌, chars, encode_utf8}
+use Rattle.std.specs.Prelude.{ℕ, Bool, true, false, ◌==◌, ◌&&◌, if◌then◌else◌, List, [], ◌∷◌, ◌++◌, chars, encode_utf8, slice_index}
 use Rattle.tabled_csv.specs.declared.reader.At.{At}
 use Rattle.tabled_csv.specs.declared.reader.At.TheVariants.{RowStart, CellStart, Bare, Quoted, AfterQuote}
 use Rattle.tabled_csv.specs.declared.reader.Step.{Step}
 use Rattle.tabled_csv.specs.declared.reader.Step.TheVariants as step
 
--- whether characters begin with a line feed
-abbrev pub begins_with_line_feed : List ℕ → Bool
-begins_with_line_feed [] = false
-begins_with_line_feed (c ∷ more) = c == 10
-
 -- characters without each carriage return before a line feed
 unfoldable pub without_returns : List ℕ → List ℕ
 without_returns [] = []
-without_returns (c ∷ more) = if (c == 13) && begins_with_line_feed more then without_returns more else c ∷ without_returns more
+without_returns (c ∷ more) = if (c == 13) && (slice_index more 0 == 10) then without_returns more else c ∷ without_returns more
 
 -- what a character does outside of quotes
 abbrev pub bare_step : ℕ → ℕ → Step

@@ -4,6 +4,7 @@ ghost use Rattle.std.specs.Prelude.{◌≡◌, ◌⊎◌, ◌∷◌, [], ℕ, Li
 ghost use Rattle.tabled_csv.specs.Lines.{cells_of};
 ghost use Rattle.tabled_csv.specs.Quoted.{csv_rows, end_at, has_open_quote, without_returns};
 ghost use Rattle.tabled_csv.specs.Reading.{going_on, rows_with};
+ghost use Rattle.tabled_csv.specs.Written.{IsWritten};
 ghost use Rattle.tabled_csv.specs.declared.quoted.CsvError.{CsvError as Refusal};
 
 use crate::reader::Reader;
@@ -86,6 +87,10 @@ pub fn csv(alloc: Global, text: &str, separator: char) -> Result<Vec<Vec<String>
     ensures rows { IfOk result (λ rows. cells_of rows.items ≡ csv_rows separator text.now) }
     ensures closed { OnOk result (has_open_quote separator text.now ≡ false) }
     ensures refused { IfErr result (λ e. (e ≡ Refusal.OutOfMemory) ⊎ ((has_open_quote separator text.now ≡ true) × (e ≡ Refusal.OpenQuote (length (csv_rows separator text.now))))) }
+
+    // Of a text that is written for rows, these rows are read.
+    ensures written { (rows : List (List (List ℕ))) → IsWritten separator rows text.now → IfOk result (λ read. cells_of read.items ≡ rows) }
+    ensures memory_alone { (rows : List (List (List ℕ))) → IsWritten separator rows text.now → IfErr result (λ e. e ≡ Refusal.OutOfMemory) }
 {
     let mut reader = Reader::new(alloc, separator);
     read(&mut reader, text)?;

@@ -5,6 +5,7 @@ ghost use Rattle.std.specs.Prelude.{◌≡◌, [], ◌∷◌, IsSomeAnd, OnOk, O
 mod cell_border;
 mod clearing;
 mod copies;
+mod drawn;
 mod entity_border;
 mod equality;
 mod levels;
@@ -101,6 +102,13 @@ impl<T, M> Model for Layers<T, M> {
         × LinesCounted horizontal_draws layers.horizontal_numbers (table nat_cmp layers.horizontal_lines) };
 }
 
+impl<T, M> Layers<T, M> {
+    /// The allocator that the store keeps.
+    pub fn allocator(&self) -> Global {
+        self.alloc
+    }
+}
+
 impl<T> Layers<T> {
     ghost use Rattle.tabled_grid.specs.Event.{erase, level_sites, Shows, Changes};
     ghost use Rattle.tabled_grid.specs.State.{state_at, class_record_set};
@@ -125,11 +133,6 @@ impl<T> Layers<T> {
             vertical_numbers: KeptNumbers::new(),
             horizontal_numbers: KeptNumbers::new(),
         }
-    }
-
-    /// The allocator that the store keeps.
-    pub fn allocator(&self) -> Global {
-        self.alloc
     }
 
     /// Sets the default, the weakest level, which shows wherever no other has something.

@@ -3,7 +3,8 @@
 //! A table has R rows and C columns. Its horizontal lines are numbered 0 to R, its vertical lines 0
 //! to C; the lines R and C close the table. `docs/DEFINITIONS.md` explains the words of the contracts.
 //!
-//! What names cells is written in `tabled_object`, what stands at a border in `tabled_border`; both are passed on here.
+//! What names cells is written in `tabled_object`, what stands at a border in `tabled_border`, what is set for cells in
+//! `tabled_settings`; what a user names of these is passed on here.
 #![tactic(auto)]
 
 mod borders;
@@ -36,4 +37,5 @@ pub use tabled_object::{
     LastColumnOffset, LastRow, LastRowOffset, Object, Position, Records, Row, Rows, Segment,
     SegmentAll, Shape, Union,
 };
+pub use tabled_settings::{AlignmentHorizontal, AlignmentVertical, Indent, Sides};
 pub use writes::{Target, Write};

@@ -1,9 +1,9 @@
-//! The numbers of the custom lines that draw what they cross.
+//! The numbers of the custom lines that draw what they cross. A look-up stands neither here nor below, so it learns them by the
+//! one reading alone.
 
 ghost use Rattle.std.specs.Prelude.{◌≡◌, option_copied};
 ghost use Rattle.tabled_grid.specs.Counted.{number_of};
 ghost use Rattle.tabled_grid.specs.Probing.{IsCounted, IsRaised};
-ghost use Rattle.tabled_grid.specs.Reading.{across_drawn};
 
 use crate::custom_lines::CustomLine;
 use crate::{Keep, OutOfMemory, Probes, Rank};
@@ -98,16 +98,6 @@ impl<M: Meter> KeptNumbers<M> {
             Rank::Inner => self.kept.inner,
             Rank::Last => self.kept.last,
         }
-    }
-
-    /// Whether they draw a line that is crossed, of the lines 0 to `count`: at most two readings.
-    pub(crate) fn draw(&self, line: usize, count: usize, probes: &mut M) -> bool
-        ensures drawn { result ≡ across_drawn self.now count line }
-        ensures probes { IsRaised 2 (M.made probes.old) (M.made probes.new) }
-    {
-        (line == 0 && self.read(Rank::First, probes) > 0)
-            || (line == count && self.read(Rank::Last, probes) > 0)
-            || (0 < line && line < count && self.read(Rank::Inner, probes) > 0)
     }
 }
 

@@ -39,7 +39,7 @@ fn has_digits_alone(text: &[u8]) -> bool
 }
 
 /// Whether the text is of digits, at least one.
-fn are_digits(text: &[u8]) -> bool
+pub fn are_digits(text: &[u8]) -> bool
     ensures { result ≡ are_digits text.now }
 {
     !text.is_empty() && has_digits_alone(text)

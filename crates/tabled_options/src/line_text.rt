@@ -5,7 +5,7 @@ ghost use Rattle.tabled_object.specs.declared.entity.Entity.TheVariants as cells
 ghost use Rattle.tabled_configuration.specs.Colored.{Changes};
 ghost use Rattle.tabled_configuration.specs.Configuration.{all_writes, writes_applied};
 ghost use Rattle.tabled_printing.specs.Picture.{look};
-ghost use Rattle.tabled_clean.specs.Steering.{without_steering};
+ghost use Rattle.tabled_clean.specs.Line.{on_one_line};
 ghost use Rattle.tabled_options.specs.TextStart.{limited, width_of};
 ghost use Rattle.tabled_options.specs.LineText.{places_taken, text_events};
 
@@ -18,7 +18,7 @@ use crate::text_start::{TextSize, text_start, widest};
 use std::alloc::Global;
 use std::marker::Model;
 use tabled_border::{ANSIBuf, OutOfMemory};
-use tabled_clean::cleaned;
+use tabled_clean::cleaned_line;
 use tabled_color::Color;
 use tabled_configuration::{ColoredConfig, SpannedConfig, TableOption};
 use tabled_grid::{LineOf, Offset, Place, Write};
@@ -156,8 +156,8 @@ impl<Line> LineText<Line> {
         self
     }
 
-    /// Cleans the text, so that nothing in it steers a terminal, as `tabled_clean::cleaned` says. A line feed stays, and breaks the line
-    /// that it is written on. Memory may be refused for the copy.
+    /// Cleans the text, so that nothing in it steers a terminal or breaks the line that it is written on, as `tabled_clean::cleaned_line`
+    /// says: a line feed is shown as `␊`. Memory may be refused for the copy.
     ///
     /// The text `A`, ESC, `C`:
     ///
@@ -167,9 +167,9 @@ impl<Line> LineText<Line> {
     pub fn clean(mut self, alloc: Global) -> Result<Self, OutOfMemory>
     where
         Line: Drop,
-        ensures { IfOk result (λ given. given ≡ record self { text = without_steering self.text }) }
+        ensures { IfOk result (λ given. given ≡ record self { text = on_one_line self.text }) }
     {
-        let text = cleaned(alloc, self.text.as_str())?;
+        let text = cleaned_line(alloc, self.text.as_str())?;
         self.text = text;
         Ok(self)
     }

@@ -182,7 +182,7 @@ module _ (cfg : Configuration) (wanted : Bool) (shape : ℕ × ℕ) (widths heig
         ∙ sym (ap (map (mark_at view)) (along_pieces view (LineOf.Horizontal s) (horizontal_there shape s any in_s)))
 
 -- one line between two rows is written as all are
-pub all_between : (frame : Frame FixedDimension) (s : ℕ) (text : List ℕ) → NoneForPlaces frame.cfg.now frame.with_colors Horizontal → 0 < s → s < frame.shape.0 → IsPlainLine frame.cfg.now s
+pub all_between : {M : Type 0} (frame : Frame FixedDimension M) (s : ℕ) (text : List ℕ) → NoneForPlaces frame.cfg.now frame.with_colors Horizontal → 0 < s → s < frame.shape.0 → IsPlainLine frame.cfg.now s
     → text ≡ written frame.with_colors (painted_marks (marks_along (viewed frame) (LineOf.Horizontal s))) → IsBetweenRows frame text
 all_between frame s text alike some within plain_s is r above below plain_r =
     let shape = frame.shape in

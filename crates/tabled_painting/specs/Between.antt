@@ -16,5 +16,5 @@ pub record IsPlainLine (cfg : Configuration) (r : ℕ) : Type 0 where
   pub no_colors : get cfg.colors.horizontal_lines r ≡ None
 
 -- so is each horizontal line between two rows written that is no custom one
-abbrev pub IsBetweenRows : Frame FixedDimension → List ℕ → Type 0
+abbrev pub IsBetweenRows : {M : Type 0} → Frame FixedDimension M → List ℕ → Type 0
 IsBetweenRows frame text = (r : ℕ) → 0 < r → r < frame.shape.0 → IsPlainLine frame.cfg.now r → text ≡ written frame.with_colors (painted_marks (marks_along (viewed frame) (LineOf.Horizontal r)))

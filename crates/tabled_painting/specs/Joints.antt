@@ -23,7 +23,7 @@ joint_text wanted before side after =
     colored before line ++ between (last_color before line) after
 
 -- these vertical lines stand beside each row
-pub record AreRowSides (frame : Frame FixedDimension) (sides : RowSides) : Type 0 where
+pub record AreRowSides {M : Type 0} (frame : Frame FixedDimension M) (sides : RowSides) : Type 0 where
   pub first : (r : ℕ) → r < frame.shape.0 → 0 < slice_index frame.dims.now.heights.items r → option_map mark_of sides.first ≡ mark_beside (viewed frame) r 0 0
   pub inner : (r c : ℕ) → r < frame.shape.0 → 0 < slice_index frame.dims.now.heights.items r → 0 < c → c < frame.shape.1 → option_map mark_of sides.inner ≡ mark_beside (viewed frame) r 0 c
   pub last : (r : ℕ) → r < frame.shape.0 → 0 < slice_index frame.dims.now.heights.items r → option_map mark_of sides.last ≡ mark_beside (viewed frame) r 0 frame.shape.1

@@ -5,5 +5,5 @@ use Rattle.tabled_printing.specs.Picture.{Look}
 use Rattle.tabled_printing.specs.Viewed.{frame_look}
 use Rattle.tabled_printing.specs.declared.frame.Frame.{Frame}
 
-abbrev pub viewed : Frame FixedDimension → Look
+abbrev pub viewed : {M : Type 0} → Frame FixedDimension M → Look
 viewed frame = frame_look (λ sizes. slice_index sizes.widths.items) (λ sizes. slice_index sizes.heights.items) frame

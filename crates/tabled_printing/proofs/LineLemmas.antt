@@ -1,5 +1,6 @@
 -- The places of a line, piece by piece.
 use Rattle.std.proofs.Common.{◌≡◌, ℕ, ◌+◌, ◌-◌, ◌≤◌, ◌<◌, Bool, true, false, not, ◌||◌, ◌&&◌, cond, nat_le, nat_lt, if◌then◌else◌, List, [], ◌++◌, length, map, zero, suc, add-one, refl, ap, sym, subst, ◌∙◌, arith, length-append}
+use Rattle.std.proofs.lemmas.Bool.Decides.{nat_tests}
 use Rattle.std.proofs.lemmas.Bool.{and_parts, leb-true, leb-false, le-leb, le-ltb, lt-ltb}
 use Rattle.std.proofs.lemmas.List.{map-append, length-map}
 use Rattle.std.proofs.lemmas.List.FromFn.{length-map-range_with_len}
@@ -34,6 +35,15 @@ horizontal_there shape r any within = ap (λ empty. not empty && nat_le r shape.
 -- and so is the first vertical line
 pub vertical_there : (shape : ℕ × ℕ) → is_empty shape ≡ false → has_line shape (LineOf.Vertical 0) ≡ true
 vertical_there shape any = ap (λ empty. not empty && nat_le 0 shape.1) any ∙ le-leb 0 shape.1 (omega arith)
+
+-- a line that is there has a piece
+pub pieces_there : (shape : ℕ × ℕ) (line : LineOf) → has_line shape line ≡ true → 0 < pieces_of shape line
+pieces_there shape (LineOf.Horizontal r) there =
+    let parts = and_parts (not (is_empty shape)) (nat_le r shape.0) there in
+    let any : is_empty shape ≡ false = not_true (is_empty shape) parts.0 in grind (arith, nat_tests)
+pieces_there shape (LineOf.Vertical c) there =
+    let parts = and_parts (not (is_empty shape)) (nat_le c shape.1) there in
+    let any : is_empty shape ≡ false = not_true (is_empty shape) parts.0 in grind (arith, nat_tests)
 
 -- a line that is not there has none
 past_last : (empty : Bool) (number last : ℕ) → not empty && nat_le number last ≡ false → empty || nat_lt last number ≡ true

@@ -18,62 +18,9 @@ use Rattle.unicode_width.specs.Width.{str_width, char_width, alone, of_kind, ste
 use Rattle.unicode_width.proofs.Rules.{str_width-append_simple, str_width-simple, str_width-printable, is_simple, is_simple_kind, width_or_zero}
 use Rattle.unicode_width.proofs.WidthLemmas.{read_before-printable}
 use Rattle.unicode_width.proofs.Computing.{unicode_width}
+use Rattle.tabled_width.proofs.AfterSpace.{from_space, space_first}
 use Rattle.tabled_printing.specs.Texts.{width_of_text}
 use Rattle.tabled_printing.specs.Columns.{is_narrow, is_narrow_kind}
-
--- ---- a space ends whatever follows it
-
-pub spaces_simple : (n : ℕ) → list_all is_simple (replicate n 32) ≡ true
-spaces_simple zero = refl
-spaces_simple (suc n) = spaces_simple n
-
-pub spaces_printable : (n : ℕ) → list_all (is_in_range 0x20 0x7E) (replicate n 32) ≡ true
-spaces_printable zero = refl
-spaces_printable (suc n) = spaces_printable n
-
-read_append : (xs ys : List ℕ) (r : Reading) → read_before false (xs ++ ys) r ≡ read_before false xs (read_before false ys r)
-read_append [] ys r = refl
-read_append (x ∷ xs) ys r = ap (step false x) (read_append xs ys r)
-
--- n spaces are read as n columns
-read_spaces : (n : ℕ) → ◌≡◌ {A = Reading} (n, plain) (read_before false (replicate n 32) (0, plain))
-read_spaces n =
-    let all : n ≡ 0 + length (replicate n 32) = omega (arith, length-replicate {A = ℕ} n 32) in
-    ap (λ m. (m, plain)) all ∙ read_before-printable false (replicate n 32) [] 0 (spaces_printable n) refl
-    ∙ ap (λ l. read_before false l (0, plain)) (append-nil (replicate n 32))
-
--- where what follows takes n columns and joins nothing, a text adds its own width
-read_from : (xs : List ℕ) (n : ℕ) → (read_before false xs (n, plain)).0 ≡ str_width false xs + n
-unfolding str_width
-read_from xs n =
-    ap (λ r. (read_before false xs r).0) (read_spaces n) ∙ sym (ap (λ r. r.0) (read_append xs (replicate n 32) (0, plain)))
-    ∙ str_width-append_simple false xs (replicate n 32) (spaces_simple n)
-    ∙ ap (λ m. str_width false xs + m) (str_width-printable false (replicate n 32) (spaces_printable n) ∙ length-replicate n 32)
-
-not_a_base : is_emoji_variation_base 32 ≡ false
-unfolding unicode_width
-not_a_base = refl
-
-by_emoji : (emoji : Bool) (n : ℕ) (other : Reading) → ◌≡◌ {A = Reading} (cond (not emoji) (n + 1, plain) (if is_emoji_variation_base 32 then other else (n + 1, plain))) (n + 1, plain)
-by_emoji false n other = refl
-by_emoji true n other = ap (λ b. if b then other else (n + 1, plain)) not_a_base
-
-read_space : (r : Reading) → step false 32 r ≡ (r.0 + 1, plain)
-unfolding step past_emoji
-read_space r = by_emoji r.1.emoji r.0 _
-
--- a space takes one column, whatever follows it
-pub space_first : (cs : List ℕ) → str_width false (32 ∷ cs) ≡ str_width false cs + 1
-unfolding str_width
-space_first cs = ap (λ r. r.0) (read_space (read_before false cs (0, plain)))
-
-pub from_space : (xs ys : List ℕ) → str_width false (xs ++ 32 ∷ ys) ≡ str_width false xs + str_width false (32 ∷ ys)
-unfolding str_width
-from_space xs ys =
-    let n : ℕ = (read_before false ys (0, plain)).0 + 1 in
-    let here : read_before false (32 ∷ ys) (0, plain) ≡ (n, plain) = read_space (read_before false ys (0, plain)) in
-    ap (λ r. r.0) (read_append xs (32 ∷ ys) (0, plain)) ∙ ap (λ r. (read_before false xs r).0) here ∙ read_from xs n
-    ∙ ap (λ m. (read_before false xs (0, plain)).0 + m) (sym (ap (λ r. r.0) here))
 
 -- ---- each number is read back from its bytes, a character's or not
 

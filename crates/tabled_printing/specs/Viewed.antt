@@ -10,9 +10,9 @@ abbrev pub with_colors_if : Bool → Look → Look
 with_colors_if wanted view = record view { color = λ place. if wanted then view.color place else None }
 
 -- how the table of a walk looks, where two functions give the widths of columns and the heights of rows
-abbrev pub walk_look : {D : Type 0} → (D → ℕ → ℕ) → (D → ℕ → ℕ) → Walk D → Look
+abbrev pub walk_look : {D M : Type 0} → (D → ℕ → ℕ) → (D → ℕ → ℕ) → Walk D M → Look
 walk_look width_of height_of walk = with_colors_if walk.with_colors (look (all_writes walk.cfg.now) walk.shape (width_of walk.dims.now) (height_of walk.dims.now))
 
 -- and that of a frame
-abbrev pub frame_look : {D : Type 0} → (D → ℕ → ℕ) → (D → ℕ → ℕ) → Frame D → Look
+abbrev pub frame_look : {D M : Type 0} → (D → ℕ → ℕ) → (D → ℕ → ℕ) → Frame D M → Look
 frame_look width_of height_of frame = with_colors_if frame.with_colors (look (all_writes frame.cfg.now) frame.shape (width_of frame.dims.now) (height_of frame.dims.now))

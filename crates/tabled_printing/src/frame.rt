@@ -25,7 +25,7 @@ use crate::{Mark, Run, Sides};
 use tabled_border::OutOfMemory;
 use tabled_configuration::SpannedConfig;
 use tabled_grid::{Borders, HorizontalLine, LineOf, Place, Rank};
-use tabled_kept::Probes;
+use tabled_kept::{Meter, Probes};
 use tabled_object::Dimension;
 
 /// What a line shows whose edges look alike, and whose crossings do between the first one and the last one.
@@ -39,9 +39,9 @@ struct Looks<'a> {
 
 /// A table that has places, as its configuration and its sizes frame it. What repeats is looked up when it is made.
 #[derive(Drop)]
-pub struct Frame<'a, 'b, D> {
+pub struct Frame<'a, 'b, D, M = Probes> {
     /// The configuration.
-    pub cfg: &'a SpannedConfig,
+    pub cfg: &'a SpannedConfig<M>,
     /// How wide the columns are and how high the rows.
     pub dims: &'b D,
     /// The number of rows and of columns.
@@ -135,16 +135,52 @@ impl<'a, 'b, D: Dimension> Frame<'a, 'b, D> {
         Some(self.side_seen(row, col, at))
     }
 
+    /// How many bytes the characters of the vertical lines take beside one line of text of the first row. It saturates.
+    pub fn side_bytes(&self) -> usize {
+        self.sides.bytes()
+    }
+
+    /// How many columns the table is long with its lines. Refused where no number says it.
+    pub fn count_columns(&self) -> Result<usize, OutOfMemory>
+        ensures { IfOk result (λ count. count ≡ length (marks_along (frame_look D.width_of D.height_of self.now) (Line.Horizontal 0))) }
+    {
+        let mut count = 0usize;
+        self.put_line(0, &mut count, &mut Probes::new())?;
+        Ok(count)
+    }
+
+    /// How many lines of text the table is high. Refused where no number says it.
+    pub fn count_lines(&self) -> Result<usize, OutOfMemory>
+        ensures { IfOk result (λ count. count ≡ length (marks_along (frame_look D.width_of D.height_of self.now) (Line.Vertical 0))) }
+    {
+        let walk = Walk {
+            cfg: self.cfg,
+            dims: self.dims,
+            shape: self.shape,
+            line: LineOf::Vertical(0),
+            sides: None,
+            with_colors: self.with_colors,
+        };
+        let mut count = 0usize;
+        walk.put_all(&mut count, &mut Probes::new())?;
+        Ok(count)
+    }
+}
+
+/// What is looked up for every type of meters, each reading by the one that is lent.
+impl<'a, 'b, D: Dimension, M: Meter> Frame<'a, 'b, D, M> {
+    ghost use Rattle.tabled_printing.specs.Viewed.{frame_look};
+
     /// What a horizontal line shows whose edges look alike, and whose crossings do between the first one and the last one. Where
     /// the class record alone decides that, it is read off there.
     #[inline(always)]
-    fn looks(&self, row: usize, probes: &mut Probes) -> Looks<'a>
+    fn looks(&self, row: usize, probes: &mut M) -> Looks<'a>
         requires { row ≤ self.now.shape.0 }
         ensures edge { mark_of result.edge ≡ plain_mark self.now.cfg.now self.now.with_colors self.now.shape (Spot.Horizontal row 0 0) }
         ensures first { mark_of result.first ≡ plain_mark self.now.cfg.now self.now.with_colors self.now.shape (Spot.Cross row 0) }
         ensures inner { 1 < self.now.shape.1 → mark_of result.inner ≡ plain_mark self.now.cfg.now self.now.with_colors self.now.shape (Spot.Cross row 1) }
         ensures last { mark_of result.last ≡ plain_mark self.now.cfg.now self.now.with_colors self.now.shape (Spot.Cross row self.now.shape.1) }
-        ensures probes { IsRaised 45 probes.old probes.new }
+        ensures probes { IsRaised 45 (M.made probes.old) (M.made probes.new) }
     {
         if let Some(class) = self.class {
             return Looks::of(class.horizontal_line(Rank::of(row, self.shape.0)));
@@ -153,12 +189,12 @@ impl<'a, 'b, D: Dimension> Frame<'a, 'b, D> {
     }
 
     /// The same, each mark looked up by itself.
-    fn looked_up(&self, row: usize, probes: &mut Probes) -> Looks<'a>
+    fn looked_up(&self, row: usize, probes: &mut M) -> Looks<'a>
         ensures edge { mark_of result.edge ≡ plain_mark self.now.cfg.now self.now.with_colors self.now.shape (Spot.Horizontal row 0 0) }
         ensures first { mark_of result.first ≡ plain_mark self.now.cfg.now self.now.with_colors self.now.shape (Spot.Cross row 0) }
         ensures inner { mark_of result.inner ≡ plain_mark self.now.cfg.now self.now.with_colors self.now.shape (Spot.Cross row 1) }
         ensures last { mark_of result.last ≡ plain_mark self.now.cfg.now self.now.with_colors self.now.shape (Spot.Cross row self.now.shape.1) }
-        ensures probes { IsRaised 40 probes.old probes.new }
+        ensures probes { IsRaised 40 (M.made probes.old) (M.made probes.new) }
     {
         let (_, last) = self.shape;
         Looks {
@@ -170,9 +206,9 @@ impl<'a, 'b, D: Dimension> Frame<'a, 'b, D> {
     }
 
     /// What is kept for a place without its offsets.
-    fn plain(&self, place: Place, probes: &mut Probes) -> Mark<'a>
+    fn plain(&self, place: Place, probes: &mut M) -> Mark<'a>
         ensures mark { mark_of result ≡ plain_mark self.now.cfg.now self.now.with_colors self.now.shape place }
-        ensures probes { IsRaised 10 probes.old probes.new }
+        ensures probes { IsRaised 10 (M.made probes.old) (M.made probes.new) }
     {
         plain_mark(self.cfg, self.shape, place, self.with_colors, probes)
     }
@@ -220,13 +256,13 @@ impl<'a, 'b, D: Dimension> Frame<'a, 'b, D> {
         &self,
         row: usize,
         sink: &mut S,
-        probes: &mut Probes,
+        probes: &mut M,
     ) -> Result<(), OutOfMemory>
         requires row { row ≤ self.now.shape.0 }
         requires alike { self.now.has_alike_lines ≡ true }
         requires plain { self.now.has_plain_columns ≡ true }
         ensures put { Put S.puts S.leaves result (marks_along (frame_look D.width_of D.height_of self.now) (Line.Horizontal row)) sink.old sink.new }
-        ensures probes { IsRaised 45 probes.old probes.new }
+        ensures probes { IsRaised 45 (M.made probes.old) (M.made probes.new) }
     {
         let (_, cols) = self.shape;
         let looks = self.looks(row, probes);
@@ -245,12 +281,12 @@ impl<'a, 'b, D: Dimension> Frame<'a, 'b, D> {
         &self,
         row: usize,
         sink: &mut S,
-        probes: &mut Probes,
+        probes: &mut M,
     ) -> Result<(), OutOfMemory>
         requires { row ≤ self.now.shape.0 }
         ensures put { Put S.puts S.leaves result (marks_along (frame_look D.width_of D.height_of self.now) (Line.Horizontal row)) sink.old sink.new }
-        ensures probes { IsRaised (12 * length (marks_along (frame_look D.width_of D.height_of self.now) (Line.Horizontal row)) + 6 * (self.now.shape.1 + 1) + 45) probes.old probes.new }
-        ensures looked_up_once { NoneForPlaces self.now.cfg.now self.now.with_colors Horizontal → NoneForLines self.now.cfg.now self.now.with_colors Vertical → IsRaised 45 probes.old probes.new }
+        ensures probes { IsRaised (12 * length (marks_along (frame_look D.width_of D.height_of self.now) (Line.Horizontal row)) + 6 * (self.now.shape.1 + 1) + 45) (M.made probes.old) (M.made probes.new) }
+        ensures looked_up_once { NoneForPlaces self.now.cfg.now self.now.with_colors Horizontal → NoneForLines self.now.cfg.now self.now.with_colors Vertical → IsRaised 45 (M.made probes.old) (M.made probes.new) }
     {
         if self.has_alike_lines && self.has_plain_columns {
             return self.put_alike(row, sink, probes);
@@ -264,37 +300,6 @@ impl<'a, 'b, D: Dimension> Frame<'a, 'b, D> {
             with_colors: self.with_colors,
         };
         walk.put_all(sink, probes)
-    }
-
-    /// How many bytes the characters of the vertical lines take beside one line of text of the first row. It saturates.
-    pub fn side_bytes(&self) -> usize {
-        self.sides.bytes()
-    }
-
-    /// How many columns the table is long with its lines. Refused where no number says it.
-    pub fn count_columns(&self) -> Result<usize, OutOfMemory>
-        ensures { IfOk result (λ count. count ≡ length (marks_along (frame_look D.width_of D.height_of self.now) (Line.Horizontal 0))) }
-    {
-        let mut count = 0usize;
-        self.put_line(0, &mut count, &mut Probes::new())?;
-        Ok(count)
-    }
-
-    /// How many lines of text the table is high. Refused where no number says it.
-    pub fn count_lines(&self) -> Result<usize, OutOfMemory>
-        ensures { IfOk result (λ count. count ≡ length (marks_along (frame_look D.width_of D.height_of self.now) (Line.Vertical 0))) }
-    {
-        let walk = Walk {
-            cfg: self.cfg,
-            dims: self.dims,
-            shape: self.shape,
-            line: LineOf::Vertical(0),
-            sides: None,
-            with_colors: self.with_colors,
-        };
-        let mut count = 0usize;
-        walk.put_all(&mut count, &mut Probes::new())?;
-        Ok(count)
     }
 }
 

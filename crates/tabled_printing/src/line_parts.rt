@@ -12,27 +12,27 @@ use crate::sink::Sink;
 use crate::walk::Walk;
 use tabled_border::OutOfMemory;
 use tabled_grid::LineOf;
-use tabled_kept::Probes;
+use tabled_kept::Meter;
 use tabled_object::Dimension;
 
-impl<'a, 'b, D: Dimension> Frame<'a, 'b, D> {
+impl<'a, 'b, D: Dimension, M: Meter> Frame<'a, 'b, D, M> {
     ghost use Rattle.tabled_printing.specs.Viewed.{frame_look};
 
-    /// Puts the mark of the crossing of a horizontal line, drawn or not, with a vertical one, if that is drawn: at most 18 readings.
+    /// Puts the mark of the crossing of a horizontal line, drawn or not, with a vertical one, if that is drawn: at most 17 readings.
     /// Only memory can be refused.
     pub fn put_line_crossing<S: Sink<'a>>(
         &self,
         row: usize,
         col: usize,
         sink: &mut S,
-        probes: &mut Probes,
+        probes: &mut M,
     ) -> Result<(), OutOfMemory>
         requires row { row ≤ self.now.shape.0 }
         requires col { col ≤ self.now.shape.1 }
         ensures put { let view = frame_look D.width_of D.height_of self.now in
             Put S.puts S.leaves result (map (mark_at view) (crossing_places view (Line.Horizontal row) col)) sink.old sink.new }
         ensures probes { let view = frame_look D.width_of D.height_of self.now in
-            IsRaised (12 * length (crossing_places view (Line.Horizontal row) col) + 6) probes.old probes.new }
+            IsRaised (12 * length (crossing_places view (Line.Horizontal row) col) + 5) (M.made probes.old) (M.made probes.new) }
     {
         let walk = Walk {
             cfg: self.cfg,
@@ -45,21 +45,21 @@ impl<'a, 'b, D: Dimension> Frame<'a, 'b, D> {
         walk.put_crossing(sink, col, probes)
     }
 
-    /// Puts the marks of that crossing and of the places of the line over the column after it: at most twelve readings for each, and eight
+    /// Puts the marks of that crossing and of the places of the line over the column after it: at most twelve readings for each, and seven
     /// for both. Only memory can be refused.
     pub fn put_line_piece<S: Sink<'a>>(
         &self,
         row: usize,
         col: usize,
         sink: &mut S,
-        probes: &mut Probes,
+        probes: &mut M,
     ) -> Result<(), OutOfMemory>
         requires row { row ≤ self.now.shape.0 }
         requires col { col < self.now.shape.1 }
         ensures put { let view = frame_look D.width_of D.height_of self.now in
             Put S.puts S.leaves result (map (mark_at view) (piece_places view (Line.Horizontal row) col)) sink.old sink.new }
         ensures probes { let view = frame_look D.width_of D.height_of self.now in
-            IsRaised (12 * length (piece_places view (Line.Horizontal row) col) + 8) probes.old probes.new }
+            IsRaised (12 * length (piece_places view (Line.Horizontal row) col) + 7) (M.made probes.old) (M.made probes.new) }
     {
         let walk = Walk {
             cfg: self.cfg,

@@ -11,7 +11,7 @@ ghost use Rattle.tabled_printing.specs.Viewed.{with_colors_if};
 use tabled_border::ANSIBuf;
 use tabled_configuration::SpannedConfig;
 use tabled_grid::Place;
-use tabled_kept::Probes;
+use tabled_kept::Meter;
 
 /// What one place shows: its character and its color, as far as it has them.
 #[derive(Clone, Copy, Debug)]
@@ -41,17 +41,17 @@ pub struct Run<'a> {
 }
 
 /// What a place shows, whose edge has `size` places, with its color if that is wanted: at most twelve readings.
-pub(crate) fn mark_seen<'a>(
-    cfg: &'a SpannedConfig,
+pub(crate) fn mark_seen<'a, M: Meter>(
+    cfg: &'a SpannedConfig<M>,
     shape: (usize, usize),
     place: Place,
     size: usize,
     with_colors: bool,
-    probes: &mut Probes,
+    probes: &mut M,
 ) -> Mark<'a>
     ensures mark { (widths heights : ℕ → ℕ) → size ≡ edge_size widths heights place
         → mark_of result ≡ mark_at (with_colors_if with_colors (look (all_writes cfg.now) shape widths heights)) place }
-    ensures probes { IsRaised 12 probes.old probes.new }
+    ensures probes { IsRaised 12 (M.made probes.old) (M.made probes.new) }
 {
     let shown = cfg.char_at(place, shape, size, probes);
     if !with_colors {
@@ -64,15 +64,15 @@ pub(crate) fn mark_seen<'a>(
 }
 
 /// What is kept for a place without its offsets, with its color if that is wanted: at most ten readings.
-pub(crate) fn plain_mark<'a>(
-    cfg: &'a SpannedConfig,
+pub(crate) fn plain_mark<'a, M: Meter>(
+    cfg: &'a SpannedConfig<M>,
     shape: (usize, usize),
     place: Place,
     with_colors: bool,
-    probes: &mut Probes,
+    probes: &mut M,
 ) -> Mark<'a>
     ensures mark { mark_of result ≡ kept.plain_mark cfg.now with_colors shape place }
-    ensures probes { IsRaised 10 probes.old probes.new }
+    ensures probes { IsRaised 10 (M.made probes.old) (M.made probes.new) }
 {
     let shown = cfg.read_plain_char(place, shape, probes);
     if !with_colors {

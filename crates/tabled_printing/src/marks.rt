@@ -15,20 +15,20 @@ use crate::{Mark, Run};
 use tabled_border::OutOfMemory;
 use tabled_configuration::SpannedConfig;
 use tabled_grid::LineOf;
-use tabled_kept::Probes;
+use tabled_kept::Meter;
 use tabled_object::Dimension;
 
 /// Puts the marks of a line, if the table has it.
-fn put_line<'a, D: Dimension, S: Sink<'a>>(
-    cfg: &'a SpannedConfig,
+fn put_line<'a, D: Dimension, S: Sink<'a>, M: Meter>(
+    cfg: &'a SpannedConfig<M>,
     dims: &D,
     shape: (usize, usize),
     line: LineOf,
     sink: &mut S,
-    probes: &mut Probes,
+    probes: &mut M,
 ) -> Result<(), OutOfMemory>
     ensures put { Put S.puts S.leaves result (marks (all_writes cfg.now) shape (D.width_of dims.now) (D.height_of dims.now) line) sink.old sink.new }
-    ensures probes { IsRaised (12 * length (marks (all_writes cfg.now) shape (D.width_of dims.now) (D.height_of dims.now) line) + 6 * lines_met shape line + 4) probes.old probes.new }
+    ensures probes { IsRaised (12 * length (marks (all_writes cfg.now) shape (D.width_of dims.now) (D.height_of dims.now) line) + 6 * lines_met shape line) (M.made probes.old) (M.made probes.new) }
 {
     if !has_line(shape, line) {
         return Ok(());
@@ -46,17 +46,17 @@ fn put_line<'a, D: Dimension, S: Sink<'a>>(
 
 /// What each place along a line of a table shows, in order, whether the line is drawn or not: `shape` is the number of the
 /// table's rows and of its columns. A line past the last one, and one of a table without rows or columns, has no places. At most
-/// twelve readings are made for each place, six for each line that meets this one, drawn or not, and four for the line; only memory
+/// twelve readings are made for each place, and six for each line that meets this one, drawn or not, by a meter of any type; only memory
 /// can be refused.
-pub fn line_marks<'a, D: Dimension>(
-    cfg: &'a SpannedConfig,
+pub fn line_marks<'a, D: Dimension, M: Meter>(
+    cfg: &'a SpannedConfig<M>,
     dims: &D,
     shape: (usize, usize),
     line: LineOf,
-    probes: &mut Probes,
+    probes: &mut M,
 ) -> Result<Vec<Mark<'a>>, OutOfMemory>
     ensures marks { (es : List ConfigEvent) → Shows es cfg.now → IfOk result (λ found. map mark_of found.items ≡ marks es shape (D.width_of dims.now) (D.height_of dims.now) line) }
-    ensures probes { (es : List ConfigEvent) → Shows es cfg.now → IsRaised (12 * length (marks es shape (D.width_of dims.now) (D.height_of dims.now) line) + 6 * lines_met shape line + 4) probes.old probes.new }
+    ensures probes { (es : List ConfigEvent) → Shows es cfg.now → IsRaised (12 * length (marks es shape (D.width_of dims.now) (D.height_of dims.now) line) + 6 * lines_met shape line) (M.made probes.old) (M.made probes.new) }
 {
     let mut marks = Vec::new(cfg.allocator());
     put_line(cfg, dims, shape, line, &mut marks, probes)?;
@@ -65,15 +65,15 @@ pub fn line_marks<'a, D: Dimension>(
 
 /// The same marks as runs: an edge where no offset is kept is one run, which is looked up once, and else each place is one of
 /// its own.
-pub fn line_runs<'a, D: Dimension>(
-    cfg: &'a SpannedConfig,
+pub fn line_runs<'a, D: Dimension, M: Meter>(
+    cfg: &'a SpannedConfig<M>,
     dims: &D,
     shape: (usize, usize),
     line: LineOf,
-    probes: &mut Probes,
+    probes: &mut M,
 ) -> Result<Vec<Run<'a>>, OutOfMemory>
     ensures marks { (es : List ConfigEvent) → Shows es cfg.now → IfOk result (λ found. marks_of found.items ≡ marks es shape (D.width_of dims.now) (D.height_of dims.now) line) }
-    ensures probes { (es : List ConfigEvent) → Shows es cfg.now → IsRaised (12 * length (marks es shape (D.width_of dims.now) (D.height_of dims.now) line) + 6 * lines_met shape line + 4) probes.old probes.new }
+    ensures probes { (es : List ConfigEvent) → Shows es cfg.now → IsRaised (12 * length (marks es shape (D.width_of dims.now) (D.height_of dims.now) line) + 6 * lines_met shape line) (M.made probes.old) (M.made probes.new) }
 {
     let mut runs = Vec::new(cfg.allocator());
     put_line(cfg, dims, shape, line, &mut runs, probes)?;

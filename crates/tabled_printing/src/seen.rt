@@ -1,6 +1,6 @@
 //! The headline of the library, as the contract of one call.
 
-ghost use Rattle.std.specs.Prelude.{◌≡◌, ◌≤◌, ◌++◌, List, [], OnOk, OnErr, IsTrue, IsOkUnless, option_copied, string_bytes};
+ghost use Rattle.std.specs.Prelude.{◌≡◌, ◌++◌, List, [], OnOk, OnErr, IsTrue, IsOkUnless, option_copied, string_bytes};
 ghost use Rattle.tabled_grid.specs.Event.{replay};
 ghost use Rattle.tabled_grid.specs.Probing.{IsRaised};
 ghost use Rattle.tabled_grid.specs.Value.{value};
@@ -19,21 +19,15 @@ use tabled_grid::{LineOf, Place};
 use tabled_kept::{Meter, Probes};
 use tabled_object::Dimension;
 
-/// What one place shows, whether one line is drawn, how many readings each of these took, and how printing ended.
+/// What one place shows, whether one line is drawn, and how printing ended.
 #[derive(Drop)]
 pub struct Seen<'a> {
     /// The character of the place.
     pub character: Option<char>,
-    /// The readings that were made for it.
-    pub character_probes: u64,
     /// The color of the place.
     pub color: Option<&'a ANSIBuf>,
-    /// The readings that were made for it.
-    pub color_probes: u64,
     /// Whether the line is drawn.
     pub is_drawn: bool,
-    /// The readings that were made for that.
-    pub line_probes: u64,
     /// Whether the table was printed.
     pub printed: Result<(), PrintError>,
 }
@@ -89,7 +83,8 @@ pub fn line_seen<M: Meter>(
 /// where these writes draw it; and where no spans are set and the cells fit, the printer appends exactly that picture around
 /// the cells, or refuses for memory alone.
 ///
-/// It looks up `place` and `line`, and prints the table after the text of `out`.
+/// It looks up `place` and `line`, and prints the table after the text of `out`. Each of the three look-ups is a call of its own,
+/// written for every type of meters, whose contract says the six readings: `character_seen`, `color_seen` and `line_seen`.
 pub fn headline<'a, D: Dimension>(
     cfg: &'a ColoredConfig,
     dims: &D,
@@ -105,7 +100,6 @@ pub fn headline<'a, D: Dimension>(
         → option_copied result.color ≡ value (replay (colors_of events)) shape (edge_size (D.width_of dims.now) (D.height_of dims.now) place) place }
     ensures drawn { (options : List (Colored → List ConfigEvent)) (events : List ConfigEvent) → HaveMade options events cfg.now
         → result.is_drawn ≡ drawn (characters_of events) (line_count shape line) line }
-    ensures six_readings { (result.character_probes ≤ 6) × (result.color_probes ≤ 6) × (result.line_probes ≤ 6) }
     ensures text { (options : List (Colored → List ConfigEvent)) (events : List ConfigEvent) → HaveMade options events cfg.now
         → OnOk result.printed (string_bytes out.new ≡ string_bytes out.old ++ printed events shape (D.width_of dims.now) (D.height_of dims.now) (texts cells.now)) }
     ensures memory_alone { IsTrue (has_no_spans cfg.now.spanned) → table_faults (D.width_of dims.now) (D.height_of dims.now) shape (texts cells.now) ≡ []
@@ -115,16 +109,11 @@ pub fn headline<'a, D: Dimension>(
     let config = cfg.config();
     let size = edge_size(dims, place);
     let count = line_count(shape, line);
-    let mut character_probes = Probes::new();
-    let mut color_probes = Probes::new();
-    let mut line_probes = Probes::new();
+    let probes = &mut Probes::new();
     Seen {
-        character: character_seen(config, place, shape, size, &mut character_probes),
-        character_probes: character_probes.count(),
-        color: color_seen(config, place, shape, size, &mut color_probes),
-        color_probes: color_probes.count(),
-        is_drawn: line_seen(config, line, count, &mut line_probes),
-        line_probes: line_probes.count(),
+        character: character_seen(config, place, shape, size, probes),
+        color: color_seen(config, place, shape, size, probes),
+        is_drawn: line_seen(config, line, count, probes),
         printed: print_plain(out, config, dims, shape, cells),
     }
 }

@@ -19,13 +19,13 @@ use crate::{Run, Sides};
 use tabled_border::OutOfMemory;
 use tabled_configuration::SpannedConfig;
 use tabled_grid::LineOf;
-use tabled_kept::Probes;
+use tabled_kept::{Meter, Probes};
 use tabled_object::Dimension;
 
 /// A line of a table that is there, with what decides how it looks, and whether its colors are wanted.
 #[derive(Drop)]
-pub(crate) struct Walk<'a, 'b, 'c, D> {
-    pub(crate) cfg: &'a SpannedConfig,
+pub(crate) struct Walk<'a, 'b, 'c, D, M = Probes> {
+    pub(crate) cfg: &'a SpannedConfig<M>,
     pub(crate) dims: &'b D,
     pub(crate) shape: (usize, usize),
     pub(crate) line: LineOf,
@@ -37,15 +37,15 @@ pub(crate) struct Walk<'a, 'b, 'c, D> {
     ghost sides_drawn: { ForSome sides (λ kept. (n : ℕ) → n ≤ pieces_of shape line → is_some (side_at kept.now n) ≡ crossed_after (all_writes cfg.now) shape line n) },
 }
 
-impl<'a, D: Dimension> Walk<'a, '_, '_, D> {
+impl<'a, D: Dimension, M: Meter> Walk<'a, '_, '_, D, M> {
     ghost use Rattle.tabled_printing.specs.Viewed.{walk_look};
 
-    /// Whether line `n` of the other direction is drawn, so that it crosses this one.
+    /// Whether line `n` of the other direction is drawn, so that it crosses this one: at most five readings.
     #[inline(always)]
-    fn is_crossed(&self, n: usize, probes: &mut Probes) -> bool
+    fn is_crossed(&self, n: usize, probes: &mut M) -> bool
         requires { n ≤ pieces_of self.now.shape self.now.line }
         ensures value { result ≡ crossed_after (all_writes self.now.cfg.now) self.now.shape self.now.line n }
-        ensures probes { IsRaised 6 probes.old probes.new }
+        ensures probes { IsRaised 5 (M.made probes.old) (M.made probes.new) }
     {
         if let Some(sides) = self.sides {
             return sides.at(n).is_some();
@@ -55,10 +55,10 @@ impl<'a, D: Dimension> Walk<'a, '_, '_, D> {
     }
 
     /// Whether a place of an edge may show something else than its edge: at most two readings.
-    pub(crate) fn has_offsets(&self, probes: &mut Probes) -> bool
+    pub(crate) fn has_offsets(&self, probes: &mut M) -> bool
         ensures characters { IsFalse result → HasNoOffsets (direction_of self.now.line) self.now.cfg.now.characters }
         ensures colors { IsFalse result → self.now.with_colors ≡ true → HasNoOffsets (direction_of self.now.line) self.now.cfg.now.colors }
-        ensures probes { IsRaised 2 probes.old probes.new }
+        ensures probes { IsRaised 2 (M.made probes.old) (M.made probes.new) }
     {
         self.cfg.has_char_offsets(self.line, probes)
             || (self.with_colors && self.cfg.has_color_offsets(self.line, probes))
@@ -69,13 +69,13 @@ impl<'a, D: Dimension> Walk<'a, '_, '_, D> {
         &self,
         sink: &mut S,
         n: usize,
-        probes: &mut Probes,
+        probes: &mut M,
     ) -> Result<(), OutOfMemory>
         requires within { n ≤ pieces_of self.now.shape self.now.line }
         ensures put { let view = walk_look D.width_of D.height_of self.now in
             Put S.puts S.leaves result (map (mark_at view) (crossing_places view self.now.line n)) sink.old sink.new }
         ensures probes { let view = walk_look D.width_of D.height_of self.now in
-            IsRaised (12 * length (crossing_places view self.now.line n) + 6) probes.old probes.new }
+            IsRaised (12 * length (crossing_places view self.now.line n) + 5) (M.made probes.old) (M.made probes.new) }
     {
         if !self.is_crossed(n, probes) {
             return Ok(());
@@ -91,12 +91,12 @@ impl<'a, D: Dimension> Walk<'a, '_, '_, D> {
         sink: &mut S,
         n: usize,
         size: usize,
-        probes: &mut Probes,
+        probes: &mut M,
     ) -> Result<(), OutOfMemory>
         requires { size ≡ piece_size (D.width_of self.now.dims.now) (D.height_of self.now.dims.now) self.now.line n }
         ensures put { let view = walk_look D.width_of D.height_of self.now in
             Put S.puts S.leaves result (map (mark_at view) (edge_places view self.now.line n)) sink.old sink.new }
-        ensures probes { IsRaised (12 * size) probes.old probes.new }
+        ensures probes { IsRaised (12 * size) (M.made probes.old) (M.made probes.new) }
     {
         for at in 0..size {
             let place = edge_of(self.line, n, at);
@@ -112,14 +112,14 @@ impl<'a, D: Dimension> Walk<'a, '_, '_, D> {
         sink: &mut S,
         n: usize,
         size: usize,
-        probes: &mut Probes,
+        probes: &mut M,
     ) -> Result<(), OutOfMemory>
         requires size { size ≡ piece_size (D.width_of self.now.dims.now) (D.height_of self.now.dims.now) self.now.line n }
         requires characters { HasNoOffsets (direction_of self.now.line) self.now.cfg.now.characters }
         requires colors { self.now.with_colors ≡ true → HasNoOffsets (direction_of self.now.line) self.now.cfg.now.colors }
         ensures put { let view = walk_look D.width_of D.height_of self.now in
             Put S.puts S.leaves result (map (mark_at view) (edge_places view self.now.line n)) sink.old sink.new }
-        ensures probes { IsRaised 10 probes.old probes.new }
+        ensures probes { IsRaised 10 (M.made probes.old) (M.made probes.new) }
     {
         let place = edge_of(self.line, n, 0);
         let mark = plain_mark(self.cfg, self.shape, place, self.with_colors, probes);
@@ -132,14 +132,14 @@ impl<'a, D: Dimension> Walk<'a, '_, '_, D> {
         sink: &mut S,
         n: usize,
         has_offsets: bool,
-        probes: &mut Probes,
+        probes: &mut M,
     ) -> Result<(), OutOfMemory>
         requires characters { has_offsets ≡ false → HasNoOffsets (direction_of self.now.line) self.now.cfg.now.characters }
         requires colors { has_offsets ≡ false → self.now.with_colors ≡ true → HasNoOffsets (direction_of self.now.line) self.now.cfg.now.colors }
         ensures put { let view = walk_look D.width_of D.height_of self.now in
             Put S.puts S.leaves result (map (mark_at view) (edge_places view self.now.line n)) sink.old sink.new }
         ensures probes { let view = walk_look D.width_of D.height_of self.now in
-            IsRaised (12 * length (edge_places view self.now.line n)) probes.old probes.new }
+            IsRaised (12 * length (edge_places view self.now.line n)) (M.made probes.old) (M.made probes.new) }
     {
         let size = piece_size(self.dims, self.line, n);
         if size == 0 {
@@ -157,7 +157,7 @@ impl<'a, D: Dimension> Walk<'a, '_, '_, D> {
         sink: &mut S,
         n: usize,
         has_offsets: bool,
-        probes: &mut Probes,
+        probes: &mut M,
     ) -> Result<(), OutOfMemory>
         requires within { n < pieces_of self.now.shape self.now.line }
         requires characters { has_offsets ≡ false → HasNoOffsets (direction_of self.now.line) self.now.cfg.now.characters }
@@ -165,7 +165,7 @@ impl<'a, D: Dimension> Walk<'a, '_, '_, D> {
         ensures put { let view = walk_look D.width_of D.height_of self.now in
             Put S.puts S.leaves result (map (mark_at view) (piece_places view self.now.line n)) sink.old sink.new }
         ensures probes { let view = walk_look D.width_of D.height_of self.now in
-            IsRaised (12 * length (piece_places view self.now.line n) + 6) probes.old probes.new }
+            IsRaised (12 * length (piece_places view self.now.line n) + 5) (M.made probes.old) (M.made probes.new) }
     {
         self.put_crossing(sink, n, probes)?;
         self.put_edge(sink, n, has_offsets, probes)
@@ -175,12 +175,12 @@ impl<'a, D: Dimension> Walk<'a, '_, '_, D> {
     pub(crate) fn put_all<S: Sink<'a>>(
         &self,
         sink: &mut S,
-        probes: &mut Probes,
+        probes: &mut M,
     ) -> Result<(), OutOfMemory>
         ensures put { let view = walk_look D.width_of D.height_of self.now in
             Put S.puts S.leaves result (map (mark_at view) (all_places view self.now.line)) sink.old sink.new }
         ensures probes { let view = walk_look D.width_of D.height_of self.now in
-            IsRaised (12 * length (all_places view self.now.line) + 6 * (pieces_of self.now.shape self.now.line + 1) + 2) probes.old probes.new }
+            IsRaised (12 * length (all_places view self.now.line) + 6 * (pieces_of self.now.shape self.now.line + 1)) (M.made probes.old) (M.made probes.new) }
     {
         let count = pieces_of(self.shape, self.line);
         let has_offsets = self.has_offsets(probes);

@@ -4,3 +4,4 @@ pub mod Cells
 pub mod Columns
 pub mod Words
 pub mod Sides
+pub mod Surroundings

@@ -1,29 +1,12 @@
 -- Where the cells of each column stand.
-use Rattle.std.specs.Prelude.{ℕ, Bool, false, ◌==◌, ◌&&◌, ◌||◌, if◌then◌else◌, List, [], ◌∷◌, map, length, string_bytes, slice_index_or, Option, None, Some}
-use Rattle.std.specs.List.{list_all, list_any, range_with_len}
-use Rattle.std.specs.declared.string.String.{String}
-use Rattle.std.specs.declared.vec.Vec.{Vec}
-use Rattle.tabled_numbers.specs.Numbers.{is_number}
+use Rattle.std.specs.Prelude.{ℕ, Bool, false, ◌&&◌, if◌then◌else◌, List, [], ◌∷◌, map, Option, None, Some}
+use Rattle.std.specs.List.{range_with_len}
+use Rattle.tabled_numbers.specs.Columns.{column_count, is_numeric}
 use Rattle.tabled_request.specs.Columns.{names_column}
 use Rattle.tabled_request.specs.Words.{word_at}
 use Rattle.tabled_request.specs.declared.request.Request.{Request}
 use Rattle.tabled_request.specs.declared.sides.Side.{Side}
 use Rattle.tabled_request.specs.declared.sides.Side.TheVariants.{Left, Center, Right}
-
--- the bytes of each cell of rows of texts
-abbrev pub cells_of : {Z W : Type 0} → List (Vec (String Z) W) → List (List (List ℕ))
-cells_of rows = map (λ row. map string_bytes row.items) rows
-
--- the cell of a row in a column, the empty text past its end
-abbrev pub cell : List (List ℕ) → ℕ → List ℕ
-cell row col = slice_index_or row col []
-
-abbrev pub is_number_or_empty : List ℕ → Bool
-is_number_or_empty text = (length text == 0) || is_number text
-
--- a column of numbers: each cell is one, or empty, and one at least is a number
-unfoldable pub is_numeric : List (List (List ℕ)) → ℕ → Bool
-is_numeric rows col = list_all (λ row. is_number_or_empty (cell row col)) rows && list_any (λ row. is_number (cell row col)) rows
 
 -- the rows below the header
 abbrev pub below_header : Bool → List (List (List ℕ)) → List (List (List ℕ))
@@ -47,11 +30,6 @@ side_of request words rows col =
     else if request.finds_numbers && is_numeric (below_header request.has_header rows) col then Right
     else Left
 
--- how many columns rows have
-abbrev pub column_count : List (List (List ℕ)) → ℕ
-column_count [] = 0
-column_count (row ∷ rows) = length row
-
--- where those of each column stand
+-- where the cells of each column stand
 abbrev pub sides_of : Request → List (List ℕ) → List (List (List ℕ)) → List Side
 sides_of request words rows = map (side_of request words rows) (range_with_len 0 (column_count rows))

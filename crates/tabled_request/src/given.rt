@@ -1,7 +1,8 @@
 //! The words after the program's name.
 
-ghost use Rattle.std.specs.Prelude.{◌≡◌, ◌⊎◌, ◌≤◌, IfErr, IfOk, IfSome, length, string_bytes};
+ghost use Rattle.std.specs.Prelude.{◌≡◌, ◌⊎◌, ◌≤◌, [], ◌∷◌, ◌++◌, map, IfErr, IfOk, OnOk, length, string_bytes};
 ghost use Rattle.std.specs.List.{All};
+ghost use Rattle.std.specs.Str.{IsUtf8};
 ghost use Rattle.tabled_request.specs.declared.given.GivenError.{GivenError as Refusal};
 
 use std::alloc::{AllocError, AllocFailed, Global};
@@ -35,32 +36,31 @@ impl<T: Drop> From<AllocFailed<T>> for GivenError {
     }
 }
 
-/// A word after the program's name, counted from 0, or None past the last. One that is not UTF-8, or too long, is refused.
-fn word_of<E: Env>(alloc: Global, env: &E, word: usize) -> Result<Option<String>, GivenError>
-    ensures refused { IfErr result (λ e. (e ≡ Refusal.OutOfMemory) ⊎ (e ≡ Refusal.Unreadable word)) }
-    ensures at_most { IfOk result (λ found. IfSome found (λ text. length (string_bytes text) ≤ WORD_LIMIT)) }
+/// Keeps the next word, which has these bytes.
+fn keep_word(words: &mut Vec<String>, bytes: &[u8]) -> Result<(), GivenError>
+    ensures kept { OnOk result (map string_bytes words.new.items ≡ map string_bytes words.old.items ++ bytes.now ∷ []) }
+    ensures readable { OnOk result (IsUtf8 bytes.now) }
+    ensures refused { IfErr result (λ e. (e ≡ Refusal.OutOfMemory) ⊎ ((e ≡ Refusal.Unreadable (length words.old.items)) × ¬ IsUtf8 bytes.now)) }
 {
-    let mut room = [0u8; WORD_LIMIT];
-    match env.arg(word.saturating_add(1), &mut room) {
-        Ok(length) => match str::from_utf8(&room[..length]) {
-            Ok(text) => Ok(Some(String::from_str(alloc, text)?)),
-            Err(_) => Err(GivenError::Unreadable { word }),
-        },
-        Err(FillError::NotPresent) => Ok(None),
-        Err(FillError::TooLong) => Err(GivenError::Unreadable { word }),
+    match str::from_utf8(bytes) {
+        Ok(text) => words.push(String::from_str(*words.allocator(), text)?)?,
+        Err(_) => return Err(GivenError::Unreadable { word: words.len() }),
     }
+    Ok(())
 }
 
-/// The words after the program's name, one after the other, each of at most 4096 bytes. Which they are no contract says, since that of
-/// `Env::arg` does not tell what an argument is.
+/// The words after the program's name, one after the other, all of them and each whole. One that is no text of UTF-8, or has more than 4096
+/// bytes, is refused. Which they are no contract says, since that of `Env::arg` does not tell what an argument is.
 pub fn all_words<E: Env>(alloc: Global, env: &E) -> Result<Vec<String>, GivenError>
     ensures at_most { IfOk result (λ words. All (λ text. length (string_bytes text) ≤ WORD_LIMIT) words.items) }
 {
     let mut words = Vec::new(alloc);
-    for word in 0..usize::MAX {
-        match word_of(alloc, env, word)? {
-            Some(text) => words.push(text)?,
-            None => break,
+    let mut room = [0u8; WORD_LIMIT];
+    for place in 1..usize::MAX {
+        match env.arg(place, &mut room) {
+            Ok(length) => keep_word(&mut words, &room[..length])?,
+            Err(FillError::NotPresent) => break,
+            Err(FillError::TooLong) => return Err(GivenError::Unreadable { word: place - 1 }),
         }
     }
     Ok(words)

@@ -1,7 +1,17 @@
 //! What the surroundings of the program say.
 
-use crate::numerals::number_of;
+ghost use Rattle.std.specs.Prelude.{◌≡◌, option_copied};
+ghost use Rattle.tabled_request.specs.Surroundings.{begins_with, begins_with_utf8, columns_told, is_told, names_utf8, or_else, takes_utf8, told};
+
+use crate::numerals::number_in;
+use crate::words::is_width;
 use std::env::{Env, FillError};
+
+/// How many bytes the value of a variable may have, to be read.
+const VALUE_LIMIT: usize = 256;
+
+/// What stands for a value that is longer. It is not empty, and neither a locale of UTF-8 nor a number.
+const LONG_VALUE: &[u8] = b"?";
 
 /// What the surroundings of the program say.
 #[derive(Clone, Copy, Debug, PartialEq, Eq)]
@@ -14,62 +24,117 @@ pub struct Surroundings {
     pub columns: Option<usize>,
 }
 
-/// Whether a text begins with the name of UTF-8.
-fn begins_with_utf8(text: &[u8]) -> bool {
-    match text {
-        [b'u' | b'U', b't' | b'T', b'f' | b'F', b'8', ..] => true,
-        [b'u' | b'U', b't' | b'T', b'f' | b'F', b'-', b'8', ..] => true,
+/// The values of the variables that are asked for, each None where it is not set.
+#[derive(Clone, Copy)]
+struct Variables<'a> {
+    lc_all: Option<&'a [u8]>,
+    lc_ctype: Option<&'a [u8]>,
+    lang: Option<&'a [u8]>,
+    no_color: Option<&'a [u8]>,
+    columns: Option<&'a [u8]>,
+}
+
+/// Whether a variable is set and not empty.
+fn is_told(value: Option<&[u8]>) -> bool
+    ensures { result ≡ is_told (option_copied value.entry) }
+{
+    match value {
+        Some([_, ..]) => true,
         _ => false,
     }
 }
 
-/// Whether the name of a locale says that it takes UTF-8.
-fn names_utf8(locale: &[u8]) -> bool {
-    for at in 0..locale.len() {
-        if begins_with_utf8(&locale[at..]) {
+/// A value, or the other one where it is not set, or empty.
+fn or_else<'a>(first: Option<&'a [u8]>, next: Option<&'a [u8]>) -> Option<&'a [u8]>
+    ensures { option_copied result ≡ or_else (option_copied first.entry) (option_copied next.entry) }
+{
+    if is_told(first) { first } else { next }
+}
+
+/// Whether a text begins with a name, in large or small letters.
+fn begins_with(text: &[u8], name: &[u8]) -> bool
+    ensures { result ≡ begins_with text.now name.now }
+{
+    match text.get(..name.len()) {
+        Some(first) => first.eq_ignore_ascii_case(name),
+        None => false,
+    }
+}
+
+/// Whether a text begins with the name of UTF-8, with a hyphen or without.
+fn begins_with_utf8(text: &[u8]) -> bool
+    ensures { result ≡ begins_with_utf8 text.now }
+{
+    begins_with(text, b"utf8") || begins_with(text, b"utf-8")
+}
+
+/// Whether the name of a locale has the name of UTF-8 in it.
+fn names_utf8(locale: &[u8]) -> bool
+    ensures { result ≡ names_utf8 locale.now }
+{
+    let mut rest = locale;
+    while let [_, more @ ..] = rest {
+        if begins_with_utf8(rest) {
             return true;
         }
+        rest = more;
     }
     false
 }
 
-/// Whether the first of these variables that is set and not empty names a locale of UTF-8.
-fn takes_utf8<E: Env>(env: &E) -> bool {
-    for name in ["LC_ALL", "LC_CTYPE", "LANG"] {
-        let mut room = [0u8; 256];
-        if let Ok(length) = env.var(name, &mut room) {
-            if 0 < length && length <= 256 {
-                return names_utf8(&room[..length]);
-            }
-        }
-    }
-    false
-}
-
-/// Whether `NO_COLOR` is set and not empty.
-fn forbids_color<E: Env>(env: &E) -> bool {
-    let mut room = [0u8; 1];
-    match env.var("NO_COLOR", &mut room) {
-        Ok(length) => 0 < length,
-        Err(FillError::TooLong) => true,
-        Err(FillError::NotPresent) => false,
+/// Whether the terminal takes UTF-8, by the name of its locale.
+fn takes_utf8(locale: Option<&[u8]>) -> bool
+    ensures { result ≡ takes_utf8 (option_copied locale.entry) }
+{
+    match locale {
+        Some(locale) => names_utf8(locale),
+        None => false,
     }
 }
 
-/// The number that `COLUMNS` has, from 1 on.
-fn columns<E: Env>(env: &E) -> Option<usize> {
-    let mut room = [0u8; 16];
-    let length = env.var("COLUMNS", &mut room).ok()?;
-    let text = str::from_utf8(room.get(..length)?).ok()?;
-    let number = number_of(text)?;
-    if number == 0 { None } else { Some(number) }
+/// How many columns the terminal has: a number from 1 on.
+fn columns_told(value: Option<&[u8]>) -> Option<usize>
+    ensures { result ≡ columns_told (option_copied value.entry) }
+{
+    match value {
+        Some(text) => is_width(number_in(text)),
+        None => None,
+    }
 }
 
-/// What the surroundings say: `COLUMNS`, `NO_COLOR`, and the first of `LC_ALL`, `LC_CTYPE` and `LANG` that is set and not empty.
-pub fn told_by<E: Env>(env: &E) -> Surroundings {
+/// What variables say.
+fn told(variables: Variables<'_>) -> Surroundings
+    ensures { result ≡ told variables.entry }
+{
+    let locale = or_else(
+        variables.lc_all,
+        or_else(variables.lc_ctype, variables.lang),
+    );
     Surroundings {
-        takes_utf8: takes_utf8(env),
-        forbids_color: forbids_color(env),
-        columns: columns(env),
+        takes_utf8: takes_utf8(locale),
+        forbids_color: is_told(variables.no_color),
+        columns: columns_told(variables.columns),
     }
+}
+
+/// The value of a variable, which is put into the room, or None where it is not set.
+fn value<'a, E: Env>(env: &E, name: &str, room: &'a mut [u8; VALUE_LIMIT]) -> Option<&'a [u8]> {
+    match env.var(name, room) {
+        Ok(length) => Some(&room[..length]),
+        Err(FillError::TooLong) => Some(LONG_VALUE),
+        Err(FillError::NotPresent) => None,
+    }
+}
+
+/// What the surroundings say. The terminal takes UTF-8 where the first of `LC_ALL`, `LC_CTYPE` and `LANG` that is set and not empty has
+/// `utf8` or `utf-8` in it, in large or small letters; colors are not wanted where `NO_COLOR` is set and not empty; and it has as many
+/// columns as the number in `COLUMNS` says, from 1 on. Of a value of more than 256 bytes it is known that it is not empty.
+pub fn told_by<E: Env>(env: &E) -> Surroundings {
+    told(Variables {
+        lc_all: value(env, "LC_ALL", &mut [0; VALUE_LIMIT]),
+        lc_ctype: value(env, "LC_CTYPE", &mut [0; VALUE_LIMIT]),
+        lang: value(env, "LANG", &mut [0; VALUE_LIMIT]),
+        no_color: value(env, "NO_COLOR", &mut [0; VALUE_LIMIT]),
+        columns: value(env, "COLUMNS", &mut [0; VALUE_LIMIT]),
+    })
 }

@@ -63,7 +63,7 @@ fn is_line(word: &str) -> bool
 }
 
 /// A width, which is 1 at least.
-fn is_width(number: Option<usize>) -> Option<usize>
+pub(crate) fn is_width(number: Option<usize>) -> Option<usize>
     ensures { result ≡ is_width number }
 {
     match number {

@@ -1,15 +1,13 @@
 -- How wide the columns are and how high the rows of a table whose cells span: as wide as any cell asks that is shown in that column
 -- alone, and then wider where cells that are shown over several columns ask for more.
 use Rattle.std.specs.Prelude.{ℕ, ◌+◌, ◌-◌, ◌==◌, ◌&&◌, not, Bool, min, max, fold, if◌then◌else◌, List, [], ◌∷◌, map, sum_by}
-use Rattle.std.specs.List.{flat_map, range_with_len}
+use Rattle.std.specs.List.{flat_map}
+pub use Rattle.tabled_object.specs.Entities.{below}
 use Rattle.tabled_rooms.specs.declared.growing.Ask.{Ask}
 use Rattle.tabled_rooms.specs.Hosts.{Cell, Counts, host}
 use Rattle.tabled_rooms.specs.Growing.{grown}
 
--- the numbers below a count, rising, and the greatest of some numbers, 0 of none
-abbrev pub below : ℕ → List ℕ
-below count = range_with_len 0 count
-
+-- the greatest of some numbers, 0 of none
 abbrev pub greatest : List ℕ → ℕ
 greatest = fold max 0
 

@@ -105,6 +105,20 @@ impl<T> EventsSince<T> {
         events.put_both(alloc, others.events_mut()?, entity, value, other)
     }
 
+    /// Adds the events of a list, in its order. Where memory is refused nothing changes.
+    pub(crate) fn put_list(
+        &mut self,
+        alloc: Global,
+        events: Vec<(Entity, Option<T>)>,
+    ) -> Result<(), OutOfMemory>
+    where
+        T: Drop,
+        ensures ok { OnOk result (self.new ≡ put_each self.old events.items) }
+        ensures err { OnErr result (self.new ≡ self.old) }
+    {
+        self.events_mut()?.put_list(alloc, events)
+    }
+
     /// Adds the events of a list here, and those of two other lists to others. Where memory is refused none of them changes.
     pub(crate) fn put_three_lists<U, V>(
         &mut self,

@@ -6,13 +6,8 @@ use Rattle.std.specs.declared.string.String.{String}
 use Rattle.std.specs.declared.vec.Vec.{Vec}
 use Rattle.std.proofs.lemmas.List.Elements.{filter-append}
 use Rattle.std.proofs.lemmas.List.{length-drop, take_all}
-use Rattle.std.proofs.lemmas.List.Concat.{flat_map-append}
-use Rattle.tabled_object.specs.declared.entity.Entity.TheVariants.{Column}
-use Rattle.tabled_settings.specs.declared.alignment.AlignmentHorizontal.{AlignmentHorizontal}
-use Rattle.tabled_settings.specs.Setting.{write_of}
-use Rattle.tabled_settings.specs.CellSettings.{of_alignment_horizontal}
-use Rattle.tabled_configuration.specs.ChangeLaws.{both_change_borders}
-use Rattle.tabled_configuration.specs.Configuration.{Changes, Configuration, by_setting, cell_colors_of}
+use Rattle.tabled_configuration.specs.Configuration.{cell_colors_of}
+use Rattle.tabled_configuration.specs.EntitiesAligned.{entities_aligned}
 use Rattle.tabled_printing.specs.Texts.{texts}
 use Rattle.tabled_text.specs.Numeric.{at_right}
 
@@ -27,14 +22,9 @@ one_more test old new col holds is pushed before =
     pushed ∙ (λ i. before i ++ (if is i then col ∷ [] else [])) ∙ sym (filter-append test (below col) (col ∷ []))
     ∙ ap (filter test) (sym (ap (range_with_len 0) (let on : col + 1 ≡ suc col = omega arith in on) ∙ last 0 col col (let start : 0 + col ≡ col = omega arith in start)))
 
--- one column more stands at the right
-pub one_at_right : (so_far all : List ℕ) (col : ℕ) (old mid new : Configuration) → all ≡ so_far ++ col ∷ [] → Changes (at_right so_far) old mid → Changes (by_setting (of_alignment_horizontal (write_of (Column col) AlignmentHorizontal.Right))) mid new → Changes (at_right all) old new
-one_at_right so_far all col old mid new is before last =
-    subst (λ es. Changes es old new) (sym (ap at_right is ∙ flat_map-append (λ c. by_setting (of_alignment_horizontal (write_of (Column c) AlignmentHorizontal.Right))) so_far (col ∷ [])))
-    (both_change_borders (at_right so_far) (at_right (col ∷ [])) old mid new before last)
-
 -- no cell is colored by it
 pub none_colored : (columns : List ℕ) → cell_colors_of (at_right columns) ≡ []
+unfolding entities_aligned
 none_colored [] = refl
 none_colored (col ∷ columns) = none_colored columns
 
@@ -52,7 +42,3 @@ dropped (suc headings) n (x ∷ xs) is = ap (λ k. drop k (x ∷ xs)) (let one_m
 pub below_headings : {Z W : Type 0} (headings n : ℕ) (rows : List (Vec (String Z) W)) → n ≡ min headings (length rows) → texts (take (length rows - n) (drop n rows)) ≡ drop headings (texts rows)
 below_headings headings n rows is =
     ap texts (take_all (length rows - n) (drop n rows) (let left = length-drop n rows in omega (arith, left))) ∙ ap texts (dropped headings n rows is) ∙ sym (drop-map (λ row. map string_bytes row.items) headings rows)
-
-pub on_err : {A E P Q : Type 0} (result : Result A E) → (P → Q) → OnErr result P → OnErr result Q
-on_err (Ok x) f p = tt
-on_err (Err e) f p = f p

@@ -2,6 +2,7 @@
 use Rattle.std.specs.Prelude.{◌≡◌, ◌≤◌, ◌⊎◌, ℕ, true, [], Bool, ◌==◌, ◌&&◌, Option, None, List, map, length, slice_index, slice_index_or}
 use Rattle.std.specs.FinMap.{len}
 use Rattle.std.specs.List.{join_with_byte}
+use Rattle.std.specs.Str.{IsUtf8}
 use Rattle.tabled_object.specs.Entities.{below, position}
 use Rattle.tabled_settings.specs.declared.cell_settings.CellSettings.{CellSettings}
 use Rattle.tabled_settings.specs.Padding.{keeps_first_padding}
@@ -55,6 +56,10 @@ KeepsApart es = (r c : ℕ) → StartsWithSpace es r c
 abbrev pub StandApart : List ConfigEvent → Table → Type 0
 StandApart es table =
     (r c : ℕ) → StartsWithSpace es r c ⊎ (IsPrintableText (cell (slice_index_or table r []) c) × (is_narrow (value_at (cells_set es).justification (position r c)) ≡ true))
+
+-- each text is of UTF-8, as those of Rust are
+abbrev pub AreUtf8 : Table → Type 0
+AreUtf8 table = (r c : ℕ) → IsUtf8 (cell (slice_index_or table r []) c)
 
 -- the text of each cell as it is shown where none spans and no padding is set: its lines, joined by line feeds
 unfoldable pub cell_texts : List ConfigEvent → Table → Table

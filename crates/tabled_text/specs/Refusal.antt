@@ -1,7 +1,9 @@
 -- The refusals of a table of texts.
-use Rattle.std.specs.Prelude.{ℕ, [], length, slice_index_or}
+use Rattle.std.specs.Prelude.{◌≡◌, ℕ, Option, Some, List, [], length, slice_index_or}
+use Rattle.std.specs.List.{AllZip}
+use Rattle.tabled_rows.specs.Spelled.{IsRow}
 use Rattle.tabled_printing.specs.Texts.{Table}
-use Rattle.tabled_text.specs.Sizes.{column_count}
+use Rattle.tabled_text.specs.Sizes.{column_count, unequal_row}
 use Rattle.tabled_printing.specs.declared.print_error.PrintError.{PrintError}
 use Rattle.tabled_printing.specs.declared.print_error.PrintError.TheVariants as print
 use Rattle.std.specs.declared.io.ErrorKind.{ErrorKind}
@@ -21,6 +23,10 @@ of_printer (print.Width row col) = Print (print.Width row col)
 -- the refusal of a table whose row of that number has more or fewer cells than its first
 abbrev pub unequal : Table → ℕ → TableError
 unequal table row = UnequalRows row (length (slice_index_or table row [])) (column_count table)
+
+-- rows of which this is known are of unequal length, and the first that is not as long as row 0 is named, with both counts
+abbrev pub AreUnequal : List (Option (List (Option (List ℕ)))) → TableError → Type 0
+AreUnequal known refused = (rows : Table) × (row : ℕ) × AllZip IsRow known rows × (unequal_row rows ≡ Some row) × (refused ≡ unequal rows row)
 
 -- of which kind a refusal is among the errors of input and output
 abbrev pub kind_of : TableError → ErrorKind

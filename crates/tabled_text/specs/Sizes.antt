@@ -7,11 +7,7 @@ use Rattle.tabled_settings.specs.declared.sides.Sides.{Sides}
 use Rattle.tabled_settings.specs.Live.{value_at}
 use Rattle.tabled_printing.specs.Texts.{Table, pieces, width_of_text}
 pub use Rattle.tabled_cells.specs.Placed.{greatest}
-
--- how many columns a table has: as many as its first row has cells
-abbrev pub column_count : Table → ℕ
-column_count [] = 0
-column_count (row ∷ rows) = length row
+pub use Rattle.tabled_numbers.specs.Columns.{cell, column_count}
 
 -- the number of the first row that has more or fewer than `count` cells, where rows are counted from `row`
 abbrev pub first_unequal : ℕ → ℕ → Table → Option ℕ
@@ -21,10 +17,6 @@ first_unequal columns row (cells ∷ rows) = if length cells == columns then fir
 -- the first row of a table that has more or fewer cells than its first
 abbrev pub unequal_row : Table → Option ℕ
 unequal_row table = first_unequal (column_count table) 0 table
-
--- the cell of a row in a column, the empty text past its end
-abbrev pub cell : List (List ℕ) → ℕ → List ℕ
-cell row col = slice_index_or row col []
 
 -- how many terminal columns a cell asks for: those of its widest line, and one for a space on each side
 unfoldable pub width_asked : List ℕ → ℕ

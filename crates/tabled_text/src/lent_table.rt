@@ -6,7 +6,7 @@ ghost use Rattle.tabled_text.specs.TextTable.{lent_rows, lent_texts};
 ghost use Rattle.tabled_text.specs.declared.table_error.TableError.{TableError as Refusal};
 
 use crate::TableError;
-use crate::measure::{TableSize, column_count, sizes_of, unequal_row};
+use crate::measure::{TableSize, sizes_of, unequal_row};
 use crate::table_view::TableView;
 use crate::text_table::{unequal, unset_config};
 use std::alloc::{AllocError, Global};
@@ -14,6 +14,7 @@ use std::io;
 use std::marker::Model;
 use tabled_border::OutOfMemory;
 use tabled_configuration::{CellOption, ColoredConfig, TableOption, modify};
+use tabled_numbers::column_count;
 use tabled_object::{FixedDimension, Object, Shape};
 use tabled_printing::PrintError;
 
@@ -67,7 +68,7 @@ impl<'a> Model for LentTable<'a> {
 }
 
 impl<'a> LentTable<'a> {
-    ghost use Rattle.std.specs.Prelude.{◌≡◌, ◌++◌, ◌⊎◌, ℕ, List, [], true, false, Err, map, length, take, string_bytes, IfErr, IfOk, OnErr, OnOk, IsOkUnless, MatchOption};
+    ghost use Rattle.std.specs.Prelude.{◌≡◌, ◌≤◌, ◌++◌, ◌⊎◌, ℕ, List, [], true, false, None, Err, map, length, take, string_bytes, IfErr, IfOk, OnErr, OnOk, IsOkUnless, MatchOption};
     ghost use Rattle.std.specs.Io.KnownBytes.{Appends};
     ghost use Rattle.tabled_object.specs.declared.dimension.FixedDimension.{FixedDimension};
     ghost use Rattle.tabled_configuration.specs.Colored.{Shows, Changes};
@@ -75,11 +76,16 @@ impl<'a> LentTable<'a> {
     ghost use Rattle.tabled_configuration.specs.Configuration as borders;
     ghost use Rattle.tabled_configuration.specs.Options.{MakesInTurn};
     ghost use Rattle.tabled_painting.specs.PaintedTable.{colored_text};
+    ghost use Rattle.tabled_painting.specs.Widths.{StandsStraightIn, text_width};
+    ghost use Rattle.tabled_printing.specs.Along.{is_empty};
+    ghost use Rattle.tabled_printing.specs.Columns.{IsRectangle, WritesNarrow};
+    ghost use Rattle.tabled_printing.specs.Texts.{pieces};
+    ghost use Rattle.tabled_text.specs.Cells.{AreUtf8, StandApart, leaves_sizes, margin_set};
     ghost use Rattle.tabled_printing.specs.declared.print_error.PrintError.{PrintError as Fault};
     ghost use Rattle.tabled_text.specs.Refusal.{unequal};
     ghost use Rattle.tabled_text.specs.Sizes.{column_count, unequal_row};
     ghost use Rattle.tabled_text.specs.TableViews.{IsTable, lent_bytes, texts_viewed};
-    ghost use Rattle.tabled_text.specs.TextTable.{AreRead, heights_with_spans, lent_rows, lent_texts, painted, shape_of, text_of, widths_with_spans};
+    ghost use Rattle.tabled_text.specs.TextTable.{AreRead, heights_with_spans, lent_rows, lent_texts, look_of, look_printed, painted, shape_of, text_of, widths_with_spans};
 
     /// A table of these rows of texts, which are lent and not copied. Refused as by `from_rows`.
     ///
@@ -206,7 +212,7 @@ impl<'a> LentTable<'a> {
 
     /// Applies an option to the cells of each entity that an object lists, in turn. Where memory is refused the option may have been
     /// applied to the first ones of them, to each whole.
-    fn apply_to<O, P>(&mut self, object: &O, option: &P) -> Result<(), OutOfMemory>
+    pub fn apply_to<O, P>(&mut self, object: &O, option: &P) -> Result<(), OutOfMemory>
     where
         O: Object<Shape>,
         P: CellOption<Shape, ColoredConfig>,
@@ -233,6 +239,7 @@ impl<'a> LentTable<'a> {
         ensures table { IsTable lent_bytes result }
         ensures config { result.config.now ≡ self.now.config }
         ensures texts { texts_viewed lent_bytes result ≡ self.now.texts }
+        ensures equal { unequal_row self.now.texts ≡ None }
     {
         TableView {
             rows: &self.cells,
@@ -243,9 +250,15 @@ impl<'a> LentTable<'a> {
         }
     }
 
-    /// The text of the table without colors, as `TextTable::to_text` gives it. Only memory can be refused.
+    /// The text of the table without colors, as `TextTable::to_text` gives it: a rectangle, with straight vertical lines, where that says so.
+    /// Only memory can be refused.
     pub fn to_text(&self) -> Result<String, PrintError>
         ensures text { (es : List ConfigEvent) → borders.Shows es self.now.config.spanned → IfOk result (λ text. string_bytes text ≡ text_of es self.now.texts) }
+        ensures rectangle { (es : List ConfigEvent) → borders.Shows es self.now.config.spanned → AreUtf8 self.now.texts → WritesNarrow es → StandApart es self.now.texts
+            → IfOk result (λ text. IsRectangle (text_width (look_printed es self.now.texts) (margin_set es)) (string_bytes text)) }
+        ensures straight { (es : List ConfigEvent) → borders.Shows es self.now.config.spanned → AreUtf8 self.now.texts → WritesNarrow es → leaves_sizes es ≡ true → is_empty (look_of es self.now.texts).shape ≡ false
+            → (c : ℕ) → c ≤ column_count self.now.texts → (look_of es self.now.texts).vertical c ≡ true
+            → IfOk result (λ text. StandsStraightIn (look_of es self.now.texts) (margin_set es) c (pieces (string_bytes text))) }
         ensures refusal { IsOkUnless result Fault.OutOfMemory }
     {
         let text = self.view().text(false)?;

@@ -14,19 +14,10 @@ ghost use Rattle.tabled_text.specs.Sizes.{cell, greatest, column_count, column_w
 use std::alloc::{AllocError, Global};
 use std::convert::AsStr;
 use tabled_border::OutOfMemory;
+use tabled_numbers::column_count;
 use tabled_object::FixedDimension;
 use tabled_settings::{Indent, Sides};
 use tabled_width::{is_printable, width_of};
-
-/// How many cells the first row has.
-pub(crate) fn column_count<T: AsStr>(rows: &[Vec<T>]) -> usize
-    ensures { result ≡ column_count (texts_by T.text rows.now) }
-{
-    match rows.first() {
-        Some(row) => row.len(),
-        None => 0,
-    }
-}
 
 /// The first row that has more or fewer cells than the first.
 pub(crate) fn unequal_row<T: AsStr>(rows: &[Vec<T>]) -> Option<usize>

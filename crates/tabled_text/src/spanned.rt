@@ -8,6 +8,7 @@ use crate::measure::{padded_height, padded_width};
 use std::alloc::AllocError;
 use std::convert::AsStr;
 use tabled_configuration::SpannedConfig;
+use tabled_numbers::text_of;
 use tabled_object::Position;
 use tabled_rooms::CellSizes;
 
@@ -43,16 +44,6 @@ fn text_at<'a, T: AsStr>(rows: &'a [Vec<T>], row: usize, col: usize) -> &'a str
 {
     match rows.get(row) {
         Some(cells) => text_of(cells, col),
-        None => "",
-    }
-}
-
-/// The text of a cell of a row.
-pub(crate) fn text_of<'a, T: AsStr>(cells: &'a [T], col: usize) -> &'a str
-    ensures { result.now ≡ cell (map T.text cells.now) col }
-{
-    match cells.get(col) {
-        Some(text) => text.as_str(),
         None => "",
     }
 }

@@ -37,7 +37,7 @@ pub enum TableError {
         /// How many rows there are.
         rows: usize,
     },
-    /// The printer refused the table, and not for memory: for a table of texts, as a span is set.
+    /// The printer refused a table, and not for memory. No table of texts is refused so: a refusal of `print_plain` becomes this by `?`.
     Print(PrintError),
     /// The writer failed that the text was written to.
     Write,

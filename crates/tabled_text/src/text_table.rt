@@ -21,13 +21,14 @@ mod spans;
 mod texts;
 
 use crate::TableError;
-use crate::measure::{TableSize, column_count, sizes_of, unequal_row};
+use crate::measure::{TableSize, sizes_of, unequal_row};
 use std::alloc::{AllocError, Global};
 use std::convert::AsStr;
 use std::marker::Model;
 use std::{fmt, mem};
 use tabled_border::OutOfMemory;
 use tabled_configuration::{CellOption, ColoredConfig, SpannedConfig, TableOption, modify};
+use tabled_numbers::column_count;
 use tabled_object::{FixedDimension, Object, Shape};
 use tabled_printing::PrintError;
 
@@ -108,6 +109,7 @@ impl TextTable {
     ghost use Rattle.tabled_printing.specs.declared.print_error.PrintError.{PrintError as Fault};
     ghost use Rattle.tabled_text.specs.Refusal.{unequal};
     ghost use Rattle.tabled_text.specs.Sizes.{column_count, column_widths, row_heights, unequal_row};
+    ghost use Rattle.tabled_painting.specs.Painted.{Painted};
     ghost use Rattle.tabled_painting.specs.PaintedTable.{plain_text, colored_text};
     ghost use Rattle.tabled_painting.specs.Widths.{StandsStraightIn, text_width};
     ghost use Rattle.tabled_text.specs.Cells.{StandApart, margin_set, leaves_sizes};
@@ -346,11 +348,14 @@ impl TextTable {
 
     /// The text of the table in color, as terminals show it: the same characters as in `to_text`, each between the two texts of
     /// its color. Where the color changes along a line the text that ends the last one is written and then the text that begins
-    /// the next, and at the end of a line the text that ends its last color; where there is no color nothing is written. Refused
-    /// as `to_text` is.
+    /// the next, and at the end of a line the text that ends its last color; where there is no color nothing is written. Without
+    /// these texts it is a rectangle where `to_text` says that its text is one. Refused as `to_text` is.
     pub fn to_ansi(&self) -> Result<String, PrintError>
         ensures text { (es : List ConfigEvent) → Shows es self.now.config → IfOk result (λ text. string_bytes text ≡ colored_text (painted es self.now.texts)) }
-        ensures characters { IfOk result (λ _. (es : List ConfigEvent) → text_of es self.now.texts ≡ plain_text (painted es self.now.texts)) }
+        ensures characters { (es : List ConfigEvent) → Shows es self.now.config
+            → IfOk result (λ text. (lines : List Painted) × (string_bytes text ≡ colored_text lines) × (plain_text lines ≡ text_of es self.now.texts)) }
+        ensures rectangle { (es : List ConfigEvent) → Shows es self.now.config → WritesNarrow es → StandApart es self.now.texts
+            → IfOk result (λ text. (lines : List Painted) × (string_bytes text ≡ colored_text lines) × IsRectangle (text_width (look_printed es self.now.texts) (margin_set es)) (plain_text lines)) }
         ensures refusal { IsOkUnless result Fault.OutOfMemory }
     {
         let text = self.view().text(true)?;

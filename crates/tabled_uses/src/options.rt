@@ -1,5 +1,5 @@
-//! Each option once, on the same table. Each function is one use, and a test of `tests/gallery.rs` holds the picture
-//! that it draws; `docs/GALLERY.md` is made of them.
+//! Each option once, on the same table. Each function is one use, and a test of `tests/gallery.rs` or
+//! `tests/gallery_settings.rs` holds the picture that it draws; `docs/GALLERY.md` is made of them.
 
 use crate::recipes::people;
 use std::alloc::Global;

@@ -1,5 +1,5 @@
-//! Tables as a user of the library draws them. Each function is one recipe, and a test of `tests/gallery.rs` holds the
-//! picture that it draws; `docs/GALLERY.md` is made of them.
+//! Tables as a user of the library draws them. Each function is one recipe, and a test of `tests/gallery.rs` or
+//! `tests/gallery_settings.rs` holds the picture that it draws; `docs/GALLERY.md` is made of them.
 
 use std::alloc::Global;
 use tabled::settings::object::{Cell, Columns, Combine, Rows, Segment};

@@ -8,11 +8,10 @@ use std::alloc::Global;
 use tabled_color::Color;
 use tabled_config::{ColoredConfig, TableOption};
 use tabled_grid::{
-    Columns, Combine, FirstColumn, FirstRow, FixedDimension, Offset, OutOfMemory, Row, Rows, Shape,
-    VerticalLine,
+    AlignmentHorizontal, Columns, Combine, FirstColumn, FirstRow, FixedDimension, Offset,
+    OutOfMemory, Row, Rows, Shape, VerticalLine,
 };
 use tabled_options::{Alignment, LineChar, LineText};
-use tabled_settings::AlignmentHorizontal;
 use tabled_style::Style;
 use tabled_theme::Theme;
 

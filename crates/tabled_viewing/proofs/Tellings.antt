@@ -1,15 +1,14 @@
 -- What is said item by item: one item more, and all of them.
-use Rattle.std.proofs.Common.{◌≡◌, ℕ, ◌+◌, ◌<◌, ◌≤◌, ◌==◌, suc, map, drop, encode_utf8, encode_utf8_all, List, [], ◌∷◌, ◌++◌, take, length, get_or, flat_map, fold, refl, sym, ap, ◌∙◌, append-nil, arith}
+use Rattle.std.proofs.Common.{◌≡◌, ℕ, ◌+◌, ◌<◌, ◌≤◌, ◌==◌, suc, map, drop, List, [], ◌∷◌, ◌++◌, take, length, get_or, flat_map, fold, refl, sym, ap, ◌∙◌, append-nil, arith}
 use Rattle.std.proofs.Math.Seq.{take-suc}
 use Rattle.std.specs.List.{common_prefix_len}
-use Rattle.std.proofs.lemmas.List.{drop_all, map-append}
-use Rattle.std.proofs.lemmas.Str.{encodes-append}
+use Rattle.std.proofs.lemmas.List.{drop_all}
 use Rattle.std.proofs.lemmas.List.Concat.{flat_map-append}
 use Rattle.std.proofs.lemmas.List.Sums.{fold_more}
 use Rattle.tabled_request.specs.declared.options.OptionName.{OptionName}
 use Rattle.tabled_style.specs.declared.ready_style.ReadyStyle.{ReadyStyle}
 use Rattle.tabled_viewing.specs.Itself.{style_told}
-use Rattle.tabled_viewing.specs.Said.{in_line, nearer}
+use Rattle.tabled_viewing.specs.Said.{nearer}
 
 pub flat_map_more : {X A : Type 0} (f : X → List A) (xs : List X) (i : ℕ) (d : X) → i < length xs → flat_map f (take (i + 1) xs) ≡ flat_map f (take i xs) ++ f (get_or xs i d)
 flat_map_more f xs i d inside =
@@ -27,14 +26,6 @@ pub nearest_more : (word : List ℕ) (first : OptionName) (options : List Option
     → best ≡ fold (nearer word) first (take i options) → next ≡ fold (nearer word) first (take (i + 1) options)
 nearest_more word first options i d best next inside compared before =
     compared ∙ ap (λ best. nearer word best (get_or options i d)) before ∙ sym (fold_more (nearer word) first options i d inside)
-
--- a character more is written on a line
-pub written_more : (done : List ℕ) (character shown : ℕ) (old new : List ℕ) → new ≡ old ++ encode_utf8 shown → shown ≡ in_line character
-    → old ≡ encode_utf8_all (map in_line done) → new ≡ encode_utf8_all (map in_line (done ++ character ∷ []))
-written_more done character shown old new pushed is before =
-    pushed ∙ (λ i. before i ++ encode_utf8 (is i))
-    ∙ ap (λ last. encode_utf8_all (map in_line done) ++ last) (sym (append-nil (encode_utf8 (in_line character))))
-    ∙ sym (ap encode_utf8_all (map-append in_line done (character ∷ [])) ∙ encodes-append (map in_line done) (in_line character ∷ []))
 
 -- nothing is alike after the end of a text
 pub none_alike : (xs ys : List ℕ) (n : ℕ) → length ys ≤ n → common_prefix_len (λ x y. x == y) xs (drop n ys) ≡ 0

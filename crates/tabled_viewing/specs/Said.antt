@@ -1,7 +1,7 @@
 -- What the program says of a refusal, in one line.
-use Rattle.std.specs.Prelude.{ℕ, ◌+◌, ◌-◌, ◌^◌, min, Bool, ◌==◌, nat_lt, if◌then◌else◌, List, [], ◌∷◌, ◌++◌, map, codes, chars, encode_utf8_all, decimal, fold, slice_index_or}
+use Rattle.std.specs.Prelude.{ℕ, ◌+◌, ◌-◌, ◌^◌, min, Bool, ◌==◌, nat_lt, if◌then◌else◌, List, [], ◌∷◌, ◌++◌, map, codes, decimal, fold, slice_index_or}
 use Rattle.std.specs.List.{common_prefix_len}
-use Rattle.tabled_clean.specs.Steering.{cleaned}
+use Rattle.tabled_clean.specs.Line.{cleaned_line}
 use Rattle.tabled_input.specs.declared.error.InputError.{InputError}
 use Rattle.tabled_input.specs.declared.error.InputError.TheVariants as input
 use Rattle.tabled_input.specs.declared.read.TheConstants.{INPUT_LIMIT}
@@ -19,15 +19,9 @@ use Rattle.tabled_viewing.specs.declared.error.ViewError.TheVariants.{Given, Wor
 abbrev pub word : List (List ℕ) → ℕ → List ℕ
 word words n = slice_index_or words n []
 
--- a text on one line: cleaned, with a picture in the place of each line feed; and between quotes
-abbrev pub in_line : ℕ → ℕ
-in_line character = if character == 10 then 0x240A else character
-
-unfoldable pub on_one_line : List ℕ → List ℕ
-on_one_line text = encode_utf8_all (map in_line (chars (cleaned text)))
-
+-- a text on one line, between quotes
 abbrev pub quoted : List ℕ → List ℕ
-quoted text = 34 ∷ (on_one_line text ++ 34 ∷ [])
+quoted text = 34 ∷ (cleaned_line text ++ 34 ∷ [])
 
 -- a number that is counted from 0, counted from 1, as far as numbers go
 abbrev pub from_one : ℕ → ℕ
@@ -62,7 +56,7 @@ values other = codes "nothing"
 
 -- of a word that names no option, of an option without its value, of a word that is no value of an option, and of a second file
 abbrev pub said_of_unknown : List ℕ → List ℕ
-said_of_unknown word = on_one_line word ++ (codes " is no option (" ++ (name_of (nearest word) ++ codes " is the nearest; --help shows them)"))
+said_of_unknown word = cleaned_line word ++ (codes " is no option (" ++ (name_of (nearest word) ++ codes " is the nearest; --help shows them)"))
 
 abbrev pub said_of_no_value : OptionName → List ℕ
 said_of_no_value option = name_of option ++ (codes " has no value (" ++ (values option ++ codes ")"))

@@ -2,12 +2,12 @@
 
 ghost use Rattle.std.specs.Prelude.{◌≡◌, ◌==◌, fold, map, string_bytes, IfOk};
 ghost use Rattle.std.specs.List.{common_prefix_len};
-ghost use Rattle.tabled_viewing.specs.Said.{alike, in_line, nearer, nearest, on_one_line, out_of_memory, quoted, said, said_of_bad_value, said_of_file, said_of_given, said_of_input, said_of_no_value, said_of_rows, said_of_second_file, said_of_unknown, said_of_words, unit, values, word, write_failed};
+ghost use Rattle.tabled_viewing.specs.Said.{alike, nearer, nearest, out_of_memory, quoted, said, said_of_bad_value, said_of_file, said_of_given, said_of_input, said_of_no_value, said_of_rows, said_of_second_file, said_of_unknown, said_of_words, unit, values, word, write_failed};
 
 use crate::error::ViewError;
 use std::alloc::Global;
 use tabled_border::OutOfMemory;
-use tabled_clean::cleaned;
+use tabled_clean::cleaned_line;
 use tabled_input::{INPUT_LIMIT, InputError};
 use tabled_request::{GivenError, OptionName, WordsError};
 
@@ -21,34 +21,11 @@ fn word(words: &[String], number: usize) -> &str
     }
 }
 
-/// A character on a line: a picture of the line feed, and any other as it is.
-fn in_line(character: char) -> char
-    ensures { result ≡ in_line character }
-{
-    if character == '\n' {
-        '\u{240A}'
-    } else {
-        character
-    }
-}
-
-/// A text on one line, in which nothing steers the terminal.
-fn on_one_line(alloc: Global, text: &str) -> Result<String, OutOfMemory>
-    ensures { IfOk result (λ line. string_bytes line ≡ on_one_line text.now) }
-{
-    let clean = cleaned(alloc, text)?;
-    let mut line = String::new(alloc);
-    for character in clean.chars() {
-        line.push(in_line(character))?;
-    }
-    Ok(line)
-}
-
 /// A text on one line, between quotes.
 fn quoted(alloc: Global, text: &str) -> Result<String, OutOfMemory>
     ensures { IfOk result (λ line. string_bytes line ≡ quoted text.now) }
 {
-    let text = on_one_line(alloc, text)?;
+    let text = cleaned_line(alloc, text)?;
     Ok(format!(in alloc; "\"{text}\"")?)
 }
 
@@ -127,7 +104,7 @@ fn values(option: OptionName) -> &'static str
 fn said_of_unknown(alloc: Global, word: &str) -> Result<String, OutOfMemory>
     ensures { IfOk result (λ text. string_bytes text ≡ said_of_unknown word.now) }
 {
-    let name = on_one_line(alloc, word)?;
+    let name = cleaned_line(alloc, word)?;
     let near = nearest(word).name();
     Ok(format!(in alloc; "{name} is no option ({near} is the nearest; --help shows them)")?)
 }

@@ -1,12 +1,13 @@
 -- How rows are filled, part by part.
-use Rattle.std.proofs.Common.{◌≡◌, map, ℕ, Bool, true, false, if◌then◌else◌, List, [], ◌∷◌, ◌++◌, length, take, replicate, refl, sym, ap, subst, ◌∙◌, ◌<◌, ◌≤◌, arith, append_assoc, String, string_bytes, string_len, rules}
+use Rattle.std.proofs.Common.{◌≡◌, map, ℕ, Bool, true, false, if◌then◌else◌, List, [], ◌∷◌, ◌++◌, length, take, refl, sym, ap, subst, ◌∙◌, ◌<◌, ◌≤◌, arith, String, string_bytes, string_len, rules}
 use Rattle.std.specs.List.{flat_map, join_with_byte}
 use Rattle.std.specs.Str.{IsUtf8, IsCharBoundary}
+use Rattle.std.proofs.lemmas.Bool.Decides.{nat_tests}
 use Rattle.std.proofs.lemmas.List.{take_at, length-append}
 use Rattle.std.proofs.lemmas.Str.{IsCharBoundary-from_take}
-use Rattle.tabled_width.specs.Texts.{fits}
+use Rattle.tabled_width.specs.Texts.{fits, width_of_text}
 use Rattle.tabled_width.specs.Clusters.{clusters}
-use Rattle.tabled_width.specs.Rows.{Part, close, spaced, parts_of, joined, before, rows, going_on, line_rows, word_rows, words}
+use Rattle.tabled_width.specs.Rows.{Part, close, parts_of, joined, before, rows, going_on, line_rows, word_rows, words}
 use Rattle.tabled_width.specs.CutOff.{beginning, cut_off}
 
 pub step_fits : (width : ℕ) (row : List ℕ) (part : Part) (parts : List Part) → fits width (joined row part) ≡ true → rows width row (part ∷ parts) ≡ rows width (joined row part) parts
@@ -45,30 +46,31 @@ pub some_rows : (width : ℕ) (row : List ℕ) (parts : List Part) → (first : 
 some_rows width row [] = (row, [], step_end width row)
 some_rows width row (part ∷ parts) = some_if width row part parts (fits width (joined row part)) refl (λ next. some_rows width next parts)
 
+-- a text by its width
+pub at_most : (taken width : ℕ) (text : List ℕ) → taken ≡ width_of_text text → taken ≤ width → fits width text ≡ true
+at_most taken width text e le = grind (arith, nat_tests)
+
+pub above : (taken width : ℕ) (text : List ℕ) → taken ≡ width_of_text text → width < taken → fits width text ≡ false
+above taken width text e lt = grind (arith, nat_tests)
+
 -- the part stands on the row
-pub put_here : (written row gone there : List ℕ) (width gap : ℕ) (text : List ℕ) → gone ≡ row ++ replicate gap 32 → there ≡ gone ++ text → fits width there ≡ true
-    → (parts : List Part) → going_on written width there parts ≡ going_on written width row (record { gap = gap; text = text } ∷ parts)
-put_here written row gone there width gap text spaced is fit parts =
-    let part : Part = record { gap = gap; text = text } in
-    let same : there ≡ joined row part = is ∙ ap (λ bs. bs ++ text) spaced ∙ append_assoc row (replicate gap 32) text in
-    ap (λ bs. going_on written width bs parts) same
-    ∙ ap (λ rs. written ++ join_with_byte 10 rs) (sym (step_fits width row part parts (ap (fits width) (sym same) ∙ fit)))
+pub put_here : (written row there : List ℕ) (width : ℕ) (part : Part) → there ≡ joined row part → fits width there ≡ true
+    → (parts : List Part) → going_on written width there parts ≡ going_on written width row (part ∷ parts)
+put_here written row there width part is fit parts =
+    ap (λ bs. going_on written width bs parts) is
+    ∙ ap (λ rs. written ++ join_with_byte 10 rs) (sym (step_fits width row part parts (ap (fits width) (sym is) ∙ fit)))
 
 -- the part stands on the next row
-pub put_next : (written new row gone there cut after : List ℕ) (width gap : ℕ) (text : List ℕ) → gone ≡ row ++ replicate gap 32 → there ≡ gone ++ text → fits width there ≡ false
-    → cut ≡ row → after ≡ text
-    → ((first : List ℕ) (more : List (List ℕ)) → new ++ join_with_byte 10 (first ∷ more) ≡ written ++ join_with_byte 10 (before cut (first ∷ more)))
-    → (parts : List Part) → going_on new width after parts ≡ going_on written width row (record { gap = gap; text = text } ∷ parts)
-put_next written new row gone there cut after width gap text spaced is full kept begun ended parts =
-    let part : Part = record { gap = gap; text = text } in
-    let same : there ≡ joined row part = is ∙ ap (λ bs. bs ++ text) spaced ∙ append_assoc row (replicate gap 32) text in
-    let next = some_rows width text parts in
+pub put_next : (written new row after : List ℕ) (width : ℕ) (part : Part) → fits width (joined row part) ≡ false → after ≡ part.text
+    → ((first : List ℕ) (more : List (List ℕ)) → new ++ join_with_byte 10 (first ∷ more) ≡ written ++ join_with_byte 10 (before row (first ∷ more)))
+    → (parts : List Part) → going_on new width after parts ≡ going_on written width row (part ∷ parts)
+put_next written new row after width part full begun ended parts =
+    let next = some_rows width part.text parts in
     ap (λ bs. going_on new width bs parts) begun
     ∙ ap (λ rs. new ++ join_with_byte 10 rs) next.2
     ∙ ended next.0 next.1
-    ∙ ap (λ bs. written ++ join_with_byte 10 (before bs (next.0 ∷ next.1))) kept
     ∙ ap (λ rs. written ++ join_with_byte 10 (before row rs)) (sym next.2)
-    ∙ ap (λ rs. written ++ join_with_byte 10 rs) (sym (step_full width row part parts (ap (fits width) (sym same) ∙ full)))
+    ∙ ap (λ rs. written ++ join_with_byte 10 rs) (sym (step_full width row part parts full))
 
 -- the length of a text
 pub len_is : {Z : Type 0} (text : String Z) → length (string_bytes text) ≡ string_len text

@@ -1,4 +1,5 @@
 pub mod Printing
+pub mod AfterSpace
 pub mod ClusterLemmas
 pub mod Pieces
 pub mod PieceFacts

@@ -1,6 +1,6 @@
 -- Spaces in the place of tabs: how they are written, and what holds of them.
-use Rattle.std.proofs.Common.{◌≡◌, ◌==◌, ℕ, ◌+◌, ◌-◌, ◌*◌, ◌/◌, ◌%◌, ◌≤◌, zero, suc, true, false, List, [], ◌∷◌, ◌++◌, map, get_or, replicate, chars, refl, sym, ap, subst, ◌∙◌, arith, append_assoc}
-use Rattle.std.specs.List.{All, list_all, slice_split, join_with_byte}
+use Rattle.std.proofs.Common.{◌≡◌, ◌==◌, ℕ, ◌+◌, ◌-◌, ◌*◌, ◌/◌, ◌%◌, ◌≤◌, false, List, [], ◌∷◌, ◌++◌, map, get_or, replicate, chars, refl, sym, ap, subst, ◌∙◌, arith, append_assoc}
+use Rattle.std.specs.List.{All, slice_split, join_with_byte}
 use Rattle.std.specs.Str.{IsUtf8}
 use Rattle.std.proofs.Math.Nat.{mod-add-div', mul-mod_left}
 use Rattle.std.proofs.Math.ListN.{length-replicate}
@@ -8,9 +8,10 @@ use Rattle.std.proofs.lemmas.List.Elements.{All-nil, All-cons, All-head, All-tai
 use Rattle.std.proofs.lemmas.List.Splits.{slice_split_none, join_with_byte-slice_split}
 use Rattle.std.proofs.lemmas.Str.{chars-append, chars-IsAscii}
 use Rattle.unicode_width.specs.Width.{str_width}
-use Rattle.unicode_width.proofs.Rules.{is_simple, str_width-append_simple, str_width-printable}
-use Rattle.tabled_width.specs.Texts.{is_printable, pieces, width_of_text}
+use Rattle.unicode_width.proofs.Rules.{str_width-append_simple, str_width-printable}
+use Rattle.tabled_width.specs.Texts.{pieces, width_of_text}
 use Rattle.tabled_width.specs.Tabs.{spaces_to_stop, up_to_stop, at_stops, tabs_expanded}
+use Rattle.tabled_width.proofs.AfterSpace.{spaces_printable, spaces_simple}
 use Rattle.tabled_width.proofs.Pieces.{some_parts}
 use Rattle.tabled_width.proofs.PieceFacts.{Lacks, all_lack}
 use Rattle.tabled_width.proofs.Printing.{printable_ascii}
@@ -86,14 +87,6 @@ without_tabs every text lack =
     (λ k d within. one_text every (get_or (pieces text) k d) (lines_lack (pieces text) (subst (Lacks 9) (sym (join_with_byte-slice_split 10 text)) lack) k d within))
 
 -- ---- what follows a tab begins at a stop
-
-pub spaces_printable : (n : ℕ) → list_all is_printable (replicate n 32) ≡ true
-spaces_printable zero = refl
-spaces_printable (suc n) = spaces_printable n
-
-spaces_simple : (n : ℕ) → list_all is_simple (replicate n 32) ≡ true
-spaces_simple zero = refl
-spaces_simple (suc n) = spaces_simple n
 
 -- each space after a text takes a column more
 pub width_and_spaces : (text : List ℕ) (n : ℕ) → IsUtf8 text → width_of_text (text ++ replicate n 32) ≡ width_of_text text + n

@@ -1,6 +1,7 @@
 pub mod Texts
 pub mod Clusters
 pub mod Rows
+pub mod Measured
 pub mod CutOff
 pub mod Tabs
 pub mod Shares

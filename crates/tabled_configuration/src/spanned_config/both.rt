@@ -1,6 +1,7 @@
-//! Two settings of cells at once.
+//! Several settings of cells at once.
 
 ghost use Rattle.std.specs.Prelude.{◌≡◌, ◌++◌, IsTrue, IsOk, OnOk, OnErr};
+ghost use Rattle.tabled_configuration.specs.EntitiesAligned.{entities_aligned};
 ghost use Rattle.tabled_settings.specs.Setting.{write_of, is_global};
 ghost use Rattle.tabled_settings.specs.CellSettings.{of_trim_horizontal, of_trim_vertical, of_justification, of_justification_color};
 ghost use Rattle.tabled_configuration.specs.Configuration.{Changes, by_setting};
@@ -8,8 +9,26 @@ ghost use Rattle.tabled_configuration.specs.Configuration.{Changes, by_setting};
 use super::SpannedConfig;
 use tabled_border::{ANSIBuf, OutOfMemory};
 use tabled_object::Entity;
+use tabled_settings::AlignmentHorizontal;
 
 impl SpannedConfig {
+    /// Sets for each entity of a list, in its order, where the texts of its cells stand between the left and the right side; an entity
+    /// with nothing has them at the left again. Where memory is refused nothing changes.
+    pub fn set_alignments_horizontal(
+        &mut self,
+        list: Vec<(Entity, Option<AlignmentHorizontal>)>,
+    ) -> Result<(), OutOfMemory>
+        ensures ok { OnOk result (Changes (entities_aligned list.items) self.old self.new) }
+        ensures err { OnErr result (self.new ≡ self.old) }
+    {
+        let alloc = self.allocator();
+        self.settings
+            .cells
+            .alignment_horizontal
+            .apply_list(alloc, list)?;
+        Ok(())
+    }
+
     /// Sets both trims of the cells of an entity: whether spaces at the left and the right of their texts, and whether empty
     /// lines above and below them, are dropped. Where memory is refused neither changes; for all cells none is asked for.
     pub fn set_trims(

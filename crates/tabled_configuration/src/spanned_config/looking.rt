@@ -1,7 +1,7 @@
 //! Look-ups in a configuration's borders. They are written for every type of meters: so none can be made here, and each reading
 //! raises the one that is lent.
 
-ghost use Rattle.std.specs.Prelude.{◌≡◌, ◌↔◌, IsFalse, IsTrue, None, IfSome, IsSome, OnSome, option_copied};
+ghost use Rattle.std.specs.Prelude.{◌≡◌, ◌↔◌, ◌<◌, IsFalse, IsTrue, None, IfSome, IsSome, OnSome, option_copied};
 ghost use Rattle.tabled_grid.specs.ClassAlone.{ShowsClasses};
 ghost use Rattle.tabled_grid.specs.Drawn.{Drawn};
 ghost use Rattle.tabled_grid.specs.Probing.{IsRaised};
@@ -15,12 +15,13 @@ use tabled_grid::{Borders, LineOf, Place};
 use tabled_kept::Meter;
 
 impl<M: Meter> SpannedConfig<M> {
-    /// Whether a line is drawn, of the lines 0 to `count` of its direction. At most six readings are made.
-    #[inline(always)]
+    /// Whether a line is drawn, of the lines 0 to `count` of its direction. At most six readings are made, and five where `count`
+    /// is not 0.
     #[inline(always)]
     pub fn draws(&self, line: LineOf, count: usize, probes: &mut M) -> bool
         ensures drawn { IsTrue result ↔ Drawn (state_at self.now.characters) count line }
         ensures probes { IsRaised 6 (M.made probes.old) (M.made probes.new) }
+        ensures of_several { 0 < count → IsRaised 5 (M.made probes.old) (M.made probes.new) }
     {
         self.characters.draws(line, count, probes)
     }

@@ -1,4 +1,4 @@
-//! Lists of writes and removals, in three maps.
+//! Lists of writes and removals, in one map and in three.
 
 ghost use Rattle.std.specs.Prelude.{◌≡◌, false, IsTrue, IfOk, OnOk, OnErr};
 ghost use Rattle.tabled_object.specs.declared.entity.Entity.TheVariants.{Global as AllCells};
@@ -11,6 +11,42 @@ use tabled_border::{Keep, OutOfMemory};
 use tabled_object::Entity;
 
 impl<T> EntityMap<T> {
+    /// Makes the writes and removals of a list, in its order: a value is written for an entity, and where there is none the entity's is
+    /// removed. Where memory is refused nothing changes. It costs the list and not what the map held, unless an event is one of all cells.
+    pub fn apply_list(
+        &mut self,
+        alloc: Global,
+        events: Vec<(Entity, Option<T>)>,
+    ) -> Result<(), OutOfMemory>
+    where
+        T: Keep + Drop,
+        ensures ok { OnOk result (self.new ≡ after_all self.old events.items) }
+        ensures err { OnErr result (self.new ≡ self.old) }
+    {
+        if !any_of_all(&events) {
+            return self.put_list(alloc, events);
+        }
+        let changed = self.changed(alloc, events)?;
+        drop(mem::replace(self, changed));
+        Ok(())
+    }
+
+    /// The same, where no event is one of all cells.
+    fn put_list(
+        &mut self,
+        alloc: Global,
+        events: Vec<(Entity, Option<T>)>,
+    ) -> Result<(), OutOfMemory>
+    where
+        T: Drop,
+        requires { has_event AllCells events.items ≡ false }
+        ensures ok { OnOk result (self.new ≡ after_all self.old events.items) }
+        ensures err { OnErr result (self.new ≡ self.old) }
+    {
+        self.since.put_list(alloc, events)?;
+        Ok(())
+    }
+
     /// Makes the writes and removals of a list here, in its order, and those of two other lists in two other maps: a value is
     /// written for an entity, and where there is none the entity's is removed. Where memory is refused none of the maps changes.
     /// It costs the lists and not what the maps held, unless an event is one of all cells.

@@ -1,6 +1,6 @@
 //! Columns that are set by what their texts are.
 
-ghost use Rattle.std.specs.Prelude.{◌≡◌, ℕ, take, OnOk, OnErr};
+ghost use Rattle.std.specs.Prelude.{◌≡◌, OnOk, OnErr};
 ghost use Rattle.tabled_configuration.specs.Colored.{Changes};
 ghost use Rattle.tabled_text.specs.Numeric.{at_right, numeric_columns};
 
@@ -10,8 +10,7 @@ use tabled_border::OutOfMemory;
 
 impl TextTable {
     /// Sets the texts of columns of numbers at the right: each cell of such a column below the first `headings` rows is a number, as
-    /// `tabled_numbers::is_number` says, or empty, and one of them at least is a number. Where memory is refused, the first ones of these
-    /// columns may have been set.
+    /// `tabled_numbers::is_number` says, or empty, and one of them at least is a number. Where memory is refused the table is as it was.
     ///
     /// `table.align_numbers(1)?`:
     ///
@@ -24,7 +23,7 @@ impl TextTable {
         ensures config { OnOk result (Changes (at_right (numeric_columns headings self.old.texts)) self.old.config self.new.config) }
         ensures texts { self.new.texts ≡ self.old.texts }
         ensures sizes { self.new.sizes ≡ self.old.sizes }
-        ensures err { OnErr result ((count : ℕ) × Changes (at_right (take count (numeric_columns headings self.old.texts))) self.old.config self.new.config) }
+        ensures err { OnErr result (self.new ≡ self.old) }
     {
         let alloc = self.config().config().allocator();
         let columns = numeric_columns(alloc, &self.cells, headings, self.shape.cols)?;

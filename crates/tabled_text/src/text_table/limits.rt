@@ -158,7 +158,7 @@ impl TextTable {
 
     /// The least total that `fit_with` keeps the table within, with this least width of a column, where each character takes one column of
     /// the terminal: what its padding, its vertical lines and its margin take, and for each column `least`, or what its texts ask for, if
-    /// that is less. For `fit` that is `least_width(1)`. Where it can't be counted it is `usize::MAX`.
+    /// that is less. For `fit` that is `least_width(1)`, and so is `least_width(0)`. Where it can't be counted it is `usize::MAX`.
     pub fn least_width(&self, least: usize) -> usize
         ensures { (es : List ConfigEvent) → Shows es self.now.config.spanned → result ≡ min (least_width (max least 1) es self.now.texts) usize.MAX }
     {

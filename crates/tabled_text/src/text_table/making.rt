@@ -1,10 +1,12 @@
 //! Tables of one's own values.
 
-ghost use Rattle.std.specs.Prelude.{◌≡◌, [], ◌∷◌, map, IfOk};
+ghost use Rattle.std.specs.Prelude.{◌≡◌, ◌⊎◌, [], ◌∷◌, map, IfErr, IfOk};
 ghost use Rattle.std.specs.List.{AllZip};
 ghost use Rattle.tabled_configuration.specs.Colored.{Shows};
 ghost use Rattle.tabled_printing.specs.Texts.{texts};
 ghost use Rattle.tabled_rows.specs.Spelled.{IsRow};
+ghost use Rattle.tabled_text.specs.Refusal.{AreUnequal};
+ghost use Rattle.tabled_text.specs.declared.table_error.TableError.{TableError as Refusal};
 
 use super::TextTable;
 use crate::TableError;
@@ -25,7 +27,8 @@ fn rows_of<T: Tabled>(alloc: Global, values: &[T]) -> Result<Vec<Vec<String>>, O
 }
 
 impl TextTable {
-    /// A table of values, each of which is a row, below the texts that stand above their cells. Refused as by `from_rows`.
+    /// A table of values, each of which is a row, below the texts that stand above their cells. Refused as by `from_rows`: where a value
+    /// has more or fewer texts than stand above its cells, with the number of its row, where that of what stands above is 0, and both counts.
     ///
     /// `TextTable::of(alloc, &[("tea", 95), ("coffee", 7)])?` with `Style::psql()`; tuples have the numbers of their fields above them:
     ///
@@ -38,6 +41,7 @@ impl TextTable {
     pub fn of<T: Tabled>(alloc: Global, values: &[T]) -> Result<Self, TableError>
         ensures rows { IfOk result (λ table. AllZip IsRow (T.known_headers ∷ map T.known_fields values.now) table.texts) }
         ensures config { IfOk result (λ table. Shows [] table.config) }
+        ensures refusal { IfErr result (λ e. (e ≡ Refusal.OutOfMemory) ⊎ AreUnequal (T.known_headers ∷ map T.known_fields values.now) e) }
     {
         let rows = rows_of(alloc, values)?;
         let table = TextTable::from_rows(alloc, rows)?;

@@ -9,9 +9,10 @@ ghost use Rattle.tabled_text.specs.declared.table_error.TableError.{TableError a
 
 use super::TextTable;
 use crate::TableError;
-use crate::measure::{TableSize, column_count, sizes_of, sizes_with};
+use crate::measure::{TableSize, sizes_of, sizes_with};
 use std::mem;
 use tabled_border::OutOfMemory;
+use tabled_numbers::column_count;
 use tabled_object::Shape;
 
 impl TextTable {

@@ -1,5 +1,5 @@
 -- One cell more, and the last one.
-use Rattle.std.proofs.Common.{◌≡◌, ◌==◌, ◌++◌, [], ◌∷◌, ℕ, List, map, string_bytes, sym, ap, ◌∙◌}
+use Rattle.std.proofs.Common.{◌==◌, ◌++◌, [], ◌∷◌, ℕ, List, map, string_bytes, sym, ap, ◌∙◌}
 use Rattle.std.specs.List.{slice_split}
 use Rattle.std.proofs.lemmas.List.{append_assoc, map-append}
 use Rattle.tabled_csv.proofs.lines.pieces.Goals as goal

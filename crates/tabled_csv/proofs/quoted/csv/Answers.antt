@@ -1,9 +1,10 @@
 -- The text is read from the start of a row on.
-use Rattle.std.proofs.Common.{◌≡◌, map, string_bytes, chars, length, inr, sym, ap, ◌∙◌, arith}
+use Rattle.std.proofs.Common.{◌≡◌, map, string_bytes, chars, length, inl, inr, sym, ap, ◌∙◌, arith}
 use Rattle.std.proofs.lemmas.List.{length-map}
 use Rattle.tabled_csv.specs.Lines.{cells_of}
 use Rattle.tabled_csv.specs.Quoted.{csv_rows, end_at, has_open_quote, is_quoted, without_returns}
 use Rattle.tabled_csv.specs.declared.quoted.CsvError.TheVariants.{OpenQuote}
+use Rattle.tabled_csv.proofs.ReadBack.{read_back}
 use Rattle.tabled_csv.proofs.Steps.{first_taken}
 use Rattle.tabled_csv.proofs.quoted.csv.Goals as goal
 
@@ -34,3 +35,11 @@ returns-clause-closed c =
     ap is_quoted (c.in_ok-read.ensures.end ∙ ap (λ n. end_at n c.new-reader.result.at (without_returns (chars c.args.text.now))) new.separator
     ∙ ap (λ at. end_at c.args.separator at (without_returns (chars c.args.text.now))) new.at) in
     sym within ∙ sym c.is_within_quotes-is_open.ensures ∙ c.if-is_open.false
+
+pub returns-clause-written : goal.returns-clause-written
+returns-clause-written c = λ rows is. returns-clause-rows c ∙ (read_back c.args.separator rows c.args.text.now is).0
+
+pub returns-then-is_open-clause-memory_alone : goal.returns-then-is_open-clause-memory_alone
+returns-then-is_open-clause-memory_alone c = λ rows is.
+    let closed = (read_back c.args.separator rows c.args.text.now is).1 in
+    elim (returns-then-is_open-clause-refused c) [ inl e ↦ e | inr quote ↦ let opened = quote.0 in absurd (cc) ]

@@ -24,7 +24,7 @@ at_end first inner end last c is some =
     ap (λ b. if b then first else if c == last then end else inner) (let e : (c == 0) ≡ false = grind (arith, nat_tests) in e)
     ∙ ap (λ b. if b then end else inner) (eq-eqb c last is)
 
-beside : (frame : Frame FixedDimension) (found : Option Mark) (r c : ℕ) → frame.has_alike_sides ≡ true → side_at frame.sides c ≡ found → r < frame.shape.0
+beside : {M : Type 0} (frame : Frame FixedDimension M) (found : Option Mark) (r c : ℕ) → frame.has_alike_sides ≡ true → side_at frame.sides c ≡ found → r < frame.shape.0
     → 0 < slice_index frame.dims.now.heights.items r → c ≤ frame.shape.1 → option_map mark_of found ≡ mark_beside (viewed frame) r 0 c
 beside frame None r c alike read row high col =
     none_beside (viewed frame) r 0 c (sym (side_drawn frame.cfg.now frame.with_colors frame.shape frame.sides c frame.are_sides col) ∙ ap is_some read)

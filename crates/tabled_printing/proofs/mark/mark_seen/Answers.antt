@@ -7,7 +7,7 @@ use Rattle.tabled_printing.proofs.MarkLemmas.{mark_by}
 use Rattle.tabled_printing.proofs.mark.mark_seen.Goals as goal
 
 pub returns-then-not-with_colors-clause-mark : goal.returns-then-not-with_colors-clause-mark
-returns-then-not-with_colors-clause-mark c widths heights sized =
+returns-then-not-with_colors-clause-mark g c widths heights sized =
     let cfg = c.args.cfg.now in
     let view = look (all_writes cfg) c.args.shape widths heights in
     c.uncolored.ensures
@@ -16,7 +16,7 @@ returns-then-not-with_colors-clause-mark c widths heights sized =
     (uncolored c.args.with_colors (view.color c.args.place) c.if-not-with_colors.true)
 
 pub returns-clause-mark : goal.returns-clause-mark
-returns-clause-mark c widths heights sized =
+returns-clause-mark g c widths heights sized =
     let cfg = c.args.cfg.now in
     let view = look (all_writes cfg) c.args.shape widths heights in
     mark_by c.char_at-shown.result (view.shown c.args.place) (option_copied c.color_at.result) (if c.args.with_colors then view.color c.args.place else None)

@@ -10,7 +10,7 @@ use Rattle.tabled_printing.proofs.marks.line_marks.Goals as goal
 
 pub returns-in_err-put_line-clause-probes : goal.returns-in_err-put_line-clause-probes
 returns-in_err-put_line-clause-probes g c = λ es shows.
-    subst (λ view. IsRaised (12 * length (marks_along view c.args.line) + 6 * lines_met c.args.shape c.args.line + 4) c.args.probes.now c.put_line.new.probes)
+    subst (λ view. IsRaised (12 * length (marks_along view c.args.line) + 6 * lines_met c.args.shape c.args.line) (g.M.Meter.made c.args.probes.now) (g.M.Meter.made c.put_line.new.probes))
     (own_look c.args.cfg.now es c.args.shape (g.D.Dimension.width_of c.args.dims.now) (g.D.Dimension.height_of c.args.dims.now) shows) c.put_line.ensures.probes
 
 pub returns-clause-marks : goal.returns-clause-marks
@@ -21,5 +21,5 @@ returns-clause-marks g c = λ es shows.
 
 pub returns-clause-probes : goal.returns-clause-probes
 returns-clause-probes g c = λ es shows.
-    subst (λ view. IsRaised (12 * length (marks_along view c.args.line) + 6 * lines_met c.args.shape c.args.line + 4) c.args.probes.now c.put_line.new.probes)
+    subst (λ view. IsRaised (12 * length (marks_along view c.args.line) + 6 * lines_met c.args.shape c.args.line) (g.M.Meter.made c.args.probes.now) (g.M.Meter.made c.put_line.new.probes))
     (own_look c.args.cfg.now es c.args.shape (g.D.Dimension.width_of c.args.dims.now) (g.D.Dimension.height_of c.args.dims.now) shows) c.put_line.ensures.probes

@@ -19,5 +19,5 @@ returns-clause-probes g c =
     let there : has_line c.args.shape c.args.line ≡ true = sym c.has_line.ensures ∙ c.if-not-has_line.false in
     let counted = marks_count view c.args.line there in
     let met = all_met c.args.shape c.args.line there in
-    raised_least (12 * length (all_places view c.args.line) + 6 * (pieces_of c.args.shape c.args.line + 1) + 2) (12 * length (marks_along view c.args.line) + 6 * lines_met c.args.shape c.args.line + 4)
-    c.args.probes.now c.put_all.new.probes c.put_all.ensures.probes (omega (arith, counted, met))
+    raised_least (12 * length (all_places view c.args.line) + 6 * (pieces_of c.args.shape c.args.line + 1)) (12 * length (marks_along view c.args.line) + 6 * lines_met c.args.shape c.args.line)
+    (g.M.Meter.made c.args.probes.now) (g.M.Meter.made c.put_all.new.probes) c.put_all.ensures.probes (omega (arith, counted, met))

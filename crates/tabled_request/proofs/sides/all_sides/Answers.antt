@@ -1,6 +1,7 @@
 -- One column more.
 use Rattle.std.proofs.Common.{map, string_bytes, ◌∙◌}
-use Rattle.tabled_request.specs.Sides.{cells_of, side_of}
+use Rattle.tabled_numbers.specs.Columns.{cells_of}
+use Rattle.tabled_request.specs.Sides.{side_of}
 use Rattle.tabled_request.proofs.ByColumn.{one_more_of}
 use Rattle.tabled_request.proofs.sides.all_sides.Goals as goal
 

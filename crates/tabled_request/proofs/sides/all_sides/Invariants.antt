@@ -1,7 +1,8 @@
 -- The columns so far.
 use Rattle.std.proofs.Common.{◌≡◌, map, string_bytes}
 use Rattle.std.specs.List.{range_with_len}
-use Rattle.tabled_request.specs.Sides.{cells_of, side_of}
+use Rattle.tabled_numbers.specs.Columns.{cells_of}
+use Rattle.tabled_request.specs.Sides.{side_of}
 use Rattle.tabled_request.proofs.sides.all_sides.Given as goal
 
 abbrev pub invariant-loop-col : goal.invariant-loop-col

@@ -1,7 +1,7 @@
 -- One column more.
 use Rattle.std.proofs.Common.{ap, drop, ◌∙◌}
 use Rattle.tabled_printing.specs.Texts.{texts}
-use Rattle.tabled_text.specs.Numeric.{is_numeric}
+use Rattle.tabled_numbers.specs.Columns.{is_numeric}
 use Rattle.tabled_text.proofs.NumericLemmas.{one_more}
 use Rattle.tabled_text.proofs.numeric.numeric_columns.Goals as goal
 

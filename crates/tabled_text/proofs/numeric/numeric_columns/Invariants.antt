@@ -2,7 +2,7 @@
 use Rattle.std.proofs.Common.{◌≡◌, drop, filter}
 use Rattle.tabled_object.specs.Entities.{below}
 use Rattle.tabled_printing.specs.Texts.{texts}
-use Rattle.tabled_text.specs.Numeric.{is_numeric}
+use Rattle.tabled_numbers.specs.Columns.{is_numeric}
 use Rattle.tabled_text.proofs.numeric.numeric_columns.Given as goal
 
 abbrev pub invariant-loop-col : goal.invariant-loop-col

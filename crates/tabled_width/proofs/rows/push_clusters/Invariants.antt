@@ -9,7 +9,7 @@ use Rattle.tabled_width.proofs.rows.push_clusters.Given as goal
 abbrev pub invariant-loop-cluster : goal.invariant-loop-cluster
 invariant-loop-cluster l = record {
   text : shadow (Utf8 l.rest);
-  filled : going_on (string_bytes l.out) l.width (string_bytes l.row) (map close (clusters l.rest))
+  filled : going_on (string_bytes l.out) l.width (string_bytes l.row.text) (map close (clusters l.rest))
       ≡ going_on (string_bytes l.initial.out) l.width [] (map close (clusters l.line));
 }
 

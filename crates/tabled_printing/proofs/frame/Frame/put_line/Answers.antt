@@ -22,4 +22,4 @@ returns-clause-probes g c =
     let view : Look = frame_look g.D.Dimension.width_of g.D.Dimension.height_of frame in
     let line = LineOf.Horizontal c.args.row in
     let counted = marks_count view line (horizontal_there frame.shape c.args.row frame.has_places c.requires) in
-    raised_least (12 * length (all_places view line) + 6 * (frame.shape.1 + 1) + 2) (12 * length (marks_along view line) + 6 * (frame.shape.1 + 1) + 45) c.args.probes.now c.put_all.new.probes c.put_all.ensures.probes (omega (arith, counted))
+    raised_least (12 * length (all_places view line) + 6 * (frame.shape.1 + 1)) (12 * length (marks_along view line) + 6 * (frame.shape.1 + 1) + 45) (g.M.Meter.made c.args.probes.now) (g.M.Meter.made c.put_all.new.probes) c.put_all.ensures.probes (omega (arith, counted))

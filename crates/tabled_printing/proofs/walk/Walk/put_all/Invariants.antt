@@ -11,5 +11,5 @@ invariant-loop-n g l =
     let view : Look = walk_look g.D.Dimension.width_of g.D.Dimension.height_of l.self in
     record {
       put : g.S.Sink.puts (map (mark_at view) (places_before view l.self.line l.n)) l.initial.sink l.sink;
-      raised : IsRaised (12 * length (places_before view l.self.line l.n) + 6 * l.n) l.initial.probes l.probes;
+      raised : IsRaised (12 * length (places_before view l.self.line l.n) + 5 * l.n) (g.M.Meter.made l.initial.probes) (g.M.Meter.made l.probes);
     }

@@ -32,4 +32,4 @@ returns-clause-probes g c =
     let drawn : crossed view.horizontal view.vertical walk.line c.args.n ≡ true =
     sym (crossed_is (all_writes walk.cfg.now) walk.shape view.widths view.heights walk.line c.args.n) ∙ sym c.is_crossed.ensures.value ∙ c.if-not-is_crossed.false in
     let one : length (crossing_places view walk.line c.args.n) ≡ 1 = ap length (crossing_there (crossed view.horizontal view.vertical walk.line c.args.n) (crossing_of walk.line c.args.n) drawn) in
-    raised_both 6 10 (12 * length (crossing_places view walk.line c.args.n) + 6) c.args.probes.now c.is_crossed.new.probes c.plain_mark-mark.new.probes c.is_crossed.ensures.probes c.plain_mark-mark.ensures.probes (omega (arith, one))
+    raised_both 5 10 (12 * length (crossing_places view walk.line c.args.n) + 5) (g.M.Meter.made c.args.probes.now) (g.M.Meter.made c.is_crossed.new.probes) (g.M.Meter.made c.plain_mark-mark.new.probes) c.is_crossed.ensures.probes c.plain_mark-mark.ensures.probes (omega (arith, one))

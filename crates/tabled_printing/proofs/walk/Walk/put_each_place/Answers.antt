@@ -12,7 +12,7 @@ use Rattle.tabled_printing.proofs.walk.Walk.put_each_place.Goals as goal
 pub loop-at-init : goal.loop-at-init
 loop-at-init g c =
     let laws = g.met.S.Sink c.lifetimes (search rules) in
-    record { put = laws.puts_none c.args.sink.now; raised = raised_none 0 c.args.probes.now }
+    record { put = laws.puts_none c.args.sink.now; raised = raised_none 0 (g.M.Meter.made c.args.probes.now) }
 
 pub loop-at-preserved : goal.loop-at-preserved
 loop-at-preserved g c =
@@ -27,7 +27,7 @@ loop-at-preserved g c =
           (place_more (mark_at view) (edge_of c.args.self.now.line c.args.n) at
           ∙ ap (λ mark. before ++ mark ∷ []) (sym (c.mark_seen-mark.ensures.mark view.widths view.heights sized ∙ ap (mark_at view) c.edge_of-place.ensures)))
           c.loop-at.invariant.put c.in_ok-put.ensures;
-      raised = raised_both (12 * at) 12 (12 * (at + 1)) c.args.probes.now c.loop-at.probes c.mark_seen-mark.new.probes c.loop-at.invariant.raised c.mark_seen-mark.ensures.probes (omega arith);
+      raised = raised_both (12 * at) 12 (12 * (at + 1)) (g.M.Meter.made c.args.probes.now) (g.M.Meter.made c.loop-at.probes) (g.M.Meter.made c.mark_seen-mark.new.probes) c.loop-at.invariant.raised c.mark_seen-mark.ensures.probes (omega arith);
     }
 
 pub returns-in_err-put-clause-put : goal.returns-in_err-put-clause-put
@@ -39,4 +39,4 @@ returns-in_err-put-clause-put g c =
 
 pub returns-in_err-put-clause-probes : goal.returns-in_err-put-clause-probes
 returns-in_err-put-clause-probes g c =
-    raised_both (12 * c.loop-at.at) 12 (12 * c.args.size) c.args.probes.now c.loop-at.probes c.mark_seen-mark.new.probes c.loop-at.invariant.raised c.mark_seen-mark.ensures.probes (omega arith)
+    raised_both (12 * c.loop-at.at) 12 (12 * c.args.size) (g.M.Meter.made c.args.probes.now) (g.M.Meter.made c.loop-at.probes) (g.M.Meter.made c.mark_seen-mark.new.probes) c.loop-at.invariant.raised c.mark_seen-mark.ensures.probes (omega arith)

@@ -1,10 +1,10 @@
 -- What is lent is the table.
-use Rattle.std.proofs.Common.{map, length, sym, ap, subst, ◌∙◌}
+use Rattle.std.proofs.Common.{◌≡◌, None, map, length, sym, ap, subst, ◌∙◌}
 use Rattle.std.proofs.lemmas.List.{length-map}
 use Rattle.tabled_painting.specs.Printable.{AllPrintable}
-use Rattle.tabled_text.specs.Sizes.{column_count, column_widths, row_heights}
+use Rattle.tabled_text.specs.Sizes.{column_count, column_widths, row_heights, unequal_row}
 use Rattle.tabled_text.specs.TableViews.{lent_bytes}
-use Rattle.tabled_text.specs.TextTable.{lent_texts}
+use Rattle.tabled_text.specs.TextTable.{Drawing, lent_texts}
 use Rattle.tabled_text.proofs.EqualRows.{all_equal}
 use Rattle.tabled_text.proofs.Painting.{rows_equal}
 use Rattle.tabled_text.proofs.lent_table.LentTable.view.Goals as goal
@@ -25,3 +25,6 @@ returns-clause-table c =
 
 pub returns-clause-texts : goal.returns-clause-texts
 returns-clause-texts c = ap lent_texts c.deref.ensures.value ∙ ap (λ drawing. drawing.texts) c.self.view_is
+
+pub returns-clause-equal : goal.returns-clause-equal
+returns-clause-equal c = subst (λ (drawing : Drawing). unequal_row drawing.texts ≡ None) c.self.view_is c.self.invariant.0

@@ -1,19 +1,15 @@
 -- The columns of numbers are found, and then set.
-use Rattle.std.proofs.Common.{◌≡◌, ap, drop, filter, subst, take, ◌∙◌}
+use Rattle.std.proofs.Common.{◌≡◌, ap, drop, filter, subst, ◌∙◌}
 use Rattle.tabled_object.specs.Entities.{below}
 use Rattle.tabled_grid.proofs.Seen.{on_ok}
 use Rattle.tabled_configuration.proofs.ColoredLemmas.{Changes_lent}
-use Rattle.tabled_configuration.proofs.InTurn.{where_refused}
-use Rattle.tabled_configuration.specs.ChangeLaws.{none_change}
 use Rattle.tabled_configuration.specs.Colored.{Changes}
 use Rattle.tabled_printing.specs.Texts.{texts}
-use Rattle.tabled_text.specs.Numeric.{at_right, is_numeric, numeric_columns}
+use Rattle.tabled_numbers.specs.Columns.{is_numeric}
+use Rattle.tabled_text.specs.Numeric.{at_right, numeric_columns}
 use Rattle.tabled_text.specs.TextTable.{Drawing}
-use Rattle.tabled_text.proofs.NumericLemmas.{none_colored, on_err}
+use Rattle.tabled_text.proofs.NumericLemmas.{none_colored}
 use Rattle.tabled_text.proofs.text_table.TextTable.align_numbers.Goals as goal
-
-pub returns-in_err-columns-clause-err : goal.returns-in_err-columns-clause-err
-returns-in_err-columns-clause-err c = where_refused c.from_residual.result (0, none_change c.args.self.now.config)
 
 -- the columns that were found are those of the table
 found : (c : goal.After-drop-columns) → c.deref-2.result.now ≡ numeric_columns c.args.headings c.args.self.now.texts
@@ -29,13 +25,3 @@ returns-clause-config c =
     (c.deref_mut.ensures.value ∙ ap (λ (drawing : Drawing). drawing.config) c.self.view_is)
     (Changes_lent _ _ c.deref_mut.result.now _ _ c.config_mut.ensures.value (ap at_right (found c)) (none_colored (numeric_columns c.args.headings c.args.self.now.texts)) changes))
     c.set_at_right.ensures.ok
-
-pub returns-clause-err : goal.returns-clause-err
-returns-clause-err c =
-    on_err c.set_at_right.result (λ changes. (
-      changes.0,
-      subst (λ old. Changes (at_right (take changes.0 (numeric_columns c.args.headings c.args.self.now.texts))) old (record { spanned = c.set_at_right.new.cfg; cell_colors = c.deref_mut.result.now.cell_colors }))
-          (c.deref_mut.ensures.value ∙ ap (λ (drawing : Drawing). drawing.config) c.self.view_is)
-          (Changes_lent _ _ c.deref_mut.result.now _ _ c.config_mut.ensures.value (ap (λ columns. at_right (take changes.0 columns)) (found c)) (none_colored (take changes.0 (numeric_columns c.args.headings c.args.self.now.texts))) changes.1),
-    ))
-    c.set_at_right.ensures.err

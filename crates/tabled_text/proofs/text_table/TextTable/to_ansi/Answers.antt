@@ -1,8 +1,11 @@
--- The text in color of what is lent is that of the table.
+-- The text in color of what is lent is that of the table, whose characters are even.
 use Rattle.std.proofs.Common.{refl, sym, subst, ap, ◌∙◌}
 use Rattle.tabled_configuration.specs.Colored.{Shows}
 use Rattle.tabled_painting.specs.PaintedTable.{colored_text}
+use Rattle.tabled_text.specs.Sizes.{column_count}
 use Rattle.tabled_text.specs.TextTable.{painted, text_of}
+use Rattle.tabled_text.proofs.EqualRows.{all_equal}
+use Rattle.tabled_text.proofs.SpannedEven.{printed_even}
 use Rattle.tabled_text.proofs.text_table.TextTable.to_ansi.Goals as goal
 
 pub returns-clause-text : goal.returns-clause-text
@@ -12,4 +15,11 @@ returns-clause-text c es shows =
 
 pub returns-clause-characters : goal.returns-clause-characters
 unfolding text_of
-returns-clause-characters c es = refl
+returns-clause-characters c es shows = (painted es c.args.self.now.texts, returns-clause-text c es shows, refl)
+
+pub returns-clause-rectangle : goal.returns-clause-rectangle
+unfolding text_of
+returns-clause-rectangle c es shows narrow apart =
+    let table = c.args.self.now.texts in
+    let is = c.view.ensures in
+    (painted es table, returns-clause-text c es shows, printed_even es table (all_equal (column_count table) 0 table is.equal) is.utf8 narrow apart)

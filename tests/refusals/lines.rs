@@ -1,0 +1,102 @@
+//! Parts of lines that are written one by one, and what takes them.
+
+use crate::turn::{Named, Outcome, Turn};
+use std::alloc::Global;
+use tabled_config::{ColoredConfig, Mark, Run, SpannedConfig};
+use tabled_grid::{FixedDimension, OutOfMemory};
+use tabled_painting::{AlikeLines, Output};
+use tabled_printing::{PlainLook, Sink, Stretch, push_after};
+use tabled_style::Style;
+
+/// What becomes of a text at whose end this is written. Where memory is refused it begins as it did.
+fn write(
+    turn: &mut Turn,
+    write: fn(&mut String) -> Result<(), OutOfMemory>,
+    wanted: &str,
+) -> Result<Outcome, OutOfMemory> {
+    let mut text = String::from_str(turn.alloc(), "= ")?;
+    turn.spend();
+    let returned = write(&mut text);
+    let is_done = text.as_str().strip_prefix("= ") == Some(wanted);
+    Ok(Outcome::of(returned, is_done, text.as_str().starts_with("= ")))
+}
+
+/// A mark of a crossing.
+const CROSSING: Mark = Mark {
+    shown: Some('+'),
+    color: None,
+};
+
+/// A run of two places.
+const RUN: Run = Run {
+    mark: Mark {
+        shown: Some('-'),
+        color: None,
+    },
+    count: 2,
+};
+
+/// A configuration with a full frame, and the sizes of two columns and rows.
+fn framed(alloc: Global) -> Result<(SpannedConfig, FixedDimension), OutOfMemory> {
+    let mut cfg = SpannedConfig::new(alloc);
+    cfg.set_borders(Style::ascii().get_borders());
+    let dims = FixedDimension::new(vec![in alloc; 2usize; 2]?, vec![in alloc; 1usize; 2]?);
+    Ok((cfg, dims))
+}
+
+/// What becomes of a text at whose end a part of a line of the look is written.
+fn look(
+    turn: &mut Turn,
+    write: fn(&PlainLook, &mut String) -> Result<(), OutOfMemory>,
+    wanted: &str,
+) -> Result<Outcome, OutOfMemory> {
+    let (cfg, dims) = framed(turn.alloc())?;
+    let Some(look) = PlainLook::of(&cfg, &dims, (2, 2)) else {
+        return Ok(Outcome::NotDone);
+    };
+    let mut text = String::from_str(turn.alloc(), "= ")?;
+    turn.spend();
+    let returned = write(&look, &mut text);
+    let is_done = text.as_str().strip_prefix("= ") == Some(wanted);
+    Ok(Outcome::of(returned, is_done, text.as_str().starts_with("= ")))
+}
+
+/// What becomes of a mark and a run in a list of marks. Where memory is refused some may have been put.
+fn put_into_marks(turn: &mut Turn) -> Result<Outcome, OutOfMemory> {
+    let mut marks: Vec<Mark> = Vec::new(turn.alloc());
+    turn.spend();
+    let returned = marks.put_after(CROSSING, RUN);
+    Ok(Outcome::of(returned, marks.len() == 3, marks.len() < 3))
+}
+
+/// What becomes of a mark and a run in a list of runs.
+fn put_into_runs(turn: &mut Turn) -> Result<Outcome, OutOfMemory> {
+    let mut runs: Vec<Run> = Vec::new(turn.alloc());
+    turn.spend();
+    let returned = runs.put_after(CROSSING, RUN);
+    Ok(Outcome::of(returned, runs.len() == 2, runs.len() < 2))
+}
+
+/// The calls.
+pub(crate) fn calls() -> [Named; 11] {
+    [
+        ("push_after", |turn| write(turn, |text| Ok(push_after(text, '+', 12, '-')?), "+------------")),
+        ("Stretch::push", |turn| write(turn, |text| Ok(Stretch::of(Some('┬'), '─').push(text, 3)?), "┬───")),
+        ("PlainLook<'a>::push_marks", |turn| look(turn, |look, text| look.push_marks(text, 1), "+--+--+")),
+        ("PlainLook<'a>::push_line", |turn| look(turn, |look, text| look.push_line(text, 1), "+--+--+\n")),
+        ("<String as Sink<'a>>::put_after", |turn| write(turn, |text| text.put_after(CROSSING, RUN), "+--")),
+        ("<Vec<Mark<'a>> as Sink<'a>>::put_after", put_into_marks),
+        ("<Vec<Run<'a>> as Sink<'a>>::put_after", put_into_runs),
+        ("AlikeLines<'a, 'b>::new", |turn| {
+            let alloc = turn.alloc();
+            let cfg = ColoredConfig::new(framed(alloc)?.0);
+            let dims = FixedDimension::new(vec![in alloc; 4usize; 1]?, vec![in alloc; 1usize; 1]?);
+            turn.spend();
+            let made = AlikeLines::new(&cfg, &dims, (1, 1), false);
+            Ok(Outcome::of_value(made.map(|lines| lines.is_some())))
+        }),
+        ("<String as Output>::push_str", |turn| write(turn, |text| Ok(Output::push_str(text, "a long text")?), "a long text")),
+        ("<String as Output>::push_spaces", |turn| write(turn, |text| Ok(Output::push_spaces(text, 9)?), "         ")),
+        ("<String as Output>::push_spaces_before", |turn| write(turn, |text| Ok(Output::push_spaces_before(text, 9, '|')?), "         |")),
+    ]
+}
