@@ -10,7 +10,7 @@ use tabled::{TableError, TextTable};
 use tabled_cells::{Placement, aligned, line_parts, lines_above, show_lines, widest};
 use tabled_config::SpannedConfig;
 use tabled_grid::{Entity, Position};
-use tabled_printing::{push_spaces_before, push_times};
+use tabled_printing::push_times;
 use tabled_settings::{AlignmentHorizontal, AlignmentVertical};
 
 /// A cell of one line beside one of four, and a longer one below it.
@@ -213,34 +213,5 @@ fn a_cell_is_taken_apart(rt: HostRuntime) -> Result<(), Fail> {
     push_times(&mut text, parts.after, parts.fill)?;
     assert_eq!(rt; text.as_str(), "...");
     assert_eq!(rt; lines_above(&how, 5, 2), 3);
-    Ok(())
-}
-
-#[test]
-fn spaces_stand_before_a_character(rt: HostRuntime) -> Result<(), Fail> {
-    let few = [
-        (0, '│', "a│"),
-        (1, '|', "a |"),
-        (2, '║', "a  ║"),
-        (3, ':', "a   :"),
-        (4, '#', "a    #"),
-        (5, '漢', "a     漢"),
-    ];
-    for (count, character, whole) in few {
-        let mut text = String::from_str(rt.alloc(), "a")?;
-        push_spaces_before(&mut text, count, character)?;
-        assert_eq!(rt; text.as_str(), whole);
-    }
-    for character in ['│', '|', '║', ':', '#', '漢'] {
-        for count in [63, 64, 65, 200] {
-            let mut text = String::from_str(rt.alloc(), "a")?;
-            push_spaces_before(&mut text, count, character)?;
-            let spaces = text.as_str().chars().filter(|c| *c == ' ').count();
-            assert_eq!(rt; spaces, count);
-            assert!(rt; text.as_str().starts_with("a "));
-            assert!(rt; text.as_str().ends_with(character));
-            assert_eq!(rt; text.len(), 1 + count + character.len_utf8());
-        }
-    }
     Ok(())
 }

@@ -10,7 +10,7 @@ use tabled_grid::{
     VerticalLine, border_writes,
 };
 use tabled_painting::{AlikeLines, Output, sizes_of_spanned, spanned_text, table_text};
-use tabled_printing::{Frame, PlainLook, Sink, Stretch, push_after};
+use tabled_printing::{Frame, Sink, push_after};
 use tabled_rooms::CellSizes;
 use tabled_settings::EntityMap;
 use tabled_style::{ReadyStyle, Style};
@@ -209,49 +209,45 @@ fn a_mark_is_put_before_a_run(rt: HostRuntime) -> Result<(), Fail> {
 #[test]
 fn a_crossing_is_written_with_the_edge_after_it(rt: HostRuntime) -> Result<(), Fail> {
     let mut text = String::from_str(rt.alloc(), "line ")?;
-    Stretch::of(Some('┬'), '─').push(&mut text, 3)?;
-    Stretch::of(Some('#'), '─').push(&mut text, 1)?;
-    Stretch::of(None, '=').push(&mut text, 2)?;
-    Stretch::of(Some('┼'), '─').push(&mut text, 0)?;
+    push_after(&mut text, '┬', 3, '─')?;
+    push_after(&mut text, '#', 1, '─')?;
+    push_after(&mut text, '=', 1, '=')?;
+    push_after(&mut text, '┼', 0, '─')?;
     assert_eq!(rt; text.as_str(), "line ┬───#─==┼");
-    Stretch::of(Some('┼'), '─').push(&mut text, 65)?;
+    push_after(&mut text, '┼', 65, '─')?;
     assert_eq!(rt; text.chars().count(), 80);
     let mut text = String::from_str(rt.alloc(), "line ")?;
-    Stretch::of(Some('+'), '-').push(&mut text, 3)?;
-    Stretch::of(Some('|'), '-').push(&mut text, 2)?;
-    Stretch::of(Some('#'), '-').push(&mut text, 1)?;
-    Stretch::of(Some('+'), '=').push(&mut text, 2)?;
-    Stretch::of(Some('+'), '-').push(&mut text, 0)?;
+    push_after(&mut text, '+', 3, '-')?;
+    push_after(&mut text, '|', 2, '-')?;
+    push_after(&mut text, '#', 1, '-')?;
+    push_after(&mut text, '+', 2, '=')?;
+    push_after(&mut text, '+', 0, '-')?;
     assert_eq!(rt; text.as_str(), "line +---|--#-+==+");
-    Stretch::of(Some('|'), '-').push(&mut text, 65)?;
+    push_after(&mut text, '|', 65, '-')?;
     assert_eq!(rt; text.len(), 84);
     Ok(())
 }
 
-#[test]
-fn a_line_of_a_class_record_is_written(rt: HostRuntime) -> Result<(), Fail> {
-    let alloc = rt.alloc();
-    let mut cfg = SpannedConfig::new(alloc);
+/// The text of the first so many horizontal lines of a table of two rows and three columns.
+fn horizontal_lines(cfg: &SpannedConfig, count: usize) -> Result<String, OutOfMemory> {
+    let alloc = cfg.allocator();
     let dims = FixedDimension::new(vec![in alloc; 2usize; 3]?, vec![in alloc; 1usize; 2]?);
-    cfg.set_borders(Style::modern().get_borders());
-    let Some(look) = PlainLook::of(&cfg, &dims, (2, 3)) else {
-        return Ok(assert!(rt; false));
-    };
-    let mut text = String::from_str(alloc, "lines\n")?;
-    look.push_line(&mut text, 0)?;
-    look.push_line(&mut text, 1)?;
-    assert_eq!(rt; text.as_str(), "lines\n┌──┬──┬──┐\n├──┼──┼──┤\n");
-    assert_eq!(rt; (look.first, look.inner, look.last), (Some('│'), Some('│'), Some('│')));
-    assert!(rt; PlainLook::of(&cfg, &dims, (2, 4)).is_none());
-    cfg.insert_vertical_line(1, VerticalLine::empty())?;
-    assert!(rt; PlainLook::of(&cfg, &dims, (2, 3)).is_none());
-    Ok(())
+    let frame = Frame::new(cfg, &dims, (2, 3), false)?;
+    let mut text = String::from_str(alloc, "lines")?;
+    for row in 0..count {
+        text.push('\n')?;
+        frame.put_line(row, &mut text, &mut Probes::new())?;
+    }
+    Ok(text)
 }
 
 #[test]
-fn a_line_of_a_look_is_a_custom_one_or_its_class_or_the_default(rt: HostRuntime) -> Result<(), Fail> {
+fn a_line_shows_what_stands_there(rt: HostRuntime) -> Result<(), Fail> {
     let alloc = rt.alloc();
-    let dims = FixedDimension::new(vec![in alloc; 2usize; 3]?, vec![in alloc; 1usize; 2]?);
+    let mut cfg = SpannedConfig::new(alloc);
+    cfg.set_borders(Style::modern().get_borders());
+    let text = horizontal_lines(&cfg, 2)?;
+    assert_eq!(rt; text.as_str(), "lines\n┌──┬──┬──┐\n├──┼──┼──┤");
     let mut cfg = SpannedConfig::new(alloc);
     cfg.set_borders(ascii_borders());
     let line = HorizontalLine {
@@ -259,23 +255,12 @@ fn a_line_of_a_look_is_a_custom_one_or_its_class_or_the_default(rt: HostRuntime)
         ..HorizontalLine::empty()
     };
     cfg.insert_horizontal_line(1, line)?;
-    let Some(look) = PlainLook::of(&cfg, &dims, (2, 3)) else {
-        return Ok(assert!(rt; false));
-    };
-    let mut text = String::new(alloc);
-    for row in 0..3 {
-        look.push_line(&mut text, row)?;
-    }
-    assert_eq!(rt; text.as_str(), "+--+--+--+\n+==+==+==+\n+--+--+--+\n");
+    let text = horizontal_lines(&cfg, 3)?;
+    assert_eq!(rt; text.as_str(), "lines\n+--+--+--+\n+==+==+==+\n+--+--+--+");
     let mut dotted = SpannedConfig::new(alloc);
     dotted.set_border_default('.');
-    let Some(look) = PlainLook::of(&dotted, &dims, (2, 3)) else {
-        return Ok(assert!(rt; false));
-    };
-    let mut text = String::from_str(alloc, "dots ")?;
-    look.push_marks(&mut text, 1)?;
-    assert_eq!(rt; text.as_str(), "dots ..........");
-    assert_eq!(rt; (look.first, look.inner, look.last), (Some('.'), Some('.'), Some('.')));
+    let text = horizontal_lines(&dotted, 1)?;
+    assert_eq!(rt; text.as_str(), "lines\n..........");
     Ok(())
 }
 
@@ -356,7 +341,8 @@ fn a_text_takes_what_has_no_color(rt: HostRuntime) -> Result<(), Fail> {
     let mut text = String::new(rt.alloc());
     Output::push_str(&mut text, "ab")?;
     Output::push_spaces(&mut text, 3)?;
-    Output::push_spaces_before(&mut text, 70, '│')?;
+    Output::push_spaces(&mut text, 70)?;
+    Output::push(&mut text, '│')?;
     assert_eq!(rt; text.as_str(), format!(in rt.alloc(); "ab{:73}│", "")?.as_str());
     Ok(())
 }

@@ -140,16 +140,16 @@ fn print_between(turn: &mut Turn, with_colors: bool) -> Result<Outcome, OutOfMem
 pub(crate) fn calls() -> [Named; 12] {
     [
         ("LentTable<'a>::new", make),
-        ("LentTable<'a>::from_rows", make_of_rows),
-        ("LentTable<'a>::with", |turn| apply(turn, true)),
-        ("LentTable<'a>::apply", |turn| apply(turn, false)),
-        ("LentTable<'a>::modify", |turn| modify(turn, true)),
-        ("LentTable<'a>::apply_to", |turn| modify(turn, false)),
-        ("LentTable<'a>::to_text", |turn| text(turn, false)),
-        ("LentTable<'a>::to_ansi", |turn| text(turn, true)),
-        ("LentTable<'a>::print_to", |turn| print(turn, false)),
-        ("LentTable<'a>::print_ansi_to", |turn| print(turn, true)),
-        ("LentTable<'a>::print_between", |turn| print_between(turn, false)),
-        ("LentTable<'a>::print_ansi_between", |turn| print_between(turn, true)),
+        ("Table<T>::from_rows (lent)", make_of_rows),
+        ("Table<T>::with (lent)", |turn| apply(turn, true)),
+        ("Table<T>::apply (lent)", |turn| apply(turn, false)),
+        ("Table<T>::modify (lent)", |turn| modify(turn, true)),
+        ("Table<T>::apply_to (lent)", |turn| modify(turn, false)),
+        ("Table<T>::to_text (lent)", |turn| text(turn, false)),
+        ("Table<T>::to_ansi (lent)", |turn| text(turn, true)),
+        ("Table<T>::print_to (lent)", |turn| print(turn, false)),
+        ("Table<T>::print_ansi_to (lent)", |turn| print(turn, true)),
+        ("Table<T>::print_between (lent)", |turn| print_between(turn, false)),
+        ("Table<T>::print_ansi_between (lent)", |turn| print_between(turn, true)),
     ]
 }

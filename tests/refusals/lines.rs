@@ -5,7 +5,7 @@ use std::alloc::Global;
 use tabled_config::{ColoredConfig, Mark, Run, SpannedConfig};
 use tabled_grid::{FixedDimension, OutOfMemory};
 use tabled_painting::{AlikeLines, Output};
-use tabled_printing::{PlainLook, Sink, Stretch, push_after};
+use tabled_printing::{Sink, push_after};
 use tabled_style::Style;
 
 /// What becomes of a text at whose end this is written. Where memory is refused it begins as it did.
@@ -44,23 +44,6 @@ fn framed(alloc: Global) -> Result<(SpannedConfig, FixedDimension), OutOfMemory>
     Ok((cfg, dims))
 }
 
-/// What becomes of a text at whose end a part of a line of the look is written.
-fn look(
-    turn: &mut Turn,
-    write: fn(&PlainLook, &mut String) -> Result<(), OutOfMemory>,
-    wanted: &str,
-) -> Result<Outcome, OutOfMemory> {
-    let (cfg, dims) = framed(turn.alloc())?;
-    let Some(look) = PlainLook::of(&cfg, &dims, (2, 2)) else {
-        return Ok(Outcome::NotDone);
-    };
-    let mut text = String::from_str(turn.alloc(), "= ")?;
-    turn.spend();
-    let returned = write(&look, &mut text);
-    let is_done = text.as_str().strip_prefix("= ") == Some(wanted);
-    Ok(Outcome::of(returned, is_done, text.as_str().starts_with("= ")))
-}
-
 /// What becomes of a mark and a run in a list of marks. Where memory is refused some may have been put.
 fn put_into_marks(turn: &mut Turn) -> Result<Outcome, OutOfMemory> {
     let mut marks: Vec<Mark> = Vec::new(turn.alloc());
@@ -78,12 +61,9 @@ fn put_into_runs(turn: &mut Turn) -> Result<Outcome, OutOfMemory> {
 }
 
 /// The calls.
-pub(crate) fn calls() -> [Named; 11] {
+pub(crate) fn calls() -> [Named; 8] {
     [
         ("push_after", |turn| write(turn, |text| Ok(push_after(text, '+', 12, '-')?), "+------------")),
-        ("Stretch::push", |turn| write(turn, |text| Ok(Stretch::of(Some('┬'), '─').push(text, 3)?), "┬───")),
-        ("PlainLook<'a>::push_marks", |turn| look(turn, |look, text| look.push_marks(text, 1), "+--+--+")),
-        ("PlainLook<'a>::push_line", |turn| look(turn, |look, text| look.push_line(text, 1), "+--+--+\n")),
         ("<String as Sink<'a>>::put_after", |turn| write(turn, |text| text.put_after(CROSSING, RUN), "+--")),
         ("<Vec<Mark<'a>> as Sink<'a>>::put_after", put_into_marks),
         ("<Vec<Run<'a>> as Sink<'a>>::put_after", put_into_runs),
@@ -97,6 +77,6 @@ pub(crate) fn calls() -> [Named; 11] {
         }),
         ("<String as Output>::push_str", |turn| write(turn, |text| Ok(Output::push_str(text, "a long text")?), "a long text")),
         ("<String as Output>::push_spaces", |turn| write(turn, |text| Ok(Output::push_spaces(text, 9)?), "         ")),
-        ("<String as Output>::push_spaces_before", |turn| write(turn, |text| Ok(Output::push_spaces_before(text, 9, '|')?), "         |")),
+        ("<String as Output>::push", |turn| write(turn, |text| Ok(Output::push(text, '│')?), "│")),
     ]
 }

@@ -154,17 +154,17 @@ fn print_ansi_between(turn: &mut Turn) -> Result<Outcome, OutOfMemory> {
 /// Tables of texts in color, and with a margin.
 pub(crate) fn tables() -> [Named; 7] {
     [
-        ("TextTable::to_ansi", |turn| returned(turn, true)),
-        ("TextTable::append_ansi_to", |turn| appended(turn, true)),
-        ("TextTable::write_ansi_to", write_ansi_to),
-        ("TextTable::print_ansi_to", print_ansi_to),
-        ("TextTable::print_ansi_between", print_ansi_between),
+        ("Table<T>::to_ansi", |turn| returned(turn, true)),
+        ("Table<T>::append_ansi_to", |turn| appended(turn, true)),
+        ("Table<T>::write_ansi_to", write_ansi_to),
+        ("Table<T>::print_ansi_to", print_ansi_to),
+        ("Table<T>::print_ansi_between", print_ansi_between),
         (
-            "TextTable::to_text (a margin)",
+            "Table<T>::to_text (a margin)",
             |turn| returned(turn, false),
         ),
         (
-            "TextTable::append_to (a margin)",
+            "Table<T>::append_to (a margin)",
             |turn| appended(turn, false),
         ),
     ]

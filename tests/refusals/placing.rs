@@ -4,7 +4,7 @@ use crate::turn::{Named, Outcome, Turn};
 use tabled_cells::{Placement, line_parts, show_lines};
 use tabled_config::SpannedConfig;
 use tabled_grid::{Entity, OutOfMemory, Position};
-use tabled_printing::{push_spaces_before, push_times};
+use tabled_printing::push_times;
 use tabled_settings::AlignmentHorizontal;
 
 const CELL: Position = Position { row: 0, col: 0 };
@@ -42,20 +42,11 @@ fn write(turn: &mut Turn) -> Result<Outcome, OutOfMemory> {
     Ok(Outcome::of(written, text.as_str() == "before:...", text.as_str().starts_with("before:")))
 }
 
-/// What becomes of spaces before a character. Where these are refused some of the spaces may have been written.
-fn write_spaces(turn: &mut Turn) -> Result<Outcome, OutOfMemory> {
-    let mut text = String::from_str(turn.alloc(), "before:")?;
-    turn.spend();
-    let written = push_spaces_before(&mut text, 3, '│');
-    Ok(Outcome::of(written, text.as_str() == "before:   │", text.as_str().starts_with("before:")))
-}
-
 /// Each of them.
-pub(crate) fn calls() -> [Named; 4] {
+pub(crate) fn calls() -> [Named; 3] {
     [
         ("show_lines", cut),
         ("line_parts", part),
         ("push_times", write),
-        ("push_spaces_before", write_spaces),
     ]
 }

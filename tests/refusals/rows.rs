@@ -138,7 +138,7 @@ pub(crate) fn tables() -> [Named; 21] {
         }),
         ("TextTable::insert_title", |turn| changed(turn, |table, _row| table.insert_title("e").is_ok(), (3, 2))),
         ("TextTable::insert_footer", |turn| changed(turn, |table, _row| table.insert_footer("e").is_ok(), (3, 2))),
-        ("TextTable::align_numbers", |turn| {
+        ("Table<T>::align_numbers", |turn| {
             let mut table = TextTable::new(turn.alloc(), &[&["1", "a", "2", "3"]]).map_err(|_refused| OutOfMemory)?;
             turn.spend();
             let returned = table.align_numbers(0);

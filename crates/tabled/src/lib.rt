@@ -1,6 +1,7 @@
 //! Borders, styles and themes around text tables, proved.
 //!
-//! A table of texts is a `TextTable`: it measures its cells, takes options, and prints itself as they set it.
+//! A table of texts is a `TextTable`, or a `LentTable` where the texts are lent to it; both are a `Table`, which measures its cells, takes
+//! options, and prints itself as they set it.
 //!
 //! ```text
 //! let mut table = TextTable::new(alloc, &[&["name", "age"], &["Alice", "30"]])?;
@@ -25,4 +26,4 @@ pub mod settings;
 pub mod texts;
 
 pub use tabled_rows::Tabled;
-pub use tabled_text::{InColor, LentTable, TableError, TextTable};
+pub use tabled_text::{InColor, LentTable, Table, TableError, TextTable};

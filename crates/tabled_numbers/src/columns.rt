@@ -2,7 +2,7 @@
 
 ghost use Rattle.std.specs.Prelude.{◌≡◌, map};
 ghost use Rattle.std.specs.List.{list_all, list_any};
-ghost use Rattle.tabled_numbers.specs.Columns.{cell, cells_of, column_count, is_number_or_empty, is_numeric};
+ghost use Rattle.tabled_numbers.specs.Columns.{cell, column_count, is_number_or_empty, is_numeric};
 ghost use Rattle.tabled_numbers.specs.Numbers as numbers;
 
 use crate::numbers::is_number;
@@ -36,23 +36,23 @@ fn is_number_or_empty(text: &str) -> bool
 }
 
 /// Whether each cell of a column is a number or empty.
-fn has_numbers_alone(rows: &[Vec<String>], col: usize) -> bool
-    ensures { result ≡ list_all (λ row. is_number_or_empty (cell row col)) (cells_of rows.now) }
+fn has_numbers_alone<T: AsStr>(rows: &[Vec<T>], col: usize) -> bool
+    ensures { result ≡ list_all (λ row. is_number_or_empty (cell row col)) (map (λ row. map T.text row.items) rows.now) }
 {
     rows.iter().all(|row| is_number_or_empty(text_of(row, col)))
 }
 
 /// Whether a cell of a column is a number.
-fn has_number(rows: &[Vec<String>], col: usize) -> bool
-    ensures { result ≡ list_any (λ row. numbers.is_number (cell row col)) (cells_of rows.now) }
+fn has_number<T: AsStr>(rows: &[Vec<T>], col: usize) -> bool
+    ensures { result ≡ list_any (λ row. numbers.is_number (cell row col)) (map (λ row. map T.text row.items) rows.now) }
 {
     rows.iter().any(|row| is_number(text_of(row, col)))
 }
 
 /// Whether each cell of a column is a number or empty, and one of them a number. Past the end of a row its cell is empty.
 #[tactic(auto, unfolding(crate::specs::Columns::is_numeric))]
-pub fn is_numeric(rows: &[Vec<String>], col: usize) -> bool
-    ensures { result ≡ is_numeric (cells_of rows.now) col }
+pub fn is_numeric<T: AsStr>(rows: &[Vec<T>], col: usize) -> bool
+    ensures { result ≡ is_numeric (map (λ row. map T.text row.items) rows.now) col }
 {
     has_numbers_alone(rows, col) && has_number(rows, col)
 }

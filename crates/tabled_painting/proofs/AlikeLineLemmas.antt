@@ -87,12 +87,6 @@ in_no_margin margin columns lines is =
     let first = and_parts (margin.size.left.size == 0) (margin.size.right.size == 0) more.0 in
     without_room margin columns lines (eqb-true _ _ first.0) (eqb-true _ _ first.1) (eqb-true _ _ more.1) (eqb-true _ _ last.1)
 
-pub alone_in_margin : (view : Look) (margin : Margin) (cells : Cells) → is_empty view.shape ≡ false → is_without_room margin ≡ true → painted_table view margin cells ≡ painted_lines view cells
-unfolding painted_table
-alone_in_margin view margin cells any no_room =
-    ap (λ empty. if empty then [] else in_margin margin (length (marks_along view (LineOf.Horizontal 0))) (painted_lines view cells)) any
-    ∙ in_no_margin margin (length (marks_along view (LineOf.Horizontal 0))) (painted_lines view cells) no_room
-
 module _ (wanted : Bool) (view : Look) (cells : Cells) where
   abbrev pub row_of : ℕ → List ℕ
   row_of r = line_text wanted (painted_between view r 0 (λ c. cells r c 0))

@@ -17,5 +17,4 @@ pub mod SpannedLemmas
 pub mod AloneLemmas
 pub mod DrawnLemmas
 pub mod AlikeLineLemmas
-mod SmallLemmas
 pub mod OutputLemmas

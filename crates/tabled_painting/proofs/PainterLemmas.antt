@@ -1,16 +1,13 @@
 -- Painted lines as texts in color, part by part.
-use Rattle.std.proofs.Common.{◌≡◌, eq-eqb, ℕ, ◌-◌, Bool, true, false, ◌==◌, ◌&&◌, if◌then◌else◌, Option, Some, None, List, [], ◌∷◌, ◌++◌, refl, sym, ap, ◌∙◌, string_bytes, option_copied, option_map, zero, suc, ◌+◌, ◌≤◌, length, subst, arith, replicate, encode_utf8, lit<, Result, Ok, Err, OnOk}
+use Rattle.std.proofs.Common.{◌≡◌, eq-eqb, ℕ, ◌-◌, Bool, true, false, ◌==◌, ◌&&◌, if◌then◌else◌, Option, Some, None, List, [], ◌∷◌, ◌++◌, refl, sym, ap, ◌∙◌, string_bytes, option_copied, zero, suc, ◌+◌, ◌≤◌, length, subst, arith, replicate, encode_utf8, lit<, Result, Ok, Err, OnOk}
 use Rattle.std.specs.Cmp.Lexicographic.{pointwise}
-use Rattle.std.proofs.lemmas.List.{append-nil, append_assoc, map-append, length-replicate}
+use Rattle.std.proofs.lemmas.List.{append-nil, append_assoc, length-replicate}
 use Rattle.std.proofs.lemmas.Str.{encode_ascii, length-le-encodes}
 use Rattle.tabled_cells.specs.Placed.{free_before, times}
 use Rattle.tabled_settings.specs.declared.alignment.AlignmentHorizontal.{AlignmentHorizontal}
 use Rattle.tabled_printing.proofs.TimesLemmas.{times_spaces}
 use Rattle.tabled_painting.specs.BareCells.{bare_text}
 use Rattle.tabled_printing.specs.Picture.{character}
-use Rattle.tabled_printing.specs.Marks.{mark_of}
-use Rattle.tabled_printing.specs.declared.mark.Mark.{Mark}
-use Rattle.tabled_painting.specs.PaintedTable.{side_painted}
 use Rattle.tabled_border.specs.Texts.{Texts}
 use Rattle.std.specs.List.{flat_map}
 use Rattle.tabled_object.specs.Entities.{below}
@@ -164,15 +161,6 @@ line_written line side start middle new none p q text wrote =
 pub parts_more : (part : ℕ → Painted) (n : ℕ) (old middle new : Painter) → Paints (flat_map part (below n)) old middle → Paints (part n) middle new → Paints (flat_map part (below (n + 1))) old new
 parts_more part n old middle new p q =
     subst (λ line. Paints line old new) (sym (flat_map_below part n)) (paints_both (flat_map part (below n)) (part n) old middle new p q)
-
--- spaces and the character of a side without color
-pub spaces_and_side : (count code : ℕ) (side : Option Mark) (mark : Mark) → side ≡ Some mark → option_copied mark.color ≡ None → code ≡ character mark.shown
-    → paint None (times count 32 ++ encode_utf8 code) ≡ paint None (times count 32) ++ side_painted (option_map mark_of side)
-spaces_and_side count code side mark there plain shown =
-    map-append (λ byte. (byte, None)) (times count 32) (encode_utf8 code)
-    ∙ ap (λ bs. paint None (times count 32) ++ paint None bs) (ap encode_utf8 shown ∙ sym (append-nil (encode_utf8 (character mark.shown))))
-    ∙ ap (λ color. paint None (times count 32) ++ paint color (encode_utf8 (character mark.shown) ++ [])) (sym plain)
-    ∙ ap (λ found. paint None (times count 32) ++ side_painted (option_map mark_of found)) (sym there)
 
 -- what follows where a call has succeeded
 pub on_done : {T E P Q : Type 0} (r : Result T E) → OnOk r P → (P → Q) → OnOk r Q

@@ -63,13 +63,6 @@ bare_text side width text =
     let before = free_before side free in
     times (1 + before) 32 ++ text ++ times (free - before + 1) 32
 
--- the same behind the first space
-abbrev pub text_behind_space : AlignmentHorizontal → ℕ → List ℕ → List ℕ
-text_behind_space side width text =
-    let free = width - 2 - length text in
-    let before = free_before side free in
-    times before 32 ++ text ++ times (free - before + 1) 32
-
 -- the same without the space before it and the one after it
 abbrev pub text_within : AlignmentHorizontal → ℕ → List ℕ → List ℕ
 text_within side width text =

@@ -4,7 +4,6 @@ pub mod CellLines
 pub mod Margin
 pub mod PaintedTable
 pub mod Joints
-pub mod PlainSides
 pub mod Pages
 pub mod Between
 pub mod Put
@@ -16,7 +15,6 @@ pub mod Outputs
 pub mod Printable
 pub mod TextsBy
 pub mod AlikeRows
-pub mod SmallTables
 pub mod AlikeLines
 pub mod Widths
 pub mod PaintedSpans

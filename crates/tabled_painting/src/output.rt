@@ -6,7 +6,7 @@ ghost use Rattle.tabled_cells.specs.Placed.{times};
 ghost use Rattle.tabled_painting.specs.Outputs as gained;
 
 use std::alloc::AllocError;
-use tabled_printing::{push_spaces_before, push_times};
+use tabled_printing::push_times;
 
 /// What text is written into, piece by piece.
 pub trait Output {
@@ -24,9 +24,9 @@ pub trait Output {
     fn push_spaces(&mut self, count: usize) -> Result<(), Self::Error>
         ensures { OnOk result (gains (times count 32) self.old self.new) };
 
-    /// Writes the given number of spaces, and then a character.
-    fn push_spaces_before(&mut self, count: usize, character: char) -> Result<(), Self::Error>
-        ensures { OnOk result (gains (times count 32 ++ encode_utf8 character) self.old self.new) };
+    /// Writes a character.
+    fn push(&mut self, character: char) -> Result<(), Self::Error>
+        ensures { OnOk result (gains (encode_utf8 character) self.old self.new) };
 
     /// Nothing written leaves it as it is.
     ghost gains_none: { (output : Self) → gains [] output output };
@@ -53,8 +53,8 @@ impl Output for String {
     }
 
     #[inline(always)]
-    fn push_spaces_before(&mut self, count: usize, character: char) -> Result<(), AllocError> {
-        push_spaces_before(self, count, character)
+    fn push(&mut self, character: char) -> Result<(), AllocError> {
+        String::push(self, character)
     }
 
     ghost gains_none = { gained.text_none };

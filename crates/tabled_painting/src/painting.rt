@@ -17,7 +17,6 @@ ghost use Rattle.tabled_painting.specs.TextsBy.{texts_by};
 ghost use Rattle.tabled_painting.specs.Viewed.{viewed};
 
 use crate::page::Page;
-use crate::small_table::SmallTable;
 use crate::spanned_lines::SpannedLines;
 use crate::table_lines::TableLines;
 use crate::{MarginSides, Painter};
@@ -126,35 +125,6 @@ fn paint_spanned_in_margin<'a, T: AsStr>(
     Ok(painter)
 }
 
-/// The text of a table of texts that has places, painted. Out of line, so that no room is made for its lines where a small table is written.
-#[inline(never)]
-fn painted_text<'a, T: AsStr>(
-    cfg: &'a ColoredConfig,
-    sizes: &FixedDimension,
-    shape: (usize, usize),
-    rows: &'a [Vec<T>],
-    are_printable: bool,
-    with_colors: bool,
-) -> Result<String, OutOfMemory>
-    requires places { is_empty shape ≡ false }
-    requires rows { length rows.now ≡ shape.0 }
-    requires cols { All (λ row. length row ≡ shape.1) (texts_by T.text rows.now) }
-    requires printable { are_printable ≡ true → AllPrintable (texts_by T.text rows.now) }
-    ensures { IfOk result (λ text. string_bytes text ≡ text_of_lines with_colors (painted_by cfg.now shape sizes.now.widths.items sizes.now.heights.items (texts_by T.text rows.now))) }
-{
-    let alloc = cfg.config().allocator();
-    let lines = TableLines::new(cfg, sizes, shape, with_colors)?;
-    let painter = paint_in_margin(
-        Painter::new(alloc, with_colors),
-        &lines,
-        rows,
-        are_printable,
-    )?;
-    let mut text = painter.into_text();
-    join_lines(&mut text, 0);
-    Ok(text)
-}
-
 /// The text of a table of texts as its configuration says, in color or without colors: its cells as they are set for each, its borders, and
 /// its margin around them. `sizes` are the widths of its columns and the heights of its rows, `shape` the numbers of its rows and of its
 /// columns. It may be said that all its texts are of printable characters of ASCII. Its lines are joined by single line feeds.
@@ -179,13 +149,12 @@ pub fn table_text<'a, T: AsStr>(
     if shape.0 == 0 || shape.1 == 0 {
         return Ok(String::new(alloc));
     }
-    if are_printable
-        && !with_colors
-        && let Some(table) = SmallTable::of(cfg.config(), sizes, shape)
-    {
-        return table.text(rows);
-    }
-    painted_text(cfg, sizes, shape, rows, are_printable, with_colors)
+    let lines = TableLines::new(cfg, sizes, shape, with_colors)?;
+    let painter = Painter::new(alloc, with_colors);
+    let painter = paint_in_margin(painter, &lines, rows, are_printable)?;
+    let mut text = painter.into_text();
+    join_lines(&mut text, 0);
+    Ok(text)
 }
 
 /// The text of a table of texts as `table_text` gives it, where cells span several columns or rows: each that is shown has the room of all

@@ -1,24 +1,21 @@
 //! A row of bare cells that is written without colors.
 
-ghost use Rattle.std.specs.Prelude.{◌≡◌, ◌<◌, ◌≤◌, ◌-◌, ◌++◌, [], true, Some, OnOk, length, map, min, option_map, slice_index, slice_index_or};
+ghost use Rattle.std.specs.Prelude.{◌≡◌, ◌<◌, ◌++◌, [], true, Some, OnOk, length, map, option_map, slice_index, slice_index_or};
 ghost use Rattle.tabled_printing.specs.Marks.{mark_of};
-ghost use Rattle.tabled_printing.specs.Texts.{shown_bytes};
 ghost use Rattle.tabled_cells.specs.Placed.{times};
-ghost use Rattle.tabled_painting.specs.BareCells.{bare_text, side_in, text_behind_space, text_within};
+ghost use Rattle.tabled_painting.specs.BareCells.{bare_text, side_in, text_within};
 ghost use Rattle.tabled_painting.specs.Painted.{plain};
 ghost use Rattle.tabled_painting.specs.PaintedTable.{painted_between, side_painted};
-ghost use Rattle.tabled_painting.specs.PlainSides.{ArePlainSides};
 ghost use Rattle.tabled_painting.specs.Printable.{ArePrintable};
 ghost use Rattle.tabled_painting.specs.Rows.{row_cell};
 ghost use Rattle.tabled_painting.specs.Viewed.{viewed};
 
 use crate::output::Output;
-use crate::plain_sides::PlainSides;
 use crate::table_lines::TableLines;
 use std::convert::AsStr;
 use tabled_cells::free_before;
 use tabled_object::Dimension;
-use tabled_printing::{Mark, SpacedText};
+use tabled_printing::Mark;
 use tabled_settings::AlignmentHorizontal;
 
 /// Writes the given number of spaces, and then what a vertical line shows, if there is something.
@@ -26,9 +23,10 @@ use tabled_settings::AlignmentHorizontal;
 fn push_spaces<O: Output>(out: &mut O, count: usize, side: Option<Mark>) -> Result<(), O::Error>
     ensures { OnOk result (O.gains (times count 32 ++ plain (side_painted (option_map mark_of side.entry))) out.old out.new) }
 {
+    out.push_spaces(count)?;
     match side {
-        Some(mark) => out.push_spaces_before(count, mark.shown.unwrap_or(' ')),
-        None => out.push_spaces(count),
+        Some(mark) => out.push(mark.shown.unwrap_or(' ')),
+        None => Ok(()),
     }
 }
 
@@ -80,105 +78,10 @@ pub(crate) fn push_within<O: Output>(
     push_free(out, free - before)
 }
 
-/// How many spaces a spaced text has on each side.
-const SPACES: usize = 64;
-
-/// Writes spaces, what a vertical line shows, and a few further spaces.
-#[inline(always)]
-pub(crate) fn push_spaced<O: Output>(
-    out: &mut O,
-    before: usize,
-    spaced: SpacedText,
-    after: usize,
-) -> Result<(), O::Error>
-    requires { after ≤ 64 }
-    ensures { OnOk result (O.gains (times before 32 ++ shown_bytes spaced.shown ++ times after 32) out.old out.new) }
-{
-    if SPACES < before {
-        out.push_spaces(before - SPACES)?;
-        return out.push_str(spaced.part(SPACES, after));
-    }
-    out.push_str(spaced.part(before, after))
-}
-
-/// Writes a text in a column, behind one of the spaces before it, with the other ones, the spaces after it, what the vertical line after
-/// them shows, and a few further spaces. The text takes as many terminal columns as it has bytes.
-#[inline(always)]
-pub(crate) fn push_cell<O: Output>(
-    out: &mut O,
-    alignment: AlignmentHorizontal,
-    width: usize,
-    text: &str,
-    spaced: SpacedText,
-    after: usize,
-) -> Result<(), O::Error>
-    requires { after ≤ 64 }
-    ensures { OnOk result (O.gains (text_behind_space alignment width text.now ++ shown_bytes spaced.shown ++ times after 32) out.old out.new) }
-{
-    let free = width.saturating_sub(2).saturating_sub(text.len());
-    let before = free_before(alignment, free);
-    push_free(out, before)?;
-    out.push_str(text)?;
-    push_spaced(out, free - before + 1, spaced, after)
-}
-
-/// How many spaces are written before a column together with the line before it: one, if there is such a column.
-#[inline(always)]
-pub(crate) fn space_before(col: usize, cols: usize) -> usize
-    ensures { result ≡ min 1 (cols - col) }
-{
-    cols.saturating_sub(col).min(1)
-}
-
 impl TableLines<'_, '_> {
-    /// Writes the line of text of a row that has one, whose cells are bare and of printable characters, where no colors are wanted.
+    /// Writes the line of text of a row that has one, whose cells are bare and of printable characters, where no colors are wanted: each side
+    /// as it is looked up.
     pub(crate) fn push_plain_row<O: Output, T: AsStr>(
-        &self,
-        out: &mut O,
-        row: usize,
-        texts: &[T],
-    ) -> Result<(), O::Error>
-        requires row { row < self.now.frame.shape.0 }
-        requires high { 0 < slice_index self.now.frame.dims.now.heights.items row }
-        requires plain { self.now.is_plain ≡ true }
-        requires texts { length texts.now ≡ self.now.frame.shape.1 }
-        requires printable { ArePrintable (map T.text texts.now) }
-        ensures { OnOk result (O.gains (plain (painted_between (viewed self.now.frame) row 0 (λ c. row_cell self.now row c (slice_index_or (map T.text texts.now) c []) 0))) out.old out.new) }
-    {
-        match &self.plain_sides {
-            Some(sides) => self.push_between(out, row, texts, sides),
-            None => self.push_each(out, row, texts),
-        }
-    }
-
-    /// Writes it between sides that were made before: each text, and at once the spaces after it, the side, and a space.
-    fn push_between<O: Output, T: AsStr>(
-        &self,
-        out: &mut O,
-        row: usize,
-        texts: &[T],
-        sides: &PlainSides,
-    ) -> Result<(), O::Error>
-        requires row { row < self.now.frame.shape.0 }
-        requires high { 0 < slice_index self.now.frame.dims.now.heights.items row }
-        requires plain { self.now.is_plain ≡ true }
-        requires texts { length texts.now ≡ self.now.frame.shape.1 }
-        requires printable { ArePrintable (map T.text texts.now) }
-        requires sides { ArePlainSides (viewed self.now.frame) sides.now }
-        ensures { OnOk result (O.gains (plain (painted_between (viewed self.now.frame) row 0 (λ c. row_cell self.now row c (slice_index_or (map T.text texts.now) c []) 0))) out.old out.new) }
-    {
-        let cols = texts.len();
-        push_spaced(out, 0, sides.first, space_before(0, cols))?;
-        for (col, text) in texts.iter().enumerate() {
-            let (side, after) = (sides.before(col + 1, cols), space_before(col + 1, cols));
-            let (width, alignment) = (self.frame.dims.get_width(col), self.alignment_of(col));
-            push_cell(out, alignment, width, text.as_str(), side, after)?;
-        }
-        Ok(())
-    }
-
-    /// Writes it part by part, each side as it is looked up.
-    fn push_each<O: Output, T: AsStr>(
         &self,
         out: &mut O,
         row: usize,

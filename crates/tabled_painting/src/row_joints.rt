@@ -15,14 +15,6 @@ use tabled_border::{ANSIBuf, OutOfMemory};
 /// How many colors of rows have joints at most.
 const COLORS: usize = 16;
 
-/// From how many cells on joints pay where no colors are wanted: three texts are made, and a cell takes up to 21 instructions less.
-const MANY_CELLS: usize = 32;
-
-/// Whether a table has so few cells that joints do not pay where no colors are wanted.
-pub(crate) fn has_few_cells(shape: (usize, usize)) -> bool {
-    shape.0.saturating_mul(shape.1) < MANY_CELLS
-}
-
 /// The number of the joints in a color, if they are among these.
 fn number_of(known: &[Joints], color: Option<&ANSIBuf>) -> Option<usize>
     ensures within { IfSome result (λ at. at < length known.now) }
@@ -122,14 +114,10 @@ impl<'a> TableLines<'a, '_> {
         })
     }
 
-    /// The joints of each row, if vertical lines look alike and it is known in which color each row is, in a few colors. Where no colors
-    /// are wanted they are for tables of many cells.
+    /// The joints of each row, if vertical lines look alike and it is known in which color each row is, in a few colors.
     pub(crate) fn row_joints(&self) -> Result<Option<RowJoints<'a>>, OutOfMemory>
         ensures { IfOk result (λ found. IfSome found (AreJoined self.now)) }
     {
-        if !self.frame.with_colors && has_few_cells(self.frame.shape) {
-            return Ok(None);
-        }
         let Some(sides) = row_sides(&self.frame) else {
             return Ok(None);
         };

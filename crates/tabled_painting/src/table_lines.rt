@@ -15,7 +15,6 @@ ghost use Rattle.tabled_painting.specs.Viewed as looks;
 ghost use Rattle.tabled_painting.specs.Viewed.{viewed};
 ghost use Rattle.tabled_painting.specs.BareCells.{AreBare, AreRowColors, side_in};
 ghost use Rattle.tabled_painting.specs.Between.{IsBetweenRows};
-ghost use Rattle.tabled_painting.specs.PlainSides.{ArePlainSides};
 ghost use Rattle.tabled_painting.specs.Printable.{AllPrintable, ArePrintable};
 ghost use Rattle.tabled_painting.specs.TextsBy.{texts_by};
 
@@ -23,19 +22,16 @@ use crate::alike::first_plain_line;
 use crate::bare_cells::{BareColumns, bare_columns};
 use crate::cell_lines::CellLines;
 use crate::joints::RowJoints;
-use crate::line_marks::put_marks;
 use crate::line_room::{columns_of, room_for_line};
 use crate::page::Page;
-use crate::plain_sides::{PlainSides, plain_sides};
 use crate::row_colors::{RowColors, row_colors};
-use crate::row_joints::has_few_cells;
-use crate::small_table::FEW_COLUMNS;
 use crate::{CellColors, Painter};
 use std::alloc::Global;
 use std::convert::AsStr;
 use tabled_border::{ANSIBuf, OutOfMemory};
 use tabled_cells::Placement;
 use tabled_configuration::{ColorMap, ColoredConfig};
+use tabled_kept::Probes;
 use tabled_object::{Dimension, FixedDimension, Position};
 use tabled_printing::{Frame, Mark};
 use tabled_width::is_printable;
@@ -55,13 +51,9 @@ pub(crate) struct TableLines<'a, 'b> {
     pub(crate) are_all_bare: bool,
     /// Whether all cells are bare, and no colors are wanted.
     pub(crate) is_plain: bool,
-    /// What vertical lines show beside each row, between spaces, if it was made: where a table has few cells, all of them are bare, and no
-    /// colors are wanted. A table of 3 x 3 cells takes 311 instructions less by it.
-    pub(crate) plain_sides: Option<PlainSides>,
     /// In which colors the cells of a row are painted.
     pub(crate) row_colors: RowColors,
-    /// A horizontal line between two rows as it is written, with its line feed, where all of them but custom ones look alike, unless the
-    /// table is small.
+    /// A horizontal line between two rows as it is written, with its line feed, where all of them but custom ones look alike.
     pub(crate) between: Option<String>,
     /// How many columns of a terminal its columns take, as far as a number says it.
     pub(crate) columns: usize,
@@ -69,7 +61,6 @@ pub(crate) struct TableLines<'a, 'b> {
     ghost all_bare: { are_all_bare ≡ true → (c : ℕ) → c < frame.shape.1 → IsSome (side_in bare_columns c) },
     ghost plain_cells: { is_plain ≡ true → are_all_bare ≡ true },
     ghost plain_colors: { is_plain ≡ true → frame.with_colors ≡ false },
-    ghost are_plain_sides: { ForSome plain_sides (ArePlainSides (viewed frame)) },
     ghost are_row_colors: { AreRowColors row_colors frame.with_colors frame.cfg.now.settings.cells colors.now },
     ghost is_between: { ForSome between (λ text. IsBetweenRows frame (string_bytes text)) },
 }
@@ -103,24 +94,14 @@ impl<'a, 'b> TableLines<'a, 'b> {
         let is_plain = is_plain(are_all_bare, with_colors);
         let row_colors = row_colors(config, colors, with_colors);
         let frame = Frame::new(config, sizes, shape, with_colors)?;
-        let plain_sides = if is_plain && has_few_cells(shape) {
-            plain_sides(&frame)
-        } else {
-            None
-        };
         let columns = columns_of(&frame);
-        let between = if plain_sides.is_some() && columns < FEW_COLUMNS {
-            None
-        } else {
-            line_between(config.allocator(), &frame, columns)?
-        };
+        let between = line_between(config.allocator(), &frame, columns)?;
         Ok(TableLines {
             frame,
             colors,
             bare_columns,
             are_all_bare,
             is_plain,
-            plain_sides,
             row_colors,
             between,
             columns,
@@ -156,7 +137,8 @@ impl<'a, 'b> TableLines<'a, 'b> {
             return page.push_line(line);
         }
         page.begin_line()?;
-        put_marks(&self.frame, row, &mut page.painter)?;
+        self.frame
+            .put_line(row, &mut page.painter, &mut Probes::new())?;
         page.end_line()?;
         Ok(())
     }
@@ -460,7 +442,7 @@ pub(crate) fn line_behind(
     ensures { IfOk result (λ whole. string_bytes whole ≡ string_bytes text ++ line_text frame.now.with_colors (painted_marks (marks_along (looks.viewed frame.now) (Line.Horizontal row)))) }
 {
     let mut painter = Painter::behind(text, frame.with_colors);
-    put_marks(frame, row, &mut painter)?;
+    frame.put_line(row, &mut painter, &mut Probes::new())?;
     painter.end_last()?;
     Ok(painter.into_text())
 }

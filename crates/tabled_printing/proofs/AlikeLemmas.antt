@@ -148,11 +148,6 @@ module _ {T : Type 0} (state : State T) (shape : ℕ × ℕ) where
       ∙ (λ i. if there i then sign_or (option_and_then (horizontal_part (meeting (rank shape.1 n))) (none i)) (by_class (crossings (rank shape.0 r) (rank shape.1 n))) else None)
       ∙ by_class_is (crossings (rank shape.0 r) (rank shape.1 n))
 
-  pub side_by_default : (c : ℕ) → HasNoCells state → state.vertical_lines ≡ empty → has_spot shape (Place.Vertical 0 c 0) ≡ true
-      → plain_value (state_at state) shape (Place.Vertical 0 c 0) ≡ option_or (class_value (edges Vertical (rank shape.1 c)) state.class_record) state.default_value
-  side_by_default c cells lines there =
-      side_by_class c cells lines ∙ ap (λ b. if b then by_class (edges Vertical (rank shape.1 c)) else None) there ∙ by_class_is (edges Vertical (rank shape.1 c))
-
   sides_same : (n m : ℕ) → HasNoCells state → state.vertical_lines ≡ empty → 0 < n → n < shape.1 → 0 < m → m < shape.1
       → plain_value (state_at state) shape (Place.Vertical 0 n 0) ≡ plain_value (state_at state) shape (Place.Vertical 0 m 0)
   sides_same n m cells lines some_n in_n some_m in_m =

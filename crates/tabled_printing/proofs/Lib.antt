@@ -4,7 +4,6 @@ pub mod LookLemmas
 pub mod LineLemmas
 pub mod MarkLemmas
 pub mod AlikeLemmas
-pub mod PlainLookLemmas
 pub mod TextLemmas
 pub mod PieceLemmas
 pub mod TimesLemmas

@@ -1,5 +1,5 @@
 -- Texts that nothing before them joins: their widths add up.
-use Rattle.std.proofs.Common.{◌≡◌, ◌⊎◌, ℕ, ◌+◌, ◌-◌, ◌*◌, ◌/◌, ◌%◌, ◌<◌, ◌≤◌, zero, suc, Bool, true, false, not, cond, if◌then◌else◌, ◌&&◌, nat_lt, eqb, List, [], ◌∷◌, ◌++◌, length, replicate, get_or, encode_utf8_all, refl, sym, ap, subst, ◌∙◌, arith, append-nil, add-zero, add_assoc, append_assoc, lit<, ⊎_elim, inl, inr, eq-eqb}
+use Rattle.std.proofs.Common.{◌≡◌, ◌⊎◌, ℕ, ◌+◌, ◌-◌, ◌*◌, ◌/◌, ◌%◌, ◌<◌, ◌≤◌, zero, suc, Bool, true, false, ◌&&◌, nat_lt, eqb, List, [], ◌∷◌, ◌++◌, length, replicate, get_or, encode_utf8_all, refl, sym, ap, subst, ◌∙◌, arith, append-nil, add-zero, add_assoc, append_assoc, lit<, ⊎_elim, inl, inr, eq-eqb}
 use Rattle.std.specs.Char.{encode_utf8}
 use Rattle.std.specs.Int.{is_in_range}
 use Rattle.std.specs.List.{list_all, sum_by, All, flat_map, range_with_len}
@@ -9,16 +9,13 @@ use Rattle.std.proofs.lemmas.Bool.Decides.{nat_tests}
 use Rattle.std.proofs.lemmas.List.{length-replicate, get_or_default}
 use Rattle.std.proofs.lemmas.List.Elements.{All-nil, All-cons, All-append, All-head, All-tail}
 use Rattle.std.proofs.lemmas.List.Sums.{sum_by-cons}
-use Rattle.std.proofs.lemmas.Str.{chars-append, chars-nil, IsUtf8-from_ascii, inside_one}
-use Rattle.std.proofs.lemmas.Str.Ascii.{IsAscii-nil, IsAscii-cons}
+use Rattle.std.proofs.lemmas.Str.{chars-append, chars-nil, inside_one}
 use Rattle.unicode_width.specs.declared.kind.Kind.{Kind}
 use Rattle.unicode_width.specs.declared.kind.Kind.TheVariants as kinds
 use Rattle.unicode_width.specs.Kind.{kind}
-use Rattle.unicode_width.specs.Width.{str_width, char_width, alone, of_kind, step, past_emoji, read_before, plain, Reading, is_emoji_variation_base}
-use Rattle.unicode_width.proofs.Rules.{str_width-append_simple, str_width-simple, str_width-printable, is_simple, is_simple_kind, width_or_zero}
-use Rattle.unicode_width.proofs.WidthLemmas.{read_before-printable}
-use Rattle.unicode_width.proofs.Computing.{unicode_width}
-use Rattle.tabled_width.proofs.AfterSpace.{from_space, space_first}
+use Rattle.unicode_width.specs.Width.{str_width, char_width, alone, of_kind}
+use Rattle.unicode_width.proofs.Rules.{str_width-append_simple, str_width-simple, is_simple, is_simple_kind, width_or_zero}
+use Rattle.tabled_width.proofs.AfterSpace.{from_space}
 use Rattle.tabled_printing.specs.Texts.{width_of_text}
 use Rattle.tabled_printing.specs.Columns.{is_narrow, is_narrow_kind}
 
@@ -112,9 +109,6 @@ Splits-encoded cs rest = all_back cs rest ∙ ap (λ l. l ++ chars rest) (sym (c
 
 pub Splits-utf8 : (text : List ℕ) → IsUtf8 text → Splits text
 Splits-utf8 text u rest = chars-append text rest u
-
-pub Splits-space : Splits (32 ∷ [])
-Splits-space = Splits-utf8 (32 ∷ []) (IsUtf8-from_ascii (32 ∷ []) (IsAscii-cons 32 [] (lit< tt) IsAscii-nil))
 
 -- ---- tiles
 

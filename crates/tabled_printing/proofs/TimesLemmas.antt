@@ -1,14 +1,14 @@
 -- A character many times: written one by one, as pieces of spaces, and as copies of what was written.
-use Rattle.std.proofs.Common.{rules, Option, None, Some, Result, Ok, Err, OnErr, min, String, string_bytes, string_len, ◌≡◌, ℕ, zero, suc, ◌+◌, ◌-◌, ◌*◌, ◌/◌, ◌≤◌, true, List, ◌++◌, length, take, drop, replicate, refl, sym, ap, subst, ◌∙◌, arith, lit<, encode_utf8, encode_utf8_all, length-append}
+use Rattle.std.proofs.Common.{rules, Result, Ok, Err, OnErr, min, String, string_bytes, string_len, ◌≡◌, ℕ, zero, suc, ◌+◌, ◌-◌, ◌*◌, ◌/◌, ◌≤◌, true, List, ◌++◌, length, take, drop, replicate, refl, sym, ap, subst, ◌∙◌, arith, lit<, encode_utf8, encode_utf8_all, length-append}
 use Rattle.std.specs.Str.{IsAscii, IsUtf8, IsCharBoundary, all_scalars}
 use Rattle.std.specs.Char.{IsScalar}
 use Rattle.std.specs.List.{slice_range}
 use Rattle.std.specs.String.Boundary.{IsSplitPoint}
-use Rattle.std.proofs.lemmas.List.{append-nil, append_assoc, length-replicate, replicate-append-replicate, take_all, drop_at, take_at}
-use Rattle.std.proofs.lemmas.Str.{encodes-append, encodes-IsAscii, IsCharBoundary-at_seam, IsUtf8-append, IsUtf8-encode, IsUtf8-nil}
+use Rattle.std.proofs.lemmas.List.{append-nil, append_assoc, replicate-append-replicate, take_all, drop_at, take_at}
+use Rattle.std.proofs.lemmas.Str.{encodes-append, encodes-IsAscii, IsCharBoundary-at_seam}
 use Rattle.std.proofs.lemmas.Str.Ascii.{IsAscii-nil, IsAscii-cons}
 use Rattle.std.proofs.Math.Nat.{zero-mul, suc-mul}
-use Rattle.tabled_printing.specs.Texts.{shown_bytes, times}
+use Rattle.tabled_printing.specs.Texts.{times}
 
 -- one number of times, and another one more
 pub times_both : (n m character : ℕ) → times (n + m) character ≡ times n character ++ times m character
@@ -137,61 +137,6 @@ pub bytes_of_each : (piece : List ℕ) (bytes character : ℕ) → piece ≡ tim
 bytes_of_each piece bytes character is long =
     let all : bytes ≡ 64 * length (encode_utf8 character) = long ∙ ap length is ∙ length-times 64 character in
     omega (arith, all)
-
--- what is shown and some of the spaces that stand before it and after it in a text
-module _ (piece shown : List ℕ) (before after : ℕ) (is : piece ≡ times 64 32 ++ shown ++ times 64 32) (ahead : before ≤ 64) (behind : after ≤ 64) where
-  abbrev around : List ℕ
-  around = times before 32 ++ shown ++ times after 32
-
-  in_three : piece ≡ times (64 - before) 32 ++ (around ++ times (64 - after) 32)
-  in_three =
-      let front : 64 ≡ (64 - before) + before = omega (arith, ahead) in
-      let back : 64 ≡ after + (64 - after) = omega (arith, behind) in
-      is ∙ (λ i. times (front i) 32 ++ shown ++ times (back i) 32)
-      ∙ (λ i. times_both (64 - before) before 32 i ++ shown ++ times_both after (64 - after) 32 i)
-      ∙ ap (λ bs. bs ++ (times after 32 ++ times (64 - after) 32)) (append_assoc (times (64 - before) 32) (times before 32) shown)
-      ∙ append_assoc (times (64 - before) 32) (times before 32 ++ shown) (times after 32 ++ times (64 - after) 32)
-      ∙ ap (λ bs. times (64 - before) 32 ++ bs) (sym (append_assoc (times before 32 ++ shown) (times after 32) (times (64 - after) 32)))
-
-  length-spaces : (n : ℕ) → length (times n 32) ≡ n
-  length-spaces n = ap length (times_spaces n) ∙ length-replicate n 32
-
-  start_there : length (times (64 - before) 32) ≡ 64 - before
-  start_there = length-spaces (64 - before)
-
-  end_there : length (times (64 - before) 32 ++ around) ≡ length piece - (64 - after)
-  end_there =
-      let all = ap length in_three ∙ length-append (times (64 - before) 32) (around ++ times (64 - after) 32) in
-      let rest = length-append around (times (64 - after) 32) in
-      omega (arith, all, rest, length-append (times (64 - before) 32) around, length-spaces (64 - after))
-
-  module _ (text : IsUtf8 shown) where
-    spaces : (n : ℕ) → IsUtf8 (times n 32)
-    spaces n = let space : IsScalar 32 = search rules in IsUtf8-times n 32 space
-
-    around_utf8 : IsUtf8 around
-    around_utf8 = IsUtf8-append (times before 32 ++ shown) (times after 32) (IsUtf8-append (times before 32) shown (spaces before) text) (spaces after)
-
-    pub around_start : IsCharBoundary piece (64 - before)
-    around_start =
-        subst (IsCharBoundary piece) start_there
-        (IsCharBoundary-at_seam piece (times (64 - before) 32) (around ++ times (64 - after) 32) in_three (IsUtf8-append around (times (64 - after) 32) around_utf8 (spaces (64 - after))))
-
-    pub around_end : IsCharBoundary piece (length piece - (64 - after))
-    around_end =
-        subst (IsCharBoundary piece) end_there
-        (IsCharBoundary-at_seam piece (times (64 - before) 32 ++ around) (times (64 - after) 32) (in_three ∙ sym (append_assoc (times (64 - before) 32) around (times (64 - after) 32))) (spaces (64 - after)))
-
-  pub around_of : slice_range piece (64 - before) (length piece - (64 - after)) ≡ around
-  around_of =
-      let long : length piece - (64 - after) - (64 - before) ≡ length around = omega (arith, end_there, length-append (times (64 - before) 32) around, start_there) in
-      ap (take (length piece - (64 - after) - (64 - before))) (ap (drop (64 - before)) in_three ∙ drop_at (times (64 - before) 32) (around ++ times (64 - after) 32) (64 - before) start_there)
-      ∙ take_at around (times (64 - after) 32) (length piece - (64 - after) - (64 - before)) (sym long)
-
--- a character is a text, and so is nothing
-pub shown_utf8 : (shown : Option ℕ) → ((character : ℕ) → shown ≡ Some character → IsScalar character) → IsUtf8 (shown_bytes shown)
-shown_utf8 None scalar = IsUtf8-nil
-shown_utf8 (Some character) scalar = IsUtf8-encode character (scalar character refl)
 
 -- the beginning of a text, and some of the many characters that stand after it
 module _ (piece head : List ℕ) (count edge size : ℕ) (is : piece ≡ head ++ times 64 edge) (within : count ≤ 64) (sized : size ≡ length (encode_utf8 edge)) where

@@ -10,7 +10,6 @@ pub mod Beside
 pub mod SideMarks
 pub mod Sides
 pub mod Viewed
-pub mod PlainLooks
 pub mod TextOrder
 pub mod Refusal
 pub mod Headline

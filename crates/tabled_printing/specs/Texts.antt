@@ -1,7 +1,6 @@
 -- Cell texts: bytes that are cut at line feeds, and how wide they are on a terminal.
 pub use Rattle.tabled_width.specs.Texts.{pieces, width_of_text}
-use Rattle.std.specs.Char.{encode_utf8}
-use Rattle.std.specs.Prelude.{◌≡◌, ℕ, Option, None, Some, List, [], ◌++◌, map, length, take, replicate, encode_utf8_all, MatchResult, Result}
+use Rattle.std.specs.Prelude.{◌≡◌, ℕ, List, ◌++◌, map, length, take, replicate, encode_utf8_all, MatchResult, Result}
 use Rattle.std.specs.String.{string_bytes}
 use Rattle.std.specs.declared.string.String.{String}
 use Rattle.std.specs.declared.vec.Vec.{Vec}
@@ -17,11 +16,6 @@ texts rows = map (λ row. map string_bytes row.items) rows
 -- a character, the given number of times
 abbrev pub times : ℕ → ℕ → List ℕ
 times count character = encode_utf8_all (replicate count character)
-
--- the bytes of a character, if there is one
-abbrev pub shown_bytes : Option ℕ → List ℕ
-shown_bytes None = []
-shown_bytes (Some character) = encode_utf8 character
 
 -- where a call succeeds, the new text is the old one followed by these bytes; where it is refused, the new text still begins
 -- with the old one

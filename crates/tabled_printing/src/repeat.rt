@@ -4,7 +4,6 @@ ghost use Rattle.std.specs.Prelude.{◌≡◌, ◌<◌, ◌≤◌, ◌++◌, ℕ
 ghost use Rattle.std.specs.Char.{encode_utf8};
 ghost use Rattle.tabled_printing.specs.Texts.{times};
 
-use crate::SpacedText;
 use std::alloc::AllocError;
 
 /// How many characters the texts have from which pieces of a character are taken.
@@ -130,35 +129,4 @@ pub fn push_times(text: &mut String, count: usize, character: char) -> Result<()
         return push_each(text, count, character);
     }
     push_many(text, count, character)
-}
-
-/// Writes the given number of spaces, and then a character, each by itself.
-fn push_in_turn(text: &mut String, count: usize, character: char) -> Result<(), AllocError>
-    ensures ok { OnOk result (string_bytes text.new ≡ string_bytes text.old ++ times count 32 ++ encode_utf8 character) }
-    ensures err { OnErr result ((some : ℕ) × (string_bytes text.new ≡ string_bytes text.old ++ times some 32)) }
-{
-    push_times(text, count, ' ')?;
-    text.push(character)?;
-    Ok(())
-}
-
-/// Writes the given number of spaces and then a character. Where memory is refused some of the spaces may have been written, and the
-/// character was not. A space and a character of ASCII are written each by itself, anything else at once where that can be.
-#[inline(always)]
-pub fn push_spaces_before(
-    text: &mut String,
-    count: usize,
-    character: char,
-) -> Result<(), AllocError>
-    ensures ok { OnOk result (string_bytes text.new ≡ string_bytes text.old ++ times count 32 ++ encode_utf8 character) }
-    ensures err { OnErr result ((some : ℕ) × (string_bytes text.new ≡ string_bytes text.old ++ times some 32)) }
-{
-    if (1 < count || !character.is_ascii())
-        && count <= PIECE
-        && let Some(spaced) = SpacedText::of(Some(character))
-    {
-        text.push_str(spaced.part(count, 0))?;
-        return Ok(());
-    }
-    push_in_turn(text, count, character)
 }

@@ -16,3 +16,4 @@ pub mod ViewLemmas
 pub mod ColumnLemmas
 pub mod TextLemmas
 pub mod PanelLemmas
+pub mod TableLemmas

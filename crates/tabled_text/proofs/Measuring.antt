@@ -8,10 +8,13 @@ use Rattle.tabled_painting.specs.Printable.{AllPrintable, ArePrintable}
 use Rattle.std.proofs.lemmas.List.{length-map, map-append, take_more, take_all, get_or-map, get_or_past}
 use Rattle.std.proofs.lemmas.List.FromFn.{fill_by_all}
 use Rattle.std.proofs.lemmas.Bool.{ltb-true, ltb-false, lt-ltb, le-ltb}
-use Rattle.std.proofs.lemmas.Str.{chars-nil}
+use Rattle.std.specs.Str.{IsUtf8}
+use Rattle.std.proofs.lemmas.Str.{chars-nil, IsUtf8-nil}
 use Rattle.unicode_width.specs.Width.{str_width}
 use Rattle.tabled_painting.specs.TextsBy.{texts_by}
-use Rattle.tabled_text.specs.Sizes.{cell, column_count, column_width, column_widths, first_unequal, height_asked, row_height, width_asked}
+use Rattle.tabled_text.specs.Cells.{AreUtf8}
+use Rattle.tabled_text.specs.Sizes.{cell, column_count, column_width, column_widths, first_unequal, height_asked, row_height, unequal_row, width_asked}
+use Rattle.tabled_text.proofs.EqualRows.{all_equal}
 use Rattle.tabled_cells.specs.Placed.{greatest}
 
 -- one more number
@@ -131,30 +134,60 @@ greatest_more asked column at old new text made within read is =
     ∙ sym (fold-max-more 0 (map asked (take at all)) (asked (cell all at)))
     ∙ ap greatest (sym (map-append asked (take at all) (cell all at ∷ [])) ∙ ap (map asked) (sym (take_more all at [] (rw length-map within))))
 
--- ---- printable texts
+-- ---- what holds of all texts
 
--- past its end a row has no text that is not printable
-pub printable_row : (row : List (List ℕ)) (count : ℕ) → length row ≤ count → ((c : ℕ) → c < count → list_all is_printable (cell row c) ≡ true) → ArePrintable row
-printable_row row count within so c = by_case (ltb c count) refl
+-- past its end a row has empty texts
+pub row_holds : (P : List ℕ → Type 0) → P [] → (row : List (List ℕ)) (count : ℕ) → length row ≤ count → ((c : ℕ) → c < count → P (cell row c)) → (c : ℕ) → P (cell row c)
+row_holds P empty row count within so c = by_case (ltb c count) refl
   where
-    by_case : (b : Bool) → ltb c count ≡ b → list_all is_printable (cell row c) ≡ true
+    by_case : (b : Bool) → ltb c count ≡ b → P (cell row c)
     by_case true is = so c (ltb-true c count is)
-    by_case false is = let past = ltb-false c count is in ap (list_all is_printable) (get_or_past row c [] (omega (arith, past, within)))
+    by_case false is = let past = ltb-false c count is in subst P (sym (get_or_past row c [] (omega (arith, past, within)))) empty
 
--- the rows so far, and all of them
-pub printable_more : (table : Table) (n : ℕ) (row : List (List ℕ)) → get_or table n [] ≡ row → ((r : ℕ) → r < n → ArePrintable (get_or table r [])) → ArePrintable row → (r : ℕ) → r < n + 1 → ArePrintable (get_or table r [])
-printable_more table n row here before is r within = by_case (ltb r n) refl
+-- one more
+pub below_more : (P : ℕ → Type 0) (n : ℕ) → ((k : ℕ) → k < n → P k) → P n → (k : ℕ) → k < n + 1 → P k
+below_more P n before here k within = by_case (ltb k n) refl
   where
-    by_case : (b : Bool) → ltb r n ≡ b → ArePrintable (get_or table r [])
-    by_case true below = before r (ltb-true r n below)
-    by_case false not_below = let above = ltb-false r n not_below in let same : r ≡ n = omega (arith, above, within) in subst ArePrintable (sym (ap (λ k. get_or table k []) same ∙ here)) is
+    by_case : (b : Bool) → ltb k n ≡ b → P k
+    by_case true below = before k (ltb-true k n below)
+    by_case false not_below = let above = ltb-false k n not_below in let same : n ≡ k = omega (arith, above, within) in subst P same here
+
+-- the rows so far, and all of them, where it holds of a row without texts
+module _ (Q : List (List ℕ) → Type 0) where
+  pub rows_more : (table : Table) (n : ℕ) (row : List (List ℕ)) → get_or table n [] ≡ row → ((r : ℕ) → r < n → Q (get_or table r [])) → Q row → (r : ℕ) → r < n + 1 → Q (get_or table r [])
+  rows_more table n row here before is = below_more (λ r. Q (get_or table r [])) n before (subst Q (sym here) is)
+
+  pub all_hold : Q [] → (table : Table) (n : ℕ) → length table ≤ n → ((r : ℕ) → r < n → Q (get_or table r [])) → (r : ℕ) → Q (get_or table r [])
+  all_hold empty table n all so r = by_case (ltb r n) refl
+    where
+      by_case : (b : Bool) → ltb r n ≡ b → Q (get_or table r [])
+      by_case true below = so r (ltb-true r n below)
+      by_case false not_below = let above = ltb-false r n not_below in subst Q (sym (get_or_past table r [] (omega (arith, above, all)))) empty
+
+no_texts : ArePrintable []
+no_texts c = ap (list_all is_printable) (get_or_past [] c [] (omega arith))
+
+pub printable_row : (row : List (List ℕ)) (count : ℕ) → length row ≤ count → ((c : ℕ) → c < count → list_all is_printable (cell row c) ≡ true) → ArePrintable row
+printable_row = row_holds (λ text. list_all is_printable text ≡ true) refl
+
+pub printable_more : (table : Table) (n : ℕ) (row : List (List ℕ)) → get_or table n [] ≡ row → ((r : ℕ) → r < n → ArePrintable (get_or table r [])) → ArePrintable row → (r : ℕ) → r < n + 1 → ArePrintable (get_or table r [])
+printable_more = rows_more ArePrintable
 
 pub all_printable : (table : Table) (n : ℕ) → length table ≤ n → ((r : ℕ) → r < n → ArePrintable (get_or table r [])) → AllPrintable table
-all_printable table n all so r = by_case (ltb r n) refl
+all_printable = all_hold ArePrintable no_texts
+
+-- in a table whose rows have as many cells each, all texts are of UTF-8 where those of its columns are
+pub utf8_table : (table : Table) (n : ℕ) → length table ≤ n → unequal_row table ≡ None → ((r : ℕ) → r < n → (c : ℕ) → c < column_count table → IsUtf8 (cell (get_or table r []) c)) → AreUtf8 table
+utf8_table table n all none so r = by_case (ltb r (length table)) refl
   where
-    by_case : (b : Bool) → ltb r n ≡ b → ArePrintable (get_or table r [])
-    by_case true below = so r (ltb-true r n below)
-    by_case false not_below = let above = ltb-false r n not_below in subst ArePrintable (sym (get_or_past table r [] (omega (arith, above, all)))) (λ c. ap (list_all is_printable) (get_or_past [] c [] (omega arith)))
+    by_case : (b : Bool) → ltb r (length table) ≡ b → (c : ℕ) → IsUtf8 (cell (get_or table r []) c)
+    by_case true is =
+        let inside = ltb-true r (length table) is in
+        let even = all_equal (column_count table) 0 table none r inside in
+        row_holds IsUtf8 IsUtf8-nil (get_or table r []) (column_count table) (omega (arith, even)) (so r (omega (arith, inside, all)))
+    by_case false is =
+        let past = ltb-false r (length table) is in
+        subst (λ row. (c : ℕ) → IsUtf8 (cell row c)) (sym (get_or_past table r [] past)) (λ c. subst IsUtf8 (sym (get_or_past [] c [] (omega arith))) IsUtf8-nil)
 
 -- such a text is one line
 pub printable_line : (text : List ℕ) → list_all is_printable text ≡ true → height_asked text ≡ 1

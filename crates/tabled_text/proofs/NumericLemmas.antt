@@ -1,14 +1,13 @@
 -- Columns of numbers: one column more, and one that is set.
-use Rattle.std.proofs.Common.{◌≡◌, ℕ, ◌+◌, ◌-◌, Bool, if◌then◌else◌, List, [], ◌∷◌, ◌++◌, map, filter, string_bytes, drop, take, length, min, zero, suc, arith, refl, sym, ap, subst, ◌∙◌, Result, Ok, Err, OnErr}
+use Rattle.std.proofs.Common.{◌≡◌, ℕ, ◌+◌, ◌-◌, Bool, if◌then◌else◌, List, [], ◌∷◌, ◌++◌, map, filter, drop, take, length, min, zero, suc, arith, refl, sym, ap, ◌∙◌}
 use Rattle.std.specs.List.{drop-map, range_with_len}
 use Rattle.tabled_object.specs.Entities.{below}
-use Rattle.std.specs.declared.string.String.{String}
 use Rattle.std.specs.declared.vec.Vec.{Vec}
 use Rattle.std.proofs.lemmas.List.Elements.{filter-append}
 use Rattle.std.proofs.lemmas.List.{length-drop, take_all}
 use Rattle.tabled_configuration.specs.Configuration.{cell_colors_of}
 use Rattle.tabled_configuration.specs.EntitiesAligned.{entities_aligned}
-use Rattle.tabled_printing.specs.Texts.{texts}
+use Rattle.tabled_painting.specs.TextsBy.{texts_by}
 use Rattle.tabled_text.specs.Numeric.{at_right}
 
 -- the columns up to one more
@@ -39,6 +38,8 @@ dropped headings n [] is = drop_nil n ∙ sym (drop_nil headings)
 dropped zero n (x ∷ xs) is = ap (λ k. drop k (x ∷ xs)) (let nothing : n ≡ 0 = omega (arith, is) in nothing)
 dropped (suc headings) n (x ∷ xs) is = ap (λ k. drop k (x ∷ xs)) (let one_more : n ≡ suc (min headings (length xs)) = omega (arith, is) in one_more) ∙ dropped headings (min headings (length xs)) xs refl
 
-pub below_headings : {Z W : Type 0} (headings n : ℕ) (rows : List (Vec (String Z) W)) → n ≡ min headings (length rows) → texts (take (length rows - n) (drop n rows)) ≡ drop headings (texts rows)
-below_headings headings n rows is =
-    ap texts (take_all (length rows - n) (drop n rows) (let left = length-drop n rows in omega (arith, left))) ∙ ap texts (dropped headings n rows is) ∙ sym (drop-map (λ row. map string_bytes row.items) headings rows)
+pub below_headings : {T Z : Type 0} (bytes : T → List ℕ) (headings n : ℕ) (rows : List (Vec T Z)) → n ≡ min headings (length rows)
+    → texts_by bytes (take (length rows - n) (drop n rows)) ≡ drop headings (texts_by bytes rows)
+below_headings bytes headings n rows is =
+    ap (texts_by bytes) (take_all (length rows - n) (drop n rows) (let left = length-drop n rows in omega (arith, left))) ∙ ap (texts_by bytes) (dropped headings n rows is)
+    ∙ sym (drop-map (λ row. map bytes row.items) headings rows)

@@ -1,5 +1,5 @@
 -- Whether a row over all columns goes into a table.
-use Rattle.std.proofs.Common.{◌≡◌, ◌⊎◌, inl, inr, ℕ, ◌-◌, ◌<◌, max, true, false, List, [], length, arith}
+use Rattle.std.proofs.Common.{◌≡◌, ◌⊎◌, inl, inr, ℕ, ◌-◌, ◌<◌, max, true, List, [], length, arith}
 use Rattle.std.proofs.lemmas.Bool.Decides.{nat_tests}
 use Rattle.std.proofs.lemmas.List.{length-replicate}
 use Rattle.tabled_printing.specs.Texts.{Table}
@@ -11,11 +11,7 @@ use Rattle.tabled_text.specs.Sizes.{column_count}
 panel-length : (text : List ℕ) (table : Table) → length (panel text table) ≡ max (column_count table) 1
 panel-length text table = let rest = length-replicate {A = List ℕ} (panel_columns table - 1) [] in omega (arith, rest)
 
--- it does not where rows have no cells
-pub panel-out : (text : List ℕ) (table : Table) → 0 < length table → column_count table ≡ 0 → goes_in (panel text table) table ≡ false
-panel-out text table some none = let long = panel-length text table in grind (arith, nat_tests)
-
--- and else does
+-- it goes in where there are no rows, or these have cells
 pub panel-in : (text : List ℕ) (table : Table) → (length table ≡ 0) ⊎ (0 < column_count table) → goes_in (panel text table) table ≡ true
 panel-in text table either = let long = panel-length text table in elim either [
   | inl none ↦ grind (arith, nat_tests)

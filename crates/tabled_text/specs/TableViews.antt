@@ -11,11 +11,6 @@ use Rattle.tabled_painting.specs.TextsBy.{texts_by}
 use Rattle.tabled_text.specs.Sizes.{column_count, column_widths, row_heights}
 use Rattle.tabled_text.specs.TextTable.{heights_with_spans, widths_with_spans}
 use Rattle.tabled_text.specs.declared.table_view.TableView.{TableView}
-use denote.Ref.{Bor}
-
--- the bytes of a text that is lent
-abbrev pub lent_bytes : Bor (List ℕ) → List ℕ
-lent_bytes text = text.now
 
 module _ {T : Type 0} (bytes : T → List ℕ) (view : TableView T) where
   -- its texts

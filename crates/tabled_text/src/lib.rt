@@ -12,11 +12,13 @@ mod measure;
 mod numeric;
 mod spanned;
 mod stream;
+mod table;
 mod table_error;
 mod table_view;
 mod text_table;
 
 pub use display::InColor;
 pub use lent_table::LentTable;
+pub use table::Table;
 pub use table_error::TableError;
 pub use text_table::TextTable;

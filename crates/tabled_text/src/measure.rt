@@ -1,12 +1,14 @@
 //! How large the cells of a table are.
 
-ghost use Rattle.std.specs.Prelude.{◌≡◌, ◌+◌, true, length, max, map, slice_index, EachIndex, IfOk, OnOk, replicate, string_bytes};
+ghost use Rattle.std.specs.Prelude.{◌≡◌, ◌+◌, true, None, length, max, map, slice_index, EachIndex, IfOk, OnOk, replicate, string_bytes};
 ghost use Rattle.std.specs.List.{list_all};
+ghost use Rattle.std.specs.Str.{IsUtf8};
 ghost use Rattle.tabled_object.specs.Entities.{below};
 ghost use Rattle.tabled_printing.specs.Texts.{texts, pieces, width_of_text};
 ghost use Rattle.tabled_painting.specs.Printable.{AllPrintable, ArePrintable};
 ghost use Rattle.tabled_painting.specs.TextsBy.{texts_by};
 ghost use Rattle.tabled_width.specs.Texts.{is_printable};
+ghost use Rattle.tabled_text.specs.Cells.{AreUtf8};
 ghost use Rattle.tabled_text.specs.Edited.{widths_with};
 ghost use Rattle.tabled_text.specs.EditedColumns.{heights_with};
 ghost use Rattle.tabled_text.specs.Sizes.{cell, greatest, column_count, column_width, unequal_row, width_asked, height_asked, padded_width, padded_height, column_widths, row_height, row_heights};
@@ -111,6 +113,7 @@ pub(crate) fn padded_height(padding: &Sides<Indent>, text: &str) -> Result<usize
 fn measure_at<T: AsStr>(row: &[T], col: usize) -> Result<CellSize, OutOfMemory>
     ensures width { IfOk result (λ found. found.width ≡ width_asked (cell (map T.text row.now) col)) }
     ensures printable { IfOk result (λ found. found.is_printable ≡ true → list_all is_printable (cell (map T.text row.now) col) ≡ true) }
+    ensures utf8 { IsUtf8 (cell (map T.text row.now) col) }
 {
     if col < row.len() {
         measure(row[col].as_str())
@@ -126,6 +129,7 @@ fn measure_at<T: AsStr>(row: &[T], col: usize) -> Result<CellSize, OutOfMemory>
 fn widen<T: AsStr>(widths: &mut [usize], row: &[T]) -> Result<bool, OutOfMemory>
     ensures widths { OnOk result (EachIndex widths.new (λ col. slice_index widths.new col ≡ max (slice_index widths.old col) (width_asked (cell (map T.text row.now) col)))) }
     ensures printable { IfOk result (λ are_printable. are_printable ≡ true → ArePrintable (map T.text row.now)) }
+    ensures utf8 { OnOk result (EachIndex widths.new (λ col. IsUtf8 (cell (map T.text row.now) col))) }
 {
     let mut are_printable = row.len() <= widths.len();
     for (col, width) in widths.iter_mut().enumerate() {
@@ -221,6 +225,7 @@ pub(crate) fn sizes_of<T: AsStr>(alloc: Global, rows: &[Vec<T>]) -> Result<Table
     ensures widths { IfOk result (λ found. found.sizes.widths.items ≡ column_widths (texts_by T.text rows.now)) }
     ensures heights { IfOk result (λ found. found.sizes.heights.items ≡ row_heights (texts_by T.text rows.now)) }
     ensures printable { IfOk result (λ found. found.are_printable ≡ true → AllPrintable (texts_by T.text rows.now)) }
+    ensures utf8 { unequal_row (texts_by T.text rows.now) ≡ None → OnOk result (AreUtf8 (texts_by T.text rows.now)) }
 {
     let mut widths = no_widths(alloc, rows)?;
     let mut heights = Vec::with_capacity(alloc, rows.len())?;

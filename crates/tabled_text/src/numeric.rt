@@ -4,10 +4,11 @@ ghost use Rattle.std.specs.Prelude.{◌≡◌, ◌++◌, ◌∷◌, [], ℕ, dro
 ghost use Rattle.tabled_object.specs.Entities.{below};
 ghost use Rattle.tabled_configuration.specs.Configuration.{Changes};
 ghost use Rattle.tabled_numbers.specs.Columns.{is_numeric};
-ghost use Rattle.tabled_printing.specs.Texts.{texts};
+ghost use Rattle.tabled_painting.specs.TextsBy.{texts_by};
 ghost use Rattle.tabled_text.specs.Numeric.{at_right, to_the_right};
 
 use std::alloc::{AllocError, Global};
+use std::convert::AsStr;
 use tabled_border::OutOfMemory;
 use tabled_configuration::SpannedConfig;
 use tabled_numbers::is_numeric;
@@ -15,8 +16,8 @@ use tabled_object::Entity;
 use tabled_settings::AlignmentHorizontal;
 
 /// The rows below the first ones.
-fn below_headings(rows: &[Vec<String>], headings: usize) -> &[Vec<String>]
-    ensures { texts result.now ≡ drop headings (texts rows.now) }
+fn below_headings<T: AsStr>(rows: &[Vec<T>], headings: usize) -> &[Vec<T>]
+    ensures { texts_by T.text result.now ≡ drop headings (texts_by T.text rows.now) }
 {
     &rows[headings.min(rows.len())..]
 }
@@ -32,13 +33,13 @@ fn push_if(columns: &mut Vec<usize>, col: usize, is_wanted: bool) -> Result<(), 
 }
 
 /// The columns of numbers below the first rows, which are headings, of as many columns as are asked for.
-pub(crate) fn numeric_columns(
+pub(crate) fn numeric_columns<T: AsStr>(
     alloc: Global,
-    rows: &[Vec<String>],
+    rows: &[Vec<T>],
     headings: usize,
     count: usize,
 ) -> Result<Vec<usize>, OutOfMemory>
-    ensures { IfOk result (λ columns. columns.items ≡ filter (is_numeric (drop headings (texts rows.now))) (below count)) }
+    ensures { IfOk result (λ columns. columns.items ≡ filter (is_numeric (drop headings (texts_by T.text rows.now))) (below count)) }
 {
     let rows = below_headings(rows, headings);
     let mut columns = Vec::new(alloc);

@@ -123,7 +123,7 @@ impl<W: io::Write> Stream<'_, W> {
 
     /// Writes a character.
     #[inline(always)]
-    fn push(&mut self, character: char)
+    fn push_character(&mut self, character: char)
         ensures { StreamGains W.contents (encode_utf8 character) self.old self.new }
     {
         self.make_room(character.len_utf8());
@@ -183,7 +183,7 @@ impl<W: io::Write> Output for Stream<'_, W> {
     #[inline(always)]
     fn push_spaces(&mut self, count: usize) -> Result<(), Infallible> {
         if count == 1 {
-            self.push(' ');
+            self.push_character(' ');
             return Ok(());
         }
         self.push_blank(count);
@@ -191,9 +191,8 @@ impl<W: io::Write> Output for Stream<'_, W> {
     }
 
     #[inline(always)]
-    fn push_spaces_before(&mut self, count: usize, character: char) -> Result<(), Infallible> {
-        self.push_blank(count);
-        self.push(character);
+    fn push(&mut self, character: char) -> Result<(), Infallible> {
+        self.push_character(character);
         Ok(())
     }
 

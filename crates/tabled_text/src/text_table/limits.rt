@@ -1,6 +1,6 @@
 //! Texts of a table that are cleaned, whose tabs become spaces, or that are kept within a number of columns or lines.
 
-ghost use Rattle.std.specs.Prelude.{◌≡◌, ◌≤◌, ◌-◌, true, List, length, max, min, OnOk, OnErr};
+ghost use Rattle.std.specs.Prelude.{◌≡◌, ◌≤◌, ◌-◌, true, List, length, max, OnOk, OnErr};
 ghost use Rattle.tabled_configuration.specs.Configuration.{ConfigEvent, Shows};
 ghost use Rattle.tabled_clean.specs.Steering.{cleaned};
 ghost use Rattle.tabled_painting.specs.Widths.{text_width};
@@ -15,7 +15,7 @@ use super::TextTable;
 use crate::changing::{
     Cleaning, ExpandedTabs, LimitedCells, LimitedColumns, are_clean, changed_rows,
 };
-use crate::fitting::{frame_width, least_for_texts, room_for_texts, texts_asked};
+use crate::fitting::{room_for_texts, texts_asked};
 use tabled_border::OutOfMemory;
 use tabled_object::{Object, Shape, listed_entities};
 use tabled_width::{Overflow, TextLimit, shares_of};
@@ -154,15 +154,5 @@ impl TextTable {
         };
         let cells = changed_rows(alloc, &change, &self.cells)?;
         self.set_cells(cells)
-    }
-
-    /// The least total that `fit_with` keeps the table within, with this least width of a column, where each character takes one column of
-    /// the terminal: what its padding, its vertical lines and its margin take, and for each column `least`, or what its texts ask for, if
-    /// that is less. For `fit` that is `least_width(1)`, and so is `least_width(0)`. Where it can't be counted it is `usize::MAX`.
-    pub fn least_width(&self, least: usize) -> usize
-        ensures { (es : List ConfigEvent) → Shows es self.now.config.spanned → result ≡ min (least_width (max least 1) es self.now.texts) usize.MAX }
-    {
-        let frame = frame_width(self.config().config(), self.shape);
-        frame.saturating_add(least_for_texts(&self.sizes.widths, least.max(1)))
     }
 }

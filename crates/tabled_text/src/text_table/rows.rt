@@ -2,7 +2,6 @@
 
 ghost use Rattle.std.specs.Prelude.{◌≡◌, ◌≤◌, true, false, Err, min, length, map, option_map, slice_get, string_bytes, IfOk, OnOk, OnErr, IsOkUnless};
 ghost use Rattle.std.specs.List.{insert, remove};
-ghost use Rattle.tabled_printing.specs.Texts.{texts};
 ghost use Rattle.tabled_text.specs.Sizes.{column_count};
 ghost use Rattle.tabled_text.specs.Edited.{goes_in};
 ghost use Rattle.tabled_text.specs.declared.table_error.TableError.{TableError as Refusal};
@@ -116,21 +115,5 @@ impl TextTable {
                 Err(OutOfMemory)
             }
         }
-    }
-
-    /// The texts of the cells, row by row, handed over.
-    pub fn into_rows(self) -> Vec<Vec<String>>
-        ensures { texts result.items ≡ self.texts }
-    {
-        let TextTable {
-            cells,
-            shape: _,
-            sizes,
-            are_printable: _,
-            config,
-        } = self;
-        drop(sizes);
-        drop(config);
-        cells
     }
 }

@@ -1,7 +1,6 @@
 -- The rows are gone through, each by its texts.
-use Rattle.std.proofs.Common.{rules, tests, ◌≡◌, ◌||◌, [], ◌∷◌, Bool, List, ℕ, map, string_bytes, String, Global, ap, refl, sym, ◌∙◌}
+use Rattle.std.proofs.Common.{rules, tests, ◌≡◌, ◌||◌, [], ◌∷◌, Bool, List, ℕ, map, ap, refl, sym, ◌∙◌}
 use Rattle.std.specs.List.{list_any}
-use Rattle.std.specs.declared.vec.Vec.{Vec}
 use Rattle.std.proofs.lemmas.Iterator.{YieldsList-from_slice}
 use Rattle.std.proofs.lemmas.Iterator.Search.{any_from_yields_List}
 use Rattle.tabled_numbers.specs.Numbers.{is_number}
@@ -13,8 +12,7 @@ any_map p f [] = refl
 any_map p f (x ∷ xs) = ap (λ b. p (f x) || b) (any_map p f xs)
 
 pub returns : goal.returns
-returns c =
+returns g c =
     let passes : List (List ℕ) → Bool = λ row. is_number (cell row c.args.col) in
-    let texts_of : Vec (String Global) Global → List (List ℕ) = λ row. map string_bytes row.items in
-    any_from_yields_List (λ row. passes (texts_of row)) _ _ _ c.any.ensures.ran (YieldsList-from_slice c.args.rows.now cc) (λ x b q k. search (rules, tests))
-    ∙ sym (any_map passes texts_of c.args.rows.now)
+    any_from_yields_List (λ row. passes (map g.T.AsStr.text row.items)) _ _ _ c.any.ensures.ran (YieldsList-from_slice c.args.rows.now cc) (λ x b q k. search (rules, tests))
+    ∙ sym (any_map passes (λ row. map g.T.AsStr.text row.items) c.args.rows.now)

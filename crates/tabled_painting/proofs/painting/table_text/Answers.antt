@@ -1,16 +1,15 @@
--- A small table is written without colors; a table without places has no lines.
-use Rattle.std.proofs.Common.{◌≡◌, false, ap, sym, ◌∙◌, slice_index, string_bytes, subst}
-use Rattle.std.specs.Prelude.{IfOk}
-use Rattle.std.specs.List.{join_with_byte}
-use Rattle.tabled_configuration.specs.Configuration.{Configuration, all_writes}
+-- The lines, joined; a table without places has none.
+use Rattle.std.proofs.Common.{[], ap, refl, sym, ◌∙◌, slice_index, string_bytes}
+use Rattle.tabled_configuration.specs.Colored.{Colored}
+use Rattle.tabled_configuration.specs.Configuration.{all_writes}
 use Rattle.tabled_object.specs.declared.dimension.FixedDimension.{FixedDimension}
-use Rattle.tabled_printing.specs.PlainLooks.{plain_look}
 use Rattle.tabled_printing.specs.Picture.{Look, look}
+use Rattle.tabled_printing.specs.Viewed.{with_colors_if}
 use Rattle.tabled_painting.specs.Pages.{text_of_lines}
-use Rattle.tabled_painting.specs.PaintedTable.{Cells, painted_by, painted_cells, painted_lines, painted_table, plain_text}
+use Rattle.tabled_painting.specs.PaintedTable.{Cells, painted_cells, painted_lines, painted_table}
 use Rattle.tabled_painting.specs.TextsBy.{texts_by}
-use Rattle.tabled_painting.proofs.Plain.{text_without_colors, written_if}
-use Rattle.tabled_painting.proofs.MarginLemmas.{no_places, no_rows, no_columns}
+use Rattle.tabled_painting.proofs.Plain.{written_if}
+use Rattle.tabled_painting.proofs.MarginLemmas.{lines_written, no_places, no_rows, no_columns}
 use Rattle.tabled_painting.proofs.painting.table_text.Goals as goal
 use Rattle.tabled_painting.proofs.painting.table_text.Goals.{then-shape-eq0-via-then-shape-eq0, then-shape-eq0-via-else-shape-eq0+then-shape-eq0-2}
 
@@ -28,19 +27,14 @@ returns-then-shape-eq0 g c =
     ]))
 
 pub returns : goal.returns
-unfolding plain_text text_of_lines
+unfolding text_of_lines
 returns g c =
-    let is = c.in-Some.ensures in
-    let cfg = c.args.cfg.now in
-    let sizes = c.args.sizes.now in
-    let table = texts_by g.T.AsStr.text c.args.rows.now in
-    let same : c.in-Some.table.look.cfg.now ≡ cfg.spanned = is.cfg ∙ c.config-2.ensures in
-    let cells : Configuration → FixedDimension → Cells = λ own dims. painted_cells own.settings.cells cfg.cell_colors dims.widths.items dims.heights.items table in
-    let view : Look = look (all_writes cfg.spanned) c.args.shape (slice_index sizes.widths.items) (slice_index sizes.heights.items) in
-    let margin = cfg.spanned.settings.margin in
-    subst (λ bytes. IfOk c.text.result (λ text. string_bytes text ≡ bytes))
-    ((λ i. plain_text (painted_table (plain_look (same i) (is.shape i) (is.sizes i)) (same i).settings.margin (cells (same i) (is.sizes i))))
-    ∙ ap (join_with_byte 10) (sym (text_without_colors (painted_table (plain_look cfg.spanned c.args.shape sizes) margin (cells cfg.spanned sizes))))
-    ∙ written_if false view margin (cells cfg.spanned sizes)
-    ∙ ap (λ wanted. text_of_lines wanted (painted_by cfg c.args.shape sizes.widths.items sizes.heights.items table)) (sym c.if-not-with_colors.true))
-    (c.text.ensures cfg.cell_colors)
+    let is = c.in_ok-lines.ensures in
+    let wanted = c.args.with_colors in
+    let cells : Colored → FixedDimension → Cells = λ cfg sizes. painted_cells cfg.spanned.settings.cells cfg.cell_colors sizes.widths.items sizes.heights.items (texts_by g.T.AsStr.text c.args.rows.now) in
+    c.join_lines.ensures [] _ refl
+    (ap string_bytes c.into_text-text.ensures ∙ lines_written wanted c.new-painter.result.with_colors _ _ _ c.new-painter.ensures.text c.new-painter.ensures.with_colors c.in_ok-painter.ensures.text)
+    ∙ (λ i. text_of_lines wanted (painted_table (with_colors_if (is.with_colors i) (look (all_writes (is.cfg i)) (is.shape i) (slice_index (is.sizes i).now.widths.items) (slice_index (is.sizes i).now.heights.items))) (is.cfg i).settings.margin
+    (painted_cells (is.cfg i).settings.cells (is.colors i) (is.sizes i).now.widths.items (is.sizes i).now.heights.items (texts_by g.T.AsStr.text c.args.rows.now))))
+    ∙ written_if wanted (look (all_writes c.args.cfg.now.spanned) c.args.shape (slice_index c.args.sizes.now.widths.items) (slice_index c.args.sizes.now.heights.items)) c.args.cfg.now.spanned.settings.margin
+    (cells c.args.cfg.now c.args.sizes.now)

@@ -1,10 +1,11 @@
 -- One row more; at the end all rows have widened the columns.
-use Rattle.std.proofs.Common.{◌<◌, subst, length, drop, get_or, map, ap, sym, ◌∙◌, arith}
+use Rattle.std.proofs.Common.{ℕ, ◌<◌, subst, length, drop, get_or, map, ap, sym, ◌∙◌, arith}
 use Rattle.std.proofs.lemmas.Bool.{and_parts}
 use Rattle.std.proofs.lemmas.List.{length-map, take_at}
-use Rattle.tabled_text.specs.Sizes.{row_height}
+use Rattle.std.specs.Str.{IsUtf8}
+use Rattle.tabled_text.specs.Sizes.{cell, column_count, row_height}
 use Rattle.tabled_painting.specs.TextsBy.{texts_by}
-use Rattle.tabled_text.proofs.Measuring.{widened_more, widened_all, rows_so_far, row_at, printable_more, all_printable}
+use Rattle.tabled_text.proofs.Measuring.{widened_more, widened_all, rows_so_far, row_at, rows_more, printable_more, all_printable, utf8_table}
 use Rattle.tabled_text.proofs.measure.sizes_of.Goals as goal
 
 pub loop-row-preserved : goal.loop-row-preserved
@@ -21,6 +22,10 @@ loop-row-preserved g c =
           c.loop-row-test.true (here ∙ ap (λ items. map g.T.AsStr.text items) (sym c.deref.ensures.value))
           (c.in_ok-is_printable.ensures.widths col within);
       heights = rows_so_far g.T.AsStr.text row_height _ _ c.args.rows.now c.loop-row.row-index _ _ c.loop-row.invariant.heights c.loop-row-test.true (here ∙ ap (λ items. map g.T.AsStr.text items) (sym c.deref-in-loop-row.ensures.value)) c.height_of.ensures c.in_ok-push.ensures.items;
+      utf8 =
+          rows_more (λ cells. (k : ℕ) → k < column_count (texts_by g.T.AsStr.text c.args.rows.now) → IsUtf8 (cell cells k)) (texts_by g.T.AsStr.text c.args.rows.now) c.loop-row.row-index (map g.T.AsStr.text c.deref.result.now)
+          (here ∙ ap (λ items. map g.T.AsStr.text items) (sym c.deref.ensures.value)) c.loop-row.invariant.utf8
+          (λ k within. c.in_ok-is_printable.ensures.utf8 k (omega (arith, c.widen.auto.widths, ap length c.deref_mut.ensures.value, c.loop-row.invariant.count, within)));
       printable = λ known.
           let both = and_parts c.loop-row.are_printable c.in_ok-is_printable.is_printable known in
           printable_more (texts_by g.T.AsStr.text c.args.rows.now) c.loop-row.row-index (map g.T.AsStr.text c.deref.result.now) (here ∙ ap (λ items. map g.T.AsStr.text items) (sym c.deref.ensures.value))
@@ -35,3 +40,7 @@ returns-clause-widths g c =
 pub returns-clause-printable : goal.returns-clause-printable
 returns-clause-printable g c known =
     all_printable (texts_by g.T.AsStr.text c.args.rows.now) c.loop-row.row-index (omega (arith, c.loop-row-test.false, length-map c.args.rows.now (λ row. map g.T.AsStr.text row.items))) (c.loop-row.invariant.printable known)
+
+pub returns-clause-utf8 : goal.returns-clause-utf8
+returns-clause-utf8 g c equal =
+    utf8_table (texts_by g.T.AsStr.text c.args.rows.now) c.loop-row.row-index (omega (arith, c.loop-row-test.false, length-map c.args.rows.now (λ row. map g.T.AsStr.text row.items))) equal c.loop-row.invariant.utf8

@@ -8,5 +8,5 @@ pub returns-2 : goal.returns-2
 returns-2 c =
     line_drawn ((viewed c.args.self.now.frame).horizontal c.args.row) _ _ _ (sym c.draws.ensures ∙ c.if-not-draws.false)
     (line_painted c.args.page.now c.begin_line.new.self _ c.end_line.new.self _ c.requires.ended c.in_ok-begin_line.ensures.painted c.begin_line.ensures.number c.begin_line.ensures.same
-    c.in_ok-put_marks.ensures refl (record { left = refl; right = refl; high = refl })
+    c.in_ok-put_line.ensures.put refl (record { left = refl; right = refl; high = refl })
     c.in_ok-end_line.ensures.text c.in_ok-end_line.ensures.ended c.in_ok-end_line.ensures.same_colors c.in_ok-end_line.ensures.number c.end_line.ensures.same)

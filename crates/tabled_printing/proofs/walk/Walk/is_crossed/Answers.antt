@@ -1,5 +1,5 @@
 -- A line is drawn where the configuration says so.
-use Rattle.std.proofs.Common.{◌<◌, ◌∙◌, arith}
+use Rattle.std.proofs.Common.{◌∙◌, arith}
 use Rattle.tabled_grid.specs.Drawn.{drawn}
 use Rattle.tabled_configuration.specs.Configuration.{all_writes, characters_of}
 use Rattle.tabled_printing.proofs.LineLemmas.{pieces_there}

@@ -4,6 +4,7 @@ use Rattle.tabled_painting.specs.Printable.{AllPrintable}
 use Rattle.tabled_printing.specs.Texts.{texts}
 use Rattle.tabled_text.specs.Sizes.{column_widths, row_heights}
 use Rattle.tabled_text.proofs.ChangedLemmas.{same_unequal, same_shape}
+use Rattle.tabled_text.proofs.Even.{utf8_cells}
 use Rattle.tabled_text.proofs.text_table.TextTable.set_cells.Goals as goal
 
 pub invariant_of-self : goal.invariant_of-self
@@ -16,4 +17,8 @@ invariant_of-self c =
       ap (λ sizes. sizes.widths.items) c.replace-2.ensures.after ∙ c.in_ok-sizes.ensures.widths ∙ ap column_widths (ap texts c.deref.ensures.value ∙ sym after),
       ap (λ sizes. sizes.heights.items) c.replace-2.ensures.after ∙ c.in_ok-sizes.ensures.heights ∙ ap row_heights (ap texts c.deref.ensures.value ∙ sym after),
       λ known. subst AllPrintable (ap texts c.deref.ensures.value ∙ sym after) (c.in_ok-sizes.ensures.printable known),
+      utf8_cells _,
     )
+
+pub returns-clause-texts : goal.returns-clause-texts
+returns-clause-texts c = ap (λ cells. texts cells.items) c.replace.ensures.after
