@@ -166,3 +166,24 @@ fn rows_of_unequal_counts_are_refused(rt: HostRuntime) -> Result<(), Fail> {
     assert_eq!(rt; refused, Some(TableError::UnequalRows { row: 1, cells: 1, columns: 2 }));
     Ok(())
 }
+
+#[test]
+fn it_has_the_calls_of_any_table(rt: HostRuntime) -> Result<(), Fail> {
+    let alloc = rt.alloc();
+    let mut table = short(alloc)?;
+    table.with(Style::ascii())?.with(Padding::new(0, 0, 0, 0))?;
+    table.align_numbers(0)?;
+    let text = "+------+--+\n|tea   |95|\n+------+--+\n|coffee| 7|\n+------+--+";
+    let mut appended = String::from_str(alloc, "=")?;
+    table.append_to(&mut appended)?;
+    assert_eq!(rt; appended.as_str(), format!(in alloc; "={text}")?.as_str());
+    assert_eq!(rt; format!(in alloc; "{table}")?.as_str(), text);
+    assert_eq!(rt; format!(in alloc; "{}", table.in_color())?.as_str(), text);
+    let mut written = String::new(alloc);
+    table.write_to(&mut written)?;
+    assert_eq!(rt; written.as_str(), text);
+    assert_eq!(rt; (table.shape().rows, table.texts().len(), table.least_width(1)), (2, 2, 5));
+    let rows = table.into_rows();
+    assert_eq!(rt; rows[1][0], "coffee");
+    Ok(())
+}

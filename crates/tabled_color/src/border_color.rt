@@ -1,6 +1,6 @@
 //! The colors of the border of one cell.
 
-ghost use Rattle.std.specs.Prelude.{◌≡◌, Some, IfOk, option_map};
+ghost use Rattle.std.specs.Prelude.{◌≡◌, Some, IfOk, IsTrue, option_map};
 ghost use Rattle.tabled_color.specs.Shade.{texts_of};
 
 mod option;
@@ -275,13 +275,14 @@ impl BorderColor {
         self.inner
     }
 
-    /// The border that has copies of these colors, each of which owns its texts.
+    /// The border that has copies of these colors, each of which owns its texts. Where two are equal these are shared.
     pub fn to_ansi(&self, alloc: Global) -> Result<Border<ANSIBuf>, OutOfMemory>
         ensures { IfOk result (λ border. border ≡ border_texts self.now) }
     {
-        let (top, bottom, left, right) = side_texts(alloc, &self.inner)?;
+        let mut made = Vec::new(alloc);
+        let (top, bottom, left, right) = side_texts(alloc, &self.inner, &mut made)?;
         let (left_top_corner, left_bottom_corner, right_top_corner, right_bottom_corner) =
-            corner_texts(alloc, &self.inner)?;
+            corner_texts(alloc, &self.inner, &mut made)?;
         Ok(Border {
             top,
             bottom,
@@ -338,32 +339,40 @@ fn four_copies(alloc: Global, color: &Color) -> Result<FourColors, OutOfMemory>
 }
 
 /// Copies of the texts of the colors above, below, at the left and at the right.
-fn side_texts(alloc: Global, border: &Border<Color>) -> Result<FourTexts, OutOfMemory>
+fn side_texts(
+    alloc: Global,
+    border: &Border<Color>,
+    made: &mut Vec<ANSIBuf>,
+) -> Result<FourTexts, OutOfMemory>
     ensures top { IfOk result (λ copies. copies.0 ≡ option_map texts_of border.now.top) }
     ensures bottom { IfOk result (λ copies. copies.1 ≡ option_map texts_of border.now.bottom) }
     ensures left { IfOk result (λ copies. copies.2 ≡ option_map texts_of border.now.left) }
     ensures right { IfOk result (λ copies. copies.3 ≡ option_map texts_of border.now.right) }
 {
     Ok((
-        texts(alloc, &border.top)?,
-        texts(alloc, &border.bottom)?,
-        texts(alloc, &border.left)?,
-        texts(alloc, &border.right)?,
+        texts(alloc, &border.top, made)?,
+        texts(alloc, &border.bottom, made)?,
+        texts(alloc, &border.left, made)?,
+        texts(alloc, &border.right, made)?,
     ))
 }
 
 /// Copies of the texts of the colors of the corners: at the left above and below, at the right above and below.
-fn corner_texts(alloc: Global, border: &Border<Color>) -> Result<FourTexts, OutOfMemory>
+fn corner_texts(
+    alloc: Global,
+    border: &Border<Color>,
+    made: &mut Vec<ANSIBuf>,
+) -> Result<FourTexts, OutOfMemory>
     ensures left_top { IfOk result (λ copies. copies.0 ≡ option_map texts_of border.now.left_top_corner) }
     ensures left_bottom { IfOk result (λ copies. copies.1 ≡ option_map texts_of border.now.left_bottom_corner) }
     ensures right_top { IfOk result (λ copies. copies.2 ≡ option_map texts_of border.now.right_top_corner) }
     ensures right_bottom { IfOk result (λ copies. copies.3 ≡ option_map texts_of border.now.right_bottom_corner) }
 {
     Ok((
-        texts(alloc, &border.left_top_corner)?,
-        texts(alloc, &border.left_bottom_corner)?,
-        texts(alloc, &border.right_top_corner)?,
-        texts(alloc, &border.right_bottom_corner)?,
+        texts(alloc, &border.left_top_corner, made)?,
+        texts(alloc, &border.left_bottom_corner, made)?,
+        texts(alloc, &border.right_top_corner, made)?,
+        texts(alloc, &border.right_bottom_corner, made)?,
     ))
 }
 
@@ -374,14 +383,32 @@ fn kept(alloc: Global, color: &Color) -> Result<Option<Color>, OutOfMemory>
     Ok(Some(color.keep(alloc)?))
 }
 
-/// A copy of the texts of a color, where it is given.
-fn texts(alloc: Global, color: &Option<Color>) -> Result<Option<ANSIBuf>, OutOfMemory>
+/// Whether texts are those of a color.
+fn are_texts_of(texts: &ANSIBuf, color: &Color) -> bool
+    ensures { IsTrue result → texts.now ≡ texts_of color.now }
+{
+    texts.get_prefix() == color.get_prefix() && texts.get_suffix() == color.get_suffix()
+}
+
+/// The texts of a color, where it is given: a copy of those among the ones that were made, which share them, or else a copy of new ones.
+fn texts(
+    alloc: Global,
+    color: &Option<Color>,
+    made: &mut Vec<ANSIBuf>,
+) -> Result<Option<ANSIBuf>, OutOfMemory>
     ensures { IfOk result (λ copy. copy ≡ option_map texts_of color.now) }
 {
-    match color {
-        Some(color) => Ok(Some(ANSIBuf::new(alloc, color.get_prefix(), color.get_suffix())?)),
-        None => Ok(None),
+    let Some(color) = color else {
+        return Ok(None);
+    };
+    for texts in made.iter() {
+        if are_texts_of(texts, color) {
+            return Ok(Some(texts.keep(alloc)?));
+        }
     }
+    let texts = ANSIBuf::new(alloc, color.get_prefix(), color.get_suffix())?;
+    made.push(texts.keep(alloc)?)?;
+    Ok(Some(texts))
 }
 
 impl Default for BorderColor {
