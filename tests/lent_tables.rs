@@ -6,6 +6,8 @@ use tabled::settings::object::{Cell, Columns, Rows, Segment};
 use tabled::settings::style::{BorderColor, LineText};
 use tabled::settings::themes::Colorization;
 use tabled::settings::{Alignment, Color, Padding, Span, Style};
+use tabled::grid::config::Position;
+use tabled::texts::Overflow;
 use tabled::{LentTable, TableError};
 
 /// How many rows a long table has: so many that its text is longer than what waits to be written.
@@ -185,5 +187,20 @@ fn it_has_the_calls_of_any_table(rt: HostRuntime) -> Result<(), Fail> {
     assert_eq!(rt; (table.shape().rows, table.texts().len(), table.least_width(1)), (2, 2, 5));
     let rows = table.into_rows();
     assert_eq!(rt; rows[1][0], "coffee");
+    Ok(())
+}
+
+#[test]
+fn copies_are_edited(rt: HostRuntime) -> Result<(), Fail> {
+    let alloc = rt.alloc();
+    let mut table = short(alloc)?;
+    table.with(Style::ascii())?;
+    let mut copy = table.copied()?;
+    copy.set_text(Position::new(0, 0), "the")?;
+    copy.fit(13, Overflow::WrapWords)?;
+    let text = "+------+----+\n| the  | 95 |\n+------+----+\n| coff | 7  |\n| ee   |    |\n+------+----+";
+    assert_eq!(rt; copy.to_text()?.as_str(), text);
+    let own = "+--------+----+\n| tea    | 95 |\n+--------+----+\n| coffee | 7  |\n+--------+----+";
+    assert_eq!(rt; table.to_text()?.as_str(), own);
     Ok(())
 }

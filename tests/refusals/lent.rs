@@ -78,6 +78,17 @@ fn modify(turn: &mut Turn, is_lent: bool) -> Result<Outcome, OutOfMemory> {
     Ok(Outcome::of(returned, !is_as_before, is_as_before))
 }
 
+/// What becomes of a table of copies.
+fn copy(turn: &mut Turn) -> Result<Outcome, OutOfMemory> {
+    let (table, _copy) = table(turn.alloc())?;
+    turn.spend();
+    Ok(Outcome::of_value(
+        table
+            .copied()
+            .map(|copy| copy.texts().len() == 2 && is_same(copy.config(), table.config())),
+    ))
+}
+
 /// The text of the table.
 const DRAWN: &str = "+---+---+\n| a | b |\n+===+---+\n| c | d |\n+---+---+";
 
@@ -137,7 +148,7 @@ fn print_between(turn: &mut Turn, with_colors: bool) -> Result<Outcome, OutOfMem
 }
 
 /// The calls of these tables.
-pub(crate) fn calls() -> [Named; 12] {
+pub(crate) fn calls() -> [Named; 13] {
     [
         ("LentTable<'a>::new", make),
         ("Table<T>::from_rows (lent)", make_of_rows),
@@ -145,6 +156,7 @@ pub(crate) fn calls() -> [Named; 12] {
         ("Table<T>::apply (lent)", |turn| apply(turn, false)),
         ("Table<T>::modify (lent)", |turn| modify(turn, true)),
         ("Table<T>::apply_to (lent)", |turn| modify(turn, false)),
+        ("Table<T>::copied", copy),
         ("Table<T>::to_text (lent)", |turn| text(turn, false)),
         ("Table<T>::to_ansi (lent)", |turn| text(turn, true)),
         ("Table<T>::print_to (lent)", |turn| print(turn, false)),

@@ -16,8 +16,9 @@ ghost use Rattle.tabled_text.specs.TextTable.{lent_rows, lent_texts, look_of, lo
 ghost use Rattle.tabled_text.specs.declared.table_error.TableError.{TableError as Refusal};
 
 use std::alloc::Global;
+use tabled_border::OutOfMemory;
 use tabled_printing::PrintError;
-use tabled_text::{LentTable, TableError};
+use tabled_text::{LentTable, TableError, TextTable};
 
 /// A table of lent texts has them and nothing else yet; rows of unequal counts are refused for that alone, as by `table_of_rows`.
 pub fn table_of_lent_texts<'a>(
@@ -55,4 +56,12 @@ pub fn text_of_lent_texts(table: &LentTable) -> Result<String, PrintError>
     ensures refusal { IsOkUnless result Fault.OutOfMemory }
 {
     table.to_text()
+}
+
+/// What edits texts is there for a table of copies of them, for which all is set as it was.
+pub fn copies_of_lent_texts(table: &LentTable) -> Result<TextTable, OutOfMemory>
+    ensures texts { IfOk result (λ copy. copy.texts ≡ table.now.texts) }
+    ensures config { IfOk result (λ copy. copy.config ≡ table.now.config) }
+{
+    table.copied()
 }

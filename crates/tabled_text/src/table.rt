@@ -6,6 +6,7 @@ ghost use Rattle.tabled_painting.specs.TextsBy.{texts_by};
 ghost use Rattle.tabled_text.specs.Refusal.{unequal as refusal_of};
 
 mod columns;
+mod copies;
 mod printing;
 mod spans;
 
@@ -107,12 +108,8 @@ impl<T: AsStr + Drop> Table<T> {
     /// A table of these rows of texts, which are taken as they are. Refused where a row has more or fewer cells than row 0, with the number of
     /// the first such row and both counts, or where memory is refused.
     ///
-    /// `LentTable::from_rows(alloc, vec![in alloc; vec![in alloc; "a", "b"]?, vec![in alloc; "c", "d"]?]?)?` has no borders:
-    ///
-    /// ```text
-    ///  a  b
-    ///  c  d
-    /// ```
+    /// `LentTable::from_rows(alloc, vec![in alloc; vec![in alloc; "a", "b"]?, vec![in alloc; "c", "d"]?]?)?` prints what
+    /// `TextTable::new(alloc, &[&["a", "b"], &["c", "d"]])?` does.
     pub fn from_rows(alloc: Global, rows: Vec<Vec<T>>) -> Result<Self, TableError>
         ensures texts { IfOk result (λ table. table.texts ≡ texts_by T.text rows.items) }
         ensures config { IfOk result (λ table. Shows [] table.config) }

@@ -1,7 +1,6 @@
 //! A table of texts of its own.
 
 ghost use Rattle.std.specs.Prelude.{◌≡◌, map, string_bytes, IfOk};
-ghost use Rattle.tabled_printing.specs.Pieces.{lent};
 ghost use Rattle.tabled_printing.specs.Texts.{texts};
 ghost use Rattle.tabled_text.specs.TextTable.{lent_rows};
 
@@ -15,6 +14,7 @@ mod texts;
 use crate::measure::{TableSize, sizes_of};
 use crate::{Table, TableError};
 use std::alloc::{AllocError, Global};
+use std::convert::AsStr;
 use std::mem;
 use tabled_border::OutOfMemory;
 
@@ -86,12 +86,12 @@ fn copied(alloc: Global, rows: &[&[&str]]) -> Result<Vec<Vec<String>>, AllocErro
 }
 
 /// The texts of a row, copied.
-pub(crate) fn copied_row(alloc: Global, row: &[&str]) -> Result<Vec<String>, AllocError>
-    ensures { IfOk result (λ copies. map string_bytes copies.items ≡ lent row.now) }
+pub(crate) fn copied_row<T: AsStr>(alloc: Global, row: &[T]) -> Result<Vec<String>, AllocError>
+    ensures { IfOk result (λ copies. map string_bytes copies.items ≡ map T.text row.now) }
 {
     let mut copies = Vec::with_capacity(alloc, row.len())?;
     for text in row {
-        copies.push(String::from_str(alloc, text)?)?;
+        copies.push(String::from_str(alloc, text.as_str())?)?;
     }
     Ok(copies)
 }

@@ -1,0 +1,8 @@
+-- The copies so far.
+use Rattle.std.proofs.Common.{◌≡◌, take}
+use Rattle.tabled_printing.specs.Texts.{texts}
+use Rattle.tabled_painting.specs.TextsBy.{texts_by}
+use Rattle.tabled_text.proofs.table.copies.copied_cells.Given as goal
+
+abbrev pub invariant-loop-row : goal.invariant-loop-row
+invariant-loop-row g l = texts l.copies.items ≡ take l.row-index (texts_by g.T.AsStr.text l.rows)
