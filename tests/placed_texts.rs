@@ -7,7 +7,7 @@ use tabled::settings::formatting::{AlignmentStrategy, Justification, TrimStrateg
 use tabled::settings::object::{Columns, Rows};
 use tabled::settings::{Alignment, Style};
 use tabled::{TableError, TextTable};
-use tabled_cells::{Placement, aligned, line_parts, lines_above, show_lines, widest};
+use tabled_cells::{Placement, ShownLines, line_parts, lines_above};
 use tabled_config::SpannedConfig;
 use tabled_grid::{Entity, Position};
 use tabled_printing::push_times;
@@ -201,13 +201,12 @@ fn a_cell_is_taken_apart(rt: HostRuntime) -> Result<(), Fail> {
     cfg.set_trim_horizontal(Entity::Global, true)?;
     cfg.set_justification(Entity::Global, '.')?;
     let how = Placement::of(&cfg, Position::new(0, 0));
-    let mut lines = Vec::new(alloc);
-    lines.push("an earlier line")?;
-    show_lines(&mut lines, &how, " ab \nc")?;
-    assert_eq!(rt; lines.as_slice(), ["ab", "c"].as_slice());
-    let widest = widest(&how, &lines);
-    assert_eq!(rt; aligned(&how, widest, "c"), 2);
-    let parts = line_parts(alloc, &how, 7, widest, "c")?;
+    let mut lines = ShownLines::of(&how, " ab \nc");
+    assert_eq!(rt; lines.len(), 2);
+    assert!(rt; lines.line(1) == Some("c") && lines.line(0) == Some("ab") && lines.line(2) == None);
+    let aligned = lines.aligned(&how, "c");
+    assert_eq!(rt; aligned, 2);
+    let parts = line_parts(&how, 7, aligned, "c");
     assert_eq!(rt; (parts.before, parts.after, parts.fill), (1, 3, '.'));
     let mut text = String::new(alloc);
     push_times(&mut text, parts.after, parts.fill)?;

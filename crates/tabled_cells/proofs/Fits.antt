@@ -1,13 +1,12 @@
 -- Each line of a cell is as wide as its column, and has no line feed.
-use Rattle.std.proofs.Common.{◌≡◌, ◌==◌, ◌&&◌, ◌||◌, ℕ, ◌+◌, ◌-◌, ◌<◌, ◌≤◌, zero, suc, max, fold, Bool, true, false, if◌then◌else◌, not, ltb, List, [], ◌∷◌, ◌++◌, map, length, get_or, take, replicate, reverse, refl, sym, ap, subst, ◌∙◌, arith, lit<, encode_utf8, encode_utf8_all, length-append}
+use Rattle.std.proofs.Common.{◌≡◌, ◌==◌, ℕ, ◌+◌, ◌-◌, ◌<◌, ◌≤◌, zero, suc, max, fold, Bool, true, false, if◌then◌else◌, ltb, List, [], ◌∷◌, ◌++◌, map, length, get_or, take, replicate, reverse, refl, sym, ap, subst, ◌∙◌, arith, lit<, encode_utf8, length-append}
 use Rattle.std.specs.Prelude.{chars}
 use Rattle.std.specs.Str.{IsUtf8}
-use Rattle.std.specs.List.{All, list_all}
-use Rattle.std.proofs.lemmas.Bool.{ltb-true, and_from, and_parts, eqb-true}
-use Rattle.std.proofs.lemmas.Bool.Decides.{nat_tests}
+use Rattle.std.specs.List.{All}
+use Rattle.std.proofs.lemmas.Bool.{ltb-true, eqb-true}
 use Rattle.std.proofs.lemmas.List.{append_assoc, get_or_default, get_or-reverse, take_at, length-replicate, length-reverse, reverse-append, reverse-reverse, get_or_at}
-use Rattle.std.proofs.lemmas.List.Elements.{All-nil, All-cons, All-head, All-tail, All-append, All-map}
-use Rattle.std.proofs.lemmas.Str.{encode_ascii, chars-append, chars-IsAscii, IsUtf8-append, IsUtf8-take, IsUtf8-drop, IsUtf8-from_ascii, IsCharBoundary-before_ascii, IsCharBoundary-after_ascii}
+use Rattle.std.proofs.lemmas.List.Elements.{All-nil, All-head, All-tail, All-append, All-map}
+use Rattle.std.proofs.lemmas.Str.{encode_ascii, chars-append, chars-IsAscii, IsUtf8-take, IsUtf8-drop, IsCharBoundary-before_ascii, IsCharBoundary-after_ascii}
 use Rattle.unicode_width.specs.Width.{str_width}
 use Rattle.unicode_width.proofs.Rules.{str_width-append_simple, str_width-printable}
 use Rattle.tabled_settings.specs.declared.alignment.AlignmentHorizontal.{AlignmentHorizontal}
@@ -18,20 +17,20 @@ use Rattle.tabled_settings.specs.declared.sides.Sides.{Sides}
 use Rattle.tabled_settings.specs.Live.{value_at}
 use Rattle.tabled_settings.specs.Padding.{first_padding, keeps_first_padding}
 use Rattle.tabled_settings.proofs.Paddings.{no_padding_at}
-use Rattle.tabled_printing.specs.Columns.{draws_plainly, is_narrow, is_narrow_kind}
-use Rattle.unicode_width.specs.Kind.{kind}
+use Rattle.tabled_printing.specs.Columns.{draws_plainly, is_narrow}
 use Rattle.tabled_width.specs.Texts.{is_printable}
 use Rattle.tabled_width.specs.Limited.{IsPrintableText}
 use Rattle.tabled_printing.proofs.Ranges.{plainly_narrow}
 use Rattle.tabled_printing.specs.Texts.{pieces, width_of_text}
 use Rattle.tabled_printing.proofs.PieceTexts.{IsUtf8-piece, piece_lacks}
-use Rattle.tabled_width.proofs.AfterSpace.{IsUtf8-spaces, one_space, space_read, spaces_before, spaces_printable, spaces_simple, widths_add}
-use Rattle.tabled_printing.proofs.Tiles.{IsOther, Lacks, Tile, Tile-append, Tile-narrow, Tile-same, Tile-space, Tile-times, Splits-append, Splits-encoded, Splits-utf8, char_lacks}
+use Rattle.tabled_width.proofs.AfterSpace.{IsUtf8-spaces, one_space, spaces_before, spaces_printable, spaces_simple}
+use Rattle.tabled_printing.proofs.Tiles.{IsOther, Lacks, Tile, Tile-append, Tile-same, Tile-space, Tile-times, Splits, Splits-append, Splits-encoded, Splits-utf8, char_lacks}
 use Rattle.tabled_cells.specs.declared.placement.Placement.{Placement}
 use Rattle.tabled_cells.specs.Trimmed.{without_first, without_ends, is_space, is_blank, line_shown, lines_shown}
 use Rattle.tabled_cells.specs.Placements.{placement_at}
 use Rattle.tabled_cells.specs.Placed.{StartsWithSpaces, padding_shown, fill_shown, line_parts, lines_above, free_before, times, filled, fill_of, greatest, aligned_width}
 use Rattle.tabled_printing.proofs.TimesLemmas.{IsAscii-spaces, times_spaces}
+use Rattle.tabled_cells.proofs.Fills.{Printable, printable_bytes, bytes_tile, fill_narrow, fill_before}
 
 -- ---- a line of a cell, as text
 
@@ -67,26 +66,8 @@ spaces_after text n u =
     ∙ ap (λ m. width_of_text text + m) (str_width-printable false (replicate n 32) (spaces_printable n) ∙ length-replicate n 32)
 
 -- narrow characters after a text
-narrow_after : (text : List ℕ) (n character : ℕ) → is_narrow character ≡ true → IsUtf8 text → width_of_text (text ++ times n character) ≡ width_of_text text + n
-narrow_after text n character narrow u = ap (str_width false) (chars-append text (times n character) u) ∙ (Tile-times n character narrow).apart (chars text)
-
--- a line filled with spaces after spaces
-spaces_filled : (padding : Sides Indent) → StartsWithSpaces padding → (before after : ℕ) (line : List ℕ) → IsUtf8 line
-    → width_of_text (filled padding 32 before after line) ≡ padding.left.size + before + width_of_text line + after + padding.right.size
-spaces_filled padding has before after line u =
-    let left : ℕ = padding.left.size in
-    let right : ℕ = padding.right.size in
-    let own_text : List ℕ = replicate before 32 ++ line in
-    let front : List ℕ = replicate left 32 ++ own_text in
-    let whole : List ℕ = front ++ replicate after 32 in
-    let front_text = IsUtf8-append (replicate left 32) own_text (IsUtf8-spaces left) (IsUtf8-append (replicate before 32) line (IsUtf8-spaces before) u) in
-    let ends = narrow_after whole right padding.right.fill has.right (IsUtf8-append front (replicate after 32) front_text (IsUtf8-spaces after)) in
-    let sides = spaces_after front after front_text in
-    let first = spaces_before left own_text in
-    let own = spaces_before before line in
-    (λ i. width_of_text ((ap (times left) has.left ∙ times_spaces left) i ++ times_spaces before i ++ line ++ times_spaces after i ++ times right padding.right.fill))
-    ∙ ap (λ bs. width_of_text (bs ++ replicate after 32 ++ times right padding.right.fill)) (append_assoc (replicate left 32) (replicate before 32) line)
-    ∙ omega (arith, ends, first, sides, own)
+narrow_after : (text : List ℕ) (n character : ℕ) → is_narrow character ≡ true → Splits text → width_of_text (text ++ times n character) ≡ width_of_text text + n
+narrow_after text n character narrow splits = ap (str_width false) (splits (times n character)) ∙ (Tile-times n character narrow).apart (chars text)
 
 -- ---- a line in its column
 
@@ -95,12 +76,24 @@ before_fits Left free = omega arith
 before_fits Center free = omega arith
 before_fits Right free = omega arith
 
-wide_by : (padding : Sides Indent) (character width before after : ℕ) (line : List ℕ) (fits : Bool) → (not (character == 10) && (width_of_text (filled padding character before after line) == width)) ≡ fits
-    → width_of_text (filled padding 32 before after line) ≡ width → width_of_text (filled padding (fill_of padding character width before after line) before after line) ≡ width
-wide_by padding character width before after line true e spaces =
-    ap (λ b. width_of_text (filled padding (if b then character else 32) before after line)) e
-    ∙ eqb-true (width_of_text (filled padding character before after line)) width (and_parts (not (character == 10)) (width_of_text (filled padding character before after line) == width) e).1
-wide_by padding character width before after line false e spaces = ap (λ b. width_of_text (filled padding (if b then character else 32) before after line)) e ∙ spaces
+-- a line between as many columns of a character that fills it
+filled_wide : (padding : Sides Indent) → StartsWithSpaces padding → (character before after : ℕ) (line : List ℕ) → IsUtf8 line
+    → width_of_text (filled padding (fill_of character line) before after line) ≡ padding.left.size + before + width_of_text line + after + padding.right.size
+filled_wide padding has character before after line u =
+    let left : ℕ = padding.left.size in
+    let right : ℕ = padding.right.size in
+    let fill : ℕ = fill_of character line in
+    let own_text : List ℕ = times before fill ++ line in
+    let front : List ℕ = replicate left 32 ++ own_text in
+    let whole : List ℕ = front ++ times after fill in
+    let front_splits : Splits front = Splits-append (replicate left 32) own_text (Splits-utf8 (replicate left 32) (IsUtf8-spaces left)) (Splits-append (times before fill) line (Splits-encoded (replicate before fill)) (Splits-utf8 line u)) in
+    let ends = narrow_after whole right padding.right.fill has.right (Splits-append front (times after fill) front_splits (Splits-encoded (replicate after fill))) in
+    let sides = narrow_after front after fill (fill_narrow character line) front_splits in
+    let first = spaces_before left own_text in
+    let own = fill_before before character line in
+    (λ i. width_of_text ((ap (times left) has.left ∙ times_spaces left) i ++ times before fill ++ line ++ times after fill ++ times right padding.right.fill))
+    ∙ ap (λ bs. width_of_text (bs ++ times after fill ++ times right padding.right.fill)) (append_assoc (replicate left 32) (times before fill) line)
+    ∙ omega (arith, ends, first, sides, own)
 
 wide_line : (how : Placement) → StartsWithSpaces how.padding → (width aligned : ℕ) (line : List ℕ) → IsUtf8 line → width_of_text line ≤ aligned → how.padding.left.size + aligned + how.padding.right.size ≤ width
     → width_of_text (placed_line how width aligned line) ≡ width
@@ -110,23 +103,13 @@ wide_line how has width aligned line u narrow room =
     let before : ℕ = free_before how.alignment_horizontal (free - aligned) in
     let after : ℕ = free - before - width_of_text line in
     let stands = before_fits how.alignment_horizontal (free - aligned) in
-    wide_by how.padding how.justification width before after line _ refl (spaces_filled how.padding has before after line u ∙ omega (arith, stands))
+    filled_wide how.padding has how.justification before after line u ∙ omega (arith, stands)
 
 -- ---- no line has a line feed
 
 times_lack : (count character : ℕ) → (character == 10) ≡ false → Lacks (times count character)
 times_lack zero character other = All-nil IsOther
 times_lack (suc count) character other = All-append IsOther (encode_utf8 character) (times count character) (char_lacks character other) (times_lack count character other)
-
-fill_other : (padding : Sides Indent) (character width before after : ℕ) (line : List ℕ) (fits : Bool) → (not (character == 10) && (width_of_text (filled padding character before after line) == width)) ≡ fits
-    → (fill_of padding character width before after line == 10) ≡ false
-fill_other padding character width before after line true e =
-    ap (λ b. (if b then character else 32) == 10) e ∙ no_feed (character == 10) (and_parts (not (character == 10)) (width_of_text (filled padding character before after line) == width) e).0
-  where
-    no_feed : (b : Bool) → not b ≡ true → b ≡ false
-    no_feed true is = sym is
-    no_feed false is = refl
-fill_other padding character width before after line false e = ap (λ b. (if b then character else 32) == 10) e
 
 -- a padding in which no line feed is shown: one of spaces, and any as it is shown
 pub record NoFeeds (padding : Sides Indent) : Type 0 where
@@ -182,7 +165,7 @@ placed_lacks how none width aligned line lack =
     let free : ℕ = width - how.padding.left.size - how.padding.right.size in
     let before : ℕ = free_before how.alignment_horizontal (free - aligned) in
     let after : ℕ = free - before - width_of_text line in
-    filled_lacks how.padding none (fill_of how.padding how.justification width before after line) before after line (fill_other how.padding how.justification width before after line _ refl) lack
+    filled_lacks how.padding none (fill_of how.justification line) before after line (narrow_other (fill_of how.justification line) (fill_narrow how.justification line)) lack
 
 -- a line that begins with a space joins nothing before it
 begun : (padding : Sides Indent) (k : ℕ) → padding.left.size ≡ suc k → padding.left.fill ≡ 32 → (character before after : ℕ) (line : List ℕ)
@@ -215,7 +198,7 @@ line_tile how has some width aligned line u wide lacks =
     let free : ℕ = width - how.padding.left.size - how.padding.right.size in
     let before : ℕ = free_before how.alignment_horizontal (free - aligned) in
     let after : ℕ = free - before - width_of_text line in
-    filled_tile how.padding has.left how.padding.left.size refl some (fill_of how.padding how.justification width before after line) before after line width u wide lacks
+    filled_tile how.padding has.left how.padding.left.size refl some (fill_of how.justification line) before after line width u wide lacks
 
 -- where no padding is set, a cell has the first one
 pub padding_unset : (settings : CellSettings) (r c : ℕ) → keeps_first_padding settings.padding ≡ true → (placement_at settings r c).padding ≡ first_padding
@@ -338,31 +321,6 @@ widest_narrow most start (line ∷ lines) small all =
 
 -- ---- lines of printable ASCII
 
-abbrev Printable : List ℕ → Type 0
-Printable line = All (λ byte. is_printable byte ≡ true) line
-
-printable_bytes : (line : List ℕ) → list_all is_printable line ≡ true → Printable line
-printable_bytes [] all = All-nil (λ byte. is_printable byte ≡ true)
-printable_bytes (byte ∷ line) all =
-    let parts = and_parts (is_printable byte) (list_all is_printable line) all in
-    All-cons (λ byte. is_printable byte ≡ true) byte line parts.0 (printable_bytes line parts.1)
-
-narrow_bytes : (line : List ℕ) → Printable line → list_all is_narrow line ≡ true
-narrow_bytes [] all = refl
-narrow_bytes (byte ∷ line) all =
-    let here : is_narrow byte ≡ true = ap (λ b. b || (ltb 0xA0 byte && is_narrow_kind (kind byte))) (All-head (λ byte. is_printable byte ≡ true) byte line all) in
-    and_from (is_narrow byte) (list_all is_narrow line) here (narrow_bytes line (All-tail (λ byte. is_printable byte ≡ true) byte line all))
-
-ascii_bytes : (line : List ℕ) → Printable line → encode_utf8_all line ≡ line
-ascii_bytes [] all = refl
-ascii_bytes (byte ∷ line) all =
-    let here = All-head (λ byte. is_printable byte ≡ true) byte line all in
-    let low : byte < 128 = grind (arith, nat_tests, here) in
-    (λ i. encode_ascii byte low i ++ ascii_bytes line (All-tail (λ byte. is_printable byte ≡ true) byte line all) i)
-
-bytes_tile : (line : List ℕ) → Printable line → Tile (length line) line
-bytes_tile line all = subst (Tile (length line)) (ascii_bytes line all) (Tile-narrow line (narrow_bytes line all))
-
 printable_shown : (how : Placement) (text : List ℕ) → IsPrintableText text → All Printable (lines_shown how text)
 unfolding lines_shown
 printable_shown how text printable = kept how.trim_vertical (map (line_shown how) (pieces text)) (All-map Printable (line_shown how) (pieces text) (λ k d within. trimmed how.trim_horizontal (get_or (pieces text) k d) (printable_bytes (get_or (pieces text) k d) (printable k d within))))
@@ -388,25 +346,18 @@ narrow_padding settings r c =
     let set = value_at settings.padding (record { row = r; col = c }) in
     record { left = shown_narrow set.left.fill; right = shown_narrow set.right.fill; top = shown_narrow set.top.fill; bottom = shown_narrow set.bottom.fill }
 
-fill_narrow : (padding : Sides Indent) (character width before after : ℕ) (line : List ℕ) → is_narrow character ≡ true → is_narrow (fill_of padding character width before after line) ≡ true
-fill_narrow padding character width before after line narrow = by (not (character == 10) && (width_of_text (filled padding character before after line) == width))
-  where
-    by : (fits : Bool) → is_narrow (if fits then character else 32) ≡ true
-    by true = narrow
-    by false = refl
-
-narrow_line : (how : Placement) → IsNarrowPadding how.padding → is_narrow how.justification ≡ true → (width aligned : ℕ) (line : List ℕ) → Printable line → width_of_text line ≤ aligned
+narrow_line : (how : Placement) → IsNarrowPadding how.padding → (width aligned : ℕ) (line : List ℕ) → Printable line → width_of_text line ≤ aligned
     → how.padding.left.size + aligned + how.padding.right.size ≤ width → Tile width (placed_line how width aligned line)
 unfolding placed_line line_parts
-narrow_line how sides narrow width aligned line printable less room =
+narrow_line how sides width aligned line printable less room =
     let padding : Sides Indent = how.padding in
     let left : ℕ = padding.left.size in
     let right : ℕ = padding.right.size in
     let free : ℕ = width - left - right in
     let before : ℕ = free_before how.alignment_horizontal (free - aligned) in
     let after : ℕ = free - before - width_of_text line in
-    let fill : ℕ = fill_of padding how.justification width before after line in
-    let filling : is_narrow fill ≡ true = fill_narrow padding how.justification width before after line narrow in
+    let fill : ℕ = fill_of how.justification line in
+    let filling : is_narrow fill ≡ true = fill_narrow how.justification line in
     let own = bytes_tile line printable in
     let stands = before_fits how.alignment_horizontal (free - aligned) in
     let first : List ℕ = times left padding.left.fill in
@@ -507,7 +458,7 @@ module _ (how : Placement) (width height : ℕ) (text : List ℕ) (n : ℕ) wher
         let good : Good most line = shown_good how text u (n - above) [] within in
         let all : greatest (map width_of_text shown) ≤ most = widest_narrow most 0 shown (omega arith) (shown_good how text u) in
         let own : width_of_text line ≤ greatest (map width_of_text shown) = greatest_bound width_of_text 0 shown (n - above) [] within in
-        narrow_line how sides fill width (aligned_width how shown line) line (printable_shown how text printable (n - above) [] within)
+        narrow_line how sides width (aligned_width how shown line) line (printable_shown how text printable (n - above) [] within)
         (aligned_room how.line_alignment (width_of_text line) (greatest (map width_of_text shown)) own)
         (let least = aligned_most how.line_alignment (width_of_text line) (greatest (map width_of_text shown)) most good.narrow all in omega (arith, least))
 

@@ -1,5 +1,8 @@
 pub mod Trimming
 pub mod Measuring
+pub mod Boxes
+pub mod Fills
+pub mod Showing
 pub mod Fits
 pub mod Unset
 pub mod Printing

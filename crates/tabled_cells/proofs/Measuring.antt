@@ -1,22 +1,11 @@
 -- What is measured of lines.
-use Rattle.std.proofs.Common.{◌≡◌, ◌≢◌, ℕ, ◌-◌, max, fold, Bool, true, false, if◌then◌else◌, List, [], ◌∷◌, map, unwrap_or, refl, ap, arith}
-use Rattle.std.specs.List.{reduce}
+use Rattle.std.proofs.Common.{◌≡◌, ◌≢◌, ℕ, ◌-◌, Bool, true, false, if◌then◌else◌, List, map, refl, ap}
 use Rattle.tabled_settings.specs.declared.alignment.AlignmentHorizontal.{AlignmentHorizontal}
 use Rattle.tabled_settings.specs.declared.alignment.AlignmentHorizontal.TheVariants.{Left, Center, Right}
 use Rattle.tabled_printing.specs.Texts.{width_of_text}
 use Rattle.tabled_cells.specs.declared.filling.LineParts.{LineParts}
 use Rattle.tabled_cells.specs.declared.placement.Placement.{Placement}
 use Rattle.tabled_cells.specs.Placed.{greatest, free_before, fill_of, line_parts, aligned_width}
-
--- the greatest of a walk is the greatest of the list
-pub greatest_found : (ns : List ℕ) → unwrap_or (reduce max ns) 0 ≡ greatest ns
-greatest_found [] = refl
-greatest_found (n ∷ ns) = let same : n ≡ max 0 n = omega arith in ap (λ m. fold max m ns) same
-
--- a map of a map
-pub mapped_twice : {A B C : Type 0} (f : B → C) (g : A → B) (xs : List A) → map (λ x. f (g x)) xs ≡ map f (map g xs)
-mapped_twice f g [] = refl
-mapped_twice f g (x ∷ xs) = ap (λ rest. f (g x) ∷ rest) (mapped_twice f g xs)
 
 -- the widest line plays a part only where the lines are aligned as one, and not at the left
 before_same : (side : AlignmentHorizontal) (each : Bool) (room own widest all : ℕ) → (each ≡ false → side ≢ Left → widest ≡ all)
@@ -36,6 +25,6 @@ parts_same how width widest lines line is =
     let parts : ℕ → LineParts = λ before. record {
       before = before;
       after = room - before - width_of_text line;
-      fill = fill_of how.padding how.justification width before (room - before - width_of_text line) line;
+      fill = fill_of how.justification line;
     } in
     ap parts (before_same how.alignment_horizontal how.line_alignment room (width_of_text line) widest (greatest (map width_of_text lines)) is)

@@ -1,3 +1,4 @@
 pub mod Placed
 pub mod Placements
 pub mod Trimmed
+pub mod Shown

@@ -1,13 +1,16 @@
 -- A cell as it is printed: where its text stands in it, and what fills the rest.
 pub use Rattle.tabled_printing.specs.Texts.{times}
 pub use Rattle.tabled_rooms.specs.Sizes.{greatest}
-use Rattle.std.specs.Prelude.{◌≡◌, ℕ, true, ◌+◌, ◌-◌, ◌/◌, ◌==◌, ◌&&◌, not, if◌then◌else◌, List, ◌++◌, map}
+use Rattle.std.specs.Prelude.{◌≡◌, ℕ, Bool, true, ◌+◌, ◌-◌, ◌/◌, ◌&&◌, ◌||◌, not, if◌then◌else◌, List, ◌++◌, map, chars}
+use Rattle.std.specs.Int.{is_in_range}
+use Rattle.std.specs.List.{list_all}
 use Rattle.tabled_settings.specs.declared.alignment.AlignmentHorizontal.{AlignmentHorizontal}
 use Rattle.tabled_settings.specs.declared.alignment.AlignmentVertical.{AlignmentVertical}
 use Rattle.tabled_settings.specs.declared.indent.Indent.{Indent}
 use Rattle.tabled_settings.specs.declared.sides.Sides.{Sides}
 use Rattle.tabled_printing.specs.Columns.{draws_plainly, is_narrow}
 use Rattle.tabled_printing.specs.Texts.{width_of_text}
+use Rattle.tabled_width.specs.Texts.{is_printable, begins_with}
 use Rattle.tabled_cells.specs.declared.filling.LineParts.{LineParts}
 use Rattle.tabled_cells.specs.declared.placement.Placement.{Placement}
 
@@ -52,10 +55,16 @@ abbrev pub filled : Sides Indent → ℕ → ℕ → ℕ → List ℕ → List �
 filled padding character before after line =
     times padding.left.size padding.left.fill ++ times before character ++ line ++ times after character ++ times padding.right.size padding.right.fill
 
--- a character fills a line where that is then as wide as its column, and no line feed; else spaces do
-abbrev pub fill_of : Sides Indent → ℕ → ℕ → ℕ → ℕ → List ℕ → ℕ
-fill_of padding character width before after line =
-    if not (character == 10) && (width_of_text (filled padding character before after line) == width) then character else 32
+-- a character fills a line where it draws plainly and joins nothing of it: a printable one of ASCII, or one that draws boxes or blocks,
+-- unless the line begins with U+FE0F, which makes emoji of some; another, where the line has printable ASCII alone
+abbrev pub fills : ℕ → List ℕ → Bool
+fills character line =
+    draws_plainly character
+    && (if is_printable character || is_in_range 0x2500 0x259F character then not (begins_with 0xFE0F (chars line)) else list_all is_printable line)
+
+-- what fills a line: the character that is set, where it does, else spaces
+abbrev pub fill_of : ℕ → List ℕ → ℕ
+fill_of character line = if fills character line then character else 32
 
 -- how a line in a column is filled, where something as wide as `aligned` is aligned: the line stands where that begins
 unfoldable pub line_parts : Placement → ℕ → ℕ → List ℕ → LineParts
@@ -63,7 +72,7 @@ line_parts how width aligned line =
     let room = width - how.padding.left.size - how.padding.right.size in
     let before = free_before how.alignment_horizontal (room - aligned) in
     let after = room - before - width_of_text line in
-    record { before = before; after = after; fill = fill_of how.padding how.justification width before after line }
+    record { before = before; after = after; fill = fill_of how.justification line }
 
 -- how wide what is aligned is: a line by itself, or all of them as one, which is as wide as the widest
 abbrev pub aligned_width : Placement → List (List ℕ) → List ℕ → ℕ

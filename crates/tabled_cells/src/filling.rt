@@ -1,18 +1,13 @@
 //! A line of a cell: what stands beside its text.
 
-ghost use Rattle.std.specs.Prelude.{◌≡◌, ◌≢◌, ◌++◌, false, if◌then◌else◌, map, string_bytes, IfOk, OnOk};
-ghost use Rattle.tabled_settings.specs.declared.alignment.AlignmentHorizontal.{AlignmentHorizontal as Side};
-ghost use Rattle.tabled_printing.specs.Pieces.{lent};
-ghost use Rattle.tabled_printing.specs.Texts.{width_of_text};
-ghost use Rattle.tabled_cells.specs.Placed.{filled, greatest};
+ghost use Rattle.std.specs.Prelude.{◌≡◌, chars};
+ghost use Rattle.tabled_width.specs.Texts.{begins_with};
 ghost use Rattle.tabled_cells.specs.Placed as parts;
 
 use crate::Placement;
 use crate::placement::free_before;
-use std::alloc::{AllocError, Global};
-use tabled_printing::push_times;
-use tabled_settings::{AlignmentHorizontal, Indent, Sides};
-use tabled_width::width_of;
+use tabled_printing::draws_plainly;
+use tabled_width::{is_printable, width_of};
 
 /// What stands beside the text of a line, between its padding.
 #[derive(Clone, Copy, Debug)]
@@ -25,90 +20,53 @@ pub struct LineParts {
     pub fill: char,
 }
 
-/// Writes a line between its padding, with the given numbers of a character before it and after it.
-fn push_filled(
-    cell: &mut String,
-    padding: &Sides<Indent>,
-    character: char,
-    before: usize,
-    after: usize,
-    line: &str,
-) -> Result<(), AllocError>
-    ensures { OnOk result (string_bytes cell.new ≡ string_bytes cell.old ++ filled padding.now character before after line.now) }
+/// Whether a line begins with U+FE0F, which can make an emoji of what stands before it.
+fn begins_with_selector(line: &str) -> bool
+    ensures { result ≡ begins_with 0xFE0F (chars line.now) }
 {
-    push_times(cell, padding.left.size, padding.left.fill)?;
-    push_times(cell, before, character)?;
-    cell.push_str(line)?;
-    push_times(cell, after, character)?;
-    push_times(cell, padding.right.size, padding.right.fill)?;
-    Ok(())
+    match line.chars().next() {
+        Some(character) => character == '\u{FE0F}',
+        None => false,
+    }
 }
 
-/// The character that fills a line beside it: the one that is set, if the line is then as wide as its column.
-fn fill_of(
-    alloc: Global,
-    how: &Placement,
-    width: usize,
-    before: usize,
-    after: usize,
-    line: &str,
-) -> Result<char, AllocError>
-    ensures { IfOk result (λ fill. fill ≡ parts.fill_of how.now.padding how.now.justification width before after line.now) }
+/// Whether a character draws plainly and joins nothing of a line beside it.
+fn fills(character: char, line: &str) -> bool
+    ensures { result ≡ parts.fills character line.now }
 {
-    let character = how.justification;
-    if character == ' ' || character == '\n' {
-        return Ok(' ');
+    if !draws_plainly(character) {
+        return false;
     }
-    let mut tried = String::new(alloc);
-    push_filled(&mut tried, &how.padding, character, before, after, line)?;
-    if width_of(tried.as_str()) == width {
-        Ok(character)
+    if matches!(character, ' '..='~' | '\u{2500}'..='\u{259F}') {
+        !begins_with_selector(line)
     } else {
-        Ok(' ')
+        is_printable(line)
+    }
+}
+
+/// The character that fills a line beside it: the one that is set, where it does, else a space.
+fn fill_of(character: char, line: &str) -> char
+    ensures { result ≡ parts.fill_of character line.now }
+{
+    if character != ' ' && fills(character, line) {
+        character
+    } else {
+        ' '
     }
 }
 
 /// How a line in a column is filled, where something as wide as `aligned` is aligned.
-pub fn line_parts(
-    alloc: Global,
-    how: &Placement,
-    width: usize,
-    aligned: usize,
-    line: &str,
-) -> Result<LineParts, AllocError>
-    ensures { IfOk result (λ found. found ≡ parts.line_parts how.now width aligned line.now) }
+pub fn line_parts(how: &Placement, width: usize, aligned: usize, line: &str) -> LineParts
+    ensures { result ≡ parts.line_parts how.now width aligned line.now }
 {
     let padding = &how.padding;
     let room = width
         .saturating_sub(padding.left.size)
         .saturating_sub(padding.right.size);
     let before = free_before(how.alignment_horizontal, room.saturating_sub(aligned));
-    let after = room.saturating_sub(before).saturating_sub(width_of(line));
-    let fill = fill_of(alloc, how, width, before, after, line)?;
-    Ok(LineParts {
+    LineParts {
         before,
-        after,
-        fill,
-    })
-}
-
-/// How wide the lines are that are aligned as one, where that is asked for.
-pub fn widest(how: &Placement, lines: &[&str]) -> usize
-    ensures { how.now.line_alignment ≡ false → how.now.alignment_horizontal ≢ Side.Left → result ≡ greatest (map width_of_text (lent lines.now)) }
-{
-    if how.line_alignment || how.alignment_horizontal == AlignmentHorizontal::Left {
-        return 0;
-    }
-    lines.iter().map(|line| width_of(line)).max().unwrap_or(0)
-}
-
-/// How wide what is aligned is: a line by itself, or all lines as one.
-pub fn aligned(how: &Placement, widest: usize, line: &str) -> usize
-    ensures { result ≡ (if how.now.line_alignment then width_of_text line.now else widest) }
-{
-    if how.line_alignment {
-        width_of(line)
-    } else {
-        widest
+        after: room.saturating_sub(before).saturating_sub(width_of(line)),
+        fill: fill_of(how.justification, line),
     }
 }

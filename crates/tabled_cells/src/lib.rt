@@ -5,8 +5,9 @@
 
 mod filling;
 mod placement;
+mod shown_lines;
 mod trim;
 
-pub use filling::{LineParts, aligned, line_parts, widest};
+pub use filling::{LineParts, line_parts};
 pub use placement::{Placement, fill_shown, free_before, lines_above};
-pub use trim::show_lines;
+pub use shown_lines::ShownLines;

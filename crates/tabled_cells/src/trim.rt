@@ -1,13 +1,9 @@
-//! The lines of a text as they are shown.
+//! The lines of a text, and what is trimmed of them.
 
-ghost use Rattle.std.specs.Prelude.{◌≡◌, ◌<◌, ℕ, List, [], ◌∷◌, ◌++◌, map, reverse, length, OnOk, IfSome, MatchOption};
-ghost use Rattle.tabled_printing.specs.Pieces.{lent};
+ghost use Rattle.std.specs.Prelude.{◌≡◌, ◌<◌, ◌≤◌, [], ◌∷◌, reverse, take, drop, length, IfSome, MatchOption};
 ghost use Rattle.tabled_printing.specs.Texts.{pieces};
-ghost use Rattle.tabled_cells.specs.Trimmed.{without_first, is_space, line_shown, goes_on, lines_shown};
+ghost use Rattle.tabled_cells.specs.Trimmed.{without_first, without_last, is_space, pieces_left};
 ghost use Rattle.tabled_cells.specs.Trimmed as shown;
-
-use crate::Placement;
-use std::alloc::AllocError;
 
 /// A line without the spaces at its start.
 fn after_spaces(line: &str) -> &str
@@ -22,7 +18,7 @@ fn after_spaces(line: &str) -> &str
 
 /// A line without the spaces at its end.
 fn before_spaces(line: &str) -> &str
-    ensures { result.now ≡ reverse (without_first is_space (reverse line.now)) }
+    ensures { result.now ≡ without_last is_space line.now }
 {
     let mut rest = line;
     while let Some(less) = rest.strip_suffix(' ') {
@@ -31,11 +27,11 @@ fn before_spaces(line: &str) -> &str
     rest
 }
 
-/// A line as it is shown.
-fn line_shown<'a>(how: &Placement, line: &'a str) -> &'a str
-    ensures { result.now ≡ line_shown how.now line.now }
+/// A line without the spaces at its ends, where these are trimmed.
+pub(crate) fn line_trimmed(trims: bool, line: &str) -> &str
+    ensures { result.now ≡ shown.line_trimmed trims line.now }
 {
-    if how.trim_horizontal {
+    if trims {
         before_spaces(after_spaces(line))
     } else {
         line
@@ -57,60 +53,60 @@ fn cut(text: &str) -> Option<(&str, &str)>
     text.split_once('\n')
 }
 
-/// Puts a line after others, as it is shown, unless it is blank, and such lines are trimmed above the others.
-fn push_shown<'a>(
-    lines: &mut Vec<&'a str>,
-    how: &Placement,
-    line: &'a str,
-) -> Result<(), AllocError>
-    ensures { OnOk result ((more : List (List ℕ)) → lent lines.new.items ++ goes_on how.now (lent lines.new.items) more
-        ≡ lent lines.old.items ++ goes_on how.now (lent lines.old.items) (line_shown how.now line.now ∷ more)) }
+/// Line `n` of what is left of a text, counted from 0, if there is one, and what is left below it.
+pub(crate) fn line_at(text: Option<&str>, n: usize) -> Option<(&str, Option<&str>)>
+    ensures { MatchOption result (length (pieces_left text.entry) ≤ n) (λ found. drop n (pieces_left text.entry) ≡ found.0.now ∷ pieces_left found.1) }
 {
-    let shown = line_shown(how, line);
-    if how.trim_vertical && lines.is_empty() && is_blank(shown) {
-        return Ok(());
-    }
-    lines.push(shown)?;
-    Ok(())
-}
-
-/// Puts the lines of a text into a list, each as it is shown, in place of what that had, and without the blank ones above the
-/// others where these are trimmed.
-fn cut_into<'a>(lines: &mut Vec<&'a str>, how: &Placement, text: &'a str) -> Result<(), AllocError>
-    ensures { OnOk result (lent lines.new.items ≡ goes_on how.now [] (map (line_shown how.now) (pieces text.now))) }
-{
-    lines.clear();
-    let mut rest = text;
-    while let Some((line, more)) = cut(rest) {
-        push_shown(lines, how, line)?;
+    let mut rest = text?;
+    for passed in 0..n {
+        let Some((_, more)) = cut(rest) else {
+            return None;
+        };
         rest = more;
     }
-    push_shown(lines, how, rest)
+    match cut(rest) {
+        Some((line, more)) => Some((line, Some(more))),
+        None => Some((rest, None)),
+    }
 }
 
-/// Takes the blank lines below the others out of a list.
-fn drop_blank_end(lines: &mut Vec<&str>)
-    ensures { lent lines.new.items ≡ reverse (without_first shown.is_blank (reverse (lent lines.old.items))) }
+/// How many lines a text has: one more than it has line feeds.
+pub(crate) fn count_lines(text: &str) -> usize
+    ensures { result ≡ length (pieces text.now) }
 {
-    while let Some(last) = lines.last() {
-        if !is_blank(last) {
-            return;
+    text.as_bytes()
+        .iter()
+        .filter(|byte| **byte == b'\n')
+        .count()
+        + 1
+}
+
+/// A text from its first line that is not blank, if it has one.
+pub(crate) fn from_first(text: &str) -> Option<&str>
+    ensures { pieces_left result ≡ without_first shown.is_blank (pieces text.now) }
+{
+    let mut rest = text;
+    while let Some((line, more)) = cut(rest) {
+        if !is_blank(line) {
+            return Some(rest);
         }
-        lines.pop();
+        rest = more;
     }
+    if is_blank(rest) { None } else { Some(rest) }
 }
 
-/// Puts the lines of a text that are shown into a list, in place of what that had.
-pub fn show_lines<'a>(
-    lines: &mut Vec<&'a str>,
-    how: &Placement,
-    text: &'a str,
-) -> Result<(), AllocError>
-    ensures { OnOk result (lent lines.new.items ≡ lines_shown how.now text.now) }
+/// How many lines a text has up to the last one that is not blank.
+pub(crate) fn count_to_last(text: &str) -> usize
+    ensures lines { take result (pieces text.now) ≡ without_last shown.is_blank (pieces text.now) }
+    ensures within { result ≤ length (pieces text.now) }
 {
-    cut_into(lines, how, text)?;
-    if how.trim_vertical {
-        drop_blank_end(lines);
+    let (mut rest, mut passed, mut count) = (text, 0, 0);
+    while let Some((line, more)) = cut(rest) {
+        passed += 1;
+        if !is_blank(line) {
+            count = passed;
+        }
+        rest = more;
     }
-    Ok(())
+    if is_blank(rest) { count } else { passed + 1 }
 }

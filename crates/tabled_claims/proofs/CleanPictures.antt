@@ -19,7 +19,7 @@ use Rattle.tabled_printing.specs.Along.{is_empty, along, crossing_at}
 use Rattle.tabled_printing.specs.Picture.{Look, character, mark_at, marks_along}
 use Rattle.tabled_printing.specs.Texts.{Table, width_of_text}
 use Rattle.tabled_cells.specs.declared.placement.Placement.{Placement}
-use Rattle.tabled_cells.specs.Placed.{times, lines_above as cell_lines_above, free_before, fill_of, filled, line_parts, aligned_width}
+use Rattle.tabled_cells.specs.Placed.{times, lines_above as cell_lines_above, free_before, fills, fill_of, line_parts, aligned_width}
 use Rattle.tabled_cells.specs.Placements.{placement_at}
 use Rattle.tabled_cells.specs.Trimmed.{lines_shown}
 use Rattle.tabled_painting.specs.Painted.{Painted, paint, plain}
@@ -89,11 +89,11 @@ line_quiet how colors width aligned line padded filling quiet =
     let free : ℕ = width - padding.left.size - padding.right.size in
     let before : ℕ = free_before how.alignment_horizontal (free - aligned) in
     let after : ℕ = free - before - width_of_text line in
-    let fill : ℕ = fill_of padding how.justification width before after line in
+    let fill : ℕ = fill_of how.justification line in
     let first : Painted = paint colors.padding.left (times padding.left.size padding.left.fill) in
     let last : Painted = paint colors.padding.right (times padding.right.size padding.right.fill) in
     let fills : (count : ℕ) → QuietLine (paint colors.fill (times count fill)) = λ count. paint_quiet colors.fill (times count fill)
-    (Quiet-times count fill (fill_quiet (not (how.justification == 10) && (width_of_text (filled padding how.justification before after line) == width)) how.justification filling)) in
+    (Quiet-times count fill (fill_quiet (fills how.justification line) how.justification filling)) in
     both_quiet (first ++ paint colors.fill (times before fill) ++ paint colors.text line ++ paint colors.fill (times after fill)) last
     (both_quiet (first ++ paint colors.fill (times before fill) ++ paint colors.text line) (paint colors.fill (times after fill))
     (both_quiet (first ++ paint colors.fill (times before fill)) (paint colors.text line)

@@ -101,7 +101,7 @@ pub fn line_put_into_a_sink<'a, D: Dimension, S: Sink<'a>, M: Meter>(
     row: usize,
     sink: &mut S,
     probes: &mut M,
-) -> Result<(), OutOfMemory>
+) -> Result<(), S::Error>
     requires { row ≤ frame.now.shape.0 }
     ensures put { MatchResult result (λ _. S.puts (marks_along (frame_look D.width_of D.height_of frame.now) (Line.Horizontal row)) sink.old sink.new) (λ _. S.leaves sink.old sink.new) }
     ensures readings { IsRaised (12 * length (marks_along (frame_look D.width_of D.height_of frame.now) (Line.Horizontal row)) + 6 * (frame.now.shape.1 + 1) + 45) (M.made probes.old) (M.made probes.new) }
@@ -111,7 +111,7 @@ pub fn line_put_into_a_sink<'a, D: Dimension, S: Sink<'a>, M: Meter>(
 }
 
 /// The marks of a run are put as the sink says, which a text, lists of marks and of runs, and a number do.
-pub fn run_put_into_a_sink<'a, S: Sink<'a>>(sink: &mut S, run: Run<'a>) -> Result<(), OutOfMemory>
+pub fn run_put_into_a_sink<'a, S: Sink<'a>>(sink: &mut S, run: Run<'a>) -> Result<(), S::Error>
     ensures put { MatchResult result (λ _. S.puts (run_marks run.entry) sink.old sink.new) (λ _. S.leaves sink.old sink.new) }
 {
     sink.put(run)

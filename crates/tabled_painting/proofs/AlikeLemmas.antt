@@ -33,7 +33,7 @@ use Rattle.tabled_printing.proofs.LookLemmas.{own_shown, own_color}
 use Rattle.tabled_printing.proofs.LineLemmas.{along_pieces, horizontal_there}
 use Rattle.tabled_printing.proofs.MarkLemmas.{mark_by}
 use Rattle.tabled_painting.specs.Between.{IsPlainLine, IsBetweenRows}
-use Rattle.tabled_painting.specs.Pages.{written}
+use Rattle.tabled_painting.specs.Pages.{line_text}
 use Rattle.tabled_painting.specs.PaintedTable.{painted_marks}
 use Rattle.tabled_painting.specs.Viewed.{viewed}
 use Rattle.tabled_painting.proofs.FrameLemmas.{flat_map_same}
@@ -183,10 +183,10 @@ module _ (cfg : Configuration) (wanted : Bool) (shape : ℕ × ℕ) (widths heig
 
 -- one line between two rows is written as all are
 pub all_between : {M : Type 0} (frame : Frame FixedDimension M) (s : ℕ) (text : List ℕ) → NoneForPlaces frame.cfg.now frame.with_colors Horizontal → 0 < s → s < frame.shape.0 → IsPlainLine frame.cfg.now s
-    → text ≡ written frame.with_colors (painted_marks (marks_along (viewed frame) (LineOf.Horizontal s))) → IsBetweenRows frame text
+    → text ≡ line_text frame.with_colors (painted_marks (marks_along (viewed frame) (LineOf.Horizontal s))) → IsBetweenRows frame text
 all_between frame s text alike some within plain_s is r above below plain_r =
     let shape = frame.shape in
-    is ∙ ap (λ marks. written frame.with_colors (painted_marks marks))
+    is ∙ ap (λ marks. line_text frame.with_colors (painted_marks marks))
     (marks_alike frame.cfg.now frame.with_colors shape (slice_index frame.dims.now.widths.items) (slice_index frame.dims.now.heights.items) s r (omega arith) (omega arith)
     (between shape.0 s some within ∙ sym (between shape.0 r above below)) alike plain_s plain_r frame.has_places)
 

@@ -202,7 +202,7 @@ module _ (side : AlignmentHorizontal) (how : Placement) (is : IsBareCell side ho
       let made : Sides Indent → AlignmentHorizontal → ℕ → ℕ → ℕ → LineParts = λ padding place character wide of_text. record {
         before = ahead padding place wide;
         after = room padding - ahead padding place wide - of_text;
-        fill = fill_of padding character width (ahead padding place wide) (room padding - ahead padding place wide - of_text) text;
+        fill = fill_of character text;
       } in
       let of : ℕ → ℕ → ℕ → LineParts = λ first rest character. record { before = first; after = rest; fill = character } in
       let all : width - 1 - 1 - length text ≡ free = omega arith in
@@ -211,7 +211,7 @@ module _ (side : AlignmentHorizontal) (how : Placement) (is : IsBareCell side ho
       ∙ ap (λ place. made first_padding place how.justification aligned (width_of_text text)) is.stands
       ∙ ap (λ character. made first_padding side character aligned (width_of_text text)) is.spaces
       ∙ (λ i. made first_padding side 32 (long i) (printable_width text printable i))
-      ∙ (λ i. of (free_before side (all i)) (width - 1 - 1 - free_before side (all i) - length text) (fill_of first_padding 32 width (free_before side (all i)) (width - 1 - 1 - free_before side (all i) - length text) text))
+      ∙ (λ i. of (free_before side (all i)) (width - 1 - 1 - free_before side (all i) - length text) (fill_of 32 text))
       ∙ ap (of before (width - 1 - 1 - before - length text)) (either_same _ 32)
       ∙ ap (λ n. of before n 32) rest
 

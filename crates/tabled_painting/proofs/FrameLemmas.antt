@@ -76,11 +76,12 @@ sides_more side cell n line after is ends =
     ∙ sym (append_assoc (front ++ side n) (cell n) (side (n + 1)))
     ∙ ap (λ l. l ++ side (n + 1)) (append_assoc front (side n) (cell n) ∙ sym (flat_map_below part n))
 
-pub cell_then_side : (side cell : ℕ → Painted) (n : ℕ) (line after : Painted) (old middle new : Painter) → line ≡ cell n → after ≡ side (n + 1)
-    → Paints (flat_map (λ c. side c ++ cell c) (below n) ++ side n) old middle → Paints (line ++ after) middle new
-    → Paints (flat_map (λ c. side c ++ cell c) (below (n + 1)) ++ side (n + 1)) old new
-cell_then_side side cell n line after old middle new is ends p q =
-    subst (λ l. Paints l old new) (sides_more side cell n line after is ends) (paints_both (flat_map (λ c. side c ++ cell c) (below n) ++ side n) (line ++ after) old middle new p q)
+module _ {O : Type 0} (gains : List ℕ → O → O → Type 0) (both : (xs ys : List ℕ) (old between new : O) → gains xs old between → gains ys between new → gains (xs ++ ys) old new) where
+  pub cell_then_side : (side cell : ℕ → Painted) (n : ℕ) (line after : Painted) (old middle new : Painter O) → line ≡ cell n → after ≡ side (n + 1)
+      → Paints gains (flat_map (λ c. side c ++ cell c) (below n) ++ side n) old middle → Paints gains (line ++ after) middle new
+      → Paints gains (flat_map (λ c. side c ++ cell c) (below (n + 1)) ++ side (n + 1)) old new
+  cell_then_side side cell n line after old middle new is ends p q =
+      subst (λ l. Paints gains l old new) (sides_more side cell n line after is ends) (paints_both gains both (flat_map (λ c. side c ++ cell c) (below n) ++ side n) (line ++ after) old middle new p q)
 
 -- what a thing of a list shows, among what all of them show
 pub shown_at : {A B : Type 0} (f : A → B) (xs : List A) (at : ℕ) (x : A) (d : B) → at < length xs → x ≡ get_or xs at x → f x ≡ get_or (map f xs) at d

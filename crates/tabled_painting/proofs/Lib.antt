@@ -1,6 +1,4 @@
 pub mod PainterLemmas
-pub mod JointLemmas
-pub mod JoinedRow
 pub mod CellLemmas
 pub mod FrameLemmas
 pub mod PageLemmas
@@ -16,5 +14,5 @@ pub mod SpannedPlain
 pub mod SpannedLemmas
 pub mod AloneLemmas
 pub mod DrawnLemmas
-pub mod AlikeLineLemmas
-pub mod OutputLemmas
+pub mod RowLemmas
+pub mod TablePageLemmas

@@ -1,5 +1,5 @@
 -- How large a table is, and what its margin is where it has none.
-use Rattle.std.proofs.Common.{◌≡◌, ℕ, ◌+◌, Bool, true, false, ◌||◌, ◌==◌, if◌then◌else◌, List, [], ◌∷◌, ◌++◌, map, length, replicate, refl, sym, ap, subst, ◌∙◌, Result, Ok, Err, IfOk}
+use Rattle.std.proofs.Common.{◌≡◌, ℕ, ◌+◌, min, Bool, true, false, ◌||◌, ◌==◌, if◌then◌else◌, List, [], ◌∷◌, ◌++◌, map, length, replicate, refl, sym, ap, subst, ◌∙◌, Result, Ok, Err, IfOk}
 use Rattle.std.specs.List.{flat_map, join_with_byte}
 use Rattle.std.proofs.lemmas.List.{append-nil, length-append}
 use Rattle.std.proofs.lemmas.List.FromFn.{length-map-range_with_len}
@@ -9,15 +9,11 @@ use Rattle.tabled_printing.specs.Along.{is_empty}
 use Rattle.tabled_printing.specs.LinePieces.{crossing_of, edge_of, crossing_places, edge_places, piece_places, places_before, all_places}
 use Rattle.tabled_printing.specs.Picture.{Look, marks_along}
 use Rattle.tabled_printing.proofs.LineLemmas.{marks_count, vertical_there}
-use Rattle.tabled_printing.proofs.TextLemmas.{ended}
 use Rattle.tabled_layout.specs.declared.margin.Margin.{Margin}
-use Rattle.tabled_painting.specs.declared.painter.Painter.{Painter}
-use Rattle.tabled_painting.specs.declared.page.Page.{Page}
 use Rattle.tabled_painting.specs.declared.margin_sides.MarginSides.{MarginSides}
 use Rattle.tabled_painting.specs.Painted.{Painted, colored_if}
 use Rattle.tabled_painting.specs.InColor.{in_color}
-use Rattle.tabled_painting.specs.Pages.{PaintsLines, PaintsWhole, Strips, written, text_of_lines}
-use Rattle.tabled_painting.proofs.PageLemmas.{whole_both}
+use Rattle.tabled_painting.specs.Pages.{IsMarginOf, Strips, counted_sides, most, text_of_lines}
 use Rattle.tabled_painting.specs.Margin.{Side, side_of, side_at, is_left_out, between_sides, strip, in_margin, left_side, right_side, top_side, bottom_side}
 use Rattle.tabled_painting.specs.PaintedTable.{Cells, painted_marks, painted_between, painted_if_drawn, painted_row, painted_lines, with_margin}
 
@@ -44,6 +40,12 @@ pub between_none : (left right : Side) (high n : ℕ) (lines : List Painted) →
 between_none left right high n [] no_left no_right = refl
 between_none left right high n (line ∷ lines) no_left no_right =
     (λ i. (none_at left high n no_left i ++ line ++ none_at right high n no_right i) ∷ between_none left right high (n + 1) lines no_left no_right i)
+    ∙ ap (λ l. l ∷ lines) (append-nil line)
+
+pub counted_none : (left right : Side) (high n : ℕ) (lines : List Painted) → left.size ≡ 0 → right.size ≡ 0 → counted_sides left right high n lines ≡ lines
+counted_none left right high n [] no_left no_right = refl
+counted_none left right high n (line ∷ lines) no_left no_right =
+    (λ i. (none_at left high n no_left i ++ line ++ none_at right high n no_right i) ∷ counted_none left right high (min (n + 1) most) lines no_left no_right i)
     ∙ ap (λ l. l ∷ lines) (append-nil line)
 
 -- ---- how many lines a table has
@@ -77,40 +79,23 @@ module _ (view : Look) (cells : Cells) where
 
 -- ---- a table in its margin
 
-pub lines_whole : (lines : List Painted) (old new : Page) → PaintsLines lines old new → PaintsWhole (between_sides (side_of old.left) (side_of old.right) old.high old.number lines) old.painter new.painter
-lines_whole lines old new p = record { text = p.text; ended = p.ended; same_colors = p.same_colors }
-
-module _ (view : Look) (margin : MarginSides) (kept : Margin) (lines : List Painted) (high long : ℕ)
-    (left : side_of margin.left ≡ left_side kept) (right : side_of margin.right ≡ right_side kept) (top : side_of margin.top ≡ top_side kept) (bottom : side_of margin.bottom ≡ bottom_side kept) where
+module _ (view : Look) (margin : MarginSides) (kept : Margin) (lines : List Painted) (high long : ℕ) (is : IsMarginOf kept margin) where
   parts : Side → Side → Side → Side → List Painted
   parts l r t b =
       replicate t.size (strip t (l.size + length (marks_along view (LineOf.Horizontal 0)) + r.size)) ++ between_sides l r (length lines) 0 lines
       ++ replicate b.size (strip b (l.size + length (marks_along view (LineOf.Horizontal 0)) + r.size))
 
   pub in_its_margin : is_empty view.shape ≡ false → Strips view margin long
-      → between_sides (side_of margin.left) (side_of margin.right) high 0 lines ≡ between_sides (side_of margin.left) (side_of margin.right) (length lines) 0 lines
-      → replicate margin.top.size (strip (side_of margin.top) long) ++ between_sides (side_of margin.left) (side_of margin.right) high 0 lines
+      → counted_sides (side_of margin.left) (side_of margin.right) high 0 lines ≡ between_sides (side_of margin.left) (side_of margin.right) (length lines) 0 lines
+      → replicate margin.top.size (strip (side_of margin.top) long) ++ counted_sides (side_of margin.left) (side_of margin.right) high 0 lines
       ++ replicate margin.bottom.size (strip (side_of margin.bottom) long) ≡ with_margin view kept lines
   unfolding parts
   in_its_margin any strips highs =
       (λ i. strips.top i ++ highs i ++ strips.bottom i)
-      ∙ (λ i. parts (left i) (right i) (top i) (bottom i))
+      ∙ (λ i. parts (is.left i) (is.right i) (is.top i) (is.bottom i))
       ∙ sym (ap (λ b. if b then [] else in_margin kept (length (marks_along view (LineOf.Horizontal 0))) lines) any)
 
-pub painted_in_margin : (old first second new : Painter) (xs ys zs whole : List Painted) → xs ++ ys ++ zs ≡ whole → PaintsWhole xs old first → PaintsWhole ys first second → PaintsWhole zs second new → PaintsWhole whole old new
-painted_in_margin old first second new xs ys zs whole is p q r =
-    subst (λ lines. PaintsWhole lines old new) is (whole_both (xs ++ ys) zs old second new (whole_both xs ys old first second p q) r)
-
 -- ---- the text of painted lines
-
-pub written_ended : (with_colors : Bool) (lines : List Painted) → flat_map (written with_colors) lines ≡ flat_map ended (map (λ line. in_color (colored_if with_colors line)) lines)
-written_ended with_colors [] = refl
-written_ended with_colors (line ∷ lines) = ap (λ rest. written with_colors line ++ rest) (written_ended with_colors lines)
-
-pub lines_written : (wanted with_colors : Bool) (lines : List Painted) (first text : List ℕ) → first ≡ [] → with_colors ≡ wanted → text ≡ first ++ flat_map (written with_colors) lines
-    → text ≡ flat_map ended (map (λ line. in_color (colored_if wanted line)) lines)
-lines_written wanted with_colors lines first text none same wrote =
-    wrote ∙ ap (λ bs. bs ++ flat_map (written with_colors) lines) none ∙ ap (λ w. flat_map (written w) lines) same ∙ written_ended wanted lines
 
 pub no_places : (view : Look) (margin : Margin) (lines : List Painted) (with_colors : Bool) → is_empty view.shape ≡ true → text_of_lines with_colors (with_margin view margin lines) ≡ []
 unfolding text_of_lines

@@ -1,11 +1,11 @@
 -- The rooms of cells, and the lines that they stand in, part by part.
-use Rattle.std.proofs.Common.{◌≡◌, ◌≢◌, ℕ, ◌+◌, ◌-◌, ◌<◌, ◌≤◌, ◌==◌, ◌&&◌, Bool, true, false, if◌then◌else◌, Option, List, [], ◌∷◌, ◌++◌, map, length, set, inl, inr, refl, sym, ap, subst, ◌∙◌, arith, add-one}
+use Rattle.std.proofs.Common.{◌≡◌, ◌≢◌, ℕ, ◌+◌, ◌-◌, ◌<◌, ◌≤◌, ◌==◌, ◌&&◌, min, Bool, true, false, if◌then◌else◌, Option, List, [], ◌∷◌, ◌++◌, map, length, set, inl, inr, refl, sym, ap, subst, ◌∙◌, arith, add-one}
 use Rattle.std.specs.List.{flat_map}
 use Rattle.std.specs.Prelude.{slice_index, slice_index_or}
 use Rattle.std.proofs.lemmas.Grind.{get_or_default_zero}
 use Rattle.std.proofs.lemmas.Bool.{cases_eq, eqb-true}
 use Rattle.std.proofs.lemmas.Bool.Decides.{nat_tests}
-use Rattle.std.proofs.lemmas.List.{map-append, get_or-set_same, get_or-set_other}
+use Rattle.std.proofs.lemmas.List.{map-append, get_or_default, get_or-set_same, get_or-set_other, length-set}
 use Rattle.std.proofs.lemmas.List.Concat.{flat_map-append}
 use Rattle.tabled_object.specs.Entities.{below}
 use Rattle.tabled_grid.specs.declared.place.Place.{Place}
@@ -22,30 +22,19 @@ use Rattle.tabled_border.specs.Texts.{Texts}
 use Rattle.tabled_settings.specs.declared.cell_settings.CellSettings.{CellSettings}
 use Rattle.tabled_settings.specs.Live.{Live}
 use Rattle.tabled_printing.specs.Texts.{Table}
-use Rattle.tabled_rooms.proofs.RoomLemmas.{width_same}
+use Rattle.tabled_rooms.proofs.RoomLemmas.{line_within, room_within, width_same}
+use Rattle.tabled_painting.specs.Pages.{most}
+use Rattle.tabled_painting.specs.Viewed.{viewed}
+use Rattle.tabled_painting.specs.declared.table_lines.TableLines.{TableLines}
 use Rattle.tabled_rooms.proofs.OpenLemmas.{top_row, above_open}
-use Rattle.tabled_painting.specs.declared.painter.Painter.{Painter}
 use Rattle.tabled_painting.specs.declared.room.Room.{Room}
-use Rattle.tabled_painting.specs.InColor.{Paints}
 use Rattle.tabled_painting.specs.Painted.{Painted}
 use Rattle.tabled_painting.specs.PaintedTable.{Cells, painted_cell, painted_mark, painted_marks, painted_side}
 use Rattle.tabled_painting.specs.PaintedSpans.{painted_crossing, painted_edge, lines_above, room_line, room_wide, spanned_piece, crossed_piece, spanned_across, spanned_cells}
-use Rattle.tabled_painting.specs.RoomLines.{room_shown, begun_piece, crossed_by, IsRoomAt, AreRooms, AreOpen, AreBegun}
-use Rattle.tabled_painting.proofs.PainterLemmas.{paints_none, paints_both}
+use Rattle.tabled_painting.specs.RoomLines.{room_shown, begun_piece, crossed_by, IsRoomAt, AreRooms, AreOpen, AreBegun, AreSpans, ShowTheSame}
 use Rattle.tabled_painting.proofs.FrameLemmas.{flat_map_same}
 
 -- ---- a piece as it is painted
-
-pub begun_there : (view : Look) (r k line c : ℕ) (kept : Host) (room : Option Room) (old middle new : Painter) → kept.col ≡ c
-    → Paints (painted_side view r k c) old middle → Paints (room_shown room line) middle new → Paints (begun_piece view r k line c kept room) old new
-begun_there view r k line c kept room old middle new here p q =
-    let test : (kept.col == c) ≡ true = grind (arith, nat_tests) in
-    subst (λ l. Paints l old new) (ap (λ b. if b then painted_side view r k c ++ room_shown room line else []) (sym test)) (paints_both (painted_side view r k c) (room_shown room line) old middle new p q)
-
-pub begun_not : (view : Look) (r k line c : ℕ) (kept : Host) (room : Option Room) (painter : Painter) → kept.col ≢ c → Paints (begun_piece view r k line c kept room) painter painter
-begun_not view r k line c kept room painter other =
-    let test : (kept.col == c) ≡ false = grind (arith, nat_tests) in
-    subst (λ l. Paints l painter painter) (ap (λ b. if b then painted_side view r k c ++ room_shown room line else []) (sym test)) (paints_none painter)
 
 -- a crossing and an edge in a row
 marks_both : (view : Look) (xs ys : List Place) → painted_marks (map (mark_at view) (xs ++ ys)) ≡ painted_marks (map (mark_at view) xs) ++ painted_marks (map (mark_at view) ys)
@@ -54,28 +43,70 @@ marks_both view xs ys = ap painted_marks (map-append (mark_at view) xs ys) ∙ f
 piece_marks : (view : Look) (r c : ℕ) → painted_marks (map (mark_at view) (piece_places view (LineOf.Horizontal r) c)) ≡ painted_crossing view r c ++ painted_edge view r c
 piece_marks view r c = marks_both view (crossing_at view.vertical (Place.Cross r) c) (map (Place.Horizontal r c) (below (view.widths c)))
 
+abbrev begun_choice : Look → ℕ → ℕ → ℕ → ℕ → Option Room → Bool → Painted
+begun_choice view r k line c room first = if first then painted_side view r k c ++ room_shown room line else []
+
 abbrev crossed_choice : Look → ℕ → ℕ → ℕ → Option Room → Bool → Bool → Painted
 crossed_choice view r line c room own first =
     if own then painted_crossing view r c ++ painted_edge view r c else if first then painted_crossing view r c ++ room_shown room line else []
 
-pub crossed_own : (view : Look) (r line c : ℕ) (kept : Host) (room : Option Room) (old new : Painter) → kept.row ≡ r
-    → Paints (painted_marks (map (mark_at view) (piece_places view (LineOf.Horizontal r) c))) old new → Paints (crossed_by view r line c kept room) old new
-crossed_own view r line c kept room old new own p =
-    let test : (kept.row == r) ≡ true = grind (arith, nat_tests) in
-    subst (λ l. Paints l old new) (piece_marks view r c ∙ ap (λ b. crossed_choice view r line c room b (kept.col == c)) (sym test)) p
+-- what each of them is: nothing, a side and what a room shows, a crossing and an edge, or a crossing and what a room shows
+module _ (view : Look) (r k line c : ℕ) (kept : Host) (room : Option Room) where
+  pub begun_there : kept.col ≡ c → painted_side view r k c ++ room_shown room line ≡ begun_piece view r k line c kept room
+  begun_there here = let test : (kept.col == c) ≡ true = grind (arith, nat_tests) in ap (begun_choice view r k line c room) (sym test)
 
-pub crossed_room : (view : Look) (r line c : ℕ) (kept : Host) (room : Option Room) (old middle new : Painter) → kept.row ≢ r → kept.col ≡ c
-    → Paints (painted_marks (map (mark_at view) (crossing_places view (LineOf.Horizontal r) c))) old middle → Paints (room_shown room line) middle new → Paints (crossed_by view r line c kept room) old new
-crossed_room view r line c kept room old middle new above here p q =
-    let own : (kept.row == r) ≡ false = grind (arith, nat_tests) in
-    let first : (kept.col == c) ≡ true = grind (arith, nat_tests) in
-    subst (λ l. Paints l old new) (λ i. crossed_choice view r line c room (sym own i) (sym first i)) (paints_both (painted_crossing view r c) (room_shown room line) old middle new p q)
+  pub begun_not : kept.col ≢ c → [] ≡ begun_piece view r k line c kept room
+  begun_not other = let test : (kept.col == c) ≡ false = grind (arith, nat_tests) in ap (begun_choice view r k line c room) (sym test)
 
-pub crossed_not : (view : Look) (r line c : ℕ) (kept : Host) (room : Option Room) (painter : Painter) → kept.row ≢ r → kept.col ≢ c → Paints (crossed_by view r line c kept room) painter painter
-crossed_not view r line c kept room painter above other =
-    let own : (kept.row == r) ≡ false = grind (arith, nat_tests) in
-    let first : (kept.col == c) ≡ false = grind (arith, nat_tests) in
-    subst (λ l. Paints l painter painter) (λ i. crossed_choice view r line c room (sym own i) (sym first i)) (paints_none painter)
+  pub crossed_own : kept.row ≡ r → painted_marks (map (mark_at view) (piece_places view (LineOf.Horizontal r) c)) ≡ crossed_by view r line c kept room
+  crossed_own own =
+      let test : (kept.row == r) ≡ true = grind (arith, nat_tests) in
+      piece_marks view r c ∙ ap (λ b. crossed_choice view r line c room b (kept.col == c)) (sym test)
+
+  pub crossed_room : kept.row ≢ r → kept.col ≡ c → painted_marks (map (mark_at view) (crossing_places view (LineOf.Horizontal r) c)) ++ room_shown room line ≡ crossed_by view r line c kept room
+  crossed_room above here =
+      let own : (kept.row == r) ≡ false = grind (arith, nat_tests) in
+      let first : (kept.col == c) ≡ true = grind (arith, nat_tests) in
+      λ i. crossed_choice view r line c room (sym own i) (sym first i)
+
+  pub crossed_not : kept.row ≢ r → kept.col ≢ c → [] ≡ crossed_by view r line c kept room
+  crossed_not above other =
+      let own : (kept.row == r) ≡ false = grind (arith, nat_tests) in
+      let first : (kept.col == c) ≡ false = grind (arith, nat_tests) in
+      λ i. crossed_choice view r line c room (sym own i) (sym first i)
+
+-- rooms of which one was put anew that shows what it did
+pub same_rooms : (rooms : List (Option Room)) → ShowTheSame rooms rooms
+same_rooms rooms = record { count = refl; lines = λ c line none. refl }
+
+pub same_then : (old middle new : List (Option Room)) → ShowTheSame old middle → ShowTheSame middle new → ShowTheSame old new
+same_then old middle new p q = record { count = q.count ∙ p.count; lines = λ c line none. q.lines c line none ∙ p.lines c line none }
+
+pub same_put : (rooms : List (Option Room)) (col : ℕ) (before room : Option Room) → col < length rooms → before ≡ slice_index_or rooms col before → ((line : ℕ) → room_shown room line ≡ room_shown before line)
+    → ShowTheSame rooms (set rooms col room)
+same_put rooms col before room within read same = record {
+  count = length-set rooms col room;
+  lines = λ c line none. elim (cases_eq c col) [
+    | inl here ↦
+        ap (λ n. room_shown (slice_index_or (set rooms col room) n none) line) here ∙ ap (λ r. room_shown r line) (get_or-set_same rooms col room none within)
+        ∙ same line ∙ ap (λ r. room_shown r line) (read ∙ get_or_default rooms col before none within) ∙ ap (λ n. room_shown (slice_index_or rooms n none) line) (sym here)
+    | inr other ↦ ap (λ r. room_shown r line) (get_or-set_other rooms col c room none other)
+  ];
+}
+
+-- what a room shows that was read where others show the same
+pub shown_in : (rooms others : List (Option Room)) (col line : ℕ) (room none : Option Room) → col < length others → room ≡ slice_index_or others col room → ShowTheSame rooms others
+    → room_shown room line ≡ room_shown (slice_index_or rooms col none) line
+shown_in rooms others col line room none within read same = ap (λ r. room_shown r line) (read ∙ get_or_default others col room none within) ∙ same.lines col line none
+
+-- a room more, behind those that show what they should
+pub put_last : (rooms : List (Option Room)) (n : ℕ) (room : Option Room) (cell : ℕ → ℕ → Painted) → n < length rooms → ((line : ℕ) → room_shown room line ≡ cell n line)
+    → ((c line : ℕ) (none : Option Room) → c < n → room_shown (slice_index_or rooms c none) line ≡ cell c line)
+    → (c line : ℕ) (none : Option Room) → c < n + 1 → room_shown (slice_index_or (set rooms n room) c none) line ≡ cell c line
+put_last rooms n room cell within is before c line none inside = elim (cases_eq c n) [
+  | inl here ↦ ap (λ k. room_shown (slice_index_or (set rooms n room) k none) line) here ∙ ap (λ r. room_shown r line) (get_or-set_same rooms n room none within) ∙ is line ∙ ap (λ k. cell k line) (sym here)
+  | inr other ↦ ap (λ r. room_shown r line) (get_or-set_other rooms n c room none other) ∙ before c line none (omega (arith, inside, other))
+]
 
 -- ---- a piece is that of its host
 
@@ -171,10 +202,43 @@ module _ (view : Look) (columns rows : Counts) (cells : Cells) where
             ap (λ room. room_shown room line) (others n none (λ i. e i && ((host columns rows r n).1 == n) && (n == n)))
             ∙ are n none inside f (λ past. e) line
 
+  -- rooms that show the same
+  pub rooms_same : (r : ℕ) (old new : List (Option Room)) → ShowTheSame old new → AreRooms view columns rows cells r old → AreRooms view columns rows cells r new
+  rooms_same r old new same are c none within first line = same.lines c line none ∙ are c none (omega (arith, within, same.count)) first line
+
+  pub open_same : (r : ℕ) (old new : List (Option Room)) → ShowTheSame old new → AreOpen view columns rows cells r old → AreOpen view columns rows cells r new
+  open_same r old new same are c none within above first line = same.lines c line none ∙ are c none (omega (arith, within, same.count)) above first line
+
 -- ---- the line at which a row begins
 
 pub first_at : (firsts : List ℕ) (rows r found first : ℕ) → found ≡ slice_index_or firsts r found → length firsts ≡ rows + 1 → r ≤ rows → slice_index firsts r ≡ first → found ≡ first
 first_at firsts rows r found first is count within at = is ∙ get_or_default_zero firsts r found (omega (arith, count, within)) ∙ at
+
+-- a line of text of a row, by its number
+pub line_at : (lines : TableLines) (firsts : List ℕ) (sides : List Bool) → AreSpans lines firsts sides → (r k line : ℕ) → r < lines.frame.shape.0 → k < (viewed lines.frame).heights r
+    → line ≡ min (slice_index firsts r + k) most → line ≡ first_line (viewed lines.frame).heights (viewed lines.frame).horizontal r + k
+line_at lines firsts sides are r k line row within is =
+    let view = viewed lines.frame in
+    omega (arith, is, are.are_firsts r (omega (arith, row)), line_within view.heights view.horizontal r lines.frame.shape.0 row, are.are_firsts lines.frame.shape.0 (omega arith), within, are.high_within)
+
+-- how high a room is, from its first line to the end of its last row
+pub high_is : (lines : TableLines) (firsts : List ℕ) (sides : List Bool) → AreSpans lines firsts sides → (r bottom last high end found : ℕ) → r < lines.frame.shape.0 → bottom ≤ lines.frame.shape.0
+    → last ≡ bottom - 1 → high ≡ (viewed lines.frame).heights last → end ≡ min (slice_index firsts last + high) most → found ≡ end - slice_index firsts r
+    → found ≡ room_height (viewed lines.frame).heights (viewed lines.frame).horizontal r bottom
+high_is lines firsts sides are r bottom last high end found row within is tall sum high_found =
+    let view = viewed lines.frame in
+    let rows = lines.frame.shape.0 in
+    let lasting = are.are_firsts last (omega (arith, is, within)) in
+    let past = line_within view.heights view.horizontal last rows (omega (arith, is, within, row)) in
+    let whole = are.are_firsts rows (omega arith) in
+    let ends : end ≡ first_line view.heights view.horizontal last + view.heights last = omega (arith, sum, lasting, tall, past, whole, are.high_within) in
+    high_found ∙ (λ i. ends i - are.are_firsts r (omega (arith, row)) i) ∙ ap (λ n. first_line view.heights view.horizontal n + view.heights n - first_line view.heights view.horizontal r) is
+
+-- how wide the room is that begins in a column
+pub wide_within : (lines : TableLines) (firsts : List ℕ) (sides : List Bool) → AreSpans lines firsts sides → (hosts : ℕ → Cell) (first : ℕ)
+    → min (room_width (viewed lines.frame).widths (λ c. slice_index_or sides c false) hosts lines.frame.shape.1 first) most ≡ room_width (viewed lines.frame).widths (λ c. slice_index_or sides c false) hosts lines.frame.shape.1 first
+wide_within lines firsts sides are hosts first =
+    omega (arith, room_within (viewed lines.frame).widths (λ c. slice_index_or sides c false) hosts lines.frame.shape.1 first, are.wide_within)
 
 -- ---- a room that is put into its column
 

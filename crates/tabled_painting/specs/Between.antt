@@ -6,7 +6,7 @@ use Rattle.tabled_object.specs.declared.dimension.FixedDimension.{FixedDimension
 use Rattle.tabled_configuration.specs.Configuration.{Configuration}
 use Rattle.tabled_printing.specs.Picture.{marks_along}
 use Rattle.tabled_printing.specs.declared.frame.Frame.{Frame}
-use Rattle.tabled_painting.specs.Pages.{written}
+use Rattle.tabled_painting.specs.Pages.{line_text}
 use Rattle.tabled_painting.specs.PaintedTable.{painted_marks}
 use Rattle.tabled_painting.specs.Viewed.{viewed}
 
@@ -17,4 +17,4 @@ pub record IsPlainLine (cfg : Configuration) (r : ℕ) : Type 0 where
 
 -- so is each horizontal line between two rows written that is no custom one
 abbrev pub IsBetweenRows : {M : Type 0} → Frame FixedDimension M → List ℕ → Type 0
-IsBetweenRows frame text = (r : ℕ) → 0 < r → r < frame.shape.0 → IsPlainLine frame.cfg.now r → text ≡ written frame.with_colors (painted_marks (marks_along (viewed frame) (LineOf.Horizontal r)))
+IsBetweenRows frame text = (r : ℕ) → 0 < r → r < frame.shape.0 → IsPlainLine frame.cfg.now r → text ≡ line_text frame.with_colors (painted_marks (marks_along (viewed frame) (LineOf.Horizontal r)))

@@ -1,5 +1,5 @@
 -- Painted lines as a text in color: what is written where the color changes, and at the end of a line.
-use Rattle.std.specs.Prelude.{◌≡◌, ℕ, Bool, true, false, ◌==◌, ◌&&◌, if◌then◌else◌, Option, Some, None, List, [], ◌∷◌, ◌++◌, option_copied, string_bytes}
+use Rattle.std.specs.Prelude.{◌≡◌, ℕ, Bool, true, false, ◌==◌, ◌&&◌, if◌then◌else◌, Option, Some, None, List, [], ◌∷◌, ◌++◌, option_copied}
 use Rattle.std.specs.Cmp.Lexicographic.{pointwise}
 use Rattle.tabled_border.specs.Texts.{Texts}
 use Rattle.tabled_painting.specs.Painted.{Painted, colored_if}
@@ -42,8 +42,13 @@ in_color line = colored None line ++ suffix_of (last_color None line)
 abbrev pub color_if : Bool → Option Texts → Option Texts
 color_if with_colors color = if with_colors then color else None
 
+-- what stands before a line: a line feed, where another one stands before it
+abbrev pub feed_if : Bool → List ℕ
+feed_if begun = if begun then 10 ∷ [] else []
+
 -- a part of a line was painted after what stood there: its text was written, and a painter knows the color of the last place
-pub record Paints (line : Painted) (old new : Painter) : Type 0 where
-  pub text : string_bytes new.text ≡ string_bytes old.text ++ colored (option_copied old.color) (colored_if old.with_colors line)
+pub record Paints {O : Type 0} (gains : List ℕ → O → O → Type 0) (line : Painted) (old new : Painter O) : Type 0 where
+  pub text : gains (colored (option_copied old.color) (colored_if old.with_colors line)) old.out new.out
   pub color : option_copied new.color ≡ last_color (option_copied old.color) (colored_if old.with_colors line)
   pub same_colors : new.with_colors ≡ old.with_colors
+  pub same_begun : new.has_begun ≡ old.has_begun

@@ -3,7 +3,6 @@ pub mod InColor
 pub mod CellLines
 pub mod Margin
 pub mod PaintedTable
-pub mod Joints
 pub mod Pages
 pub mod Between
 pub mod Put
@@ -14,8 +13,7 @@ pub mod BareCells
 pub mod Outputs
 pub mod Printable
 pub mod TextsBy
-pub mod AlikeRows
-pub mod AlikeLines
 pub mod Widths
 pub mod PaintedSpans
 pub mod RoomLines
+pub mod TablePages

@@ -1,15 +1,19 @@
 -- The rooms of cells as the code keeps them. Private functions alone cite this.
-use Rattle.std.specs.Prelude.{◌≡◌, ℕ, ◌+◌, ◌-◌, ◌<◌, ◌≤◌, ◌==◌, true, false, if◌then◌else◌, Option, Some, None, List, [], ◌++◌, length, slice_index_or}
+use Rattle.std.specs.Prelude.{◌≡◌, ℕ, ◌+◌, ◌-◌, ◌<◌, ◌≤◌, ◌==◌, Bool, true, false, if◌then◌else◌, Option, Some, None, List, [], ◌++◌, length, replicate, slice_index, slice_index_or}
 use Rattle.tabled_printing.specs.Picture.{Look}
 use Rattle.tabled_printing.specs.Texts.{Table}
 use Rattle.tabled_rooms.specs.Hosts.{Counts, host}
+use Rattle.std.specs.List.{range_with_len, sum_by}
+use Rattle.tabled_rooms.specs.Rooms.{first_line, one_if}
+use Rattle.tabled_painting.specs.Pages.{most}
+use Rattle.tabled_painting.specs.declared.spans.Spans.{Spans}
 use Rattle.tabled_rooms.specs.declared.host.Host.{Host}
 use Rattle.tabled_painting.specs.declared.room.Room.{Room}
 use Rattle.tabled_painting.specs.declared.table_lines.TableLines.{TableLines}
 use Rattle.tabled_painting.specs.Painted.{Painted}
 use Rattle.tabled_painting.specs.PaintedTable.{Cells, painted_side}
 use Rattle.tabled_painting.specs.PaintedSpans.{columns_spanned, rows_spanned, painted_crossing, painted_edge, room_line, spanned_cells}
-use Rattle.tabled_painting.specs.Rows.{line_of}
+use Rattle.tabled_painting.specs.Rows.{line_of, row_cell}
 use Rattle.tabled_painting.specs.Viewed.{viewed}
 
 -- what a room shows in a line of the table, where these are counted from the first line of text of row 0
@@ -36,6 +40,35 @@ rows_of lines = rows_spanned lines.frame.cfg.now.settings
 
 abbrev pub room_cells : TableLines → Table → Cells
 room_cells lines table = spanned_cells (viewed lines.frame) (columns_of lines) (rows_of lines) lines.frame.cfg.now.settings.cells lines.colors.now table
+
+-- in the columns stand the cells of row r of these texts
+abbrev pub AreRowCells : TableLines → ℕ → List (List ℕ) → List (Option Room) → Type 0
+AreRowCells lines r texts kept = (c line : ℕ) (none : Option Room) → c < length texts → room_shown (slice_index_or kept c none) line ≡ row_cell lines r c (slice_index_or texts c []) line
+
+-- rooms that show what others do
+pub record ShowTheSame (old new : List (Option Room)) : Type 0 where
+  pub count : length new ≡ length old
+  pub lines : (c line : ℕ) (none : Option Room) → room_shown (slice_index_or new c none) line ≡ room_shown (slice_index_or old c none) line
+
+-- at these lines rows begin, and these vertical lines are drawn; each column has a width, and each room too
+pub record AreSpans (lines : TableLines) (firsts : List ℕ) (sides : List Bool) : Type 0 where
+  pub rows_counted : length firsts ≡ lines.frame.shape.0 + 1
+  pub are_firsts : (r : ℕ) → r ≤ lines.frame.shape.0 → slice_index firsts r ≡ first_line (viewed lines.frame).heights (viewed lines.frame).horizontal r
+  pub high_within : slice_index firsts lines.frame.shape.0 ≤ most
+  pub sides_counted : length sides ≡ lines.frame.shape.1 + 1
+  pub are_sides : (c : ℕ) → slice_index_or sides c false ≡ (viewed lines.frame).vertical c
+  pub widths_counted : length lines.frame.dims.now.widths.items ≡ lines.frame.shape.1
+  pub wide_within : sum_by (λ c. one_if (slice_index_or sides c false) + slice_index lines.frame.dims.now.widths.items c) (range_with_len 0 lines.frame.shape.1) ≤ most
+
+-- no cell, which reaches nowhere
+abbrev pub nobody : Host
+nobody = record { row = 0; col = 0; bottom = 0; right = 0 }
+
+-- so it is of the spans that were made for a table, where nothing is shown yet
+pub record IsSpansOf (lines : TableLines) (spans : Spans) : Type 0 where
+  pub are : AreSpans lines spans.firsts.items spans.sides.items
+  pub hosts : spans.hosts.items ≡ replicate lines.frame.shape.1 nobody
+  pub wides : length spans.wides.items ≡ lines.frame.shape.1
 
 -- each of the hosts of row r is the cell of its own place, and ends with the row
 abbrev pub StandAlone : ℕ → List Host → Type 0

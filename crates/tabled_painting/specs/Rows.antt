@@ -2,7 +2,7 @@
 use Rattle.std.specs.Prelude.{ℕ, List, [], ◌++◌, slice_index, slice_index_or}
 use Rattle.std.specs.List.{flat_map}
 use Rattle.tabled_object.specs.Entities.{below}
-use Rattle.tabled_printing.specs.Pieces.{lent}
+use Rattle.tabled_cells.specs.Shown.{shown}
 use Rattle.tabled_printing.specs.Texts.{Table}
 use Rattle.tabled_painting.specs.declared.cell_lines.CellLines.{CellLines}
 use Rattle.tabled_painting.specs.declared.table_lines.TableLines.{TableLines}
@@ -13,7 +13,7 @@ use Rattle.tabled_painting.specs.Viewed.{viewed}
 
 -- line n of a cell as the code has it
 abbrev pub line_of : ℕ → CellLines → Painted
-line_of n cell = cell_line cell.how (coloring_of cell.colors) cell.width cell.height (lent cell.lines.items) n
+line_of n cell = cell_line cell.how (coloring_of cell.colors) cell.width cell.height (shown cell.lines) n
 
 -- the cells of a table
 abbrev pub cells_of : TableLines → Table → Cells
@@ -22,10 +22,6 @@ cells_of lines table = painted_cells lines.frame.cfg.now.settings.cells lines.co
 -- a line of a cell of that text
 abbrev pub row_cell : TableLines → ℕ → ℕ → List ℕ → ℕ → Painted
 row_cell lines r c text k = painted_cell lines.frame.cfg.now.settings.cells lines.colors.now (slice_index lines.frame.dims.now.widths.items c) (slice_index lines.frame.dims.now.heights.items r) text r c k
-
--- the first line of a row of these texts up to its last side
-abbrev pub cells_between : TableLines → ℕ → List (List ℕ) → Painted
-cells_between lines r texts = flat_map (λ c. painted_side (viewed lines.frame) r 0 c ++ row_cell lines r c (slice_index_or texts c []) 0) (below lines.frame.shape.1)
 
 -- the lines of a row of these texts
 abbrev pub row_painted : TableLines → ℕ → List (List ℕ) → List Painted

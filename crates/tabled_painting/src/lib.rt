@@ -5,35 +5,29 @@
 #![tactic(auto)]
 
 mod alike;
-mod alike_lines;
 mod bare_cells;
 mod cell_colors;
 mod cell_lines;
 mod drawn;
-mod joined_row;
-mod joints;
 mod line_room;
 mod margin_side;
 mod margin_sides;
 mod output;
 mod page;
 mod painter;
-mod painting;
-mod plain_row;
 mod room;
 mod row_colors;
-mod row_joints;
-mod row_sides;
 mod spanned_lines;
 mod spanned_sizes;
+mod spans;
 mod spans_of;
 mod table_lines;
+mod table_page;
 
-pub use alike_lines::AlikeLines;
 pub(crate) use cell_colors::CellColors;
 pub(crate) use margin_side::MarginSide;
 pub(crate) use margin_sides::MarginSides;
 pub use output::Output;
 pub(crate) use painter::Painter;
-pub use painting::{spanned_text, table_text};
 pub use spanned_sizes::sizes_of_spanned;
+pub use table_page::TablePage;

@@ -7,7 +7,7 @@ use tabled_object::{Dimension, FixedDimension};
 use tabled_printing::Frame;
 
 /// An empty text with room for three bytes for each of the given number of columns and for each vertical line, which is what most characters
-/// take at most, and for a line feed.
+/// take at most.
 pub(crate) fn room_for_line(
     alloc: Global,
     frame: &Frame<FixedDimension>,

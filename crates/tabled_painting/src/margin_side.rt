@@ -6,8 +6,7 @@ ghost use Rattle.tabled_painting.specs.Margin as margin;
 ghost use Rattle.tabled_painting.specs.InColor.{Paints};
 ghost use Rattle.tabled_painting.specs.Pages.{PaintsWhole};
 
-use crate::Painter;
-use std::alloc::AllocError;
+use crate::{Output, Painter};
 use tabled_border::ANSIBuf;
 use tabled_cells::fill_shown;
 use tabled_grid::Offset;
@@ -53,14 +52,14 @@ impl<'a> MarginSide<'a> {
 
     /// Paints the given number of characters of the side at number `n` of its extent.
     #[tactic(auto, unfolding(crate::specs::Margin::side_at))]
-    pub(crate) fn paint_at(
+    pub(crate) fn paint_at<O: Output>(
         &self,
-        painter: &mut Painter<'a>,
+        painter: &mut Painter<'a, O>,
         extent: usize,
         n: usize,
         count: usize,
-    ) -> Result<(), AllocError>
-        ensures { OnOk result (Paints (side_at (side_of self.now) extent n count) painter.old painter.new) }
+    ) -> Result<(), O::Error>
+        ensures { OnOk result (Paints O.gains (side_at (side_of self.now) extent n count) painter.old painter.new) }
     {
         if is_left_out(self.offset, extent, n) {
             painter.push_times(None, count, ' ')
@@ -70,8 +69,12 @@ impl<'a> MarginSide<'a> {
     }
 
     /// Paints a line above or below the table, of the given number of columns.
-    fn paint_strip(&self, painter: &mut Painter<'a>, long: usize) -> Result<(), AllocError>
-        ensures { OnOk result (Paints (strip (side_of self.now) long) painter.old painter.new) }
+    fn paint_strip<O: Output>(
+        &self,
+        painter: &mut Painter<'a, O>,
+        long: usize,
+    ) -> Result<(), O::Error>
+        ensures { OnOk result (Paints O.gains (strip (side_of self.now) long) painter.old painter.new) }
     {
         for n in 0..long {
             self.paint_at(painter, long, n, 1)?;
@@ -80,30 +83,18 @@ impl<'a> MarginSide<'a> {
     }
 
     /// Paints the lines above or below the table, each of the given number of columns.
-    #[inline(always)]
-    pub(crate) fn paint_strips(
+    pub(crate) fn paint_strips<O: Output>(
         &self,
-        painter: &mut Painter<'a>,
+        painter: &mut Painter<'a, O>,
         long: usize,
-    ) -> Result<(), AllocError>
+    ) -> Result<(), O::Error>
         requires { option_copied painter.old.color ≡ None }
-        ensures { OnOk result (PaintsWhole (replicate self.now.size (strip (side_of self.now) long)) painter.old painter.new) }
+        ensures { OnOk result (PaintsWhole O.gains (replicate self.now.size (strip (side_of self.now) long)) painter.old painter.new) }
     {
-        if self.size == 0 {
-            return Ok(());
-        }
-        self.paint_each_strip(painter, long)
-    }
-
-    /// Paints them where there are some.
-    fn paint_each_strip(&self, painter: &mut Painter<'a>, long: usize) -> Result<(), AllocError>
-        requires { option_copied painter.old.color ≡ None }
-        ensures { OnOk result (PaintsWhole (replicate self.now.size (strip (side_of self.now) long)) painter.old painter.new) }
-    {
-        painter.reserve(long.saturating_add(1).saturating_mul(self.size))?;
         for _ in 0..self.size {
+            painter.begin_line()?;
             self.paint_strip(painter, long)?;
-            painter.end_line()?;
+            painter.end_last()?;
         }
         Ok(())
     }

@@ -1,7 +1,6 @@
 //! The margin around a table.
 
-ghost use Rattle.std.specs.Prelude.{◌≡◌};
-ghost use Rattle.tabled_painting.specs.Margin.{side_of, left_side, right_side, top_side, bottom_side};
+ghost use Rattle.tabled_painting.specs.Pages.{IsMarginOf};
 
 use crate::MarginSide;
 use tabled_configuration::SpannedConfig;
@@ -23,10 +22,7 @@ impl<'a> MarginSides<'a> {
     /// The margin of a configuration.
     #[inline(always)]
     pub(crate) fn of(cfg: &'a SpannedConfig) -> Self
-        ensures left { side_of result.left ≡ left_side cfg.now.settings.margin }
-        ensures right { side_of result.right ≡ right_side cfg.now.settings.margin }
-        ensures top { side_of result.top ≡ top_side cfg.now.settings.margin }
-        ensures bottom { side_of result.bottom ≡ bottom_side cfg.now.settings.margin }
+        ensures { IsMarginOf cfg.now.settings.margin result }
     {
         let (size, offset, color) = (
             cfg.get_margin(),

@@ -1,4 +1,4 @@
-//! What text without colors is written into, piece by piece: a text, or a stream.
+//! What text is written into, piece by piece: a text, or a stream.
 
 ghost use Rattle.std.specs.Prelude.{List, ℕ, [], ◌++◌, OnOk};
 ghost use Rattle.std.specs.Char.{encode_utf8};
@@ -6,7 +6,7 @@ ghost use Rattle.tabled_cells.specs.Placed.{times};
 ghost use Rattle.tabled_painting.specs.Outputs as gained;
 
 use std::alloc::AllocError;
-use tabled_printing::push_times;
+use tabled_printing::{push_after, push_times};
 
 /// What text is written into, piece by piece.
 pub trait Output {
@@ -20,13 +20,17 @@ pub trait Output {
     fn push_str(&mut self, text: &str) -> Result<(), Self::Error>
         ensures { OnOk result (gains text.now self.old self.new) };
 
-    /// Writes the given number of spaces.
-    fn push_spaces(&mut self, count: usize) -> Result<(), Self::Error>
-        ensures { OnOk result (gains (times count 32) self.old self.new) };
-
     /// Writes a character.
     fn push(&mut self, character: char) -> Result<(), Self::Error>
         ensures { OnOk result (gains (encode_utf8 character) self.old self.new) };
+
+    /// Writes a character the given number of times.
+    fn push_times(&mut self, count: usize, character: char) -> Result<(), Self::Error>
+        ensures { OnOk result (gains (times count character) self.old self.new) };
+
+    /// Writes a character, and then another one the given number of times.
+    fn push_after(&mut self, first: char, count: usize, character: char) -> Result<(), Self::Error>
+        ensures { OnOk result (gains (encode_utf8 first ++ times count character) self.old self.new) };
 
     /// Nothing written leaves it as it is.
     ghost gains_none: { (output : Self) → gains [] output output };
@@ -48,13 +52,18 @@ impl Output for String {
     }
 
     #[inline(always)]
-    fn push_spaces(&mut self, count: usize) -> Result<(), AllocError> {
-        push_times(self, count, ' ')
+    fn push(&mut self, character: char) -> Result<(), AllocError> {
+        String::push(self, character)
     }
 
     #[inline(always)]
-    fn push(&mut self, character: char) -> Result<(), AllocError> {
-        String::push(self, character)
+    fn push_times(&mut self, count: usize, character: char) -> Result<(), AllocError> {
+        push_times(self, count, character)
+    }
+
+    #[inline(always)]
+    fn push_after(&mut self, first: char, count: usize, character: char) -> Result<(), AllocError> {
+        push_after(self, first, count, character)
     }
 
     ghost gains_none = { gained.text_none };

@@ -1,11 +1,50 @@
 //! A cell that is shown in its room.
 
+ghost use Rattle.std.specs.Prelude.{◌≡◌, ℕ, length, IfOk, OnOk};
+ghost use Rattle.tabled_painting.specs.InColor.{Paints};
+ghost use Rattle.tabled_painting.specs.RoomLines.{room_shown};
+
 use crate::cell_lines::CellLines;
+use crate::{Output, Painter};
+use std::alloc::Global;
+use tabled_border::OutOfMemory;
 
 /// A cell that is shown over the columns and rows of its room.
-#[derive(Drop)]
+#[derive(Clone, Copy, Debug)]
 pub(crate) struct Room<'a> {
     /// The line of the table at which it begins, counted from the first line of text.
     pub(crate) first: usize,
     pub(crate) cell: CellLines<'a>,
+}
+
+/// Paints what a room shows in a line of the table, if there is a room.
+pub(crate) fn paint_room<'a, O: Output>(
+    painter: &mut Painter<'a, O>,
+    room: &mut Option<Room<'a>>,
+    line: usize,
+) -> Result<(), O::Error>
+    ensures painted { OnOk result (Paints O.gains (room_shown room.old line) painter.old painter.new) }
+    ensures same { (at : ℕ) → room_shown room.new at ≡ room_shown room.old at }
+{
+    let Some(shown) = *room else {
+        return Ok(());
+    };
+    let Room { first, mut cell } = shown;
+    cell.paint_line(painter, line.saturating_sub(first))?;
+    *room = Some(Room { first, cell });
+    Ok(())
+}
+
+/// No rooms, for so many columns.
+pub(crate) fn no_rooms<'a>(
+    alloc: Global,
+    cols: usize,
+) -> Result<Vec<Option<Room<'a>>>, OutOfMemory>
+    ensures { IfOk result (λ rooms. length rooms.items ≡ cols) }
+{
+    let mut rooms = Vec::with_capacity(alloc, cols)?;
+    for _ in 0..cols {
+        rooms.push(None)?;
+    }
+    Ok(rooms)
 }

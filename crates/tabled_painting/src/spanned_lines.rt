@@ -1,6 +1,6 @@
 //! The lines of a table whose cells span several columns or rows.
 
-ghost use Rattle.std.specs.Prelude.{◌≡◌, ◌≤◌, ◌<◌, ◌+◌, ◌-◌, ◌++◌, ◌==◌, ◌&&◌, ℕ, [], true, false, None, IsTrue, OnOk, IfOk, length, map, option_copied, slice_index, slice_index_or};
+ghost use Rattle.std.specs.Prelude.{◌≡◌, ◌≤◌, ◌<◌, ◌+◌, ◌-◌, ◌++◌, ◌==◌, ◌&&◌, ℕ, [], true, false, None, IsTrue, OnOk, length, map, option_copied, slice_index, slice_index_or};
 ghost use Rattle.std.specs.List.{All, flat_map};
 ghost use Rattle.std.specs.declared.option.Option.{Option as Maybe};
 ghost use Rattle.tabled_object.specs.Entities.{below};
@@ -8,40 +8,31 @@ ghost use Rattle.tabled_printing.specs.Texts.{Table};
 ghost use Rattle.tabled_rooms.specs.Rooms.{first_line, room_height};
 ghost use Rattle.tabled_painting.specs.InColor.{Paints};
 ghost use Rattle.tabled_painting.specs.Pages.{PaintsLines};
-ghost use Rattle.tabled_painting.specs.RoomLines.{StandAlone, room_shown};
+ghost use Rattle.tabled_painting.specs.RoomLines.{AreSpans, ShowTheSame, StandAlone, room_shown};
 ghost use Rattle.tabled_rooms.specs.declared.host.Host.{Host as Kept};
 ghost use Rattle.tabled_painting.specs.TextsBy.{texts_by};
 ghost use Rattle.tabled_painting.specs.Viewed.{viewed};
 
-use crate::Painter;
-use crate::cell_lines::CellLines;
-use crate::drawn::{lines_drawn, sides_drawn};
 use crate::page::Page;
-use crate::painting::sum_of;
-use crate::room::Room;
+use crate::room::{Room, paint_room};
 use crate::spans_of::SpansOf;
 use crate::table_lines::TableLines;
-use std::alloc::Global;
+use crate::{Output, Painter};
 use std::convert::AsStr;
-use tabled_border::OutOfMemory;
 use tabled_kept::Probes;
 use tabled_object::{Dimension, Position};
-use tabled_rooms::{Host, first_lines, next_hosts, no_hosts, room_widths};
+use tabled_rooms::{Host, next_hosts, room_widths};
 
 /// The lines of a table that has places and whose cells span, which are painted one after another.
 #[derive(Drop)]
 pub(crate) struct SpannedLines<'a, 'b, 'c> {
     /// The table, where its cells did not span.
     pub(crate) lines: &'c TableLines<'a, 'b>,
-    /// Which line begins each row, counted from the first line of text.
-    firsts: Vec<usize>,
+    /// Which line begins each row, counted from the first line of text, and last one past the last row.
+    pub(crate) firsts: &'c [usize],
     /// Which vertical lines are drawn.
-    sides: Vec<bool>,
-    ghost rows_counted: { length firsts.items ≡ lines.now.frame.shape.0 + 1 },
-    ghost are_firsts: { (r : ℕ) → r ≤ lines.now.frame.shape.0 → slice_index firsts.items r ≡ first_line (viewed lines.now.frame).heights (viewed lines.now.frame).horizontal r },
-    ghost sides_counted: { length sides.items ≡ lines.now.frame.shape.1 + 1 },
-    ghost are_sides: { (c : ℕ) → slice_index_or sides.items c false ≡ (viewed lines.now.frame).vertical c },
-    ghost widths_counted: { length lines.now.frame.dims.now.widths.items ≡ lines.now.frame.shape.1 },
+    pub(crate) sides: &'c [bool],
+    ghost are: { AreSpans lines.now firsts.now sides.now },
 }
 
 impl<'a, 'b, 'c> SpannedLines<'a, 'b, 'c> {
@@ -51,56 +42,33 @@ impl<'a, 'b, 'c> SpannedLines<'a, 'b, 'c> {
     ghost use Rattle.tabled_painting.specs.PaintedSpans.{painted_crossing, painted_edge, spanned_across, spanned_between, spanned_if_drawn, spanned_lines, spanned_row};
     ghost use Rattle.tabled_painting.specs.RoomLines.{AreOpen, AreRooms, begun_piece, columns_of, crossed_by, room_cells, rows_of};
 
-    /// The lines of a table, of which each column has a width and each row a height.
-    pub(crate) fn new(lines: &'c TableLines<'a, 'b>) -> Result<Self, OutOfMemory>
-        requires widths { length lines.now.frame.dims.now.widths.items ≡ lines.now.frame.shape.1 }
-        requires heights { length lines.now.frame.dims.now.heights.items ≡ lines.now.frame.shape.0 }
-        ensures { IfOk result (λ spanned. spanned.lines ≡ lines.entry) }
-    {
-        let frame = &lines.frame;
-        let alloc = frame.cfg.allocator();
-        let (rows, cols) = frame.shape;
-        let drawn = lines_drawn(frame.cfg, rows)?;
-        let firsts = first_lines(alloc, frame.dims.heights.as_slice(), &drawn)?;
-        let sides = sides_drawn(frame.cfg, cols)?;
-        Ok(SpannedLines {
-            lines,
-            firsts,
-            sides,
-        })
-    }
-
     /// How high the room of a cell is.
-    fn height_of(&self, host: Host) -> Result<usize, OutOfMemory>
-        requires row { host.row ≤ self.now.lines.now.frame.shape.0 }
+    fn height_of(&self, host: Host) -> usize
+        requires row { host.row < self.now.lines.now.frame.shape.0 }
         requires bottom { host.bottom ≤ self.now.lines.now.frame.shape.0 }
-        ensures { IfOk result (λ high. let view = viewed self.now.lines.now.frame in high ≡ room_height view.heights view.horizontal host.row host.bottom) }
+        ensures { let view = viewed self.now.lines.now.frame in result ≡ room_height view.heights view.horizontal host.row host.bottom }
     {
         let frame = &self.lines.frame;
         let sizes = frame.dims;
         let last = host.bottom.saturating_sub(1);
         let high = sizes.get_height(last);
-        let end = sum_of(self.firsts[last], high)?;
-        Ok(end.saturating_sub(self.firsts[host.row]))
+        let (before, first) = (self.firsts[last], self.firsts[host.row]);
+        before.saturating_add(high).saturating_sub(first)
     }
 
     /// The room of a cell that is shown from its own place on.
-    fn room_of(&self, host: Host, wide: usize, text: &'a str) -> Result<Room<'a>, OutOfMemory>
-        requires row { host.row ≤ self.now.lines.now.frame.shape.0 }
+    fn room_of(&self, host: Host, wide: usize, text: &'a str) -> Room<'a>
+        requires row { host.row < self.now.lines.now.frame.shape.0 }
         requires bottom { host.bottom ≤ self.now.lines.now.frame.shape.0 }
-        ensures { IfOk result (λ room. let lines = self.now.lines.now in let view = viewed lines.frame in
-            (line : ℕ) → room_shown (Maybe.Some room) line ≡ painted_cell lines.frame.cfg.now.settings.cells lines.colors.now wide (room_height view.heights view.horizontal host.row host.bottom)
-            text.now host.row host.col (line - first_line view.heights view.horizontal host.row)) }
+        ensures { let lines = self.now.lines.now in let view = viewed lines.frame in
+            (line : ℕ) → room_shown (Maybe.Some result) line ≡ painted_cell lines.frame.cfg.now.settings.cells lines.colors.now wide (room_height view.heights view.horizontal host.row host.bottom)
+            text.now host.row host.col (line - first_line view.heights view.horizontal host.row) }
     {
-        let lines = self.lines;
-        let cfg = lines.frame.cfg;
         let position = Position::new(host.row, host.col);
-        let size = (wide, self.height_of(host)?);
-        let cell = lines.cell_of(position, size, text, Vec::new(cfg.allocator()))?;
-        Ok(Room {
-            first: self.firsts[host.row],
-            cell,
-        })
+        let size = (wide, self.height_of(host));
+        let first = self.firsts[host.row];
+        let cell = self.lines.cell_of(position, size, text);
+        Room { first, cell }
     }
 
     /// Begins the room of the cell of a row and a column, if it is shown there.
@@ -111,21 +79,19 @@ impl<'a, 'b, 'c> SpannedLines<'a, 'b, 'c> {
         host: Host,
         wide: usize,
         text: &'a str,
-    ) -> Result<(), OutOfMemory>
+    )
         requires col { place.1 < length rooms.old }
-        requires row { host.row ≤ self.now.lines.now.frame.shape.0 }
+        requires row { host.row < self.now.lines.now.frame.shape.0 }
         requires bottom { host.bottom ≤ self.now.lines.now.frame.shape.0 }
-        ensures begun { OnOk result (((host.row == place.0) && (host.col == place.1)) ≡ true → (none : Maybe Begun) (line : ℕ) → let lines = self.now.lines.now in let view = viewed lines.frame in
+        ensures begun { ((host.row == place.0) && (host.col == place.1)) ≡ true → (none : Maybe Begun) (line : ℕ) → let lines = self.now.lines.now in let view = viewed lines.frame in
             room_shown (slice_index_or rooms.new place.1 none) line ≡ painted_cell lines.frame.cfg.now.settings.cells lines.colors.now wide (room_height view.heights view.horizontal host.row host.bottom)
-            text.now host.row host.col (line - first_line view.heights view.horizontal host.row)) }
-        ensures others { OnOk result ((c : ℕ) (none : Maybe Begun) → ((host.row == place.0) && (host.col == place.1) && (c == place.1)) ≡ false → slice_index_or rooms.new c none ≡ slice_index_or rooms.old c none) }
+            text.now host.row host.col (line - first_line view.heights view.horizontal host.row) }
+        ensures others { (c : ℕ) (none : Maybe Begun) → ((host.row == place.0) && (host.col == place.1) && (c == place.1)) ≡ false → slice_index_or rooms.new c none ≡ slice_index_or rooms.old c none }
+        ensures count { length rooms.new ≡ length rooms.old }
     {
-        if !begins_at(host, place) {
-            return Ok(());
+        if begins_at(host, place) {
+            rooms[place.1] = Some(self.room_of(host, wide, text));
         }
-        let room = self.room_of(host, wide, text)?;
-        rooms[place.1] = Some(room);
-        Ok(())
     }
 
     /// Begins the rooms of the cells of a row that are shown from there on. `wides` is for their widths, whatever it had.
@@ -136,39 +102,41 @@ impl<'a, 'b, 'c> SpannedLines<'a, 'b, 'c> {
         hosts: &[Host],
         row: usize,
         texts: &'a [T],
-    ) -> Result<(), OutOfMemory>
+    )
         requires row { row < self.now.lines.now.frame.shape.0 }
         requires rooms { length rooms.old ≡ self.now.lines.now.frame.shape.1 }
         requires wides { length wides.old ≡ self.now.lines.now.frame.shape.1 }
         requires hosts { length hosts.now ≡ self.now.lines.now.frame.shape.1 }
         requires texts { length texts.now ≡ self.now.lines.now.frame.shape.1 }
         requires are { AreHosts (columns_of self.now.lines.now) (rows_of self.now.lines.now) self.now.lines.now.frame.shape row hosts.now }
-        ensures { OnOk result ((table : Table) → slice_index_or table row [] ≡ map T.text texts.now → let lines = self.now.lines.now in
-            AreOpen (viewed lines.frame) (columns_of lines) (rows_of lines) (room_cells lines table) row rooms.old → AreRooms (viewed lines.frame) (columns_of lines) (rows_of lines) (room_cells lines table) row rooms.new) }
+        ensures rooms { (table : Table) → slice_index_or table row [] ≡ map T.text texts.now → let lines = self.now.lines.now in
+            AreOpen (viewed lines.frame) (columns_of lines) (rows_of lines) (room_cells lines table) row rooms.old → AreRooms (viewed lines.frame) (columns_of lines) (rows_of lines) (room_cells lines table) row rooms.new }
+        ensures rooms_count { length rooms.new ≡ length rooms.old }
+        ensures wides_count { length wides.new ≡ length wides.old }
     {
         let frame = &self.lines.frame;
         let sizes = frame.dims;
         let widths = sizes.widths.as_slice();
-        room_widths(wides, hosts, widths, &self.sides)?;
+        room_widths(wides, hosts, widths, self.sides);
         for (col, text) in texts.iter().enumerate() {
-            self.begin_room(rooms, (row, col), hosts[col], wides[col], text.as_str())?;
+            self.begin_room(rooms, (row, col), hosts[col], wides[col], text.as_str());
         }
-        Ok(())
     }
 
     /// Paints one line of text of a row at a column: the side before it and the room that begins there, if one does.
-    fn paint_begun(
+    fn paint_begun<O: Output>(
         &self,
-        painter: &mut Painter<'a>,
+        painter: &mut Painter<'a, O>,
         place: (usize, usize, usize),
         host: Host,
-        room: &Option<Room<'a>>,
+        room: &mut Option<Room<'a>>,
         line: usize,
-    ) -> Result<(), OutOfMemory>
+    ) -> Result<(), O::Error>
         requires row { place.0 < self.now.lines.now.frame.shape.0 }
         requires at { place.1 < slice_index self.now.lines.now.frame.dims.now.heights.items place.0 }
         requires col { place.2 ≤ self.now.lines.now.frame.shape.1 }
-        ensures { OnOk result (Paints (begun_piece (viewed self.now.lines.now.frame) place.0 place.1 line place.2 host room.now) painter.old painter.new) }
+        ensures painted { OnOk result (Paints O.gains (begun_piece (viewed self.now.lines.now.frame) place.0 place.1 line place.2 host room.old) painter.old painter.new) }
+        ensures same { OnOk result ((at : ℕ) → room_shown room.new at ≡ room_shown room.old at) }
     {
         let (row, at, col) = place;
         if host.col != col {
@@ -180,43 +148,46 @@ impl<'a, 'b, 'c> SpannedLines<'a, 'b, 'c> {
     }
 
     /// Paints one line of text of a row.
-    fn paint_between(
+    fn paint_between<O: Output>(
         &self,
-        painter: &mut Painter<'a>,
+        painter: &mut Painter<'a, O>,
         hosts: &[Host],
-        rooms: &[Option<Room<'a>>],
+        rooms: &mut [Option<Room<'a>>],
         row: usize,
         at: usize,
-    ) -> Result<(), OutOfMemory>
+    ) -> Result<(), O::Error>
         requires row { row < self.now.lines.now.frame.shape.0 }
         requires at { at < slice_index self.now.lines.now.frame.dims.now.heights.items row }
         requires hosts { length hosts.now ≡ self.now.lines.now.frame.shape.1 }
-        requires rooms { length rooms.now ≡ self.now.lines.now.frame.shape.1 }
+        requires rooms { length rooms.old ≡ self.now.lines.now.frame.shape.1 }
         requires are { AreHosts (columns_of self.now.lines.now) (rows_of self.now.lines.now) self.now.lines.now.frame.shape row hosts.now }
-        ensures { OnOk result ((cells : Cells) → let lines = self.now.lines.now in AreRooms (viewed lines.frame) (columns_of lines) (rows_of lines) cells row rooms.now
-            → Paints (spanned_between (viewed lines.frame) (columns_of lines) (rows_of lines) cells row at) painter.old painter.new) }
+        ensures painted { OnOk result ((cells : Cells) → let lines = self.now.lines.now in AreRooms (viewed lines.frame) (columns_of lines) (rows_of lines) cells row rooms.old
+            → Paints O.gains (spanned_between (viewed lines.frame) (columns_of lines) (rows_of lines) cells row at) painter.old painter.new) }
+        ensures same { OnOk result (ShowTheSame rooms.old rooms.new) }
     {
         let (_, cols) = self.lines.frame.shape;
-        let line = sum_of(self.firsts[row], at)?;
+        let first = self.firsts[row];
+        let line = first.saturating_add(at);
         for col in 0..cols {
-            self.paint_begun(painter, (row, at, col), hosts[col], &rooms[col], line)?;
+            self.paint_begun(painter, (row, at, col), hosts[col], &mut rooms[col], line)?;
         }
         painter.push_side(self.lines.frame.side(row, cols, at))?;
         Ok(())
     }
 
     /// Paints the line above a row at a column: its crossing and its edge, or the room that reaches over it.
-    fn paint_crossed(
+    fn paint_crossed<O: Output + Drop + 'a>(
         &self,
-        painter: &mut Painter<'a>,
+        painter: &mut Painter<'a, O>,
         place: (usize, usize),
         host: Host,
-        room: &Option<Room<'a>>,
+        room: &mut Option<Room<'a>>,
         line: usize,
-    ) -> Result<(), OutOfMemory>
+    ) -> Result<(), O::Error>
         requires row { place.0 ≤ self.now.lines.now.frame.shape.0 }
         requires col { place.1 < self.now.lines.now.frame.shape.1 }
-        ensures { OnOk result (Paints (crossed_by (viewed self.now.lines.now.frame) place.0 line place.1 host room.now) painter.old painter.new) }
+        ensures painted { OnOk result (Paints O.gains (crossed_by (viewed self.now.lines.now.frame) place.0 line place.1 host room.old) painter.old painter.new) }
+        ensures same { OnOk result ((at : ℕ) → room_shown room.new at ≡ room_shown room.old at) }
     {
         let (row, col) = place;
         let frame = &self.lines.frame;
@@ -233,24 +204,26 @@ impl<'a, 'b, 'c> SpannedLines<'a, 'b, 'c> {
     }
 
     /// Paints the line above a row, over which rooms reach.
-    fn paint_across(
+    fn paint_across<O: Output + Drop + 'a>(
         &self,
-        painter: &mut Painter<'a>,
+        painter: &mut Painter<'a, O>,
         hosts: &[Host],
-        rooms: &[Option<Room<'a>>],
+        rooms: &mut [Option<Room<'a>>],
         row: usize,
-    ) -> Result<(), OutOfMemory>
+    ) -> Result<(), O::Error>
         requires row { row < self.now.lines.now.frame.shape.0 }
         requires hosts { length hosts.now ≡ self.now.lines.now.frame.shape.1 }
-        requires rooms { length rooms.now ≡ self.now.lines.now.frame.shape.1 }
+        requires rooms { length rooms.old ≡ self.now.lines.now.frame.shape.1 }
         requires are { AreHosts (columns_of self.now.lines.now) (rows_of self.now.lines.now) self.now.lines.now.frame.shape row hosts.now }
-        ensures { OnOk result ((cells : Cells) → let lines = self.now.lines.now in AreOpen (viewed lines.frame) (columns_of lines) (rows_of lines) cells row rooms.now
-            → Paints (spanned_across (viewed lines.frame) (columns_of lines) (rows_of lines) cells row) painter.old painter.new) }
+        ensures painted { OnOk result ((cells : Cells) → let lines = self.now.lines.now in AreOpen (viewed lines.frame) (columns_of lines) (rows_of lines) cells row rooms.old
+            → Paints O.gains (spanned_across (viewed lines.frame) (columns_of lines) (rows_of lines) cells row) painter.old painter.new) }
+        ensures same { OnOk result (ShowTheSame rooms.old rooms.new) }
     {
         let (_, cols) = self.lines.frame.shape;
-        let line = self.firsts[row].saturating_sub(1);
+        let first = self.firsts[row];
+        let line = first.saturating_sub(1);
         for col in 0..cols {
-            self.paint_crossed(painter, (row, col), hosts[col], &rooms[col], line)?;
+            self.paint_crossed(painter, (row, col), hosts[col], &mut rooms[col], line)?;
         }
         let frame = &self.lines.frame;
         frame.put_line_crossing(row, cols, painter, &mut Probes::new())?;
@@ -258,21 +231,22 @@ impl<'a, 'b, 'c> SpannedLines<'a, 'b, 'c> {
     }
 
     /// Paints the line above a row, if it is drawn.
-    fn paint_line(
+    fn paint_line<O: Output + Drop + 'a>(
         &self,
-        page: &mut Page<'a>,
+        page: &mut Page<'a, O>,
         hosts: &[Host],
-        rooms: &[Option<Room<'a>>],
+        rooms: &mut [Option<Room<'a>>],
         row: usize,
-    ) -> Result<(), OutOfMemory>
+    ) -> Result<(), O::Error>
         requires row { row < self.now.lines.now.frame.shape.0 }
         requires hosts { length hosts.now ≡ self.now.lines.now.frame.shape.1 }
-        requires rooms { length rooms.now ≡ self.now.lines.now.frame.shape.1 }
+        requires rooms { length rooms.old ≡ self.now.lines.now.frame.shape.1 }
         requires are { AreHosts (columns_of self.now.lines.now) (rows_of self.now.lines.now) self.now.lines.now.frame.shape row hosts.now }
         requires ended { option_copied page.old.painter.color ≡ None }
         requires colors { page.old.painter.with_colors ≡ self.now.lines.now.frame.with_colors }
-        ensures { OnOk result ((cells : Cells) → let lines = self.now.lines.now in AreOpen (viewed lines.frame) (columns_of lines) (rows_of lines) cells row rooms.now
-            → PaintsLines (spanned_if_drawn (viewed lines.frame) (columns_of lines) (rows_of lines) cells row) page.old page.new) }
+        ensures painted { OnOk result ((cells : Cells) → let lines = self.now.lines.now in AreOpen (viewed lines.frame) (columns_of lines) (rows_of lines) cells row rooms.old
+            → PaintsLines O.gains (spanned_if_drawn (viewed lines.frame) (columns_of lines) (rows_of lines) cells row) page.old page.new) }
+        ensures same { OnOk result (ShowTheSame rooms.old rooms.new) }
     {
         if all_begin_in(hosts, row) {
             self.lines.paint_line(page, row)?;
@@ -288,20 +262,21 @@ impl<'a, 'b, 'c> SpannedLines<'a, 'b, 'c> {
     }
 
     /// Paints the lines of text of a row.
-    fn paint_row(
+    fn paint_row<O: Output>(
         &self,
-        page: &mut Page<'a>,
+        page: &mut Page<'a, O>,
         hosts: &[Host],
-        rooms: &[Option<Room<'a>>],
+        rooms: &mut [Option<Room<'a>>],
         row: usize,
-    ) -> Result<(), OutOfMemory>
+    ) -> Result<(), O::Error>
         requires row { row < self.now.lines.now.frame.shape.0 }
         requires hosts { length hosts.now ≡ self.now.lines.now.frame.shape.1 }
-        requires rooms { length rooms.now ≡ self.now.lines.now.frame.shape.1 }
+        requires rooms { length rooms.old ≡ self.now.lines.now.frame.shape.1 }
         requires are { AreHosts (columns_of self.now.lines.now) (rows_of self.now.lines.now) self.now.lines.now.frame.shape row hosts.now }
         requires ended { option_copied page.old.painter.color ≡ None }
-        ensures { OnOk result ((cells : Cells) → let lines = self.now.lines.now in AreRooms (viewed lines.frame) (columns_of lines) (rows_of lines) cells row rooms.now
-            → PaintsLines (spanned_row (viewed lines.frame) (columns_of lines) (rows_of lines) cells row) page.old page.new) }
+        ensures painted { OnOk result ((cells : Cells) → let lines = self.now.lines.now in AreRooms (viewed lines.frame) (columns_of lines) (rows_of lines) cells row rooms.old
+            → PaintsLines O.gains (spanned_row (viewed lines.frame) (columns_of lines) (rows_of lines) cells row) page.old page.new) }
+        ensures same { OnOk result (ShowTheSame rooms.old rooms.new) }
     {
         let frame = &self.lines.frame;
         let sizes = frame.dims;
@@ -315,18 +290,16 @@ impl<'a, 'b, 'c> SpannedLines<'a, 'b, 'c> {
     }
 
     /// Paints the lines of text of a row, and begins the rooms of the cells that are shown from there on. Where each of its cells is shown
-    /// in its own place alone, the row is painted as it is without spans. `wides` and `cells` are for what is measured and cut, whatever
-    /// they had.
-    fn paint_shown<T: AsStr>(
+    /// in its own place alone, the row is painted as it is without spans. `wides` is for what is measured, whatever it had.
+    fn paint_shown<O: Output + Drop + 'a, T: AsStr>(
         &self,
-        page: &mut Page<'a>,
+        page: &mut Page<'a, O>,
         hosts: &[Host],
         wides: &mut [usize],
         rooms: &mut [Option<Room<'a>>],
-        cells: &mut Vec<CellLines<'a>>,
         row: usize,
         texts: &'a [T],
-    ) -> Result<(), OutOfMemory>
+    ) -> Result<(), O::Error>
         requires row { row < self.now.lines.now.frame.shape.0 }
         requires texts { length texts.now ≡ self.now.lines.now.frame.shape.1 }
         requires hosts { length hosts.now ≡ self.now.lines.now.frame.shape.1 }
@@ -336,31 +309,31 @@ impl<'a, 'b, 'c> SpannedLines<'a, 'b, 'c> {
         requires ended { option_copied page.old.painter.color ≡ None }
         requires colors { page.old.painter.with_colors ≡ self.now.lines.now.frame.with_colors }
         ensures painted { OnOk result ((table : Table) → slice_index_or table row [] ≡ map T.text texts.now → let lines = self.now.lines.now in
-            AreOpen (viewed lines.frame) (columns_of lines) (rows_of lines) (room_cells lines table) row rooms.old → PaintsLines (spanned_row (viewed lines.frame) (columns_of lines) (rows_of lines) (room_cells lines table) row) page.old page.new) }
+            AreOpen (viewed lines.frame) (columns_of lines) (rows_of lines) (room_cells lines table) row rooms.old → PaintsLines O.gains (spanned_row (viewed lines.frame) (columns_of lines) (rows_of lines) (room_cells lines table) row) page.old page.new) }
         ensures opened { OnOk result ((table : Table) → slice_index_or table row [] ≡ map T.text texts.now → let lines = self.now.lines.now in
             AreOpen (viewed lines.frame) (columns_of lines) (rows_of lines) (room_cells lines table) row rooms.old → row + 1 < lines.frame.shape.0
             → AreOpen (viewed lines.frame) (columns_of lines) (rows_of lines) (room_cells lines table) (row + 1) rooms.new) }
+        ensures rooms_count { OnOk result (length rooms.new ≡ length rooms.old) }
+        ensures wides_count { OnOk result (length wides.new ≡ length wides.old) }
     {
         if all_stand_alone(hosts, row) {
-            self.lines.paint_row(page, row, texts, cells, false, None)?;
+            self.lines.paint_row(page, rooms, row, texts)?;
             return Ok(());
         }
-        self.begin_rooms(rooms, wides, hosts, row, texts)?;
+        self.begin_rooms(rooms, wides, hosts, row, texts);
         self.paint_row(page, hosts, rooms, row)?;
         Ok(())
     }
 
-    /// Paints the rows of a table, each with the line above it. `hosts`, `wides`, `rooms` and `cells` are for what is shown in a row: at
-    /// first nothing.
-    fn paint_rows<T: AsStr>(
+    /// Paints the rows of a table, each with the line above it. `hosts`, `wides` and `rooms` are for what is shown in a row: at first nothing.
+    fn paint_rows<O: Output + Drop + 'a, T: AsStr>(
         &self,
-        page: &mut Page<'a>,
+        page: &mut Page<'a, O>,
         hosts: &mut [Host],
         wides: &mut [usize],
         rooms: &mut [Option<Room<'a>>],
-        cells: &mut Vec<CellLines<'a>>,
         rows: &'a [Vec<T>],
-    ) -> Result<(), OutOfMemory>
+    ) -> Result<(), O::Error>
         requires rows { length rows.now ≡ self.now.lines.now.frame.shape.0 }
         requires cols { All (λ row. length row ≡ self.now.lines.now.frame.shape.1) (texts_by T.text rows.now) }
         requires hosts { length hosts.old ≡ self.now.lines.now.frame.shape.1 }
@@ -370,7 +343,7 @@ impl<'a, 'b, 'c> SpannedLines<'a, 'b, 'c> {
         requires ended { option_copied page.old.painter.color ≡ None }
         requires colors { page.old.painter.with_colors ≡ self.now.lines.now.frame.with_colors }
         ensures painted { OnOk result (let lines = self.now.lines.now in let view = viewed lines.frame in
-            PaintsLines (flat_map (λ r. spanned_if_drawn view (columns_of lines) (rows_of lines) (room_cells lines (texts_by T.text rows.now)) r ++ spanned_row view (columns_of lines) (rows_of lines) (room_cells lines (texts_by T.text rows.now)) r) (below view.shape.0))
+            PaintsLines O.gains (flat_map (λ r. spanned_if_drawn view (columns_of lines) (rows_of lines) (room_cells lines (texts_by T.text rows.now)) r ++ spanned_row view (columns_of lines) (rows_of lines) (room_cells lines (texts_by T.text rows.now)) r) (below view.shape.0))
             page.old page.new) }
         ensures colors { OnOk result (page.new.painter.with_colors ≡ self.now.lines.now.frame.with_colors) }
     {
@@ -379,53 +352,35 @@ impl<'a, 'b, 'c> SpannedLines<'a, 'b, 'c> {
         for (row, texts) in rows.iter().enumerate() {
             next_hosts(hosts, &spans, row, frame.shape);
             self.paint_line(page, hosts, rooms, row)?;
-            self.paint_shown(page, hosts, wides, rooms, &mut *cells, row, texts)?;
+            self.paint_shown(page, hosts, wides, rooms, row, texts)?;
         }
         Ok(())
     }
 
-    /// Paints the lines of a table.
-    pub(crate) fn paint<T: AsStr>(
+    /// Paints the lines of a table. `hosts`, `wides` and `rooms` are for what is shown in a row: at first nothing.
+    pub(crate) fn paint<O: Output + Drop + 'a, T: AsStr>(
         &self,
-        page: &mut Page<'a>,
+        page: &mut Page<'a, O>,
+        hosts: &mut [Host],
+        wides: &mut [usize],
+        rooms: &mut [Option<Room<'a>>],
         rows: &'a [Vec<T>],
-    ) -> Result<(), OutOfMemory>
+    ) -> Result<(), O::Error>
         requires rows { length rows.now ≡ self.now.lines.now.frame.shape.0 }
         requires cols { All (λ row. length row ≡ self.now.lines.now.frame.shape.1) (texts_by T.text rows.now) }
+        requires hosts { length hosts.old ≡ self.now.lines.now.frame.shape.1 }
+        requires wides { length wides.old ≡ self.now.lines.now.frame.shape.1 }
+        requires rooms { length rooms.old ≡ self.now.lines.now.frame.shape.1 }
+        requires above { AreAbove (columns_of self.now.lines.now) (rows_of self.now.lines.now) self.now.lines.now.frame.shape 0 hosts.old }
         requires ended { option_copied page.old.painter.color ≡ None }
         requires colors { page.old.painter.with_colors ≡ self.now.lines.now.frame.with_colors }
         ensures { OnOk result (let lines = self.now.lines.now in
-            PaintsLines (spanned_lines (viewed lines.frame) (columns_of lines) (rows_of lines) (room_cells lines (texts_by T.text rows.now))) page.old page.new) }
+            PaintsLines O.gains (spanned_lines (viewed lines.frame) (columns_of lines) (rows_of lines) (room_cells lines (texts_by T.text rows.now))) page.old page.new) }
     {
-        let frame = &self.lines.frame;
-        let cfg = frame.cfg;
-        let alloc = cfg.allocator();
-        let (_, cols) = frame.shape;
-        let mut hosts = no_hosts(alloc, cols)?;
-        let mut wides = vec![in alloc; 0usize; cols]?;
-        let mut rooms = no_rooms(alloc, cols)?;
-        let mut cells = Vec::new(alloc);
-        self.paint_rows(page, &mut hosts, &mut wides, &mut rooms, &mut cells, rows)?;
+        self.paint_rows(page, hosts, wides, rooms, rows)?;
         self.lines.paint_line(page, rows.len())?;
         Ok(())
     }
-}
-
-/// Paints what a room shows in a line of the table, if there is a room.
-#[tactic(auto, using(crate::proofs::PainterLemmas::painting))]
-fn paint_room<'a>(
-    painter: &mut Painter<'a>,
-    room: &Option<Room<'a>>,
-    line: usize,
-) -> Result<(), OutOfMemory>
-    ensures { OnOk result (Paints (room_shown room.now line) painter.old painter.new) }
-{
-    let Some(room) = room else {
-        return Ok(());
-    };
-    room.cell
-        .paint_line(painter, line.saturating_sub(room.first))?;
-    Ok(())
 }
 
 /// Whether a cell that is shown has its own place at a row and a column.
@@ -459,15 +414,4 @@ fn all_stand_alone(hosts: &[Host], row: usize) -> bool
         }
     }
     true
-}
-
-/// No rooms, for so many columns.
-fn no_rooms<'a>(alloc: Global, cols: usize) -> Result<Vec<Option<Room<'a>>>, OutOfMemory>
-    ensures { IfOk result (λ rooms. length rooms.items ≡ cols) }
-{
-    let mut rooms = Vec::with_capacity(alloc, cols)?;
-    for _ in 0..cols {
-        rooms.push(None)?;
-    }
-    Ok(rooms)
 }

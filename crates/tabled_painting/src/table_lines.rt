@@ -1,31 +1,28 @@
 //! The lines of a table: its horizontal lines, and its rows, cell by cell.
 
-ghost use Rattle.std.specs.Prelude.{◌≡◌, ◌≢◌, ◌++◌, ◌<◌, ◌≤◌, ℕ, [], ◌∷◌, true, false, None, OnOk, IfOk, IfSome, IsSome, length, map, option_copied, option_map, string_bytes, slice_index, slice_index_or};
+ghost use Rattle.std.specs.Prelude.{◌≡◌, ◌++◌, ◌<◌, ◌≤◌, ℕ, [], true, false, None, OnOk, IfOk, IfSome, IsSome, length, map, option_copied, option_map, string_bytes, slice_index, slice_index_or};
 ghost use Rattle.std.specs.Option.{ForSome};
 ghost use Rattle.std.specs.List.{All};
-ghost use Rattle.tabled_object.specs.Entities.{below};
 ghost use Rattle.tabled_printing.specs.Along.{is_empty};
 ghost use Rattle.tabled_printing.specs.Marks.{mark_of};
 ghost use Rattle.tabled_printing.specs.Picture.{marks_along};
 ghost use Rattle.tabled_grid.specs.declared.place.LineOf.{LineOf as Line};
 ghost use Rattle.tabled_painting.specs.InColor.{Paints};
-ghost use Rattle.tabled_painting.specs.Pages.{PaintsLines, line_text, written};
+ghost use Rattle.tabled_painting.specs.Pages.{PaintsLines, line_text};
 ghost use Rattle.tabled_painting.specs.PaintedTable.{painted_marks, side_painted};
 ghost use Rattle.tabled_painting.specs.Viewed as looks;
-ghost use Rattle.tabled_painting.specs.Viewed.{viewed};
-ghost use Rattle.tabled_painting.specs.BareCells.{AreBare, AreRowColors, side_in};
+ghost use Rattle.tabled_painting.specs.BareCells.{AreBare, AreRowColors};
 ghost use Rattle.tabled_painting.specs.Between.{IsBetweenRows};
-ghost use Rattle.tabled_painting.specs.Printable.{AllPrintable, ArePrintable};
 ghost use Rattle.tabled_painting.specs.TextsBy.{texts_by};
 
 use crate::alike::first_plain_line;
 use crate::bare_cells::{BareColumns, bare_columns};
 use crate::cell_lines::CellLines;
-use crate::joints::RowJoints;
 use crate::line_room::{columns_of, room_for_line};
 use crate::page::Page;
+use crate::room::{Room, paint_room};
 use crate::row_colors::{RowColors, row_colors};
-use crate::{CellColors, Painter};
+use crate::{CellColors, Output, Painter};
 use std::alloc::Global;
 use std::convert::AsStr;
 use tabled_border::{ANSIBuf, OutOfMemory};
@@ -46,21 +43,14 @@ pub(crate) struct TableLines<'a, 'b> {
     /// The colors of cells.
     pub(crate) colors: &'a ColorMap,
     /// Where the texts of each column stand, if all cells are bare.
-    pub(crate) bare_columns: BareColumns,
-    /// Whether it is known of all columns.
-    pub(crate) are_all_bare: bool,
-    /// Whether all cells are bare, and no colors are wanted.
-    pub(crate) is_plain: bool,
+    bare_columns: BareColumns,
     /// In which colors the cells of a row are painted.
-    pub(crate) row_colors: RowColors,
-    /// A horizontal line between two rows as it is written, with its line feed, where all of them but custom ones look alike.
-    pub(crate) between: Option<String>,
+    row_colors: RowColors,
+    /// A horizontal line between two rows as it is written, where all of them but custom ones look alike.
+    between: Option<String>,
     /// How many columns of a terminal its columns take, as far as a number says it.
-    pub(crate) columns: usize,
+    columns: usize,
     ghost are_bare: { AreBare frame.cfg.now.settings.cells bare_columns },
-    ghost all_bare: { are_all_bare ≡ true → (c : ℕ) → c < frame.shape.1 → IsSome (side_in bare_columns c) },
-    ghost plain_cells: { is_plain ≡ true → are_all_bare ≡ true },
-    ghost plain_colors: { is_plain ≡ true → frame.with_colors ≡ false },
     ghost are_row_colors: { AreRowColors row_colors frame.with_colors frame.cfg.now.settings.cells colors.now },
     ghost is_between: { ForSome between (λ text. IsBetweenRows frame (string_bytes text)) },
 }
@@ -68,11 +58,13 @@ pub(crate) struct TableLines<'a, 'b> {
 impl<'a, 'b> TableLines<'a, 'b> {
     ghost use Rattle.tabled_painting.specs.BareCells.{IsInColor, IsRowColor};
     ghost use Rattle.tabled_painting.specs.CellLines.{coloring_at};
-    ghost use Rattle.tabled_painting.specs.Joints.{AreJoined};
     ghost use Rattle.tabled_painting.specs.Rows.{line_of};
     ghost use Rattle.tabled_painting.specs.PaintedTable.{painted_between, painted_cell, painted_if_drawn, painted_lines};
+    ghost use Rattle.tabled_painting.specs.RoomLines.{AreRowCells, room_shown};
     ghost use Rattle.tabled_painting.specs.Rows.{cells_of, row_cell, row_painted};
     ghost use Rattle.tabled_painting.specs.Viewed.{viewed};
+    ghost use Rattle.tabled_painting.specs.declared.room.Room.{Room as Begun};
+    ghost use Rattle.std.specs.declared.option.Option.{Option as Maybe};
 
     /// The lines of a table that has rows and columns. What repeats down the table is looked up here.
     pub(crate) fn new(
@@ -90,8 +82,6 @@ impl<'a, 'b> TableLines<'a, 'b> {
     {
         let (config, colors) = (cfg.config(), cfg.get_colors());
         let bare_columns = bare_columns(config, shape.1)?;
-        let are_all_bare = bare_columns.are_known(shape.1);
-        let is_plain = is_plain(are_all_bare, with_colors);
         let row_colors = row_colors(config, colors, with_colors);
         let frame = Frame::new(config, sizes, shape, with_colors)?;
         let columns = columns_of(&frame);
@@ -100,8 +90,6 @@ impl<'a, 'b> TableLines<'a, 'b> {
             frame,
             colors,
             bare_columns,
-            are_all_bare,
-            is_plain,
             row_colors,
             between,
             columns,
@@ -110,7 +98,7 @@ impl<'a, 'b> TableLines<'a, 'b> {
 
     /// The line that is painted between two rows as it was written before: it is no custom one.
     fn whole_line(&self, row: usize) -> Option<&str>
-        ensures { IfSome result (λ text. (0 < row) × (row < self.now.frame.shape.0) × (text.now ≡ written self.now.frame.with_colors (painted_marks (marks_along (viewed self.now.frame) (Line.Horizontal row))))) }
+        ensures { IfSome result (λ text. (0 < row) × (row < self.now.frame.shape.0) × (text.now ≡ line_text self.now.frame.with_colors (painted_marks (marks_along (viewed self.now.frame) (Line.Horizontal row))))) }
     {
         let line = self.between.as_ref()?;
         let is_between = 0 < row && row < self.frame.shape.0;
@@ -121,12 +109,15 @@ impl<'a, 'b> TableLines<'a, 'b> {
     }
 
     /// Paints a horizontal line, which is not past the last one, if the line is drawn.
-    #[inline(always)]
-    pub(crate) fn paint_line(&self, page: &mut Page<'a>, row: usize) -> Result<(), OutOfMemory>
+    pub(crate) fn paint_line<O: Output + Drop + 'a>(
+        &self,
+        page: &mut Page<'a, O>,
+        row: usize,
+    ) -> Result<(), O::Error>
         requires within { row ≤ self.now.frame.shape.0 }
         requires ended { option_copied page.old.painter.color ≡ None }
         requires colors { page.old.painter.with_colors ≡ self.now.frame.with_colors }
-        ensures { OnOk result (PaintsLines (painted_if_drawn (viewed self.now.frame) row) page.old page.new) }
+        ensures { OnOk result (PaintsLines O.gains (painted_if_drawn (viewed self.now.frame) row) page.old page.new) }
     {
         if !self.frame.draws(row) {
             return Ok(());
@@ -149,27 +140,31 @@ impl<'a, 'b> TableLines<'a, 'b> {
         position: Position,
         size: (usize, usize),
         text: &'a str,
-        room: Vec<&'a str>,
-    ) -> Result<CellLines<'a>, OutOfMemory>
-        ensures { IfOk result (λ cell. (at : ℕ) → line_of at cell ≡ painted_cell self.now.frame.cfg.now.settings.cells self.now.colors.now size.0 size.1 text.now position.row position.col at) }
+    ) -> CellLines<'a>
+        ensures { (at : ℕ) → line_of at result ≡ painted_cell self.now.frame.cfg.now.settings.cells self.now.colors.now size.0 size.1 text.now position.row position.col at }
     {
-        let alloc = self.frame.cfg.allocator();
         let how = Placement::of(self.frame.cfg, position);
         let colors = CellColors::of(self.frame.cfg, self.colors, position);
-        let cell = CellLines::of(alloc, how, colors, size, text, room)?;
-        Ok(cell)
+        CellLines::of(how, colors, size, text)
+    }
+
+    /// A cell with the lines of a text in its own column and row.
+    fn own_cell(&self, position: Position, text: &'a str) -> CellLines<'a>
+        ensures { (at : ℕ) → line_of at result ≡ row_cell self.now position.row position.col text.now at }
+    {
+        let sizes = self.frame.dims;
+        let size = (
+            sizes.get_width(position.col),
+            sizes.get_height(position.row),
+        );
+        self.cell_of(position, size, text)
     }
 
     /// The color in which all cells of a row of one line are painted, if it is known that there is one: none where they have no color, or
     /// none is wanted.
-    #[inline(always)]
-    pub(crate) fn row_color(&self, row: usize, is_low: bool) -> Option<Option<&'a ANSIBuf>>
-        ensures color { IfSome result (λ color. IsRowColor self.now.frame.with_colors self.now.frame.cfg.now.settings.cells self.now.colors.now row (option_copied color)) }
-        ensures low { IsSome result → is_low ≡ true }
+    fn row_color(&self, row: usize) -> Option<Option<&'a ANSIBuf>>
+        ensures { IfSome result (λ color. IsRowColor self.now.frame.with_colors self.now.frame.cfg.now.settings.cells self.now.colors.now row (option_copied color)) }
     {
-        if !is_low {
-            return None;
-        }
         match self.row_colors {
             RowColors::Unknown => None,
             RowColors::Plain => Some(None),
@@ -181,204 +176,144 @@ impl<'a, 'b> TableLines<'a, 'b> {
         }
     }
 
-    /// Paints the first line of a cell, and then a side, if there is one. The cell goes behind the other ones, whose room it may
-    /// take where its row is one line high.
-    fn paint_set(
-        &self,
-        painter: &mut Painter<'a>,
-        position: Position,
-        text: &'a str,
-        cells: &mut Vec<CellLines<'a>>,
-        is_low: bool,
-    ) -> Result<(), OutOfMemory>
-        ensures painted { OnOk result (Paints (row_cell self.now position.row position.col text.now 0) painter.old painter.new) }
-        ensures kept { is_low ≡ false → OnOk result ((at : ℕ) → map (line_of at) cells.new.items ≡ map (line_of at) cells.old.items ++ row_cell self.now position.row position.col text.now at ∷ []) }
-    {
-        let alloc = self.frame.cfg.allocator();
-        let room = room_of(alloc, cells, is_low);
-        let sizes = self.frame.dims;
-        let size = (
-            sizes.get_width(position.col),
-            sizes.get_height(position.row),
-        );
-        let cell = self.cell_of(position, size, text, room)?;
-        cell.paint_line(painter, 0)?;
-        cells.push(cell)?;
-        Ok(())
-    }
-
-    /// Paints the first line of a cell, and then a side, if there is one. A cell of a row of one line may be bare, in the color of its row.
+    /// Paints a cell of a row of one line, and then a side, if there is one. The cell may be bare, in the color of its row.
     #[inline(always)]
-    fn paint_cell(
+    fn paint_cell<O: Output>(
         &self,
-        painter: &mut Painter<'a>,
+        painter: &mut Painter<'a, O>,
         position: Position,
         text: &'a str,
-        cells: &mut Vec<CellLines<'a>>,
-        is_low: bool,
         bare: Option<Option<&'a ANSIBuf>>,
         side: Option<Mark<'a>>,
-    ) -> Result<(), OutOfMemory>
+    ) -> Result<(), O::Error>
         requires colors { painter.old.with_colors ≡ self.now.frame.with_colors }
         requires bare { IfSome bare (λ color. self.now.frame.with_colors ≡ true → IsInColor (option_copied color) (coloring_at self.now.frame.cfg.now.settings.cells self.now.colors.now position.row position.col)) }
-        requires low { IsSome bare → is_low ≡ true }
-        ensures painted { OnOk result (Paints (row_cell self.now position.row position.col text.now 0 ++ side_painted (option_map mark_of side.entry)) painter.old painter.new) }
-        ensures kept { is_low ≡ false → OnOk result ((at : ℕ) → map (line_of at) cells.new.items ≡ map (line_of at) cells.old.items ++ row_cell self.now position.row position.col text.now at ∷ []) }
+        ensures { OnOk result (Paints O.gains (row_cell self.now position.row position.col text.now 0 ++ side_painted (option_map mark_of side.entry)) painter.old painter.new) }
     {
         if let Some(color) = bare
             && let Some(alignment) = self.bare_columns.at(position.col)
             && is_printable(text)
         {
             let width = self.frame.dims.get_width(position.col);
-            painter.push_bare(color, alignment, width, text, side)?;
-            return Ok(());
+            return painter.push_bare(color, alignment, width, text, side);
         }
-        self.paint_set(painter, position, text, cells, is_low)?;
-        painter.push_side(side)?;
-        Ok(())
+        let mut cell = self.own_cell(position, text);
+        cell.paint_line(painter, 0)?;
+        painter.push_side(side)
     }
 
-    /// Paints the first line of text of a row, and keeps the cells of a row that has more.
-    fn paint_first<T: AsStr>(
+    /// Paints the line of text of a row that has one, cell by cell.
+    fn paint_low<O: Output, T: AsStr>(
         &self,
-        painter: &mut Painter<'a>,
+        painter: &mut Painter<'a, O>,
         row: usize,
         texts: &'a [T],
-        cells: &mut Vec<CellLines<'a>>,
-        are_printable: bool,
-        joints: Option<&RowJoints<'a>>,
-    ) -> Result<(), OutOfMemory>
-        requires row { row < self.now.frame.shape.0 }
-        requires high { 0 < slice_index self.now.frame.dims.now.heights.items row }
-        requires texts { length texts.now ≡ self.now.frame.shape.1 }
-        requires printable { are_printable ≡ true → ArePrintable (map T.text texts.now) }
-        requires joints { IfSome (option_copied joints) (AreJoined self.now) }
-        requires colors { painter.old.with_colors ≡ self.now.frame.with_colors }
-        ensures painted { OnOk result (Paints (painted_between (viewed self.now.frame) row 0 (λ c. row_cell self.now row c (slice_index_or (map T.text texts.now) c []) 0)) painter.old painter.new) }
-        ensures kept { slice_index self.now.frame.dims.now.heights.items row ≢ 1
-            → OnOk result ((at : ℕ) → map (line_of at) cells.new.items ≡ map (λ c. row_cell self.now row c (slice_index_or (map T.text texts.now) c []) at) (below (length texts.now))) }
-    {
-        let is_low = self.frame.dims.get_height(row) == 1;
-        if is_low && are_printable && self.are_all_bare && painter.color.is_none() {
-            if let Some(joints) = joints {
-                return self.paint_joined(painter, row, texts, joints.of(row));
-            }
-            if self.is_plain {
-                self.push_plain_row(&mut painter.text, row, texts)?;
-                return Ok(());
-            }
-        }
-        let bare = self.row_color(row, is_low);
-        self.paint_each(painter, row, texts, cells, bare)
-    }
-
-    /// Paints the first line of text of a row cell by cell, of which it is said in which color all of them are, if that is known.
-    fn paint_each<T: AsStr>(
-        &self,
-        painter: &mut Painter<'a>,
-        row: usize,
-        texts: &'a [T],
-        cells: &mut Vec<CellLines<'a>>,
-        bare: Option<Option<&'a ANSIBuf>>,
-    ) -> Result<(), OutOfMemory>
+    ) -> Result<(), O::Error>
         requires row { row < self.now.frame.shape.0 }
         requires high { 0 < slice_index self.now.frame.dims.now.heights.items row }
         requires texts { length texts.now ≡ self.now.frame.shape.1 }
         requires colors { painter.old.with_colors ≡ self.now.frame.with_colors }
-        requires color { IfSome bare (λ color. IsRowColor self.now.frame.with_colors self.now.frame.cfg.now.settings.cells self.now.colors.now row (option_copied color)) }
-        requires low { IsSome bare → slice_index self.now.frame.dims.now.heights.items row ≡ 1 }
-        ensures painted { OnOk result (Paints (painted_between (viewed self.now.frame) row 0 (λ c. row_cell self.now row c (slice_index_or (map T.text texts.now) c []) 0)) painter.old painter.new) }
-        ensures kept { slice_index self.now.frame.dims.now.heights.items row ≢ 1
-            → OnOk result ((at : ℕ) → map (line_of at) cells.new.items ≡ map (λ c. row_cell self.now row c (slice_index_or (map T.text texts.now) c []) at) (below (length texts.now))) }
+        ensures { OnOk result (Paints O.gains (painted_between (viewed self.now.frame) row 0 (λ c. row_cell self.now row c (slice_index_or (map T.text texts.now) c []) 0)) painter.old painter.new) }
     {
-        let is_low = self.frame.dims.get_height(row) == 1;
-        if !is_low {
-            cells.clear();
-        }
+        let bare = self.row_color(row);
         painter.push_side(self.frame.side(row, 0, 0))?;
         for (col, text) in texts.iter().enumerate() {
             let side = self.frame.side(row, col + 1, 0);
             let position = Position::new(row, col);
-            self.paint_cell(painter, position, text.as_str(), cells, is_low, bare, side)?;
+            self.paint_cell(painter, position, text.as_str(), bare, side)?;
         }
         Ok(())
     }
 
-    /// Paints a further line of text of a row, of which these are the cells.
-    fn paint_further(
+    /// Begins the cells of a row, each in its own room.
+    fn begin_cells<T: AsStr>(
         &self,
-        painter: &mut Painter<'a>,
+        rooms: &mut [Option<Room<'a>>],
+        row: usize,
+        texts: &'a [T],
+    )
+        requires { length rooms.old ≡ length texts.now }
+        ensures cells { AreRowCells self.now row (map T.text texts.now) rooms.new }
+        ensures count { length rooms.new ≡ length rooms.old }
+    {
+        for (col, text) in texts.iter().enumerate() {
+            let cell = self.own_cell(Position::new(row, col), text.as_str());
+            rooms[col] = Some(Room { first: 0, cell });
+        }
+    }
+
+    /// Paints a line of text of a row, of which these are the cells.
+    fn paint_between<O: Output>(
+        &self,
+        painter: &mut Painter<'a, O>,
         row: usize,
         at: usize,
-        cells: &[CellLines<'a>],
-    ) -> Result<(), OutOfMemory>
+        rooms: &mut [Option<Room<'a>>],
+    ) -> Result<(), O::Error>
         requires row { row < self.now.frame.shape.0 }
         requires at { at < slice_index self.now.frame.dims.now.heights.items row }
-        requires cells { length cells.now ≡ self.now.frame.shape.1 }
-        ensures { OnOk result (Paints (painted_between (viewed self.now.frame) row at (λ c. slice_index_or (map (line_of at) cells.now) c [])) painter.old painter.new) }
+        requires rooms { length rooms.old ≡ self.now.frame.shape.1 }
+        ensures painted { OnOk result ((none : Maybe Begun) → Paints O.gains (painted_between (viewed self.now.frame) row at (λ c. room_shown (slice_index_or rooms.old c none) at)) painter.old painter.new) }
+        ensures same { OnOk result ((c line : ℕ) (none : Maybe Begun) → room_shown (slice_index_or rooms.new c none) line ≡ room_shown (slice_index_or rooms.old c none) line) }
+        ensures count { length rooms.new ≡ length rooms.old }
     {
         painter.push_side(self.frame.side(row, 0, at))?;
-        for (col, cell) in cells.iter().enumerate() {
-            cell.paint_line(painter, at)?;
+        for col in 0..rooms.len() {
+            paint_room(painter, &mut rooms[col], at)?;
             painter.push_side(self.frame.side(row, col + 1, at))?;
         }
         Ok(())
     }
 
-    /// Paints the lines of text of a row. `cells` is for its cells, whatever it had. It may be said that its texts are printable.
-    #[inline(always)]
-    pub(crate) fn paint_row<T: AsStr>(
+    /// Paints the lines of text of a row. `rooms` is for its cells, whatever it had.
+    pub(crate) fn paint_row<O: Output + Drop + 'a, T: AsStr>(
         &self,
-        page: &mut Page<'a>,
+        page: &mut Page<'a, O>,
+        rooms: &mut [Option<Room<'a>>],
         row: usize,
         texts: &'a [T],
-        cells: &mut Vec<CellLines<'a>>,
-        are_printable: bool,
-        joints: Option<&RowJoints<'a>>,
-    ) -> Result<(), OutOfMemory>
+    ) -> Result<(), O::Error>
         requires row { row < self.now.frame.shape.0 }
         requires texts { length texts.now ≡ self.now.frame.shape.1 }
-        requires printable { are_printable ≡ true → ArePrintable (map T.text texts.now) }
-        requires joints { IfSome (option_copied joints) (AreJoined self.now) }
+        requires rooms { length rooms.old ≡ self.now.frame.shape.1 }
         requires ended { option_copied page.old.painter.color ≡ None }
         requires colors { page.old.painter.with_colors ≡ self.now.frame.with_colors }
-        ensures { OnOk result (PaintsLines (row_painted self.now row (map T.text texts.now)) page.old page.new) }
+        ensures painted { OnOk result (PaintsLines O.gains (row_painted self.now row (map T.text texts.now)) page.old page.new) }
+        ensures count { length rooms.new ≡ length rooms.old }
     {
         let height = self.frame.dims.get_height(row);
-        if height == 0 {
+        if height == 1 {
+            page.begin_line()?;
+            self.paint_low(&mut page.painter, row, texts)?;
+            page.end_line()?;
             return Ok(());
         }
-        page.begin_line()?;
-        self.paint_first(&mut page.painter, row, texts, cells, are_printable, joints)?;
-        page.end_line()?;
-        for at in 1..height {
+        self.begin_cells(rooms, row, texts);
+        for at in 0..height {
             page.begin_line()?;
-            self.paint_further(&mut page.painter, row, at, cells)?;
+            self.paint_between(&mut page.painter, row, at, rooms)?;
             page.end_line()?;
         }
         Ok(())
     }
 
-    /// Paints the lines of a table. It may be said that all its texts are printable.
-    pub(crate) fn paint<T: AsStr>(
+    /// Paints the lines of a table. `rooms` is for the cells of a row, whatever it had.
+    pub(crate) fn paint<O: Output + Drop + 'a, T: AsStr>(
         &self,
-        page: &mut Page<'a>,
+        page: &mut Page<'a, O>,
+        rooms: &mut [Option<Room<'a>>],
         rows: &'a [Vec<T>],
-        are_printable: bool,
-    ) -> Result<(), OutOfMemory>
+    ) -> Result<(), O::Error>
         requires rows { length rows.now ≡ self.now.frame.shape.0 }
         requires cols { All (λ row. length row ≡ self.now.frame.shape.1) (texts_by T.text rows.now) }
-        requires printable { are_printable ≡ true → AllPrintable (texts_by T.text rows.now) }
+        requires rooms { length rooms.old ≡ self.now.frame.shape.1 }
         requires ended { option_copied page.old.painter.color ≡ None }
         requires colors { page.old.painter.with_colors ≡ self.now.frame.with_colors }
-        ensures { OnOk result (PaintsLines (painted_lines (viewed self.now.frame) (cells_of self.now (texts_by T.text rows.now))) page.old page.new) }
+        ensures { OnOk result (PaintsLines O.gains (painted_lines (viewed self.now.frame) (cells_of self.now (texts_by T.text rows.now))) page.old page.new) }
     {
-        let mut cells = Vec::new(self.frame.cfg.allocator());
-        let made = self.row_joints()?;
-        let joints = made.as_ref();
         for (row, texts) in rows.iter().enumerate() {
             self.paint_line(page, row)?;
-            self.paint_row(page, row, texts, &mut cells, are_printable, joints)?;
+            self.paint_row(page, rooms, row, texts)?;
         }
         self.paint_line(page, rows.len())
     }
@@ -403,14 +338,6 @@ impl<'a, 'b> TableLines<'a, 'b> {
     }
 }
 
-/// Whether all cells are bare, and no colors are wanted.
-fn is_plain(are_all_bare: bool, with_colors: bool) -> bool
-    ensures cells { result ≡ true → are_all_bare ≡ true }
-    ensures colors { result ≡ true → with_colors ≡ false }
-{
-    are_all_bare && !with_colors
-}
-
 /// A horizontal line between two rows as it is written, where all of them but custom ones look alike, and one is drawn.
 fn line_between(
     alloc: Global,
@@ -432,45 +359,18 @@ fn line_between(
     }
 }
 
-/// A horizontal line as it is written, behind what a text has.
-pub(crate) fn line_behind(
-    text: String,
-    frame: &Frame<FixedDimension>,
-    row: usize,
-) -> Result<String, OutOfMemory>
-    requires { row ≤ frame.now.shape.0 }
-    ensures { IfOk result (λ whole. string_bytes whole ≡ string_bytes text ++ line_text frame.now.with_colors (painted_marks (marks_along (looks.viewed frame.now) (Line.Horizontal row)))) }
-{
-    let mut painter = Painter::behind(text, frame.with_colors);
-    frame.put_line(row, &mut painter, &mut Probes::new())?;
-    painter.end_last()?;
-    Ok(painter.into_text())
-}
-
-/// A horizontal line as it is written, with its line feed, in the place of an empty text.
-pub(crate) fn line_written(
+/// A horizontal line as it is written, in the place of an empty text.
+fn line_written(
     room: String,
     frame: &Frame<FixedDimension>,
     row: usize,
 ) -> Result<String, OutOfMemory>
     requires row { row ≤ frame.now.shape.0 }
     requires empty { string_bytes room ≡ [] }
-    ensures { IfOk result (λ text. string_bytes text ≡ written frame.now.with_colors (painted_marks (marks_along (looks.viewed frame.now) (Line.Horizontal row)))) }
+    ensures { IfOk result (λ text. string_bytes text ≡ line_text frame.now.with_colors (painted_marks (marks_along (looks.viewed frame.now) (Line.Horizontal row)))) }
 {
-    let mut text = line_behind(room, frame, row)?;
-    text.push('\n')?;
-    Ok(text)
-}
-
-/// The room of a cell that was painted before, if there is one and it is not needed any more.
-fn room_of<'a>(alloc: Global, cells: &mut Vec<CellLines<'a>>, is_free: bool) -> Vec<&'a str>
-    ensures { is_free ≡ false → cells.new ≡ cells.old }
-{
-    if !is_free {
-        return Vec::new(alloc);
-    }
-    match cells.pop() {
-        Some(cell) => cell.into_lines(),
-        None => Vec::new(alloc),
-    }
+    let mut painter = Painter::new(room, frame.with_colors);
+    frame.put_line(row, &mut painter, &mut Probes::new())?;
+    painter.end_last()?;
+    Ok(painter.into_out())
 }

@@ -220,7 +220,7 @@ impl<'a, 'b, D: Dimension, M: Meter> Frame<'a, 'b, D, M> {
         sink: &mut S,
         col: usize,
         mark: Mark<'a>,
-    ) -> Result<(), OutOfMemory>
+    ) -> Result<(), S::Error>
         requires { col ≤ self.now.shape.1 }
         ensures { Put S.puts S.leaves result (mark_if_drawn (frame_look D.width_of D.height_of self.now) col (mark_of mark.entry)) sink.old sink.new }
     {
@@ -238,7 +238,7 @@ impl<'a, 'b, D: Dimension, M: Meter> Frame<'a, 'b, D, M> {
         col: usize,
         crossing: Mark<'a>,
         edge: Mark<'a>,
-    ) -> Result<(), OutOfMemory>
+    ) -> Result<(), S::Error>
         requires { col ≤ self.now.shape.1 }
         ensures { let view = frame_look D.width_of D.height_of self.now in
             Put S.puts S.leaves result (mark_if_drawn view col (mark_of crossing.entry) ++ map (λ _. mark_of edge.entry) (below (view.widths col))) sink.old sink.new }
@@ -257,7 +257,7 @@ impl<'a, 'b, D: Dimension, M: Meter> Frame<'a, 'b, D, M> {
         row: usize,
         sink: &mut S,
         probes: &mut M,
-    ) -> Result<(), OutOfMemory>
+    ) -> Result<(), S::Error>
         requires row { row ≤ self.now.shape.0 }
         requires alike { self.now.has_alike_lines ≡ true }
         requires plain { self.now.has_plain_columns ≡ true }
@@ -276,13 +276,13 @@ impl<'a, 'b, D: Dimension, M: Meter> Frame<'a, 'b, D, M> {
 
     /// Puts the marks of a horizontal line, drawn or not. At most twelve readings are made for each place, six for each
     /// vertical line and 45 for the line; where nothing is kept for single places and no vertical line is a custom one, 45 in
-    /// all. Only memory can be refused.
+    /// all. Refused only by the sink.
     pub fn put_line<S: Sink<'a>>(
         &self,
         row: usize,
         sink: &mut S,
         probes: &mut M,
-    ) -> Result<(), OutOfMemory>
+    ) -> Result<(), S::Error>
         requires { row ≤ self.now.shape.0 }
         ensures put { Put S.puts S.leaves result (marks_along (frame_look D.width_of D.height_of self.now) (Line.Horizontal row)) sink.old sink.new }
         ensures probes { IsRaised (12 * length (marks_along (frame_look D.width_of D.height_of self.now) (Line.Horizontal row)) + 6 * (self.now.shape.1 + 1) + 45) (M.made probes.old) (M.made probes.new) }

@@ -10,7 +10,6 @@ ghost use Rattle.tabled_printing.specs.Sinks.{Put};
 use crate::Frame;
 use crate::sink::Sink;
 use crate::walk::Walk;
-use tabled_border::OutOfMemory;
 use tabled_grid::LineOf;
 use tabled_kept::Meter;
 use tabled_object::Dimension;
@@ -19,14 +18,14 @@ impl<'a, 'b, D: Dimension, M: Meter> Frame<'a, 'b, D, M> {
     ghost use Rattle.tabled_printing.specs.Viewed.{frame_look};
 
     /// Puts the mark of the crossing of a horizontal line, drawn or not, with a vertical one, if that is drawn: at most 17 readings.
-    /// Only memory can be refused.
+    /// Refused only by the sink.
     pub fn put_line_crossing<S: Sink<'a>>(
         &self,
         row: usize,
         col: usize,
         sink: &mut S,
         probes: &mut M,
-    ) -> Result<(), OutOfMemory>
+    ) -> Result<(), S::Error>
         requires row { row ≤ self.now.shape.0 }
         requires col { col ≤ self.now.shape.1 }
         ensures put { let view = frame_look D.width_of D.height_of self.now in
@@ -46,14 +45,14 @@ impl<'a, 'b, D: Dimension, M: Meter> Frame<'a, 'b, D, M> {
     }
 
     /// Puts the marks of that crossing and of the places of the line over the column after it: at most twelve readings for each, and seven
-    /// for both. Only memory can be refused.
+    /// for both. Refused only by the sink.
     pub fn put_line_piece<S: Sink<'a>>(
         &self,
         row: usize,
         col: usize,
         sink: &mut S,
         probes: &mut M,
-    ) -> Result<(), OutOfMemory>
+    ) -> Result<(), S::Error>
         requires row { row ≤ self.now.shape.0 }
         requires col { col < self.now.shape.1 }
         ensures put { let view = frame_look D.width_of D.height_of self.now in

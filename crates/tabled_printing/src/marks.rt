@@ -26,7 +26,7 @@ fn put_line<'a, D: Dimension, S: Sink<'a>, M: Meter>(
     line: LineOf,
     sink: &mut S,
     probes: &mut M,
-) -> Result<(), OutOfMemory>
+) -> Result<(), S::Error>
     ensures put { Put S.puts S.leaves result (marks (all_writes cfg.now) shape (D.width_of dims.now) (D.height_of dims.now) line) sink.old sink.new }
     ensures probes { IsRaised (12 * length (marks (all_writes cfg.now) shape (D.width_of dims.now) (D.height_of dims.now) line) + 6 * lines_met shape line) (M.made probes.old) (M.made probes.new) }
 {

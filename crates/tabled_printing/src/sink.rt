@@ -8,22 +8,26 @@ ghost use Rattle.tabled_printing.specs.Sinks as gains;
 
 use crate::print::printed_as;
 use crate::{Mark, Run, push_after, push_times};
+use std::alloc::AllocError;
 use tabled_border::OutOfMemory;
 
 /// What marks are put into, run by run.
 pub trait Sink<'a> {
+    /// Why no more can be put.
+    type Error;
+
     /// Whether these marks, put in their order, make the one the other.
     ghost puts: { List Shown → Self → Self → Type 0 };
 
     /// Whether a refusal may leave the other of the one.
     ghost leaves: { Self → Self → Type 0 };
 
-    /// Puts the marks of a run. Where memory is refused some of them may have been put.
-    fn put(&mut self, run: Run<'a>) -> Result<(), OutOfMemory>
+    /// Puts the marks of a run. Where it is refused some of them may have been put.
+    fn put(&mut self, run: Run<'a>) -> Result<(), Self::Error>
         ensures { Put puts leaves result (run_marks run.entry) self.old self.new };
 
-    /// Puts a mark, and then the marks of a run. Where memory is refused some of them may have been put.
-    fn put_after(&mut self, mark: Mark<'a>, run: Run<'a>) -> Result<(), OutOfMemory>
+    /// Puts a mark, and then the marks of a run. Where it is refused some of them may have been put.
+    fn put_after(&mut self, mark: Mark<'a>, run: Run<'a>) -> Result<(), Self::Error>
         ensures { Put puts leaves result (mark_of mark.entry ∷ run_marks run.entry) self.old self.new };
 
     /// No marks leave it as it is.
@@ -40,18 +44,20 @@ pub trait Sink<'a> {
 
 /// A text takes the characters, a space for none.
 impl<'a> Sink<'a> for String {
+    type Error = AllocError;
+
     ghost puts = { gains.text_gains };
 
     ghost leaves = { gains.text_kept };
 
     #[inline(always)]
-    fn put(&mut self, run: Run<'a>) -> Result<(), OutOfMemory> {
+    fn put(&mut self, run: Run<'a>) -> Result<(), AllocError> {
         push_times(self, run.count, printed_as(run.mark.shown))?;
         Ok(())
     }
 
     #[inline(always)]
-    fn put_after(&mut self, mark: Mark<'a>, run: Run<'a>) -> Result<(), OutOfMemory> {
+    fn put_after(&mut self, mark: Mark<'a>, run: Run<'a>) -> Result<(), AllocError> {
         let (crossing, edge) = (printed_as(mark.shown), printed_as(run.mark.shown));
         push_after(self, crossing, run.count, edge)?;
         Ok(())
@@ -66,18 +72,20 @@ impl<'a> Sink<'a> for String {
 
 /// A list of marks takes each of them.
 impl<'a> Sink<'a> for Vec<Mark<'a>> {
+    type Error = AllocError;
+
     ghost puts = { gains.marks_gained };
 
     ghost leaves = { gains.anything };
 
-    fn put(&mut self, run: Run<'a>) -> Result<(), OutOfMemory> {
+    fn put(&mut self, run: Run<'a>) -> Result<(), AllocError> {
         for _ in 0..run.count {
             self.push(run.mark)?;
         }
         Ok(())
     }
 
-    fn put_after(&mut self, mark: Mark<'a>, run: Run<'a>) -> Result<(), OutOfMemory> {
+    fn put_after(&mut self, mark: Mark<'a>, run: Run<'a>) -> Result<(), AllocError> {
         self.push(mark)?;
         self.put(run)
     }
@@ -91,16 +99,18 @@ impl<'a> Sink<'a> for Vec<Mark<'a>> {
 
 /// A list of runs takes the run.
 impl<'a> Sink<'a> for Vec<Run<'a>> {
+    type Error = AllocError;
+
     ghost puts = { gains.runs_gained };
 
     ghost leaves = { gains.anything };
 
-    fn put(&mut self, run: Run<'a>) -> Result<(), OutOfMemory> {
+    fn put(&mut self, run: Run<'a>) -> Result<(), AllocError> {
         self.push(run)?;
         Ok(())
     }
 
-    fn put_after(&mut self, mark: Mark<'a>, run: Run<'a>) -> Result<(), OutOfMemory> {
+    fn put_after(&mut self, mark: Mark<'a>, run: Run<'a>) -> Result<(), AllocError> {
         self.push(Run { mark, count: 1 })?;
         self.put(run)
     }
@@ -114,6 +124,8 @@ impl<'a> Sink<'a> for Vec<Run<'a>> {
 
 /// A number counts them. Refused where no number says how many they are, which no memory holds.
 impl<'a> Sink<'a> for usize {
+    type Error = OutOfMemory;
+
     ghost puts = { gains.number_gains };
 
     ghost leaves = { gains.anything };

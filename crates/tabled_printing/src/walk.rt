@@ -16,7 +16,6 @@ use crate::line_pieces::{crossing_line, crossing_of, edge_of, piece_size, pieces
 use crate::mark::{mark_seen, plain_mark};
 use crate::sink::Sink;
 use crate::{Run, Sides};
-use tabled_border::OutOfMemory;
 use tabled_configuration::SpannedConfig;
 use tabled_grid::LineOf;
 use tabled_kept::{Meter, Probes};
@@ -70,7 +69,7 @@ impl<'a, D: Dimension, M: Meter> Walk<'a, '_, '_, D, M> {
         sink: &mut S,
         n: usize,
         probes: &mut M,
-    ) -> Result<(), OutOfMemory>
+    ) -> Result<(), S::Error>
         requires within { n ≤ pieces_of self.now.shape self.now.line }
         ensures put { let view = walk_look D.width_of D.height_of self.now in
             Put S.puts S.leaves result (map (mark_at view) (crossing_places view self.now.line n)) sink.old sink.new }
@@ -92,7 +91,7 @@ impl<'a, D: Dimension, M: Meter> Walk<'a, '_, '_, D, M> {
         n: usize,
         size: usize,
         probes: &mut M,
-    ) -> Result<(), OutOfMemory>
+    ) -> Result<(), S::Error>
         requires { size ≡ piece_size (D.width_of self.now.dims.now) (D.height_of self.now.dims.now) self.now.line n }
         ensures put { let view = walk_look D.width_of D.height_of self.now in
             Put S.puts S.leaves result (map (mark_at view) (edge_places view self.now.line n)) sink.old sink.new }
@@ -113,7 +112,7 @@ impl<'a, D: Dimension, M: Meter> Walk<'a, '_, '_, D, M> {
         n: usize,
         size: usize,
         probes: &mut M,
-    ) -> Result<(), OutOfMemory>
+    ) -> Result<(), S::Error>
         requires size { size ≡ piece_size (D.width_of self.now.dims.now) (D.height_of self.now.dims.now) self.now.line n }
         requires characters { HasNoOffsets (direction_of self.now.line) self.now.cfg.now.characters }
         requires colors { self.now.with_colors ≡ true → HasNoOffsets (direction_of self.now.line) self.now.cfg.now.colors }
@@ -133,7 +132,7 @@ impl<'a, D: Dimension, M: Meter> Walk<'a, '_, '_, D, M> {
         n: usize,
         has_offsets: bool,
         probes: &mut M,
-    ) -> Result<(), OutOfMemory>
+    ) -> Result<(), S::Error>
         requires characters { has_offsets ≡ false → HasNoOffsets (direction_of self.now.line) self.now.cfg.now.characters }
         requires colors { has_offsets ≡ false → self.now.with_colors ≡ true → HasNoOffsets (direction_of self.now.line) self.now.cfg.now.colors }
         ensures put { let view = walk_look D.width_of D.height_of self.now in
@@ -158,7 +157,7 @@ impl<'a, D: Dimension, M: Meter> Walk<'a, '_, '_, D, M> {
         n: usize,
         has_offsets: bool,
         probes: &mut M,
-    ) -> Result<(), OutOfMemory>
+    ) -> Result<(), S::Error>
         requires within { n < pieces_of self.now.shape self.now.line }
         requires characters { has_offsets ≡ false → HasNoOffsets (direction_of self.now.line) self.now.cfg.now.characters }
         requires colors { has_offsets ≡ false → self.now.with_colors ≡ true → HasNoOffsets (direction_of self.now.line) self.now.cfg.now.colors }
@@ -176,7 +175,7 @@ impl<'a, D: Dimension, M: Meter> Walk<'a, '_, '_, D, M> {
         &self,
         sink: &mut S,
         probes: &mut M,
-    ) -> Result<(), OutOfMemory>
+    ) -> Result<(), S::Error>
         ensures put { let view = walk_look D.width_of D.height_of self.now in
             Put S.puts S.leaves result (map (mark_at view) (all_places view self.now.line)) sink.old sink.new }
         ensures probes { let view = walk_look D.width_of D.height_of self.now in

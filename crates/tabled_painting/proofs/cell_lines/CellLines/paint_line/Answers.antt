@@ -1,30 +1,37 @@
 -- By where line n stands.
-use Rattle.std.proofs.Common.{◌<◌, ◌≤◌, ◌-◌, length, get_or, ap, subst, ◌∙◌}
-use Rattle.tabled_painting.specs.CellLines.{coloring_of}
-use Rattle.tabled_painting.proofs.CellLemmas.{same_line, upper_line, lower_line, text_line}
+use Rattle.std.proofs.Common.{ap, ◌∙◌}
+use Rattle.tabled_cells.specs.Shown.{shown}
+use Rattle.tabled_painting.specs.CellLines.{cell_line, coloring_of}
+use Rattle.tabled_painting.proofs.CellLemmas.{aligned_line, same_line, upper_line, lower_line, text_line}
 use Rattle.tabled_painting.proofs.cell_lines.CellLines.paint_line.Goals as goal
 
-pub returns-then-n-above : goal.returns-then-n-above
-returns-then-n-above c =
+pub returns-then-n-above-clause-painted : goal.returns-then-n-above-clause-painted
+returns-then-n-above-clause-painted g c =
     let cell = c.args.self.now in
-    same_line c.push_times.result _ _ _ _
-    (upper_line cell.how (coloring_of cell.colors) cell.width cell.height cell.lines.items c.args.n c.lines_above-above.result c.len.result
-    c.lines_above-above.ensures (c.len.ensures ∙ cell.lines.ok.0) _ c.as_ref.ensures.value c.if-n-above.true) c.push_times.ensures
+    same_line g.O.Output.gains c.push_times.result _ _ _ _
+    (upper_line cell.how (coloring_of cell.colors) cell.width cell.height (shown cell.lines) c.args.n c.lines_above-above.result c.len.result
+    c.lines_above-above.ensures c.len.ensures _ c.as_ref.ensures.value c.if-n-above.true) c.push_times.ensures
 
-pub returns-in_default : goal.returns-in_default
-returns-in_default c =
+pub returns-in_default-clause-painted : goal.returns-in_default-clause-painted
+returns-in_default-clause-painted g c =
     let cell = c.args.self.now in
-    same_line c.push_times-in_default.result _ _ _ _
-    (lower_line cell.how (coloring_of cell.colors) cell.width cell.height cell.lines.items c.args.n c.lines_above-above.result c.len.result
-    c.lines_above-above.ensures (c.len.ensures ∙ cell.lines.ok.0) _ c.as_ref-in_default.ensures.value c.if-n-above.false
-    (subst (λ texts. length texts ≤ c.args.n - c.lines_above-above.result) c.deref.ensures.value c.in_default.ensures.lookup.3)) c.push_times-in_default.ensures
+    same_line g.O.Output.gains c.push_times-in_default.result _ _ _ _
+    (lower_line cell.how (coloring_of cell.colors) cell.width cell.height (shown cell.lines) c.args.n c.lines_above-above.result c.len.result
+    c.lines_above-above.ensures c.len.ensures _ c.as_ref-in_default.ensures.value c.if-n-above.false c.in_default.ensures.there) c.push_times-in_default.ensures
 
-pub returns : goal.returns
-returns c =
+pub returns-clause-painted : goal.returns-clause-painted
+returns-clause-painted g c =
     let cell = c.args.self.now in
-    let found = c.in-Some.ensures.lookup.3 in
-    let at = c.args.n - c.lines_above-above.result in
-    same_line c.paint_text.result _ _ _ _
-    (text_line cell.how (coloring_of cell.colors) cell.width cell.height cell.lines.items c.args.n c.lines_above-above.result c.len.result
-    c.lines_above-above.ensures (c.len.ensures ∙ cell.lines.ok.0) c.in-Some.line.now c.aligned.result c.if-n-above.false
-    (subst (λ texts. at < length texts) c.deref.ensures.value found.0) (found.1 c.in-Some.line.now ∙ ap (λ texts. get_or texts at c.in-Some.line.now) c.deref.ensures.value) c.aligned.ensures) c.paint_text.ensures
+    same_line g.O.Output.gains c.paint_text.result _ _ _ _
+    (text_line cell.how (coloring_of cell.colors) cell.width cell.height (shown cell.lines) c.args.n c.lines_above-above.result c.len.result
+    c.lines_above-above.ensures c.len.ensures c.in-Some.line.now c.aligned-aligned.result c.if-n-above.false c.in-Some.ensures.there c.in-Some.ensures.is
+    (aligned_line cell.how (coloring_of cell.colors) cell.width c.line.new.self.widest c.aligned-aligned.result (shown cell.lines) c.in-Some.line.now (λ together apart. c.in-Some.ensures.widest ∙ cell.widest together apart) c.aligned-aligned.ensures))
+    c.paint_text.ensures
+
+pub returns-in_default-clause-same : goal.returns-in_default-clause-same
+returns-in_default-clause-same g c at =
+    let cell = c.args.self.now in ap (λ lines. cell_line cell.how (coloring_of cell.colors) cell.width cell.height lines at) c.in_default.ensures.same
+
+pub returns-clause-same : goal.returns-clause-same
+returns-clause-same g c at =
+    let cell = c.args.self.now in ap (λ lines. cell_line cell.how (coloring_of cell.colors) cell.width cell.height lines at) c.in-Some.ensures.same

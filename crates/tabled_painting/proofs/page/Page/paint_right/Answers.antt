@@ -7,7 +7,7 @@ use Rattle.tabled_painting.proofs.MarginLemmas.{nothing_at}
 use Rattle.tabled_painting.proofs.page.Page.paint_right.Goals as goal
 
 pub returns-then-self-eq0-clause-painted : goal.returns-then-self-eq0-clause-painted
-returns-then-self-eq0-clause-painted c =
+returns-then-self-eq0-clause-painted g c =
     let page = c.args.self.now in
-    subst (λ line. Paints line page.painter page.painter) (sym (ap (side_at (side_of page.right) page.high page.number) c.if-self-eq0.true ∙ nothing_at (side_of page.right) page.high page.number))
-    (paints_none page.painter)
+    subst (λ line. Paints g.O.Output.gains line page.painter page.painter) (sym (ap (side_at (side_of page.right) page.high page.number) c.if-self-eq0.true ∙ nothing_at (side_of page.right) page.high page.number))
+    (paints_none g.O.Output.gains g.met.O.Output.gains_none page.painter)

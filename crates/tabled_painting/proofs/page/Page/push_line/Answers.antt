@@ -1,23 +1,27 @@
 -- A line as it was written before, between sides without room.
-use Rattle.std.proofs.Common.{rules, [], ◌∷◌, ◌++◌, ap, refl, sym, ◌∙◌, string_bytes, option_copied}
-use Rattle.std.specs.List.{flat_map}
-use Rattle.std.proofs.lemmas.List.{append-nil}
+use Rattle.std.proofs.Common.{[], ◌∷◌, ◌++◌, ap, refl, sym, subst, ◌∙◌, append-nil, option_copied}
+use Rattle.tabled_painting.specs.InColor.{feed_if}
 use Rattle.tabled_painting.specs.Margin.{side_of}
-use Rattle.tabled_painting.specs.Pages.{written}
-use Rattle.tabled_painting.proofs.MarginLemmas.{between_none}
+use Rattle.tabled_painting.specs.Pages.{PaintsWhole, line_text}
+use Rattle.tabled_painting.proofs.MarginLemmas.{counted_none}
 use Rattle.tabled_painting.proofs.page.Page.push_line.Goals as goal
 
 pub returns : goal.returns
-returns c painted is =
+returns g c painted is =
     let page = c.args.self.now in
-    let wrote = written page.painter.with_colors in
+    let gains = g.O.Output.gains in
+    let feed = feed_if page.painter.has_begun in
     record {
-      text =
-          c.in_ok-push_line.ensures.text
-          ∙ ap (λ bs. string_bytes page.painter.text ++ bs)
-          (is ∙ sym (append-nil (wrote painted)) ∙ ap (flat_map wrote) (sym (between_none (side_of page.left) (side_of page.right) page.high page.number (painted ∷ []) c.requires.left c.requires.right)));
-      number = search rules;
-      ended = ap option_copied c.in_ok-push_line.ensures.color ∙ c.requires.ended;
-      same_colors = c.in_ok-push_line.ensures.same_colors;
+      whole =
+          subst (λ lines. PaintsWhole gains lines page.painter (record c.begin_line.new.self { out = c.push_str.new.self })) (sym (counted_none (side_of page.left) (side_of page.right) page.high page.number (painted ∷ []) c.requires.left c.requires.right))
+          (record {
+            text =
+                subst (λ bs. gains bs page.painter.out c.push_str.new.self) ((λ i. feed ++ is i) ∙ sym (append-nil (feed ++ line_text page.painter.with_colors painted)))
+                (g.met.O.Output.gains_both feed c.args.line.now page.painter.out c.begin_line.new.self.out c.push_str.new.self c.in_ok-begin_line.ensures.text c.in_ok-push_str.ensures);
+            begun = c.in_ok-begin_line.ensures.begun;
+            ended = ap option_copied c.begin_line.ensures.color ∙ c.requires.ended;
+            same_colors = c.begin_line.ensures.same_colors;
+          });
+      number = c.saturating_add-self.ensures;
       same = record { left = refl; right = refl; high = refl };
     }

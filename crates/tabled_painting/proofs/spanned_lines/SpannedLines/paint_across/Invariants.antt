@@ -4,12 +4,15 @@ use Rattle.tabled_object.specs.Entities.{below}
 use Rattle.tabled_painting.specs.InColor.{Paints}
 use Rattle.tabled_painting.specs.PaintedTable.{Cells}
 use Rattle.tabled_painting.specs.PaintedSpans.{crossed_piece}
-use Rattle.tabled_painting.specs.RoomLines.{AreOpen, columns_of, rows_of}
+use Rattle.tabled_painting.specs.RoomLines.{AreOpen, ShowTheSame, columns_of, rows_of}
 use Rattle.tabled_painting.specs.Viewed.{viewed}
 use Rattle.tabled_painting.proofs.spanned_lines.SpannedLines.paint_across.Given as goal
 
 abbrev pub invariant-loop-col : goal.invariant-loop-col
-invariant-loop-col l =
+invariant-loop-col g l =
     let lines = l.self.lines.now in
-    (cells : Cells) → AreOpen (viewed lines.frame) (columns_of lines) (rows_of lines) cells l.row l.rooms
-    → Paints (flat_map (crossed_piece (viewed lines.frame) (columns_of lines) (rows_of lines) cells l.row) (below l.col)) l.initial.painter l.painter
+    record {
+      same : ShowTheSame l.initial.rooms l.rooms;
+      painted : (cells : Cells) → AreOpen (viewed lines.frame) (columns_of lines) (rows_of lines) cells l.row l.initial.rooms
+          → Paints g.O.Output.gains (flat_map (crossed_piece (viewed lines.frame) (columns_of lines) (rows_of lines) cells l.row) (below l.col)) l.initial.painter l.painter;
+    }

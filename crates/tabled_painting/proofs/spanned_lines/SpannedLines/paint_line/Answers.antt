@@ -9,27 +9,26 @@ use Rattle.tabled_painting.proofs.PageLemmas.{line_painted, line_drawn, line_not
 use Rattle.tabled_painting.proofs.SpannedLemmas.{across_own}
 use Rattle.tabled_painting.proofs.spanned_lines.SpannedLines.paint_line.Goals as goal
 
-pub returns-then-all_begin_in : goal.returns-then-all_begin_in
-returns-then-all_begin_in c = λ cells opened.
+pub returns-then-all_begin_in-clause-painted : goal.returns-then-all_begin_in-clause-painted
+returns-then-all_begin_in-clause-painted g c = λ cells opened.
     let lines = c.args.self.now.lines.now in
     let view = viewed lines.frame in
     let none : Host = record { row = 0; col = 0; bottom = 0; right = 0 } in
     let own = c.all_begin_in.ensures c.if-all_begin_in.true in
-    subst (λ line. PaintsLines (if view.horizontal c.args.row then line ∷ [] else []) c.args.page.now c.paint_line.new.page)
+    subst (λ line. PaintsLines g.O.Output.gains (if view.horizontal c.args.row then line ∷ [] else []) c.args.page.now c.paint_line.new.page)
     (across_own view (columns_of lines) (rows_of lines) cells c.args.row lines.frame.has_places (omega (arith, c.requires.row))
     (λ col within. let inside : col < length c.args.hosts.now = omega (arith, within, c.requires.hosts) in
     sym (ap (λ (h : Host). h.row) (c.requires.are col none inside)) ∙ own col none inside))
     c.in_ok-paint_line.ensures
 
-pub returns-then-not-draws : goal.returns-then-not-draws
-returns-then-not-draws c = λ cells opened.
+pub returns-then-not-draws-clause-painted : goal.returns-then-not-draws-clause-painted
+returns-then-not-draws-clause-painted g c = λ cells opened.
     let lines = c.args.self.now.lines.now in
-    line_not_drawn ((viewed lines.frame).horizontal c.args.row) (spanned_across (viewed lines.frame) (columns_of lines) (rows_of lines) cells c.args.row) c.args.page.now (sym c.draws.ensures ∙ c.if-not-draws.true) c.requires.ended
+    line_not_drawn g.O.Output.gains g.met.O.Output.gains_none ((viewed lines.frame).horizontal c.args.row) (spanned_across (viewed lines.frame) (columns_of lines) (rows_of lines) cells c.args.row) c.args.page.now (sym c.draws.ensures ∙ c.if-not-draws.true) c.requires.ended
 
-pub returns : goal.returns
-returns c = λ cells opened.
+pub returns-clause-painted : goal.returns-clause-painted
+returns-clause-painted g c = λ cells opened.
     let lines = c.args.self.now.lines.now in
-    line_drawn ((viewed lines.frame).horizontal c.args.row) _ _ _ (sym c.draws.ensures ∙ c.if-not-draws.false)
-    (line_painted c.args.page.now c.begin_line.new.self _ c.end_line.new.self _ c.requires.ended c.in_ok-begin_line.ensures.painted c.begin_line.ensures.number c.begin_line.ensures.same
-    (c.in_ok-paint_across.ensures cells opened) refl (record { left = refl; right = refl; high = refl })
-    c.in_ok-end_line.ensures.text c.in_ok-end_line.ensures.ended c.in_ok-end_line.ensures.same_colors c.in_ok-end_line.ensures.number c.end_line.ensures.same)
+    line_drawn g.O.Output.gains ((viewed lines.frame).horizontal c.args.row) _ _ _ (sym c.draws.ensures ∙ c.if-not-draws.false)
+    (line_painted g.O.Output.gains g.met.O.Output.gains_both c.args.page.now c.begin_line.new.self _ c.end_line.new.self _ c.in_ok-begin_line.ensures.begun c.begin_line.ensures.number c.begin_line.ensures.same
+    (c.in_ok-paint_across.ensures.painted cells opened) refl (record { left = refl; right = refl; high = refl }) c.in_ok-end_line.ensures)

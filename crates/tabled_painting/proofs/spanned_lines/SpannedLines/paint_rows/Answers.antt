@@ -11,7 +11,7 @@ use Rattle.tabled_painting.specs.TextsBy.{texts_by}
 use Rattle.tabled_painting.specs.Viewed.{viewed}
 use Rattle.tabled_painting.proofs.FrameLemmas.{row_texts}
 use Rattle.tabled_painting.proofs.PageLemmas.{row_more, no_lines}
-use Rattle.tabled_painting.proofs.SpannedLemmas.{none_open}
+use Rattle.tabled_painting.proofs.SpannedLemmas.{none_open, open_same}
 use Rattle.tabled_painting.proofs.spanned_lines.SpannedLines.paint_rows.Goals as goal
 
 pub loop-row-init : goal.loop-row-init
@@ -25,7 +25,7 @@ loop-row-init g c =
       rooms_count = c.requires.rooms;
       above = c.requires.above;
       opened = λ some. none_open (viewed lines.frame) (columns_of lines) (rows_of lines) (room_cells lines (texts_by g.T.AsStr.text c.args.rows.now)) c.args.rooms.now;
-      painted = no_lines c.args.page.now c.requires.ended;
+      painted = no_lines g.O.Output.gains g.met.O.Output.gains_none c.args.page.now c.requires.ended;
     }
 
 pub paint_shown-requires-clause-texts : goal.paint_shown-requires-clause-texts
@@ -38,12 +38,12 @@ paint_shown-requires-clause-texts g c =
 pub paint_shown-requires-clause-ended : goal.paint_shown-requires-clause-ended
 paint_shown-requires-clause-ended g c =
     let lines = c.args.self.now.lines.now in
-    (c.in_ok-paint_line.ensures (room_cells lines (texts_by g.T.AsStr.text c.args.rows.now)) (c.loop-row.invariant.opened (omega (arith, c.loop-row-test.true, c.requires.rows)))).ended
+    (c.in_ok-paint_line.ensures.painted (room_cells lines (texts_by g.T.AsStr.text c.args.rows.now)) (c.loop-row.invariant.opened (omega (arith, c.loop-row-test.true, c.requires.rows)))).whole.ended
 
 pub paint_shown-requires-clause-colors : goal.paint_shown-requires-clause-colors
 paint_shown-requires-clause-colors g c =
     let lines = c.args.self.now.lines.now in
-    (c.in_ok-paint_line.ensures (room_cells lines (texts_by g.T.AsStr.text c.args.rows.now)) (c.loop-row.invariant.opened (omega (arith, c.loop-row-test.true, c.requires.rows)))).same_colors ∙ c.loop-row.invariant.colors
+    (c.in_ok-paint_line.ensures.painted (room_cells lines (texts_by g.T.AsStr.text c.args.rows.now)) (c.loop-row.invariant.opened (omega (arith, c.loop-row-test.true, c.requires.rows)))).whole.same_colors ∙ c.loop-row.invariant.colors
 
 pub loop-row-preserved : goal.loop-row-preserved
 loop-row-preserved g c =
@@ -54,18 +54,19 @@ loop-row-preserved g c =
     let cells = room_cells lines (texts_by g.T.AsStr.text rows) in
     let there = row_texts g.T.AsStr.text rows r c.index-rows-row.result c.deref.result.now c.loop-row-test.true c.index-rows-row.is c.deref.ensures.value in
     let opened = c.loop-row.invariant.opened (omega (arith, c.loop-row-test.true, c.requires.rows)) in
-    let lines_above = c.in_ok-paint_line.ensures cells opened in
-    let own = c.in_ok-paint_shown.ensures.painted (texts_by g.T.AsStr.text rows) (sym there) opened in
+    let lines_above = c.in_ok-paint_line.ensures.painted cells opened in
+    let still = open_same view (columns_of lines) (rows_of lines) cells r c.loop-row.rooms c.paint_line.new.rooms c.in_ok-paint_line.ensures.same opened in
+    let own = c.in_ok-paint_shown.ensures.painted (texts_by g.T.AsStr.text rows) (sym there) still in
     record {
-      ended = own.ended;
-      colors = own.same_colors ∙ lines_above.same_colors ∙ c.loop-row.invariant.colors;
+      ended = own.whole.ended;
+      colors = own.whole.same_colors ∙ lines_above.whole.same_colors ∙ c.loop-row.invariant.colors;
       hosts_count = omega (arith, c.loop-row.invariant.hosts_count);
-      wides_count = omega (arith, c.loop-row.invariant.wides_count);
-      rooms_count = omega (arith, c.loop-row.invariant.rooms_count);
+      wides_count = c.in_ok-paint_shown.ensures.wides_count ∙ c.loop-row.invariant.wides_count;
+      rooms_count = c.in_ok-paint_shown.ensures.rooms_count ∙ c.in_ok-paint_line.ensures.same.count ∙ c.loop-row.invariant.rooms_count;
       above = hosts_above (columns_of lines) (rows_of lines) lines.frame.shape r c.next_hosts.new.hosts c.next_hosts.ensures.hosts;
-      opened = c.in_ok-paint_shown.ensures.opened (texts_by g.T.AsStr.text rows) (sym there) opened;
+      opened = c.in_ok-paint_shown.ensures.opened (texts_by g.T.AsStr.text rows) (sym there) still;
       painted =
-          row_more (spanned_if_drawn view (columns_of lines) (rows_of lines) cells) (spanned_row view (columns_of lines) (rows_of lines) cells) r _ _ _ _ _ refl
+          row_more g.O.Output.gains g.met.O.Output.gains_both (spanned_if_drawn view (columns_of lines) (rows_of lines) cells) (spanned_row view (columns_of lines) (rows_of lines) cells) r _ _ _ _ _ refl
           c.loop-row.invariant.painted lines_above own;
     }
 
@@ -75,4 +76,4 @@ returns-clause-painted g c =
     let view = viewed lines.frame in
     let cells = room_cells lines (texts_by g.T.AsStr.text c.args.rows.now) in
     let all : c.loop-row.row ≡ view.shape.0 = (let rows_are = c.requires.rows in omega (arith, c.loop-row-test.false, c.loop-row.auto.row-end, rows_are)) in
-    subst (λ n. PaintsLines (flat_map (λ r. spanned_if_drawn view (columns_of lines) (rows_of lines) cells r ++ spanned_row view (columns_of lines) (rows_of lines) cells r) (below n)) c.args.page.now c.loop-row.page) all c.loop-row.invariant.painted
+    subst (λ n. PaintsLines g.O.Output.gains (flat_map (λ r. spanned_if_drawn view (columns_of lines) (rows_of lines) cells r ++ spanned_row view (columns_of lines) (rows_of lines) cells r) (below n)) c.args.page.now c.loop-row.page) all c.loop-row.invariant.painted

@@ -23,5 +23,5 @@ invariant-loop-row g l =
       rooms_count : length l.rooms ≡ lines.frame.shape.1;
       above : AreAbove (columns_of lines) (rows_of lines) lines.frame.shape l.row l.hosts;
       opened : l.row < lines.frame.shape.0 → AreOpen view (columns_of lines) (rows_of lines) cells l.row l.rooms;
-      painted : PaintsLines (flat_map (λ r. spanned_if_drawn view (columns_of lines) (rows_of lines) cells r ++ spanned_row view (columns_of lines) (rows_of lines) cells r) (below l.row)) l.initial.page l.page;
+      painted : PaintsLines g.O.Output.gains (flat_map (λ r. spanned_if_drawn view (columns_of lines) (rows_of lines) cells r ++ spanned_row view (columns_of lines) (rows_of lines) cells r) (below l.row)) l.initial.page l.page;
     }

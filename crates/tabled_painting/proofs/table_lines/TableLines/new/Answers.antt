@@ -1,5 +1,5 @@
 -- The frame has that configuration.
-use Rattle.std.proofs.Common.{Bool, ℕ, ◌<◌, ◌∙◌, ap, sym, subst}
+use Rattle.std.proofs.Common.{Bool, ap, sym, subst}
 use Rattle.tabled_settings.specs.declared.cell_settings.CellSettings.{CellSettings}
 use Rattle.tabled_painting.specs.BareCells.{AreBare, AreRowColors}
 use Rattle.tabled_painting.proofs.table_lines.TableLines.new.Goals as goal
@@ -15,10 +15,3 @@ invariant_of-result-clause-are_row_colors c =
     let colors = c.get_colors-colors.result.now in
     subst (λ (wanted : Bool). AreRowColors known wanted frame.cfg.now.settings.cells colors) (sym c.in_ok-frame.ensures.with_colors)
     (subst (λ (cells : CellSettings). AreRowColors known c.args.with_colors cells colors) (ap (λ cfg. cfg.now.settings.cells) (sym c.in_ok-frame.ensures.cfg)) c.row_colors-row_colors.ensures)
-
-pub invariant_of-result-clause-all_bare : goal.invariant_of-result-clause-all_bare
-invariant_of-result-clause-all_bare c bare col within =
-    c.are_known-are_all_bare.ensures bare col (subst (λ (shape : ℕ × ℕ). col < shape.1) c.in_ok-frame.ensures.shape within)
-
-pub invariant_of-result-clause-plain_colors : goal.invariant_of-result-clause-plain_colors
-invariant_of-result-clause-plain_colors c plain = c.in_ok-frame.ensures.with_colors ∙ c.is_plain-is_plain.ensures.colors plain

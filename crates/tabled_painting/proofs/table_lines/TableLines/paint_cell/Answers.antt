@@ -12,11 +12,11 @@ use Rattle.tabled_painting.specs.BareCells.{IsBareCell, IsInColor, bare_text}
 use Rattle.tabled_painting.specs.PaintedTable.{side_painted}
 use Rattle.tabled_painting.specs.Rows.{row_cell}
 use Rattle.tabled_painting.proofs.BareLemmas.{bare_shown}
-use Rattle.tabled_painting.proofs.PainterLemmas.{paints_as, paints_both}
+use Rattle.tabled_painting.proofs.PainterLemmas.{on_done, paints_as, paints_both, paints_same}
 use Rattle.tabled_painting.proofs.table_lines.TableLines.paint_cell.Goals as goal
 
-pub returns-clause-painted : goal.returns-clause-painted
-returns-clause-painted c =
+pub returns : goal.returns
+returns g c =
     let lines = c.args.self.now in
     let settings = lines.frame.cfg.now.settings.cells in
     let row = c.args.position.row in
@@ -31,10 +31,14 @@ returns-clause-painted c =
     let colored : lines.frame.with_colors ≡ true → IsInColor color coloring =
     subst (λ (found : Option (Option (Bor Texts))). IfSome found (λ shade. lines.frame.with_colors ≡ true → IsInColor (option_copied shade) coloring)) c.in-Some.is c.requires.bare in
     let side : Painted = side_painted (option_map mark_of c.args.side) in
-    paints_as (paint color (bare_text alignment width text)) (row_cell lines row col text 0) side c.args.painter.now c.push_bare.new.self
+    on_done c.push_bare.result c.push_bare.ensures (λ painted.
+    paints_as g.O.Output.gains (paint color (bare_text alignment width text)) (row_cell lines row col text 0) side c.args.painter.now c.push_bare.new.self
     (bare_shown alignment (placement_at settings row col) bare width height text (sym c.is_printable.ensures ∙ c.if-is_printable.true) c.args.painter.now.with_colors color coloring
     (λ wanted. colored (sym c.requires.colors ∙ wanted)))
-    (subst (λ n. Paints (paint color (bare_text alignment n text) ++ side) c.args.painter.now c.push_bare.new.self) c.get_width-width.ensures c.in_ok-push_bare.ensures)
+    (subst (λ n. Paints g.O.Output.gains (paint color (bare_text alignment n text) ++ side) c.args.painter.now c.push_bare.new.self) c.get_width-width.ensures painted))
 
-pub returns-2-clause-painted : goal.returns-2-clause-painted
-returns-2-clause-painted c = paints_both _ _ c.args.painter.now c.paint_set.new.painter _ c.in_ok-paint_set.ensures.painted c.in_ok-push_side.ensures
+pub returns-2 : goal.returns-2
+returns-2 g c =
+    on_done c.push_side.result c.push_side.ensures (λ painted.
+    paints_both g.O.Output.gains g.met.O.Output.gains_both _ _ c.args.painter.now c.paint_line.new.painter _
+    (paints_same g.O.Output.gains _ _ c.args.painter.now c.paint_line.new.painter (c.own_cell-cell.ensures 0) c.in_ok-paint_line.ensures.painted) painted)

@@ -1,0 +1,21 @@
+-- A column more.
+use Rattle.std.proofs.Common.{◌≡◌, ◌+◌, ◌≤◌, ℕ, false, length, slice_index, slice_index_or, ap, sym, subst, ◌∙◌, arith}
+use Rattle.std.specs.List.{range_with_len, sum_by}
+use Rattle.tabled_rooms.specs.Rooms.{one_if}
+use Rattle.tabled_rooms.proofs.RoomLemmas.{sum_below}
+use Rattle.tabled_painting.specs.Pages.{most}
+use Rattle.tabled_painting.proofs.spans.check_width.Goals as goal
+
+pub loop-col-preserved : goal.loop-col-preserved
+loop-col-preserved c =
+    let part : ℕ → ℕ = λ k. one_if (slice_index_or c.args.sides.now k false) + slice_index c.args.widths.now k in
+    record {
+      sum = c.in_ok-total.ensures ∙ (λ i. c.loop-col.invariant.sum i + (c.in_ok-wide.ensures ∙ ap (λ n. n + slice_index c.args.widths.now c.loop-col.col) c.one_if-line.ensures) i) ∙ sym (sum_below part c.loop-col.col);
+      within = omega arith;
+    }
+
+pub returns : goal.returns
+returns c =
+    let all : c.loop-col.col ≡ length c.args.widths.now = omega (arith, c.loop-col-test.false, c.loop-col.auto.col-end) in
+    let within : sum_by (λ k. one_if (slice_index_or c.args.sides.now k false) + slice_index c.args.widths.now k) (range_with_len 0 c.loop-col.col) ≤ most = omega (arith, c.loop-col.invariant.sum, c.loop-col.invariant.within) in
+    subst (λ n. sum_by (λ k. one_if (slice_index_or c.args.sides.now k false) + slice_index c.args.widths.now k) (range_with_len 0 n) ≤ most) all within

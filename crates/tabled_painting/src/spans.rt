@@ -1,0 +1,78 @@
+//! What is asked for beforehand of a table whose cells span several columns or rows.
+
+ghost use Rattle.std.specs.Prelude.{◌≡◌, ◌+◌, ◌≤◌, false, IfOk, OnOk, length, replicate, slice_index, slice_index_or};
+ghost use Rattle.std.specs.List.{range_with_len, sum_by};
+ghost use Rattle.tabled_rooms.specs.Rooms.{one_if};
+ghost use Rattle.tabled_painting.specs.Pages.{most};
+ghost use Rattle.tabled_painting.specs.RoomLines.{AreSpans, nobody};
+
+use crate::drawn::{lines_drawn, sides_drawn};
+use crate::table_lines::TableLines;
+use tabled_border::OutOfMemory;
+use tabled_rooms::{Host, first_lines, no_hosts};
+
+/// Where rooms stand in a table, and a place for what is shown in a row of it.
+#[derive(Drop)]
+pub(crate) struct Spans {
+    /// Which line begins each row, counted from the first line of text, and last one past the last row.
+    pub(crate) firsts: Vec<usize>,
+    /// Which vertical lines are drawn.
+    pub(crate) sides: Vec<bool>,
+    /// The cell that is shown in each column: at first none.
+    pub(crate) hosts: Vec<Host>,
+    /// How wide the room is that begins in each column.
+    pub(crate) wides: Vec<usize>,
+}
+
+impl Spans {
+    /// Those of a table of which each column has a width and each row a height. Refused where no number says how wide or how high it is.
+    pub(crate) fn new(lines: &TableLines) -> Result<Self, OutOfMemory>
+        requires widths { length lines.now.frame.dims.now.widths.items ≡ lines.now.frame.shape.1 }
+        requires heights { length lines.now.frame.dims.now.heights.items ≡ lines.now.frame.shape.0 }
+        ensures are { IfOk result (λ spans. AreSpans lines.now spans.firsts.items spans.sides.items) }
+        ensures hosts { IfOk result (λ spans. spans.hosts.items ≡ replicate lines.now.frame.shape.1 nobody) }
+        ensures wides { IfOk result (λ spans. length spans.wides.items ≡ lines.now.frame.shape.1) }
+    {
+        let frame = &lines.frame;
+        let alloc = frame.cfg.allocator();
+        let (rows, cols) = frame.shape;
+        let drawn = lines_drawn(frame.cfg, rows)?;
+        let firsts = first_lines(alloc, frame.dims.heights.as_slice(), &drawn)?;
+        let sides = sides_drawn(frame.cfg, cols)?;
+        check_width(frame.dims.widths.as_slice(), &sides)?;
+        Ok(Spans {
+            firsts,
+            sides,
+            hosts: no_hosts(alloc, cols)?,
+            wides: vec![in alloc; 0usize; cols]?,
+        })
+    }
+}
+
+/// 1 where a line is drawn.
+fn one_if(drawn: bool) -> usize
+    ensures { result ≡ one_if drawn }
+{
+    if drawn { 1 } else { 0 }
+}
+
+/// The sum of two numbers. Refused where no number says it.
+fn sum_of(first: usize, second: usize) -> Result<usize, OutOfMemory>
+    ensures { IfOk result (λ sum. sum ≡ first + second) }
+{
+    first.checked_add(second).ok_or(OutOfMemory)
+}
+
+/// Refuses a table of which no number says how wide it is.
+fn check_width(widths: &[usize], sides: &[bool]) -> Result<(), OutOfMemory>
+    requires { length widths.now ≤ length sides.now }
+    ensures { OnOk result (sum_by (λ c. one_if (slice_index_or sides.now c false) + slice_index widths.now c) (range_with_len 0 (length widths.now)) ≤ most) }
+{
+    let mut total = 0usize;
+    for col in 0..widths.len() {
+        let line = one_if(sides[col]);
+        let wide = sum_of(line, widths[col])?;
+        total = sum_of(total, wide)?;
+    }
+    Ok(())
+}
