@@ -343,7 +343,9 @@ fn a_text_takes_what_has_no_color(rt: HostRuntime) -> Result<(), Fail> {
     Output::push_spaces(&mut text, 3)?;
     Output::push_spaces(&mut text, 70)?;
     Output::push(&mut text, '│')?;
-    assert_eq!(rt; text.as_str(), format!(in rt.alloc(); "ab{:73}│", "")?.as_str());
+    Output::push_times(&mut text, 3, '═')?;
+    Output::push_after(&mut text, '┼', 2, '─')?;
+    assert_eq!(rt; text.as_str(), format!(in rt.alloc(); "ab{:73}│═══┼──", "")?.as_str());
     Ok(())
 }
 

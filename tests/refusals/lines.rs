@@ -61,7 +61,7 @@ fn put_into_runs(turn: &mut Turn) -> Result<Outcome, OutOfMemory> {
 }
 
 /// The calls.
-pub(crate) fn calls() -> [Named; 8] {
+pub(crate) fn calls() -> [Named; 10] {
     [
         ("push_after", |turn| write(turn, |text| Ok(push_after(text, '+', 12, '-')?), "+------------")),
         ("<String as Sink<'a>>::put_after", |turn| write(turn, |text| text.put_after(CROSSING, RUN), "+--")),
@@ -78,5 +78,7 @@ pub(crate) fn calls() -> [Named; 8] {
         ("<String as Output>::push_str", |turn| write(turn, |text| Ok(Output::push_str(text, "a long text")?), "a long text")),
         ("<String as Output>::push_spaces", |turn| write(turn, |text| Ok(Output::push_spaces(text, 9)?), "         ")),
         ("<String as Output>::push", |turn| write(turn, |text| Ok(Output::push(text, '│')?), "│")),
+        ("<String as Output>::push_times", |turn| write(turn, |text| Ok(Output::push_times(text, 9, '─')?), "─────────")),
+        ("<String as Output>::push_after", |turn| write(turn, |text| Ok(Output::push_after(text, '+', 8, '-')?), "+--------")),
     ]
 }

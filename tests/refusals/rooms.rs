@@ -3,9 +3,7 @@
 use crate::turn::{Named, Outcome, Turn};
 use std::alloc::AllocError;
 use tabled_grid::OutOfMemory;
-use tabled_rooms::{
-    Ask, CellSizes, CellSpans, first_lines, grow, no_hosts, room_widths, spanned_sizes,
-};
+use tabled_rooms::{Ask, CellSizes, CellSpans, first_lines, grow, no_hosts, spanned_sizes};
 
 /// Cells of which the one in row 0 and column 0 spans two columns.
 struct First {}
@@ -68,15 +66,6 @@ fn list_lines(turn: &mut Turn) -> Result<Outcome, OutOfMemory> {
     Ok(Outcome::of_value(firsts.map(|firsts| firsts.len() == 3)))
 }
 
-/// What becomes of the widths of rooms.
-fn find_widths(turn: &mut Turn) -> Result<Outcome, OutOfMemory> {
-    let hosts = no_hosts(turn.alloc(), 1)?;
-    let mut wides = [9usize];
-    turn.spend();
-    let returned = room_widths(&mut wides, &hosts, &[3], &[true]);
-    Ok(Outcome::of(returned, wides == [3], true))
-}
-
 /// What becomes of the sizes of columns and rows.
 fn find_sizes(turn: &mut Turn) -> Result<Outcome, OutOfMemory> {
     let drawn = [true, true, true];
@@ -86,12 +75,11 @@ fn find_sizes(turn: &mut Turn) -> Result<Outcome, OutOfMemory> {
 }
 
 /// The calls.
-pub(crate) fn calls() -> [Named; 5] {
+pub(crate) fn calls() -> [Named; 4] {
     [
         ("grow", grow_sizes),
         ("no_hosts", make_hosts),
         ("first_lines", list_lines),
-        ("room_widths", find_widths),
         ("spanned_sizes", find_sizes),
     ]
 }

@@ -1,6 +1,6 @@
 //! How a text stands in its cell.
 
-ghost use Rattle.std.specs.Prelude.{◌≡◌, ◌==◌, ◌≤◌, ◌+◌, ◌-◌, ℕ, List, [], ◌∷◌, ◌++◌, false, if◌then◌else◌, nat_lt, map, length, replicate, slice_index_or, OnOk};
+ghost use Rattle.std.specs.Prelude.{◌≡◌, ◌==◌, ◌<◌, ◌≤◌, ◌+◌, ◌-◌, ℕ, List, [], ◌∷◌, ◌++◌, false, if◌then◌else◌, nat_lt, map, length, replicate, slice_index_or, IfSome, MatchOption};
 ghost use Rattle.std.specs.List.{All};
 ghost use Rattle.std.specs.Str.{IsUtf8};
 ghost use Rattle.tabled_settings.specs.declared.cell_settings.CellSettings.{CellSettings};
@@ -9,24 +9,20 @@ ghost use Rattle.tabled_printing.specs.Texts.{pieces, width_of_text};
 ghost use Rattle.tabled_cells.specs.Placements.{placement_at};
 ghost use Rattle.tabled_cells.specs.Placed.{greatest};
 ghost use Rattle.tabled_cells.specs.Trimmed.{lines_shown};
-ghost use Rattle.tabled_printing.specs.Pieces.{lent};
 ghost use Rattle.tabled_painting.specs.CellLines.{Coloring, cell_line};
 ghost use Rattle.tabled_painting.specs.Painted.{plain};
 
-use std::alloc::AllocError;
-use tabled_cells::{Placement, show_lines};
+use tabled_cells::{Placement, ShownLines};
 use tabled_configuration::SpannedConfig;
 use tabled_object::Position;
 
-/// The lines of a text that are shown are those of it that its placement says, each as it says.
-pub fn lines_of_a_text<'a>(
-    lines: &mut Vec<&'a str>,
-    how: &Placement,
-    text: &'a str,
-) -> Result<(), AllocError>
-    ensures shown { OnOk result (lent lines.new.items ≡ lines_shown how.now text.now) }
+/// A line of a text that is shown is that of it that its placement says, as it says.
+pub fn line_of_a_text<'a>(how: &Placement, text: &'a str, n: usize) -> Option<&'a str>
+    ensures there { MatchOption result (length (lines_shown how.now text.now) ≤ n) (λ line. n < length (lines_shown how.now text.now)) }
+    ensures is { IfSome result (λ line. line.now ≡ slice_index_or (lines_shown how.now text.now) n []) }
 {
-    show_lines(lines, how, text)
+    let mut lines = ShownLines::of(how, text);
+    lines.line(n)
 }
 
 /// The placement of a cell's text is what is set for the cell.

@@ -36,10 +36,7 @@ pub(crate) fn paint_room<'a, O: Output>(
 }
 
 /// No rooms, for so many columns.
-pub(crate) fn no_rooms<'a>(
-    alloc: Global,
-    cols: usize,
-) -> Result<Vec<Option<Room<'a>>>, OutOfMemory>
+pub(crate) fn no_rooms<'a>(alloc: Global, cols: usize) -> Result<Vec<Option<Room<'a>>>, OutOfMemory>
     ensures { IfOk result (λ rooms. length rooms.items ≡ cols) }
 {
     let mut rooms = Vec::with_capacity(alloc, cols)?;

@@ -226,12 +226,7 @@ impl<'a, 'b> TableLines<'a, 'b> {
     }
 
     /// Begins the cells of a row, each in its own room.
-    fn begin_cells<T: AsStr>(
-        &self,
-        rooms: &mut [Option<Room<'a>>],
-        row: usize,
-        texts: &'a [T],
-    )
+    fn begin_cells<T: AsStr>(&self, rooms: &mut [Option<Room<'a>>], row: usize, texts: &'a [T])
         requires { length rooms.old ≡ length texts.now }
         ensures cells { AreRowCells self.now row (map T.text texts.now) rooms.new }
         ensures count { length rooms.new ≡ length rooms.old }

@@ -28,7 +28,7 @@ pub use mark::{Mark, Run};
 pub use marks::{line_marks, line_runs};
 pub use print::{join_lines, print_plain};
 pub use print_error::PrintError;
-pub use repeat::push_times;
+pub use repeat::{piece_of, push_times};
 pub use seen::{Seen, character_seen, color_seen, headline, line_seen};
 pub use sides::{SideMarks, Sides};
 pub use sink::Sink;

@@ -20,8 +20,9 @@ const DOUBLE_LINES: &str = "═════════════════�
 /// How many characters of ASCII, which are a byte each, are written one by one before what was written is copied.
 const FEW: usize = 16;
 
-/// A text of one character alone, `PIECE` times: of those that tables are mostly drawn with.
-fn piece_of(character: char) -> Option<&'static str>
+/// A text of one character alone, 64 times: of those that tables are mostly drawn with.
+#[inline(always)]
+pub fn piece_of(character: char) -> Option<&'static str>
     ensures { IfSome result (λ piece. piece.now ≡ times 64 character) }
 {
     match character {

@@ -171,11 +171,7 @@ impl<'a, D: Dimension, M: Meter> Walk<'a, '_, '_, D, M> {
     }
 
     /// Puts the marks of the line, run by run.
-    pub(crate) fn put_all<S: Sink<'a>>(
-        &self,
-        sink: &mut S,
-        probes: &mut M,
-    ) -> Result<(), S::Error>
+    pub(crate) fn put_all<S: Sink<'a>>(&self, sink: &mut S, probes: &mut M) -> Result<(), S::Error>
         ensures put { let view = walk_look D.width_of D.height_of self.now in
             Put S.puts S.leaves result (map (mark_at view) (all_places view self.now.line)) sink.old sink.new }
         ensures probes { let view = walk_look D.width_of D.height_of self.now in

@@ -17,3 +17,4 @@ pub mod ColumnLemmas
 pub mod TextLemmas
 pub mod PanelLemmas
 pub mod TableLemmas
+pub mod StreamLemmas

@@ -1,10 +1,10 @@
 -- What is measured of texts, row by row.
-use Rattle.std.proofs.Common.{◌≡◌, ℕ, ◌+◌, ◌<◌, ◌≤◌, max, fold, suc, Bool, true, false, not, cond, ltb, ◌==◌, if◌then◌else◌, Option, Some, None, List, [], ◌∷◌, ◌++◌, map, length, take, get_or, refl, sym, ap, subst, ◌∙◌, arith, String, string_bytes, Vec}
-use Rattle.std.specs.List.{list_all, position_or_len}
+use Rattle.std.proofs.Common.{◌≡◌, ℕ, ◌+◌, ◌<◌, ◌≤◌, max, fold, suc, Bool, true, false, not, cond, ltb, ◌==◌, if◌then◌else◌, Option, Some, None, List, [], ◌∷◌, ◌++◌, map, length, take, get_or, unwrap_or, refl, sym, ap, subst, ◌∙◌, arith, String, string_bytes, Vec}
+use Rattle.std.specs.List.{list_all, position_or_len, reduce}
 use Rattle.tabled_width.specs.Texts.{is_printable}
 use Rattle.tabled_cells.proofs.Printing.{one_piece}
 use Rattle.tabled_printing.specs.Texts.{Table}
-use Rattle.tabled_painting.specs.Printable.{AllPrintable, ArePrintable}
+use Rattle.tabled_painting.specs.Printable.{ArePrintable}
 use Rattle.std.proofs.lemmas.List.{length-map, map-append, take_more, take_all, get_or-map, get_or_past}
 use Rattle.std.proofs.lemmas.List.FromFn.{fill_by_all}
 use Rattle.std.proofs.lemmas.Bool.{ltb-true, ltb-false, lt-ltb, le-ltb}
@@ -164,17 +164,8 @@ module _ (Q : List (List ℕ) → Type 0) where
       by_case true below = so r (ltb-true r n below)
       by_case false not_below = let above = ltb-false r n not_below in subst Q (sym (get_or_past table r [] (omega (arith, above, all)))) empty
 
-no_texts : ArePrintable []
-no_texts c = ap (list_all is_printable) (get_or_past [] c [] (omega arith))
-
 pub printable_row : (row : List (List ℕ)) (count : ℕ) → length row ≤ count → ((c : ℕ) → c < count → list_all is_printable (cell row c) ≡ true) → ArePrintable row
 printable_row = row_holds (λ text. list_all is_printable text ≡ true) refl
-
-pub printable_more : (table : Table) (n : ℕ) (row : List (List ℕ)) → get_or table n [] ≡ row → ((r : ℕ) → r < n → ArePrintable (get_or table r [])) → ArePrintable row → (r : ℕ) → r < n + 1 → ArePrintable (get_or table r [])
-printable_more = rows_more ArePrintable
-
-pub all_printable : (table : Table) (n : ℕ) → length table ≤ n → ((r : ℕ) → r < n → ArePrintable (get_or table r [])) → AllPrintable table
-all_printable = all_hold ArePrintable no_texts
 
 -- in a table whose rows have as many cells each, all texts are of UTF-8 where those of its columns are
 pub utf8_table : (table : Table) (n : ℕ) → length table ≤ n → unequal_row table ≡ None → ((r : ℕ) → r < n → (c : ℕ) → c < column_count table → IsUtf8 (cell (get_or table r []) c)) → AreUtf8 table
@@ -192,3 +183,13 @@ utf8_table table n all none so r = by_case (ltb r (length table)) refl
 -- such a text is one line
 pub printable_line : (text : List ℕ) → list_all is_printable text ≡ true → height_asked text ≡ 1
 printable_line text printable = ap length (one_piece text printable)
+
+-- the greatest of a walk is the greatest of the list
+pub greatest_found : (ns : List ℕ) → unwrap_or (reduce max ns) 0 ≡ greatest ns
+greatest_found [] = refl
+greatest_found (n ∷ ns) = let same : n ≡ max 0 n = omega arith in ap (λ m. fold max m ns) same
+
+-- a map of a map
+pub mapped_twice : {A B C : Type 0} (f : B → C) (g : A → B) (xs : List A) → map (λ x. f (g x)) xs ≡ map f (map g xs)
+mapped_twice f g [] = refl
+mapped_twice f g (x ∷ xs) = ap (λ rest. f (g x) ∷ rest) (mapped_twice f g xs)

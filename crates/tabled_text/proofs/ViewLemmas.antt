@@ -1,19 +1,42 @@
 -- The text of a table that is lent to be printed is that after the events that its configuration shows.
-use Rattle.std.proofs.Common.{◌≡◌, ℕ, true, false, Bool, List, not, refl, sym, ap, ◌∙◌}
+use Rattle.std.proofs.Common.{◌≡◌, ℕ, true, false, Bool, List, [], slice_index, not, refl, sym, ap, ◌∙◌}
 use Rattle.std.specs.List.{join_with_byte}
 use Rattle.tabled_object.specs.declared.records.Shape.{Shape}
 use Rattle.tabled_configuration.specs.Configuration as borders
 use Rattle.tabled_configuration.specs.Configuration.{ConfigEvent, is_sized_by_texts}
 use Rattle.tabled_configuration.specs.Colored.{Shows}
 use Rattle.tabled_painting.specs.Pages.{text_of_lines}
-use Rattle.tabled_painting.specs.PaintedSpans.{spanned_by}
-use Rattle.tabled_painting.specs.PaintedTable.{colored_text, plain_text}
+use Rattle.tabled_configuration.specs.Configuration.{all_writes}
+use Rattle.tabled_printing.specs.Along.{is_empty}
+use Rattle.tabled_printing.specs.Picture.{Look, look}
+use Rattle.tabled_painting.specs.PaintedSpans.{columns_spanned, rows_spanned, spanned_by, spanned_cells, spanned_lines, spanned_table}
+use Rattle.tabled_painting.specs.PaintedTable.{colored_text, painted_cells, painted_lines, painted_table, plain_text}
+use Rattle.tabled_painting.proofs.MarginLemmas.{no_places}
 use Rattle.tabled_painting.proofs.Plain.{text_with_colors, text_without_colors}
 use Rattle.tabled_text.specs.TableViews.{IsTable, heights_viewed, spanned_viewed, text_viewed, texts_viewed, widths_viewed}
 use Rattle.tabled_text.specs.TextTable.{painted, shape_of, text_of}
 use Rattle.tabled_text.specs.declared.table_view.TableView.{TableView}
 use Rattle.tabled_text.proofs.Painting.{colors_viewed, plain_viewed}
 use Rattle.tabled_text.proofs.SpanLemmas.{is_spanned_color, is_spanned_text, none_set, painted_spanned, painted_without, some_set, text_spanned, text_without}
+
+-- without places there is no text
+pub no_text : {T : Type 0} (bytes : T → List ℕ) (view : TableView T) (wanted : Bool) → is_empty view.shape ≡ true → text_viewed bytes view wanted ≡ []
+unfolding painted_table
+no_text bytes view wanted none =
+    let cfg = view.config.now in
+    let kept : Look = look (all_writes cfg.spanned) view.shape (slice_index view.sizes.now.widths.items) (slice_index view.sizes.now.heights.items) in
+    no_places kept cfg.spanned.settings.margin
+    (painted_lines kept (painted_cells cfg.spanned.settings.cells cfg.cell_colors view.sizes.now.widths.items view.sizes.now.heights.items (texts_viewed bytes view))) wanted none
+
+pub no_spanned_text : {T : Type 0} (bytes : T → List ℕ) (view : TableView T) (wanted : Bool) → is_empty view.shape ≡ true → spanned_viewed bytes view wanted ≡ []
+unfolding spanned_table
+no_spanned_text bytes view wanted none =
+    let cfg = view.config.now in
+    let settings = cfg.spanned.settings in
+    let kept : Look = look (all_writes cfg.spanned) view.shape (slice_index (widths_viewed bytes view)) (slice_index (heights_viewed bytes view)) in
+    let columns = columns_spanned settings in
+    let rows = rows_spanned settings in
+    no_places kept settings.margin (spanned_lines kept columns rows (spanned_cells kept columns rows settings.cells cfg.cell_colors (texts_viewed bytes view))) wanted none
 
 module _ {T : Type 0} (bytes : T → List ℕ) (view : TableView T) (is : IsTable bytes view) (es : List ConfigEvent) (some : Bool) (found : some ≡ not (is_sized_by_texts view.config.now.spanned)) where
   abbrev shape : Shape

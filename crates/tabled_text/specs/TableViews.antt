@@ -1,12 +1,11 @@
 -- A table as it is lent to be printed.
-use Rattle.std.specs.Prelude.{◌≡◌, ℕ, Bool, true, List, length}
+use Rattle.std.specs.Prelude.{◌≡◌, ℕ, Bool, List, length}
 use Rattle.std.specs.List.{All}
 use Rattle.tabled_configuration.specs.Configuration.{all_writes}
 use Rattle.tabled_printing.specs.Texts.{Table}
 use Rattle.tabled_painting.specs.Pages.{text_of_lines}
 use Rattle.tabled_painting.specs.PaintedSpans.{spanned_by}
 use Rattle.tabled_painting.specs.PaintedTable.{painted_by}
-use Rattle.tabled_painting.specs.Printable.{AllPrintable}
 use Rattle.tabled_painting.specs.TextsBy.{texts_by}
 use Rattle.tabled_text.specs.Sizes.{column_count, column_widths, row_heights}
 use Rattle.tabled_text.specs.TextTable.{heights_with_spans, widths_with_spans}
@@ -31,11 +30,10 @@ module _ {T : Type 0} (bytes : T → List ℕ) (view : TableView T) where
   abbrev pub spanned_viewed : Bool → List ℕ
   spanned_viewed with_colors = text_of_lines with_colors (spanned_by view.config.now view.shape widths_viewed heights_viewed texts_viewed)
 
-  -- its texts have its shape and its sizes, and are printable where that is known
+  -- its texts have its shape and its sizes
   pub record IsTable : Type 0 where
     pub rows : length view.rows.now ≡ view.shape.0
     pub cols : All (λ row. length row ≡ view.shape.1) texts_viewed
     pub shape : view.shape ≡ (length texts_viewed, column_count texts_viewed)
     pub widths : view.sizes.now.widths.items ≡ column_widths texts_viewed
     pub heights : view.sizes.now.heights.items ≡ row_heights texts_viewed
-    pub printable : view.are_printable ≡ true → AllPrintable texts_viewed

@@ -5,7 +5,7 @@ ghost use Rattle.std.specs.List.{list_all};
 ghost use Rattle.std.specs.Str.{IsUtf8};
 ghost use Rattle.tabled_object.specs.Entities.{below};
 ghost use Rattle.tabled_printing.specs.Texts.{texts, pieces, width_of_text};
-ghost use Rattle.tabled_painting.specs.Printable.{AllPrintable, ArePrintable};
+ghost use Rattle.tabled_painting.specs.Printable.{ArePrintable};
 ghost use Rattle.tabled_painting.specs.TextsBy.{texts_by};
 ghost use Rattle.tabled_width.specs.Texts.{is_printable};
 ghost use Rattle.tabled_text.specs.Cells.{AreUtf8};
@@ -211,58 +211,22 @@ pub(crate) fn sizes_with(
     Ok((wider, height))
 }
 
-/// What is measured of a table at once.
-#[derive(Debug, Drop)]
-pub(crate) struct TableSize {
-    /// How wide each column is, and how high each row.
-    pub(crate) sizes: FixedDimension,
-    /// Whether all texts are known to be printable.
-    pub(crate) are_printable: bool,
-}
-
-/// Measures the texts of a table.
-pub(crate) fn sizes_of<T: AsStr>(alloc: Global, rows: &[Vec<T>]) -> Result<TableSize, OutOfMemory>
-    ensures widths { IfOk result (λ found. found.sizes.widths.items ≡ column_widths (texts_by T.text rows.now)) }
-    ensures heights { IfOk result (λ found. found.sizes.heights.items ≡ row_heights (texts_by T.text rows.now)) }
-    ensures printable { IfOk result (λ found. found.are_printable ≡ true → AllPrintable (texts_by T.text rows.now)) }
+/// Measures the texts of a table: how wide each column is, and how high each row.
+pub(crate) fn sizes_of<T: AsStr>(
+    alloc: Global,
+    rows: &[Vec<T>],
+) -> Result<FixedDimension, OutOfMemory>
+    ensures widths { IfOk result (λ sizes. sizes.widths.items ≡ column_widths (texts_by T.text rows.now)) }
+    ensures heights { IfOk result (λ sizes. sizes.heights.items ≡ row_heights (texts_by T.text rows.now)) }
     ensures utf8 { unequal_row (texts_by T.text rows.now) ≡ None → OnOk result (AreUtf8 (texts_by T.text rows.now)) }
 {
     let mut widths = no_widths(alloc, rows)?;
     let mut heights = Vec::with_capacity(alloc, rows.len())?;
-    let mut are_printable = true;
     for row in rows {
         let is_printable = widen(&mut widths, row)?;
         heights.push(height_of(row, is_printable))?;
-        are_printable &= is_printable;
     }
-    Ok(TableSize {
-        sizes: FixedDimension::new(widths, heights),
-        are_printable,
-    })
-}
-
-/// Whether all texts of a row are printable.
-fn is_printable_row<T: AsStr>(row: &[T]) -> bool
-    ensures { result ≡ true → ArePrintable (map T.text row.now) }
-{
-    for text in row {
-        if !is_printable(text.as_str()) {
-            return false;
-        }
-    }
-    true
-}
-
-/// Whether all texts are printable.
-pub(crate) fn are_printable<T: AsStr>(rows: &[Vec<T>]) -> bool
-    ensures { result ≡ true → AllPrintable (texts_by T.text rows.now) }
-{
-    for row in rows {
-        if !is_printable_row(row) {
-            return false;
-        }
-    }
-    true
+    Ok(FixedDimension::new(widths, heights))
 }
 
 /// How wide a column is. Refused where no number says it.

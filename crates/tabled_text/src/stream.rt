@@ -6,8 +6,7 @@ ghost use Rattle.std.specs.List.{All};
 ghost use Rattle.std.specs.String.{string_capacity};
 ghost use Rattle.std.specs.Io.KnownBytes.{Appends};
 ghost use Rattle.tabled_printing.specs.Texts.{times};
-ghost use Rattle.tabled_painting.specs.AlikeLines.{written_by};
-ghost use Rattle.tabled_painting.specs.Printable.{AllPrintable};
+ghost use Rattle.tabled_painting.specs.TablePages.{text_of_page};
 ghost use Rattle.tabled_painting.specs.TextsBy.{texts_by};
 ghost use Rattle.tabled_text.specs.declared.stream.TheConstants.{ROOM};
 ghost use Rattle.tabled_text.specs.declared.table_error.TableError.{TableError as Refusal};
@@ -16,15 +15,17 @@ use crate::TableError;
 use std::alloc::Global;
 use std::convert::{AsStr, Infallible};
 use std::io;
-use tabled_painting::{AlikeLines, Output};
+use tabled_painting::{Output, TablePage};
+use tabled_printing::piece_of;
 
 /// How many bytes wait at most before they are written.
-pub(crate) const ROOM: usize = 65_536;
+const ROOM: usize = 65_536;
 
-/// How many spaces are written at once.
+/// How many characters a piece of one character has.
 const PIECE: usize = 64;
 
-const SPACES: &str = "                                                                ";
+/// How many characters at most are written one by one, for which room is made once.
+const FEW: usize = 16;
 
 /// A stream, and what waits to be written to it. Nothing is asked of memory but the room. Once the writer has failed nothing more is written.
 #[derive(Drop)]
@@ -45,13 +46,14 @@ fn fails<W: io::Write>(out: &mut W, bytes: &[u8]) -> bool
     }
 }
 
-/// The first ones of as many spaces as are written at once.
-fn spaces(piece: &str, count: usize) -> &str
-    requires piece { piece.now ≡ times 64 32 }
+/// The first ones of the characters of a piece.
+#[inline(always)]
+fn part_of(piece: &str, count: usize, _character: char) -> &str
+    requires piece { piece.now ≡ times 64 _character }
     requires within { count ≤ PIECE }
-    ensures { result.now ≡ times count 32 }
+    ensures { result.now ≡ times count _character }
 {
-    &piece[..count]
+    &piece[..count * (piece.len() / PIECE)]
 }
 
 impl<W: io::Write> Stream<'_, W> {
@@ -121,47 +123,105 @@ impl<W: io::Write> Stream<'_, W> {
         self.push_whole(text);
     }
 
-    /// Writes a character.
+    /// Writes a character that has room.
     #[inline(always)]
-    fn push_character(&mut self, character: char)
-        ensures { StreamGains W.contents (encode_utf8 character) self.old self.new }
+    fn push_next(&mut self, character: char)
+        requires { string_len self.old.waiting.now + length (encode_utf8 character) ≤ ROOM }
+        ensures gained { StreamGains W.contents (encode_utf8 character) self.old self.new }
+        ensures len { string_len self.new.waiting.now ≡ string_len self.old.waiting.now + length (encode_utf8 character) }
     {
-        self.make_room(character.len_utf8());
         match self.waiting.push(character) {
             Ok(()) => {}
             Err(_) => unreachable!("there is room"),
         }
     }
 
-    /// Writes the given number of spaces.
+    /// Writes a character.
     #[inline(always)]
-    fn push_blank(&mut self, count: usize)
-        ensures { StreamGains W.contents (times count 32) self.old self.new }
+    fn push_character(&mut self, character: char)
+        ensures { StreamGains W.contents (encode_utf8 character) self.old self.new }
+    {
+        self.make_room(character.len_utf8());
+        self.push_next(character);
+    }
+
+    /// Writes a character a few times, for which room is made once.
+    #[inline(always)]
+    fn push_few(&mut self, count: usize, character: char)
+        requires { count ≤ FEW }
+        ensures { StreamGains W.contents (times count character) self.old self.new }
+    {
+        self.make_room(4 * count);
+        for _ in 0..count {
+            self.push_next(character);
+        }
+    }
+
+    /// Writes a character the given number of times, a few at once.
+    fn push_many(&mut self, count: usize, character: char)
+        ensures { StreamGains W.contents (times count character) self.old self.new }
+    {
+        let mut left = count;
+        while left > FEW {
+            self.push_few(FEW, character);
+            left -= FEW;
+        }
+        self.push_few(left, character);
+    }
+
+    /// Writes a character the given number of times, as pieces of a text that has it alone.
+    #[inline(always)]
+    fn push_pieces(&mut self, piece: &str, count: usize, character: char)
+        requires { piece.now ≡ times 64 character }
+        ensures { StreamGains W.contents (times count character) self.old self.new }
     {
         let mut left = count;
         while left > PIECE {
-            self.push_part(spaces(SPACES, PIECE));
+            self.push_part(piece);
             left -= PIECE;
         }
-        self.push_part(spaces(SPACES, left));
+        self.push_part(part_of(piece, left, character));
     }
 
+    /// Writes a character the given number of times: up to twice by itself.
+    #[inline(always)]
+    fn push_run(&mut self, count: usize, character: char)
+        ensures { StreamGains W.contents (times count character) self.old self.new }
+    {
+        if count <= 2 {
+            return self.push_few(count, character);
+        }
+        match piece_of(character) {
+            Some(piece) => self.push_pieces(piece, count, character),
+            None => self.push_many(count, character),
+        }
+    }
+}
+
+impl<'a, W: io::Write> Stream<'a, W> {
+    ghost use Rattle.tabled_text.specs.Streams.{StreamGains};
+
     /// Writes the texts before and after a table, and the table between them, and all that waits then.
-    fn push_all<T: AsStr>(&mut self, lines: &AlikeLines, before: &str, rows: &[Vec<T>], after: &str)
-        requires rows { length rows.now ≡ lines.now.lines.frame.shape.0 }
-        requires cols { All (λ row. length row ≡ lines.now.lines.frame.shape.1) (texts_by T.text rows.now) }
-        requires printable { AllPrintable (texts_by T.text rows.now) }
-        ensures gained { StreamGains W.contents (before.now ++ written_by lines.now (texts_by T.text rows.now) ++ after.now) self.old self.new }
-        ensures empty { string_bytes self.new.waiting.now ≡ [] }
-        ensures same_writer { self.new.out.ghost_name ≡ self.old.out.ghost_name }
+    fn write_all<T: AsStr>(
+        mut self,
+        page: TablePage<'a, '_>,
+        before: &str,
+        rows: &'a [Vec<T>],
+        after: &str,
+    ) -> Self
+        requires rows { length rows.now ≡ page.lines.frame.shape.0 }
+        requires cols { All (λ row. length row ≡ page.lines.frame.shape.1) (texts_by T.text rows.now) }
+        ensures gained { StreamGains W.contents (before.now ++ text_of_page page.entry (texts_by T.text rows.now) ++ after.now) self.entry result }
+        ensures empty { string_bytes result.waiting.now ≡ [] }
     {
         self.push_text(before);
-        match lines.write(self, rows) {
-            Ok(()) => {}
+        let mut stream = match page.print(self, rows) {
+            Ok(stream) => stream,
             Err(never) => match never {},
-        }
-        self.push_text(after);
-        self.flush();
+        };
+        stream.push_text(after);
+        stream.flush();
+        stream
     }
 }
 
@@ -179,20 +239,22 @@ impl<W: io::Write> Output for Stream<'_, W> {
         Ok(())
     }
 
-    // one space, as stands before most texts, is a byte and no copy: 20 instructions less
     #[inline(always)]
-    fn push_spaces(&mut self, count: usize) -> Result<(), Infallible> {
-        if count == 1 {
-            self.push_character(' ');
-            return Ok(());
-        }
-        self.push_blank(count);
+    fn push(&mut self, character: char) -> Result<(), Infallible> {
+        self.push_character(character);
         Ok(())
     }
 
     #[inline(always)]
-    fn push(&mut self, character: char) -> Result<(), Infallible> {
-        self.push_character(character);
+    fn push_times(&mut self, count: usize, character: char) -> Result<(), Infallible> {
+        self.push_run(count, character);
+        Ok(())
+    }
+
+    #[inline(always)]
+    fn push_after(&mut self, first: char, count: usize, character: char) -> Result<(), Infallible> {
+        self.push_character(first);
+        self.push_run(count, character);
         Ok(())
     }
 
@@ -202,28 +264,27 @@ impl<W: io::Write> Output for Stream<'_, W> {
 }
 
 /// Writes a table to a stream, piece by piece, between two texts. All memory is asked for before the first byte is written.
-pub(crate) fn write_pieces<W: io::Write, T: AsStr>(
+pub(crate) fn write_page<'a, W: io::Write, T: AsStr>(
     alloc: Global,
-    lines: &AlikeLines,
+    page: TablePage<'a, '_>,
     before: &str,
-    rows: &[Vec<T>],
+    rows: &'a [Vec<T>],
     after: &str,
     out: &mut W,
 ) -> Result<(), TableError>
-    requires rows { length rows.now ≡ lines.now.lines.frame.shape.0 }
-    requires cols { All (λ row. length row ≡ lines.now.lines.frame.shape.1) (texts_by T.text rows.now) }
-    requires printable { AllPrintable (texts_by T.text rows.now) }
-    ensures text { OnOk result (Appends (W.contents out.old) (W.contents out.new) (before.now ++ written_by lines.now (texts_by T.text rows.now) ++ after.now)) }
+    requires rows { length rows.now ≡ page.lines.frame.shape.0 }
+    requires cols { All (λ row. length row ≡ page.lines.frame.shape.1) (texts_by T.text rows.now) }
+    ensures text { OnOk result (Appends (W.contents out.old) (W.contents out.new) (before.now ++ text_of_page page.entry (texts_by T.text rows.now) ++ after.now)) }
     ensures refusal { IfErr result (λ e. (e ≡ Refusal.OutOfMemory) ⊎ (e ≡ Refusal.Write)) }
     ensures unwritten { IfErr result (λ e. (e ≡ Refusal.Write) ⊎ (out.new ≡ out.old)) }
 {
     let mut waiting = String::with_capacity(alloc, ROOM)?;
-    let mut stream = Stream {
+    let stream = Stream {
         out,
         waiting: &mut waiting,
         has_failed: false,
     };
-    stream.push_all(lines, before, rows, after);
+    let stream = stream.write_all(page, before, rows, after);
     if stream.has_failed {
         return Err(TableError::Write);
     }

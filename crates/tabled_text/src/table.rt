@@ -12,7 +12,7 @@ mod spans;
 
 use crate::TableError;
 use crate::fitting::{frame_width, least_for_texts};
-use crate::measure::{TableSize, sizes_of, unequal_row};
+use crate::measure::{sizes_of, unequal_row};
 use std::alloc::Global;
 use std::convert::AsStr;
 use std::marker::Model;
@@ -44,8 +44,6 @@ pub struct Table<T: AsStr + Drop> {
     pub(crate) cells: Vec<Vec<T>>,
     pub(crate) shape: Shape,
     pub(crate) sizes: FixedDimension,
-    /// Whether all texts are known to be of printable characters of ASCII: so they are found when all of them are measured.
-    pub(crate) are_printable: bool,
     pub(crate) config: Box<ColoredConfig>,
 }
 
@@ -56,7 +54,6 @@ impl<T: AsStr + Drop> Drop for Table<T> {
             cells,
             shape: _,
             sizes,
-            are_printable: _,
             config,
         } = self;
         drop(cells);
@@ -66,8 +63,7 @@ impl<T: AsStr + Drop> Drop for Table<T> {
 }
 
 impl<T: AsStr + Drop> Model for Table<T> {
-    ghost use Rattle.std.specs.Prelude.{◌≡◌, true, None};
-    ghost use Rattle.tabled_painting.specs.Printable.{AllPrintable};
+    ghost use Rattle.std.specs.Prelude.{◌≡◌, None};
     ghost use Rattle.tabled_painting.specs.TextsBy.{texts_by};
     ghost use Rattle.tabled_text.specs.Cells.{AreUtf8};
     ghost use Rattle.tabled_text.specs.Sizes.{column_widths, row_heights, unequal_row};
@@ -84,7 +80,6 @@ impl<T: AsStr + Drop> Model for Table<T> {
         × (table.shape ≡ shape_of (texts_by T.text table.cells.items))
         × (table.sizes.widths.items ≡ column_widths (texts_by T.text table.cells.items))
         × (table.sizes.heights.items ≡ row_heights (texts_by T.text table.cells.items))
-        × (table.are_printable ≡ true → AllPrintable (texts_by T.text table.cells.items))
         × AreUtf8 (texts_by T.text table.cells.items) };
 }
 
@@ -128,10 +123,7 @@ impl<T: AsStr + Drop> Table<T> {
         ensures texts { IfOk result (λ table. table.texts ≡ texts_by T.text rows.items) }
         ensures config { IfOk result (λ table. Shows [] table.config) }
     {
-        let TableSize {
-            sizes,
-            are_printable,
-        } = sizes_of(alloc, &rows)?;
+        let sizes = sizes_of(alloc, &rows)?;
         let shape = Shape {
             rows: rows.len(),
             cols: column_count(&rows),
@@ -140,7 +132,6 @@ impl<T: AsStr + Drop> Table<T> {
             cells: rows,
             shape,
             sizes,
-            are_printable,
             config: unset_config(alloc)?,
         })
     }
@@ -274,7 +265,6 @@ impl<T: AsStr + Drop> Table<T> {
             cells,
             shape: _,
             sizes,
-            are_printable: _,
             config,
         } = self;
         drop(sizes);

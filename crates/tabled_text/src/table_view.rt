@@ -1,11 +1,10 @@
 //! A table as it is lent to be printed piece by piece.
 
-ghost use Rattle.std.specs.Prelude.{◌≡◌, ◌⊎◌, ◌++◌, List, true, false, length, string_bytes, IfErr, IfOk, IfSome, OnOk};
-ghost use Rattle.std.specs.List.{All};
+ghost use Rattle.std.specs.Prelude.{◌≡◌, ◌⊎◌, ◌++◌, List, true, false, length, string_bytes, IfErr, IfOk, OnOk};
 ghost use Rattle.std.specs.Io.KnownBytes.{Appends};
-ghost use Rattle.tabled_painting.specs.AlikeLines.{written_by};
 ghost use Rattle.tabled_painting.specs.PaintedTable.{colored_text};
-ghost use Rattle.tabled_painting.specs.Printable.{AllPrintable};
+ghost use Rattle.tabled_painting.specs.TablePages.{text_of_page};
+ghost use Rattle.tabled_printing.specs.Along.{is_empty};
 ghost use Rattle.tabled_configuration.specs.Colored.{Shows};
 ghost use Rattle.tabled_configuration.specs.Configuration as borders;
 ghost use Rattle.tabled_configuration.specs.Configuration.{ConfigEvent};
@@ -14,15 +13,14 @@ ghost use Rattle.tabled_text.specs.TextTable.{painted, text_of};
 ghost use Rattle.tabled_text.specs.declared.table_error.TableError.{TableError as Refusal};
 
 use crate::TableError;
-use crate::measure::are_printable;
 use crate::spanned::TextSizes;
-use crate::stream::{ROOM, write_pieces};
+use crate::stream::write_page;
 use std::convert::AsStr;
 use std::io;
 use tabled_border::OutOfMemory;
 use tabled_configuration::ColoredConfig;
 use tabled_object::FixedDimension;
-use tabled_painting::{AlikeLines, sizes_of_spanned, spanned_text, table_text};
+use tabled_painting::{TablePage, sizes_of_spanned};
 
 /// A table as it is lent to be printed: its texts, owned or lent themselves, with their sizes, where no cell spans and no padding is set, and
 /// their configuration.
@@ -33,68 +31,27 @@ pub(crate) struct TableView<'a, T> {
     pub(crate) shape: (usize, usize),
     pub(crate) sizes: &'a FixedDimension,
     pub(crate) config: &'a ColoredConfig,
-    /// Whether all texts are known to be of printable characters of ASCII.
-    pub(crate) are_printable: bool,
 }
 
 impl<'a, T: AsStr> TableView<'a, T> {
-    /// Whether its text has more bytes than wait to be written at most, as far as its sizes tell. No further column is looked at once it has.
-    fn is_long(&self) -> bool {
-        let mut columns = 0usize;
-        for width in &self.sizes.widths {
-            columns = columns.saturating_add(*width);
-            if ROOM < columns.saturating_mul(self.shape.0) {
-                return true;
-            }
-        }
-        false
-    }
-
-    /// Whether all its texts are printable, which is known unless some were changed.
-    fn has_printable_texts(&self) -> bool
-        requires { IsTable T.text self.now }
-        ensures { result ≡ true → AllPrintable (texts_viewed T.text self.now) }
-    {
-        self.are_printable || are_printable(self.rows)
-    }
-
-    /// Its lines, with their colors or without them, where it is long, and they can be written one after another with no more memory than
-    /// they have.
-    fn alike_lines(&self, with_colors: bool) -> Result<Option<AlikeLines<'a, 'a>>, OutOfMemory>
-        requires { IsTable T.text self.now }
-        ensures text { IfOk result (λ found. IfSome found (λ lines. written_by lines (texts_viewed T.text self.now) ≡ text_viewed T.text self.now with_colors)) }
-        ensures rows { IfOk result (λ found. IfSome found (λ lines. length self.now.rows.now ≡ lines.lines.frame.shape.0)) }
-        ensures cols { IfOk result (λ found. IfSome found (λ lines. All (λ row. length row ≡ lines.lines.frame.shape.1) (texts_viewed T.text self.now))) }
-        ensures printable { IfOk result (λ found. IfSome found (λ lines. AllPrintable (texts_viewed T.text self.now))) }
+    /// Whether it has no rows or no columns.
+    fn has_no_places(&self) -> bool
+        ensures { result ≡ is_empty self.now.shape }
     {
         let (rows, cols) = self.shape;
-        if rows == 0 || cols == 0 || !self.is_long() || !self.has_printable_texts() {
-            return Ok(None);
-        }
-        AlikeLines::new(self.config, self.sizes, self.shape, with_colors)
+        rows == 0 || cols == 0
     }
 
-    /// Writes a text, the text of the table and another text to a stream of bytes, piece by piece, if that can be done; it says whether it was
-    /// done. All memory is asked for before something is written. Spans and padding are not looked at.
-    fn print_pieces<W: io::Write>(
-        &self,
-        with_colors: bool,
-        before: &str,
-        after: &str,
-        out: &mut W,
-    ) -> Result<bool, TableError>
-        requires { IsTable T.text self.now }
-        ensures text { IfOk result (λ is_done. is_done ≡ true → Appends (W.contents out.old) (W.contents out.new) (before.now ++ text_viewed T.text self.now with_colors ++ after.now)) }
-        ensures undone { IfOk result (λ is_done. is_done ≡ false → out.new ≡ out.old) }
-        ensures refusal { IfErr result (λ e. (e ≡ Refusal.OutOfMemory) ⊎ (e ≡ Refusal.Write)) }
-        ensures unwritten { IfErr result (λ e. (e ≡ Refusal.Write) ⊎ (out.new ≡ out.old)) }
+    /// The text of a page of it.
+    fn text_of(&self, page: TablePage<'a, '_>) -> Result<String, OutOfMemory>
+        requires table { IsTable T.text self.now }
+        requires shape { page.lines.frame.shape ≡ self.now.shape }
+        ensures { IfOk result (λ text. string_bytes text ≡ text_of_page page.entry (texts_viewed T.text self.now)) }
     {
-        let Some(lines) = self.alike_lines(with_colors)? else {
-            return Ok(false);
-        };
         let alloc = self.config.config().allocator();
-        write_pieces(alloc, &lines, before, self.rows, after, out)?;
-        Ok(true)
+        let room = String::with_capacity(alloc, page.least_bytes())?;
+        let text = page.print(room, self.rows)?;
+        Ok(text)
     }
 
     /// How wide its columns are and how high its rows, where cells span or have padding.
@@ -119,14 +76,12 @@ impl<'a, T: AsStr> TableView<'a, T> {
         requires { IsTable T.text self.now }
         ensures { IfOk result (λ text. string_bytes text ≡ text_viewed T.text self.now with_colors) }
     {
-        table_text(
-            self.config,
-            self.sizes,
-            self.shape,
-            self.rows,
-            self.are_printable,
-            with_colors,
-        )
+        if self.has_no_places() {
+            return Ok(String::new(self.config.config().allocator()));
+        }
+        let page = TablePage::new(self.config, self.sizes, self.shape, with_colors)?;
+        let text = self.text_of(page)?;
+        Ok(text)
     }
 
     /// Its text where cells span or have padding, in color or without colors.
@@ -134,8 +89,12 @@ impl<'a, T: AsStr> TableView<'a, T> {
         requires { IsTable T.text self.now }
         ensures { IfOk result (λ text. string_bytes text ≡ spanned_viewed T.text self.now with_colors) }
     {
+        if self.has_no_places() {
+            return Ok(String::new(self.config.config().allocator()));
+        }
         let sizes = self.sizes_with_spans()?;
-        let text = spanned_text(self.config, &sizes, self.shape, self.rows, with_colors)?;
+        let page = TablePage::with_spans(self.config, &sizes, self.shape, with_colors)?;
+        let text = self.text_of(page)?;
         Ok(text)
     }
 
@@ -173,7 +132,46 @@ impl<'a, T: AsStr> TableView<'a, T> {
         write_in_turn(before, text.as_str(), after, out)
     }
 
-    /// Writes them piece by piece if that can be done, and at once else. All memory is asked for before something is written.
+    /// Writes them piece by piece, where no cell spans and no padding is set.
+    fn print_alone<W: io::Write>(
+        &self,
+        with_colors: bool,
+        before: &str,
+        after: &str,
+        out: &mut W,
+    ) -> Result<(), TableError>
+        requires table { IsTable T.text self.now }
+        requires places { is_empty self.now.shape ≡ false }
+        ensures text { OnOk result (Appends (W.contents out.old) (W.contents out.new) (before.now ++ text_viewed T.text self.now with_colors ++ after.now)) }
+        ensures refusal { IfErr result (λ e. (e ≡ Refusal.OutOfMemory) ⊎ (e ≡ Refusal.Write)) }
+        ensures unwritten { IfErr result (λ e. (e ≡ Refusal.Write) ⊎ (out.new ≡ out.old)) }
+    {
+        let alloc = self.config.config().allocator();
+        let page = TablePage::new(self.config, self.sizes, self.shape, with_colors)?;
+        write_page(alloc, page, before, self.rows, after, out)
+    }
+
+    /// Writes them piece by piece, where cells span or have padding.
+    fn print_with_spans<W: io::Write>(
+        &self,
+        with_colors: bool,
+        before: &str,
+        after: &str,
+        out: &mut W,
+    ) -> Result<(), TableError>
+        requires table { IsTable T.text self.now }
+        requires places { is_empty self.now.shape ≡ false }
+        ensures text { OnOk result (Appends (W.contents out.old) (W.contents out.new) (before.now ++ spanned_viewed T.text self.now with_colors ++ after.now)) }
+        ensures refusal { IfErr result (λ e. (e ≡ Refusal.OutOfMemory) ⊎ (e ≡ Refusal.Write)) }
+        ensures unwritten { IfErr result (λ e. (e ≡ Refusal.Write) ⊎ (out.new ≡ out.old)) }
+    {
+        let alloc = self.config.config().allocator();
+        let sizes = self.sizes_with_spans()?;
+        let page = TablePage::with_spans(self.config, &sizes, self.shape, with_colors)?;
+        write_page(alloc, page, before, self.rows, after, out)
+    }
+
+    /// Writes a text, the text of the table and another text to a stream of bytes. All memory is asked for before something is written.
     pub(crate) fn print<W: io::Write>(
         &self,
         with_colors: bool,
@@ -189,13 +187,13 @@ impl<'a, T: AsStr> TableView<'a, T> {
         ensures refusal { IfErr result (λ e. (e ≡ Refusal.OutOfMemory) ⊎ (e ≡ Refusal.Write)) }
         ensures unwritten { IfErr result (λ e. (e ≡ Refusal.Write) ⊎ (out.new ≡ out.old)) }
     {
-        if self.config.config().has_spans_or_padding() {
+        if self.has_no_places() {
             return self.print_whole(with_colors, before, after, out);
         }
-        if self.print_pieces(with_colors, before, after, out)? {
-            return Ok(());
+        if self.config.config().has_spans_or_padding() {
+            return self.print_with_spans(with_colors, before, after, out);
         }
-        self.print_whole(with_colors, before, after, out)
+        self.print_alone(with_colors, before, after, out)
     }
 }
 

@@ -11,7 +11,7 @@ mod panels;
 mod rows;
 mod texts;
 
-use crate::measure::{TableSize, sizes_of};
+use crate::measure::sizes_of;
 use crate::{Table, TableError};
 use std::alloc::{AllocError, Global};
 use std::convert::AsStr;
@@ -63,13 +63,9 @@ impl TextTable {
         ensures err { OnErr result (self.new ≡ self.old) }
     {
         let alloc = self.config().config().allocator();
-        let TableSize {
-            sizes,
-            are_printable,
-        } = sizes_of(alloc, &cells)?;
+        let sizes = sizes_of(alloc, &cells)?;
         drop(mem::replace(&mut self.cells, cells));
         drop(mem::replace(&mut self.sizes, sizes));
-        self.are_printable = are_printable;
         Ok(())
     }
 }

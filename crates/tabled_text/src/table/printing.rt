@@ -150,7 +150,6 @@ impl<T: AsStr + Drop> Table<T> {
             shape: (self.shape.rows, self.shape.cols),
             sizes: &self.sizes,
             config: self.config(),
-            are_printable: self.are_printable,
         }
     }
 

@@ -82,7 +82,6 @@ impl TextTable {
         let heights = heights_with(alloc, &self.sizes.heights, &column)?;
         self.sizes.widths.reserve(1)?;
         put_into(alloc, &mut self.cells, at, column)?;
-        self.are_printable = false;
         let _ = self.sizes.widths.insert(at, width);
         drop(mem::replace(&mut self.sizes.heights, heights));
         self.shape = Shape {
@@ -125,7 +124,6 @@ impl TextTable {
     {
         let alloc = self.config().config().allocator();
         let column = take_column(alloc, &mut self.cells, index)?;
-        self.are_printable = false;
         measure_heights(&mut self.sizes.heights, &self.cells);
         let _ = self.sizes.widths.remove(index);
         self.shape = Shape {

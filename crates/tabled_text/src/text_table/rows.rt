@@ -8,7 +8,7 @@ ghost use Rattle.tabled_text.specs.declared.table_error.TableError.{TableError a
 
 use super::TextTable;
 use crate::TableError;
-use crate::measure::{TableSize, sizes_of, sizes_with};
+use crate::measure::{sizes_of, sizes_with};
 use std::mem;
 use tabled_border::OutOfMemory;
 use tabled_numbers::column_count;
@@ -71,7 +71,6 @@ impl TextTable {
         let (widths, height) = sizes_with(alloc, &self.sizes.widths, &row)?;
         self.cells.reserve(1)?;
         self.sizes.heights.insert(at, height)?;
-        self.are_printable = false;
         let _ = self.cells.insert(at, row);
         drop(mem::replace(&mut self.sizes.widths, widths));
         self.shape = Shape {
@@ -96,14 +95,8 @@ impl TextTable {
         let alloc = self.config().config().allocator();
         let row = self.cells.remove(index);
         match sizes_of(alloc, &self.cells) {
-            Ok(
-                TableSize {
-                    sizes,
-                    are_printable,
-                },
-            ) => {
+            Ok(sizes) => {
                 drop(mem::replace(&mut self.sizes, sizes));
-                self.are_printable = are_printable;
                 self.shape = Shape {
                     rows: self.cells.len(),
                     cols: column_count(&self.cells),

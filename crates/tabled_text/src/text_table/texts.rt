@@ -54,7 +54,6 @@ impl TextTable {
             width,
             height,
         } = replace_in(&mut self.cells, row, col, text)?;
-        self.are_printable = false;
         self.sizes.widths[col] = width;
         self.sizes.heights[row] = height;
         Ok(former)

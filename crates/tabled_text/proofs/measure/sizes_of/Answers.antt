@@ -1,11 +1,10 @@
 -- One row more; at the end all rows have widened the columns.
 use Rattle.std.proofs.Common.{ℕ, ◌<◌, subst, length, drop, get_or, map, ap, sym, ◌∙◌, arith}
-use Rattle.std.proofs.lemmas.Bool.{and_parts}
 use Rattle.std.proofs.lemmas.List.{length-map, take_at}
 use Rattle.std.specs.Str.{IsUtf8}
 use Rattle.tabled_text.specs.Sizes.{cell, column_count, row_height}
 use Rattle.tabled_painting.specs.TextsBy.{texts_by}
-use Rattle.tabled_text.proofs.Measuring.{widened_more, widened_all, rows_so_far, row_at, rows_more, printable_more, all_printable, utf8_table}
+use Rattle.tabled_text.proofs.Measuring.{widened_more, widened_all, rows_so_far, row_at, rows_more, utf8_table}
 use Rattle.tabled_text.proofs.measure.sizes_of.Goals as goal
 
 pub loop-row-preserved : goal.loop-row-preserved
@@ -26,20 +25,12 @@ loop-row-preserved g c =
           rows_more (λ cells. (k : ℕ) → k < column_count (texts_by g.T.AsStr.text c.args.rows.now) → IsUtf8 (cell cells k)) (texts_by g.T.AsStr.text c.args.rows.now) c.loop-row.row-index (map g.T.AsStr.text c.deref.result.now)
           (here ∙ ap (λ items. map g.T.AsStr.text items) (sym c.deref.ensures.value)) c.loop-row.invariant.utf8
           (λ k within. c.in_ok-is_printable.ensures.utf8 k (omega (arith, c.widen.auto.widths, ap length c.deref_mut.ensures.value, c.loop-row.invariant.count, within)));
-      printable = λ known.
-          let both = and_parts c.loop-row.are_printable c.in_ok-is_printable.is_printable known in
-          printable_more (texts_by g.T.AsStr.text c.args.rows.now) c.loop-row.row-index (map g.T.AsStr.text c.deref.result.now) (here ∙ ap (λ items. map g.T.AsStr.text items) (sym c.deref.ensures.value))
-          (c.loop-row.invariant.printable both.0) (c.in_ok-is_printable.ensures.printable both.1);
     }
 
 pub returns-clause-widths : goal.returns-clause-widths
 returns-clause-widths g c =
     ap (λ widths. widths.items) c.new.ensures.widths
     ∙ widened_all g.T.AsStr.text c.args.rows.now c.loop-row.row-index c.loop-row.widths.items (omega arith) c.loop-row.invariant.count c.loop-row.invariant.widths
-
-pub returns-clause-printable : goal.returns-clause-printable
-returns-clause-printable g c known =
-    all_printable (texts_by g.T.AsStr.text c.args.rows.now) c.loop-row.row-index (omega (arith, c.loop-row-test.false, length-map c.args.rows.now (λ row. map g.T.AsStr.text row.items))) (c.loop-row.invariant.printable known)
 
 pub returns-clause-utf8 : goal.returns-clause-utf8
 returns-clause-utf8 g c equal =

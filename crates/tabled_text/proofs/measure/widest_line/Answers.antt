@@ -5,7 +5,7 @@ use Rattle.std.proofs.lemmas.Iterator.Adapters.{option_map_id}
 use Rattle.std.proofs.lemmas.Iterator.Consumers.{max_from_yields_List}
 use Rattle.std.proofs.lemmas.Iterator.Splits.{YieldsList-from_str_split}
 use Rattle.tabled_printing.specs.Texts.{pieces, width_of_text}
-use Rattle.tabled_cells.proofs.Measuring.{greatest_found}
+use Rattle.tabled_text.proofs.Measuring.{greatest_found}
 use Rattle.tabled_text.proofs.measure.widest_line.Goals as goal
 
 pub returns : goal.returns

@@ -1,7 +1,6 @@
 -- The sizes are those of the texts.
 use Rattle.std.proofs.Common.{◌≡◌, length, map, ap, subst, ◌∙◌, arith}
 use Rattle.std.proofs.lemmas.List.{length-map}
-use Rattle.tabled_painting.specs.Printable.{AllPrintable}
 use Rattle.tabled_painting.specs.TextsBy.{texts_by}
 use Rattle.tabled_text.specs.Cells.{AreUtf8}
 use Rattle.tabled_text.specs.Sizes.{column_count, column_widths, row_heights, unequal_row}
@@ -17,6 +16,5 @@ invariant_of-result g c =
       λ i. record { rows = rows i; cols = cols i },
       c.in_ok-sizes.ensures.widths ∙ ap column_widths kept,
       c.in_ok-sizes.ensures.heights ∙ ap row_heights kept,
-      λ known. subst AllPrintable kept (c.in_ok-sizes.ensures.printable known),
       subst AreUtf8 kept (c.in_ok-sizes.ensures.utf8 (ap unequal_row kept ∙ c.requires)),
     )

@@ -3,7 +3,6 @@ use Rattle.std.proofs.Common.{◌≡◌, ℕ, [], None, map, length, slice_index
 use Rattle.std.specs.Str.{IsUtf8}
 use Rattle.std.proofs.lemmas.List.{length-map}
 use Rattle.tabled_painting.specs.TextsBy.{texts_by}
-use Rattle.tabled_painting.specs.Printable.{AllPrintable}
 use Rattle.tabled_text.specs.Sizes.{cell, column_count, column_widths, row_heights, unequal_row}
 use Rattle.tabled_text.specs.TextTable.{Drawing}
 use Rattle.tabled_text.proofs.EqualRows.{all_equal}
@@ -21,7 +20,6 @@ returns-clause-table g c =
       shape = ap (λ shape. (shape.rows, shape.cols)) c.self.invariant.1 ∙ ap (λ table. (length table, column_count table)) kept;
       widths = c.self.invariant.2 ∙ ap column_widths kept;
       heights = c.self.invariant.3 ∙ ap row_heights kept;
-      printable = λ known. subst AllPrintable kept (c.self.invariant.4 known);
     }
 
 pub returns-clause-texts : goal.returns-clause-texts
@@ -31,4 +29,4 @@ pub returns-clause-equal : goal.returns-clause-equal
 returns-clause-equal g c = subst (λ (drawing : Drawing). unequal_row drawing.texts ≡ None) c.self.view_is c.self.invariant.0
 
 pub returns-clause-utf8 : goal.returns-clause-utf8
-returns-clause-utf8 g c = subst (λ (drawing : Drawing). (row col : ℕ) → IsUtf8 (cell (slice_index_or drawing.texts row []) col)) c.self.view_is c.self.invariant.5
+returns-clause-utf8 g c = subst (λ (drawing : Drawing). (row col : ℕ) → IsUtf8 (cell (slice_index_or drawing.texts row []) col)) c.self.view_is c.self.invariant.4

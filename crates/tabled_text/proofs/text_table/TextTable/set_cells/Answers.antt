@@ -1,6 +1,5 @@
 -- The new texts have as many cells in each row, and are measured.
 use Rattle.std.proofs.Common.{map, length, sym, ap, subst, ◌∙◌}
-use Rattle.tabled_painting.specs.Printable.{AllPrintable}
 use Rattle.tabled_printing.specs.Texts.{texts}
 use Rattle.tabled_text.specs.Sizes.{column_widths, row_heights}
 use Rattle.tabled_text.proofs.ChangedLemmas.{same_unequal, same_shape}
@@ -16,7 +15,6 @@ invariant_of-self c =
       same_shape old _ same _ c.self.invariant.1,
       ap (λ sizes. sizes.widths.items) c.replace-2.ensures.after ∙ c.in_ok-sizes.ensures.widths ∙ ap column_widths (ap texts c.deref.ensures.value ∙ sym after),
       ap (λ sizes. sizes.heights.items) c.replace-2.ensures.after ∙ c.in_ok-sizes.ensures.heights ∙ ap row_heights (ap texts c.deref.ensures.value ∙ sym after),
-      λ known. subst AllPrintable (ap texts c.deref.ensures.value ∙ sym after) (c.in_ok-sizes.ensures.printable known),
       utf8_cells _,
     )
 

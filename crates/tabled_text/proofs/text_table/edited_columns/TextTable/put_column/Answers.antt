@@ -42,7 +42,6 @@ invariant_of-self-2 c =
       widths,
       ap (λ heights. heights.items) c.replace.ensures.after ∙ c.in_ok-heights.ensures ∙ (λ i. heights_with (c.deref-2.ensures.value i) (map string_bytes (c.deref-3.ensures.value i)))
           ∙ heights-with at column old c.self.inside.sizes.heights.items c.self.invariant.3 ∙ sym (ap row_heights put),
-      λ known. absurd (let no : false ≡ true = known in cc),
       utf8_cells _,
     )
 
@@ -50,4 +49,4 @@ invariant_of-self-2 c =
 pub invariant_of-self-in_err-put_into : goal.invariant_of-self-in_err-put_into
 invariant_of-self-in_err-put_into c =
     let old = c.self.inside in
-    still_measured old.shape old.sizes.widths.items _ old.sizes.heights.items _ old.are_printable (texts old.cells.items) _ c.reserve.ensures.items refl c.in_err-put_into.ensures.err c.self.invariant
+    still_measured old.shape old.sizes.widths.items _ old.sizes.heights.items _ (texts old.cells.items) _ c.reserve.ensures.items refl c.in_err-put_into.ensures.err c.self.invariant

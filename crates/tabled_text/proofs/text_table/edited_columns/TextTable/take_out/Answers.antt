@@ -38,7 +38,6 @@ invariant_of-self-2 c =
       widths,
       take_at c.measure_heights.new.heights (drop (length c.measure_heights.new.heights) c.self.inside.sizes.heights.items) c.self.inside.sizes.heights.len (c.measure_heights.auto.heights ∙ c.deref_mut-2.ensures.len)
           ∙ c.measure_heights.ensures ∙ ap (λ (rows : List (Vec (String Global) Global)). row_heights (texts rows)) c.deref.ensures.value,
-      λ known. absurd (let no : false ≡ true = known in cc),
       utf8_cells _,
     )
 
@@ -48,7 +47,7 @@ invariant_of-self c =
     let old = c.self.inside in
     let kept = take_at c.take_column.new.rows (drop (length c.take_column.new.rows) old.cells.items) old.cells.len (c.take_column.auto.rows ∙ c.deref_mut.ensures.len) in
     let back = ap texts kept ∙ c.in_err-column.ensures.err ∙ ap (λ (rows : List (Vec (String Global) Global)). texts rows) c.deref_mut.ensures.value in
-    still_measured old.shape old.sizes.widths.items _ old.sizes.heights.items _ old.are_printable (texts old.cells.items) _ refl refl back c.self.invariant
+    still_measured old.shape old.sizes.widths.items _ old.sizes.heights.items _ (texts old.cells.items) _ refl refl back c.self.invariant
 
 pub returns-in_err-column-clause-err : goal.returns-in_err-column-clause-err
 returns-in_err-column-clause-err c =

@@ -17,7 +17,7 @@ pub returns-in_err-insert-clause-err : goal.returns-in_err-insert-clause-err
 returns-in_err-insert-clause-err c = where_refused c.from_residual-in_err-insert.result (ap texts c.in_ok-reserve.ensures.items ∙ ap (λ table. table.texts) c.self.view_is)
 
 -- the new texts, by those that stood there
-put : (c : goal.After-self-2-1) → texts c.insert-2.new.self.items ≡ insert (texts c.self.inside.cells.items) c.args.at (map string_bytes c.args.row.items)
+put : (c : goal.After-self-1) → texts c.insert-2.new.self.items ≡ insert (texts c.self.inside.cells.items) c.args.at (map string_bytes c.args.row.items)
 put c =
     ap texts (rw (c.insert-2.ensures.succeeds (omega (arith, c.in_ok-reserve.ensures.ok))) at c.insert-2.ensures.items)
     ∙ insert-map (λ (row : Vec (String Global) Global). map string_bytes row.items) c.reserve.new.self.items c.args.at c.args.row
@@ -41,7 +41,6 @@ invariant_of-self-2 c =
           ∙ widths-insert old c.args.at row c.self.inside.sizes.widths.items fits c.self.invariant.2 ∙ sym (ap column_widths (put c)),
       c.in_ok-insert.ensures.items ∙ (λ i. insert (c.self.invariant.3 i) c.args.at ((c.in_ok-widths.ensures.height ∙ ap row_height cells) i))
           ∙ heights-insert old c.args.at row ∙ sym (ap row_heights (put c)),
-      λ known. absurd (let no : false ≡ true = known in cc),
       utf8_cells _,
     )
 
@@ -52,9 +51,9 @@ returns-clause-texts c = put c ∙ ap (λ (table : Table). insert table c.args.a
 pub invariant_of-self : goal.invariant_of-self
 invariant_of-self c =
     let old = c.self.inside in
-    still_measured old.shape old.sizes.widths.items _ old.sizes.heights.items _ old.are_printable (texts old.cells.items) _ refl refl (ap texts c.in_err-reserve.ensures.items) c.self.invariant
+    still_measured old.shape old.sizes.widths.items _ old.sizes.heights.items _ (texts old.cells.items) _ refl refl (ap texts c.in_err-reserve.ensures.items) c.self.invariant
 
 pub invariant_of-self-in_err-insert : goal.invariant_of-self-in_err-insert
 invariant_of-self-in_err-insert c =
     let old = c.self.inside in
-    still_measured old.shape old.sizes.widths.items _ old.sizes.heights.items _ old.are_printable (texts old.cells.items) _ refl c.in_err-insert.ensures.items (ap texts c.in_ok-reserve.ensures.items) c.self.invariant
+    still_measured old.shape old.sizes.widths.items _ old.sizes.heights.items _ (texts old.cells.items) _ refl c.in_err-insert.ensures.items (ap texts c.in_ok-reserve.ensures.items) c.self.invariant

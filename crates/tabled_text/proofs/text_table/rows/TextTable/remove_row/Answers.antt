@@ -5,7 +5,6 @@ use Rattle.std.specs.List.{remove, slice_get}
 use Rattle.std.proofs.lemmas.Grind.{common_steps}
 use Rattle.std.proofs.lemmas.List.{length-map}
 use Rattle.std.proofs.lemmas.Option.{slice_get-map, slice_get_read}
-use Rattle.tabled_painting.specs.Printable.{AllPrintable}
 use Rattle.tabled_printing.specs.Texts.{Table, texts}
 use Rattle.tabled_rows.proofs.RowLemmas.{remove-map}
 use Rattle.tabled_text.specs.Cells.{AreUtf8}
@@ -16,7 +15,7 @@ use Rattle.tabled_text.proofs.Even.{utf8_cells}
 use Rattle.tabled_text.proofs.text_table.rows.TextTable.remove_row.Goals as goal
 
 -- the new texts, by those that stood there
-left : (c : goal.After-self-in-Ok-1) → texts c.remove-row.new.self.items ≡ remove (texts c.self.inside.cells.items) c.args.index
+left : (c : goal.After-self-1) → texts c.remove-row.new.self.items ≡ remove (texts c.self.inside.cells.items) c.args.index
 left c = ap texts c.remove-row.ensures.items ∙ remove-map (λ (row : Vec (String Global) Global). map string_bytes row.items) c.self.inside.cells.items c.args.index
 
 pub invariant_of-self : goal.invariant_of-self
@@ -29,7 +28,6 @@ invariant_of-self c =
       (λ i. record { rows = rows i; cols = cols i }),
       ap (λ sizes. sizes.widths.items) c.replace.ensures.after ∙ c.in-Ok.ensures.widths ∙ ap column_widths (ap texts c.deref.ensures.value),
       ap (λ sizes. sizes.heights.items) c.replace.ensures.after ∙ c.in-Ok.ensures.heights ∙ ap row_heights (ap texts c.deref.ensures.value),
-      λ known. subst AllPrintable (ap texts c.deref.ensures.value) (c.in-Ok.ensures.printable known),
       utf8_cells _,
     )
 
@@ -50,5 +48,5 @@ pub invariant_of-self-in-Err : goal.invariant_of-self-in-Err
 invariant_of-self-in-Err c =
     let old = c.self.inside in
     let back : c.insert.new.self.items ≡ old.cells.items = grind (arith, common_steps) in
-    subst (λ (table : Table). (unequal_row table ≡ None) × (old.shape ≡ shape_of table) × (old.sizes.widths.items ≡ column_widths table) × (old.sizes.heights.items ≡ row_heights table) × (old.are_printable ≡ true → AllPrintable table) × AreUtf8 table)
+    subst (λ (table : Table). (unequal_row table ≡ None) × (old.shape ≡ shape_of table) × (old.sizes.widths.items ≡ column_widths table) × (old.sizes.heights.items ≡ row_heights table) × AreUtf8 table)
     (sym (ap texts back)) c.self.invariant

@@ -46,7 +46,6 @@ invariant_of-self-2 c =
       same_shape old new same c.self.inside.shape c.self.invariant.1,
       widths-set row col text old c.in_ok-former.field-0.width c.self.inside.sizes.widths.items within c.self.invariant.2 (c.in_ok-former.ensures.width ∙ ap (λ (table : Table). column_width table col) made) ∙ sym (ap column_widths is),
       heights-set row col text old c.in_ok-former.field-0.height c.self.inside.sizes.heights.items above c.self.invariant.3 (c.in_ok-former.ensures.height ∙ ap (λ (table : Table). row_height (get_or table row [])) made) ∙ sym (ap row_heights is),
-      λ known. absurd (let no : false ≡ true = known in cc),
       utf8_cells _,
     )
 
@@ -62,4 +61,4 @@ invariant_of-self c =
     let old = c.self.inside in
     let kept = take_at c.replace_in.new.rows (drop (length c.replace_in.new.rows) old.cells.items) old.cells.len (c.replace_in.auto.rows ∙ c.deref_mut.ensures.len) in
     let back = ap texts kept ∙ c.in_err-former.ensures.err ∙ ap (λ (rows : List (Vec (String Global) Global)). texts rows) c.deref_mut.ensures.value in
-    still_measured old.shape old.sizes.widths.items _ old.sizes.heights.items _ old.are_printable (texts old.cells.items) _ refl refl back c.self.invariant
+    still_measured old.shape old.sizes.widths.items _ old.sizes.heights.items _ (texts old.cells.items) _ refl refl back c.self.invariant
