@@ -1,5 +1,5 @@
 -- How large a table is, and what its margin is where it has none.
-use Rattle.std.proofs.Common.{◌≡◌, ℕ, ◌+◌, min, Bool, true, false, ◌||◌, ◌==◌, if◌then◌else◌, List, [], ◌∷◌, ◌++◌, map, length, replicate, refl, sym, ap, subst, ◌∙◌, Result, Ok, Err, IfOk}
+use Rattle.std.proofs.Common.{◌≡◌, ℕ, ◌+◌, min, Bool, true, false, ◌||◌, ◌==◌, if◌then◌else◌, List, [], ◌∷◌, ◌++◌, map, length, replicate, refl, sym, ap, ◌∙◌, Result, Ok, Err, IfOk}
 use Rattle.std.specs.List.{flat_map, join_with_byte}
 use Rattle.std.proofs.lemmas.List.{append-nil, length-append}
 use Rattle.std.proofs.lemmas.List.FromFn.{length-map-range_with_len}
@@ -14,7 +14,7 @@ use Rattle.tabled_painting.specs.declared.margin_sides.MarginSides.{MarginSides}
 use Rattle.tabled_painting.specs.Painted.{Painted, colored_if}
 use Rattle.tabled_painting.specs.InColor.{in_color}
 use Rattle.tabled_painting.specs.Pages.{IsMarginOf, Strips, counted_sides, most, text_of_lines}
-use Rattle.tabled_painting.specs.Margin.{Side, side_of, side_at, is_left_out, between_sides, strip, in_margin, left_side, right_side, top_side, bottom_side}
+use Rattle.tabled_painting.specs.Margin.{Side, side_of, side_at, is_left_out, between_sides, strip, in_margin}
 use Rattle.tabled_painting.specs.PaintedTable.{Cells, painted_marks, painted_between, painted_if_drawn, painted_row, painted_lines, with_margin}
 
 -- what holds of a value that is returned, by what else holds of it

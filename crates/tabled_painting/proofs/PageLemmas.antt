@@ -1,7 +1,7 @@
 -- Lines of a page, one after another.
 use Rattle.std.proofs.Common.{◌≡◌, ℕ, ◌+◌, ◌≤◌, Bool, true, false, min, if◌then◌else◌, None, List, [], ◌∷◌, ◌++◌, map, length, replicate, refl, sym, ap, subst, ◌∙◌, arith, option_copied, Result, Ok, Err, OnOk}
 use Rattle.std.specs.List.{flat_map, join_with_byte}
-use Rattle.std.proofs.lemmas.List.{append-nil, append_assoc, length-append, replicate_more}
+use Rattle.std.proofs.lemmas.List.{append-nil, append_assoc, replicate_more}
 use Rattle.std.proofs.lemmas.List.FromFn.{map-range_with_len_more}
 use Rattle.tabled_object.specs.Entities.{below}
 use Rattle.tabled_configuration.proofs.Below.{flat_map_below}

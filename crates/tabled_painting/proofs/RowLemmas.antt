@@ -1,5 +1,5 @@
 -- A row by the cells that stand in its columns.
-use Rattle.std.proofs.Common.{◌≡◌, ℕ, ◌<◌, [], ◌∷◌, ◌++◌, Option, List, map, length, subst, sym, ap, ◌∙◌, arith}
+use Rattle.std.proofs.Common.{◌≡◌, ℕ, [], ◌∷◌, ◌++◌, Option, List, map, length, subst, sym, ap, arith}
 use Rattle.std.specs.Prelude.{slice_index, slice_index_or}
 use Rattle.tabled_object.specs.Entities.{below}
 use Rattle.tabled_painting.specs.Pages.{PaintsLines}

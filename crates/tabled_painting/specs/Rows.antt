@@ -1,14 +1,12 @@
 -- The cells and rows of a table as its lines are painted.
-use Rattle.std.specs.Prelude.{ℕ, List, [], ◌++◌, slice_index, slice_index_or}
-use Rattle.std.specs.List.{flat_map}
-use Rattle.tabled_object.specs.Entities.{below}
+use Rattle.std.specs.Prelude.{ℕ, List, [], slice_index, slice_index_or}
 use Rattle.tabled_cells.specs.Shown.{shown}
 use Rattle.tabled_printing.specs.Texts.{Table}
 use Rattle.tabled_painting.specs.declared.cell_lines.CellLines.{CellLines}
 use Rattle.tabled_painting.specs.declared.table_lines.TableLines.{TableLines}
 use Rattle.tabled_painting.specs.CellLines.{coloring_of, cell_line}
 use Rattle.tabled_painting.specs.Painted.{Painted}
-use Rattle.tabled_painting.specs.PaintedTable.{Cells, painted_cell, painted_cells, painted_row, painted_side}
+use Rattle.tabled_painting.specs.PaintedTable.{Cells, painted_cell, painted_cells, painted_row}
 use Rattle.tabled_painting.specs.Viewed.{viewed}
 
 -- line n of a cell as the code has it

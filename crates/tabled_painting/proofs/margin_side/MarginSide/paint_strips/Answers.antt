@@ -1,6 +1,4 @@
 -- One line more.
-use Rattle.std.proofs.Common.{[]}
-use Rattle.tabled_painting.specs.Margin.{side_of, strip}
 use Rattle.tabled_painting.proofs.PainterLemmas.{begins_all, line_whole}
 use Rattle.tabled_painting.proofs.PageLemmas.{none_whole, strip_more}
 use Rattle.tabled_painting.proofs.margin_side.MarginSide.paint_strips.Goals as goal

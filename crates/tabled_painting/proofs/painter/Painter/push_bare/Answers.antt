@@ -1,5 +1,5 @@
 -- The text between spaces, and the side.
-use Rattle.std.proofs.Common.{◌≡◌, ◌+◌, ◌-◌, ◌++◌, ℕ, List, length, option_copied, refl, ap, subst, sym, ◌∙◌, arith}
+use Rattle.std.proofs.Common.{◌≡◌, ◌+◌, ◌-◌, ◌++◌, ℕ, List, length, option_copied, refl, ap, subst, ◌∙◌, arith}
 use Rattle.tabled_cells.specs.Placed.{free_before, times}
 use Rattle.tabled_painting.specs.BareCells.{bare_text}
 use Rattle.tabled_painting.proofs.PainterLemmas.{paints_begun, paints_both, some_bare, on_done}

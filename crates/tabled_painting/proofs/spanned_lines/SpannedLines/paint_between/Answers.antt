@@ -1,5 +1,5 @@
 -- A piece more, and the last side.
-use Rattle.std.proofs.Common.{◌≡◌, ℕ, ◌+◌, ◌<◌, ◌≤◌, ◌==◌, ◌++◌, true, length, slice_index_or, sym, ap, subst, ◌∙◌, arith}
+use Rattle.std.proofs.Common.{◌≡◌, ℕ, ◌+◌, ◌<◌, ◌==◌, ◌++◌, true, length, slice_index_or, subst, ◌∙◌, arith}
 use Rattle.std.proofs.lemmas.List.{get_or_default}
 use Rattle.std.specs.List.{flat_map}
 use Rattle.tabled_object.specs.Entities.{below}
@@ -12,7 +12,7 @@ use Rattle.tabled_painting.specs.RoomLines.{IsRoomAt, columns_of, nobody, rows_o
 use Rattle.tabled_painting.specs.Viewed.{viewed}
 use Rattle.tabled_painting.proofs.FrameLemmas.{side_is}
 use Rattle.tabled_painting.proofs.PainterLemmas.{parts_more, paints_both, paints_none}
-use Rattle.tabled_painting.proofs.SpannedLemmas.{first_at, line_at, piece_is, same_put, same_rooms, same_then, shown_in}
+use Rattle.tabled_painting.proofs.SpannedLemmas.{line_at, piece_is, same_put, same_rooms, same_then, shown_in}
 use Rattle.tabled_painting.proofs.spanned_lines.SpannedLines.paint_between.Goals as goal
 
 pub loop-col-init : goal.loop-col-init

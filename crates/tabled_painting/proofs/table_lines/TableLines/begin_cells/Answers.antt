@@ -1,8 +1,7 @@
 -- A cell more.
-use Rattle.std.proofs.Common.{◌≡◌, ◌<◌, ◌-◌, [], map, length, slice_index_or, refl, sym, ap, ◌∙◌, arith}
+use Rattle.std.proofs.Common.{◌≡◌, ◌<◌, ◌-◌, [], map, length, slice_index_or, ap, ◌∙◌, arith}
 use Rattle.std.proofs.lemmas.List.{length-set}
 use Rattle.tabled_painting.specs.Rows.{line_of, row_cell}
-use Rattle.tabled_painting.specs.RoomLines.{room_shown}
 use Rattle.tabled_painting.proofs.FrameLemmas.{shown_at}
 use Rattle.tabled_painting.proofs.SpannedLemmas.{put_last}
 use Rattle.tabled_painting.proofs.table_lines.TableLines.begin_cells.Goals as goal

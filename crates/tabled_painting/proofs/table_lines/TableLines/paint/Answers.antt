@@ -9,7 +9,7 @@ use Rattle.tabled_painting.specs.Rows.{cells_of, row_painted}
 use Rattle.tabled_painting.specs.TextsBy.{texts_by}
 use Rattle.tabled_painting.specs.Viewed.{viewed}
 use Rattle.tabled_painting.proofs.FrameLemmas.{row_texts}
-use Rattle.tabled_painting.proofs.PageLemmas.{row_more, last_lines, no_lines}
+use Rattle.tabled_painting.proofs.PageLemmas.{row_more, last_lines}
 use Rattle.tabled_painting.proofs.table_lines.TableLines.paint.Goals as goal
 
 pub paint_row-requires-clause-texts : goal.paint_row-requires-clause-texts

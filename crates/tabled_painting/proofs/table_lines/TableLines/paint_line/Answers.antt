@@ -1,7 +1,6 @@
 -- The line is drawn where the frame says so.
-use Rattle.std.proofs.Common.{refl, sym, ◌∙◌, arith}
+use Rattle.std.proofs.Common.{refl, sym, ◌∙◌}
 use Rattle.tabled_painting.specs.Viewed.{viewed}
-use Rattle.tabled_painting.proofs.PainterLemmas.{on_done}
 use Rattle.tabled_painting.proofs.PageLemmas.{line_painted, line_drawn, line_not_drawn}
 use Rattle.tabled_painting.proofs.table_lines.TableLines.paint_line.Goals as goal
 

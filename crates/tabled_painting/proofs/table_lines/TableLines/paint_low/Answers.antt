@@ -1,5 +1,5 @@
 -- A cell and a side more.
-use Rattle.std.proofs.Common.{◌≡◌, ℕ, ◌+◌, ◌++◌, [], map, length, slice_index_or, subst, ◌∙◌, arith}
+use Rattle.std.proofs.Common.{◌≡◌, ℕ, ◌+◌, ◌++◌, [], map, slice_index_or, subst, ◌∙◌, arith}
 use Rattle.std.specs.List.{flat_map}
 use Rattle.tabled_object.specs.Entities.{below}
 use Rattle.tabled_painting.specs.InColor.{Paints}

@@ -1,5 +1,5 @@
 -- The sides and cells so far, and the side after them.
-use Rattle.std.proofs.Common.{◌≡◌, ◌++◌, [], map, slice_index_or}
+use Rattle.std.proofs.Common.{◌++◌, [], map, slice_index_or}
 use Rattle.std.specs.List.{flat_map}
 use Rattle.tabled_object.specs.Entities.{below}
 use Rattle.tabled_painting.specs.InColor.{Paints}

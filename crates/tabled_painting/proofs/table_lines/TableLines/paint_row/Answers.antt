@@ -1,5 +1,5 @@
 -- The line of a row that has one, or one more line of text.
-use Rattle.std.proofs.Common.{◌≡◌, ℕ, [], None, Option, map, length, slice_index_or, ap, sym, subst, ◌∙◌, refl, arith}
+use Rattle.std.proofs.Common.{◌≡◌, ℕ, [], None, map, slice_index_or, sym, subst, ◌∙◌, refl, arith}
 use Rattle.std.proofs.lemmas.List.{length-map}
 use Rattle.tabled_object.specs.Entities.{below}
 use Rattle.tabled_painting.specs.Pages.{PaintsLines}
@@ -7,7 +7,6 @@ use Rattle.tabled_painting.specs.Painted.{Painted}
 use Rattle.tabled_painting.specs.PaintedTable.{painted_between}
 use Rattle.tabled_painting.specs.Rows.{row_cell}
 use Rattle.tabled_painting.specs.Viewed.{viewed}
-use Rattle.tabled_painting.specs.declared.room.Room.{Room}
 use Rattle.tabled_painting.proofs.PageLemmas.{line_painted, line_more, no_lines}
 use Rattle.tabled_painting.proofs.RowLemmas.{between_cells, one_line}
 use Rattle.tabled_painting.proofs.table_lines.TableLines.paint_row.Goals as goal

@@ -1,5 +1,5 @@
 -- Above the first row nothing is shown.
-use Rattle.std.proofs.Common.{◌≡◌, List, refl, sym, subst, ◌∙◌}
+use Rattle.std.proofs.Common.{List, refl, sym, subst, ◌∙◌}
 use Rattle.tabled_rooms.specs.Holding.{AreAbove}
 use Rattle.tabled_rooms.specs.declared.host.Host.{Host}
 use Rattle.tabled_rooms.proofs.HostLemmas.{none_above}

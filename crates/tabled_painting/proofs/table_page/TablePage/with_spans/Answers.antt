@@ -1,5 +1,5 @@
 -- The page has these lines, with rooms.
-use Rattle.std.proofs.Common.{List, ℕ, Option, Some, ◌∙◌, slice_index}
+use Rattle.std.proofs.Common.{List, ℕ, Option, ◌∙◌, slice_index}
 use Rattle.tabled_configuration.specs.Configuration.{all_writes}
 use Rattle.tabled_printing.specs.Picture.{Look, look}
 use Rattle.tabled_printing.specs.Viewed.{with_colors_if}
