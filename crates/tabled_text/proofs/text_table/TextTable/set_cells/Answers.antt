@@ -1,5 +1,5 @@
 -- The new texts have as many cells in each row, and are measured.
-use Rattle.std.proofs.Common.{map, length, sym, ap, subst, ◌∙◌}
+use Rattle.std.proofs.Common.{map, length, sym, ap, ◌∙◌}
 use Rattle.tabled_printing.specs.Texts.{texts}
 use Rattle.tabled_text.specs.Sizes.{column_widths, row_heights}
 use Rattle.tabled_text.proofs.ChangedLemmas.{same_unequal, same_shape}

@@ -1,5 +1,5 @@
 -- The table with a row more is measured.
-use Rattle.std.proofs.Common.{◌≡◌, true, map, length, String, string_bytes, Global, refl, sym, ap, ◌∙◌, arith, false}
+use Rattle.std.proofs.Common.{◌≡◌, true, map, length, String, string_bytes, Global, refl, sym, ap, ◌∙◌, arith}
 use Rattle.std.specs.declared.vec.Vec.{Vec}
 use Rattle.std.specs.List.{insert}
 use Rattle.std.proofs.lemmas.List.{length-map}

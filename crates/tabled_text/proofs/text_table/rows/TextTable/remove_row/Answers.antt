@@ -1,5 +1,5 @@
 -- The table without the row is measured.
-use Rattle.std.proofs.Common.{true, ◌≡◌, map, length, String, string_bytes, Global, Some, None, option_map, sym, ap, subst, ◌∙◌, arith}
+use Rattle.std.proofs.Common.{◌≡◌, map, length, String, string_bytes, Global, Some, None, option_map, sym, ap, subst, ◌∙◌, arith}
 use Rattle.std.specs.declared.vec.Vec.{Vec}
 use Rattle.std.specs.List.{remove, slice_get}
 use Rattle.std.proofs.lemmas.Grind.{common_steps}

@@ -1,5 +1,5 @@
 -- The row and the column of the text are measured.
-use Rattle.std.proofs.Common.{◌≡◌, ◌<◌, ◌++◌, List, [], map, length, take, drop, get_or, String, string_bytes, Global, refl, sym, ap, ◌∙◌, arith, true, false}
+use Rattle.std.proofs.Common.{◌≡◌, ◌<◌, ◌++◌, List, [], map, length, take, drop, get_or, String, string_bytes, Global, refl, sym, ap, ◌∙◌, arith}
 use Rattle.std.specs.declared.vec.Vec.{Vec}
 use Rattle.std.proofs.lemmas.List.{take_at}
 use Rattle.tabled_printing.specs.Texts.{Table, texts}
