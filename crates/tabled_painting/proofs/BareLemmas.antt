@@ -25,6 +25,8 @@ use Rattle.tabled_printing.specs.Texts.{pieces, width_of_text}
 use Rattle.tabled_printing.proofs.TimesLemmas.{times_both}
 use Rattle.tabled_cells.specs.declared.filling.LineParts.{LineParts}
 use Rattle.tabled_cells.specs.declared.placement.Placement.{Placement}
+use Rattle.tabled_settings.specs.declared.alignment.AlignmentVertical.{AlignmentVertical}
+use Rattle.tabled_settings.specs.declared.alignment.AlignmentVertical.TheVariants.{Top, Center, Bottom}
 use Rattle.tabled_cells.specs.Placed.{padding_shown, times, free_before, free_above, fill_of, greatest, line_parts, aligned_width}
 use Rattle.tabled_cells.specs.Placements.{placement_at}
 use Rattle.tabled_width.specs.Texts.{is_printable}
@@ -79,7 +81,6 @@ IsBare how = IsBareCell how.alignment_horizontal how
 elsewhere : (side : AlignmentHorizontal) (how : Placement) → IsBare how → IsBareCell side (at_side side how)
 elsewhere side how is = record {
   stands = refl;
-  top = is.top;
   whole_lines = is.whole_lines;
   all_lines = is.all_lines;
   spaces = is.spaces;
@@ -167,13 +168,18 @@ either_same false n = refl
 painted_in_turn : (color : Option Texts) (first before text after last : List ℕ) → paint color first ++ paint color before ++ paint color text ++ paint color after ++ paint color last ≡ paint color (first ++ before ++ text ++ after ++ last)
 painted_in_turn color first before text after last = simp map-append
 
+none_above : (place : AlignmentVertical) → free_above place 0 ≡ 0
+none_above Top = refl
+none_above Center = refl
+none_above Bottom = refl
+
 one_greatest : (n : ℕ) → greatest (n ∷ []) ≡ n
 one_greatest n = omega arith
 
 abbrev no_coloring : Coloring
 no_coloring = record { text = None; fill = None; padding = no_sides }
 
-module _ (side : AlignmentHorizontal) (how : Placement) (is : IsBareCell side how) (width height : ℕ) (text : List ℕ) (printable : list_all is_printable text ≡ true) where
+module _ (side : AlignmentHorizontal) (how : Placement) (is : IsBareCell side how) (width height : ℕ) (low : height ≡ 1) (text : List ℕ) (printable : list_all is_printable text ≡ true) where
   shown : lines_shown how text ≡ text ∷ []
   unfolding lines_shown
   shown =
@@ -243,7 +249,8 @@ module _ (side : AlignmentHorizontal) (how : Placement) (is : IsBareCell side ho
   bare_cell color colors one =
       sym (ap (λ lines. cell_line how colors width height lines 0) shown
       ∙ ap (λ (padding : Sides Indent). by_place colors (padding.top.size + free_above how.alignment_vertical (height - padding.top.size - padding.bottom.size - 1))) is.padding
-      ∙ ap (λ place. by_place colors (0 + free_above place (height - 0 - 0 - 1))) is.top
+      ∙ ap (λ n. by_place colors (0 + free_above how.alignment_vertical (n - 0 - 0 - 1))) low
+      ∙ ap (λ n. by_place colors (0 + n)) (none_above how.alignment_vertical)
       ∙ line color colors (aligned_width how (text ∷ []) text) one (as_one how.line_alignment))
 
   -- its characters, whatever its colors

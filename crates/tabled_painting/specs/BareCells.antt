@@ -1,8 +1,7 @@
--- Bare cells: their texts are shown whole, at the top, between spaces, all in the color of their row, and stand where their columns say.
+-- Bare cells of rows that are one line high: their texts are shown whole, between spaces, all in one color.
 use Rattle.std.specs.Prelude.{◌≡◌, ℕ, Bool, true, false, ◌+◌, ◌-◌, Option, Some, None, List, ◌++◌, length, slice_get}
 use Rattle.tabled_border.specs.Texts.{Texts}
 use Rattle.tabled_settings.specs.declared.alignment.AlignmentHorizontal.{AlignmentHorizontal}
-use Rattle.tabled_settings.specs.declared.alignment.AlignmentVertical.{AlignmentVertical}
 use Rattle.tabled_settings.specs.declared.cell_settings.CellSettings.{CellSettings}
 use Rattle.tabled_object.specs.Entities.{position}
 use Rattle.tabled_settings.specs.Live.{Live, value_at}
@@ -17,7 +16,6 @@ use Rattle.tabled_painting.specs.declared.row_colors.RowColors.{RowColors}
 -- such a cell, whose text stands there
 pub record IsBareCell (side : AlignmentHorizontal) (how : Placement) : Type 0 where
   pub stands : how.alignment_horizontal ≡ side
-  pub top : how.alignment_vertical ≡ AlignmentVertical.Top
   pub whole_lines : how.trim_horizontal ≡ false
   pub all_lines : how.trim_vertical ≡ false
   pub spaces : how.justification ≡ 32

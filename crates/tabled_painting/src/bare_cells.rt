@@ -1,16 +1,15 @@
 //! Where the texts of bare cells stand: those that are shown as they are.
 
-ghost use Rattle.std.specs.Prelude.{◌≡◌, ◌<◌, ℕ, true, IfOk, IfSome, IsSome, IsTrue, map};
+ghost use Rattle.std.specs.Prelude.{◌≡◌, true, IfOk, IfSome, IsTrue, map};
 ghost use Rattle.tabled_object.specs.Entities.{below};
 ghost use Rattle.tabled_cells.specs.Placements.{placement_at};
 ghost use Rattle.tabled_configuration.specs.Configuration.{has_no_padding};
-ghost use Rattle.tabled_painting.specs.declared.bare_cells.BareColumns.{BareColumns as Columns};
 ghost use Rattle.tabled_painting.specs.BareCells.{AllAreBare, AreBare, IsBareCell, side_of};
 
 use std::alloc::AllocError;
 use tabled_configuration::SpannedConfig;
 use tabled_object::Position;
-use tabled_settings::{AlignmentHorizontal, AlignmentVertical};
+use tabled_settings::AlignmentHorizontal;
 
 /// Where the texts of columns stand of which it is known that all their cells are bare.
 #[derive(Drop)]
@@ -37,28 +36,14 @@ impl BareColumns {
             BareColumns::Each(sides) => sides.get(col).copied(),
         }
     }
-
-    /// Whether it is known of each of the given number of columns.
-    pub(crate) fn are_known(&self, columns: usize) -> bool
-        ensures { result ≡ true → (c : ℕ) → c < columns → IsSome (side_in self.now c) }
-    {
-        match self {
-            BareColumns::Unknown => false,
-            BareColumns::Alike(_) => true,
-            BareColumns::Each(sides) => columns <= sides.len(),
-        }
-    }
 }
 
-/// Whether the text of a cell is shown whole, at the top, between spaces, where no padding is set.
+/// Whether the text of a cell is shown whole, between spaces, where no padding is set.
 #[inline(always)]
 fn is_bare(cfg: &SpannedConfig, cell: Position) -> bool
     requires { has_no_padding cfg.now ≡ true }
     ensures { IsTrue result → IsBareCell (placement_at cfg.now.settings.cells cell.row cell.col).alignment_horizontal (placement_at cfg.now.settings.cells cell.row cell.col) }
 {
-    let AlignmentVertical::Top = cfg.get_alignment_vertical(cell) else {
-        return false;
-    };
     if cfg.get_trim_horizontal(cell) || cfg.get_trim_vertical(cell) {
         return false;
     }
@@ -87,14 +72,14 @@ fn first_sides(cfg: &SpannedConfig, columns: usize) -> Result<Vec<AlignmentHoriz
     Ok(sides)
 }
 
-/// Where the texts of all columns stand, if they stand alike, and all cells are known to be bare.
-pub(crate) fn one_alignment(cfg: &SpannedConfig) -> Option<AlignmentHorizontal>
-    ensures { IfSome result (λ side. AreBare cfg.now.settings.cells (Columns.Alike side)) }
+/// Where the text of a cell stands, looked up for the cell, if the cell is such a one.
+pub(crate) fn bare_side(cfg: &SpannedConfig, cell: Position) -> Option<AlignmentHorizontal>
+    ensures { IfSome result (λ side. IsBareCell side (placement_at cfg.now.settings.cells cell.row cell.col)) }
 {
-    if !has_bare_cells(cfg) || !cfg.has_one_alignment() {
+    if !cfg.has_no_padding() || !is_bare(cfg, cell) {
         return None;
     }
-    Some(cfg.get_alignment_horizontal(Position::new(0, 0)))
+    Some(cfg.get_alignment_horizontal(cell))
 }
 
 /// Where the texts of so many columns stand, if all cells are known to be bare. Where all columns are alike it takes no memory.

@@ -16,7 +16,7 @@ ghost use Rattle.tabled_painting.specs.Between.{IsBetweenRows};
 ghost use Rattle.tabled_painting.specs.TextsBy.{texts_by};
 
 use crate::alike::first_plain_line;
-use crate::bare_cells::{BareColumns, bare_columns};
+use crate::bare_cells::{BareColumns, bare_columns, bare_side};
 use crate::cell_lines::CellLines;
 use crate::line_room::{columns_of, room_for_line};
 use crate::page::Page;
@@ -31,6 +31,7 @@ use tabled_configuration::{ColorMap, ColoredConfig};
 use tabled_kept::Probes;
 use tabled_object::{Dimension, FixedDimension, Position};
 use tabled_printing::{Frame, Mark};
+use tabled_settings::AlignmentHorizontal;
 use tabled_width::is_printable;
 
 /// From how many rows on it pays to keep what stands between them.
@@ -56,7 +57,8 @@ pub(crate) struct TableLines<'a, 'b> {
 }
 
 impl<'a, 'b> TableLines<'a, 'b> {
-    ghost use Rattle.tabled_painting.specs.BareCells.{IsInColor, IsRowColor};
+    ghost use Rattle.tabled_cells.specs.Placements.{placement_at};
+    ghost use Rattle.tabled_painting.specs.BareCells.{IsBareCell, IsInColor, IsRowColor};
     ghost use Rattle.tabled_painting.specs.CellLines.{coloring_at};
     ghost use Rattle.tabled_painting.specs.Rows.{line_of};
     ghost use Rattle.tabled_painting.specs.PaintedTable.{painted_between, painted_cell, painted_if_drawn, painted_lines};
@@ -176,23 +178,52 @@ impl<'a, 'b> TableLines<'a, 'b> {
         }
     }
 
-    /// Paints a cell of a row of one line, and then a side, if there is one. The cell may be bare, in the color of its row.
+    /// The color in which a cell is painted, if it has one alone: that of its row, where all cells of it have that one, or as it is looked up.
+    #[inline(always)]
+    fn cell_color(
+        &self,
+        of_row: Option<Option<&'a ANSIBuf>>,
+        position: Position,
+    ) -> Option<Option<&'a ANSIBuf>>
+        requires { IfSome of_row (λ color. self.now.frame.with_colors ≡ true → IsInColor (option_copied color) (coloring_at self.now.frame.cfg.now.settings.cells self.now.colors.now position.row position.col)) }
+        ensures { IfSome result (λ color. self.now.frame.with_colors ≡ true → IsInColor (option_copied color) (coloring_at self.now.frame.cfg.now.settings.cells self.now.colors.now position.row position.col)) }
+    {
+        if of_row.is_some() {
+            return of_row;
+        }
+        let colors = CellColors::of(self.frame.cfg, self.colors, position);
+        colors.one_color()
+    }
+
+    /// Where the text of a cell stands, if the cell is bare: as its column says, or as it is looked up.
+    #[inline(always)]
+    fn bare_at(&self, position: Position) -> Option<AlignmentHorizontal>
+        ensures { IfSome result (λ side. IsBareCell side (placement_at self.now.frame.cfg.now.settings.cells position.row position.col)) }
+    {
+        match self.bare_columns.at(position.col) {
+            Some(side) => Some(side),
+            None => bare_side(self.frame.cfg, position),
+        }
+    }
+
+    /// Paints a cell of a row of one line, and then a side, if there is one. The cell may be bare, in one color.
     #[inline(always)]
     fn paint_cell<O: Output>(
         &self,
         painter: &mut Painter<'a, O>,
         position: Position,
         text: &'a str,
-        bare: Option<Option<&'a ANSIBuf>>,
+        of_row: Option<Option<&'a ANSIBuf>>,
         side: Option<Mark<'a>>,
     ) -> Result<(), O::Error>
         requires colors { painter.old.with_colors ≡ self.now.frame.with_colors }
-        requires bare { IfSome bare (λ color. self.now.frame.with_colors ≡ true → IsInColor (option_copied color) (coloring_at self.now.frame.cfg.now.settings.cells self.now.colors.now position.row position.col)) }
+        requires low { slice_index self.now.frame.dims.now.heights.items position.row ≡ 1 }
+        requires bare { IfSome of_row (λ color. self.now.frame.with_colors ≡ true → IsInColor (option_copied color) (coloring_at self.now.frame.cfg.now.settings.cells self.now.colors.now position.row position.col)) }
         ensures { OnOk result (Paints O.gains (row_cell self.now position.row position.col text.now 0 ++ side_painted (option_map mark_of side.entry)) painter.old painter.new) }
     {
-        if let Some(color) = bare
-            && let Some(alignment) = self.bare_columns.at(position.col)
-            && is_printable(text)
+        if is_printable(text)
+            && let Some(alignment) = self.bare_at(position)
+            && let Some(color) = self.cell_color(of_row, position)
         {
             let width = self.frame.dims.get_width(position.col);
             return painter.push_bare(color, alignment, width, text, side);
@@ -210,17 +241,17 @@ impl<'a, 'b> TableLines<'a, 'b> {
         texts: &'a [T],
     ) -> Result<(), O::Error>
         requires row { row < self.now.frame.shape.0 }
-        requires high { 0 < slice_index self.now.frame.dims.now.heights.items row }
+        requires low { slice_index self.now.frame.dims.now.heights.items row ≡ 1 }
         requires texts { length texts.now ≡ self.now.frame.shape.1 }
         requires colors { painter.old.with_colors ≡ self.now.frame.with_colors }
         ensures { OnOk result (Paints O.gains (painted_between (viewed self.now.frame) row 0 (λ c. row_cell self.now row c (slice_index_or (map T.text texts.now) c []) 0)) painter.old painter.new) }
     {
-        let bare = self.row_color(row);
+        let of_row = self.row_color(row);
         painter.push_side(self.frame.side(row, 0, 0))?;
         for (col, text) in texts.iter().enumerate() {
             let side = self.frame.side(row, col + 1, 0);
             let position = Position::new(row, col);
-            self.paint_cell(painter, position, text.as_str(), bare, side)?;
+            self.paint_cell(painter, position, text.as_str(), of_row, side)?;
         }
         Ok(())
     }

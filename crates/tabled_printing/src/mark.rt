@@ -4,7 +4,7 @@ ghost use Rattle.std.specs.Prelude.{◌≡◌, ℕ, None};
 ghost use Rattle.tabled_grid.specs.Probing.{IsRaised};
 ghost use Rattle.tabled_configuration.specs.Configuration.{all_writes};
 ghost use Rattle.tabled_printing.specs.Marks.{mark_of};
-ghost use Rattle.tabled_printing.specs.Picture.{edge_size, look, mark_at};
+ghost use Rattle.tabled_printing.specs.Picture.{character, edge_size, look, mark_at};
 ghost use Rattle.tabled_printing.specs.Beside as kept;
 ghost use Rattle.tabled_printing.specs.Viewed.{with_colors_if};
 
@@ -29,6 +29,13 @@ impl Mark<'_> {
     {
         Mark { shown, color: None }
     }
+}
+
+/// The character that is printed for what a place shows, a space for nothing.
+pub(crate) fn printed_as(shown: Option<char>) -> char
+    ensures { result ≡ character shown }
+{
+    shown.unwrap_or(' ')
 }
 
 /// Places next to each other along a line that show the same.

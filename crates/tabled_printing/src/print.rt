@@ -5,25 +5,19 @@ ghost use Rattle.std.specs.List.{All, flat_map, join_with_byte};
 ghost use Rattle.tabled_configuration.specs.Configuration.{ConfigEvent, Shows, all_writes};
 ghost use Rattle.tabled_printing.specs.Texts.{Appends, texts};
 ghost use Rattle.tabled_printing.specs.Pieces.{lent, first_piece, after_first_piece};
-ghost use Rattle.tabled_printing.specs.Picture.{character, look, text_shown, side_shown, line_of_pieces, row_lines, line_if_drawn, text_lines, printed};
+ghost use Rattle.tabled_printing.specs.Picture.{look, text_shown, side_shown, line_of_pieces, row_lines, line_if_drawn, text_lines, printed};
 ghost use Rattle.tabled_printing.specs.Refusal as refusal;
 ghost use Rattle.tabled_printing.specs.Viewed.{frame_look};
 
 use crate::PrintError;
 use crate::frame::Frame;
+use crate::mark::printed_as;
 use crate::refusals::first_refusal;
 use std::alloc::{AllocError, Global};
 use tabled_border::OutOfMemory;
 use tabled_configuration::SpannedConfig;
 use tabled_kept::Probes;
 use tabled_object::Dimension;
-
-/// The character that is printed for what a place shows, a space for nothing.
-pub(crate) fn printed_as(shown: Option<char>) -> char
-    ensures { result ≡ character shown }
-{
-    shown.unwrap_or(' ')
-}
 
 /// The piece of a text before its first line feed, and the text after that; without one the whole text, and nothing.
 fn cut(text: &str) -> (&str, &str)

@@ -12,8 +12,7 @@ ghost use Rattle.tabled_printing.specs.Beside.{plain_mark, plain_side};
 ghost use Rattle.tabled_printing.specs.SideMarks.{mark_count};
 
 use crate::Mark;
-use crate::mark::plain_mark;
-use crate::print::printed_as;
+use crate::mark::{plain_mark, printed_as};
 use tabled_border::OutOfMemory;
 use tabled_configuration::SpannedConfig;
 use tabled_grid::{Borders, LineOf, Place, Rank};

@@ -6,7 +6,7 @@ ghost use Rattle.tabled_printing.specs.Picture.{Shown};
 ghost use Rattle.tabled_printing.specs.Sinks.{Put};
 ghost use Rattle.tabled_printing.specs.Sinks as gains;
 
-use crate::print::printed_as;
+use crate::mark::printed_as;
 use crate::{Mark, Run, push_after, push_times};
 use std::alloc::AllocError;
 use tabled_border::OutOfMemory;

@@ -11,7 +11,6 @@ returns c holds =
     let space : c.get_justification.result ≡ 32 = grind (arith, tests, nat_tests, holds) in
     record {
       stands = refl;
-      top = sym c.get_alignment_vertical.ensures ∙ c.in-Top.is;
       whole_lines = sym c.get_trim_horizontal.ensures ∙ c.if-get_trim_horizontal.false;
       all_lines = sym c.get_trim_vertical.ensures ∙ c.if-get_trim_vertical.false;
       spaces = sym c.get_justification.ensures ∙ space;

@@ -22,18 +22,18 @@ returns g c =
     let row = c.args.position.row in
     let col = c.args.position.col in
     let text = c.args.text.now in
-    let alignment = c.in-Some-at.alignment in
-    let color : Option Texts = option_copied c.in-Some.color in
+    let alignment = c.in-Some.alignment in
+    let color : Option Texts = option_copied c.in-Some-cell_color.color in
     let coloring = coloring_at settings lines.colors.now row col in
     let width = slice_index lines.frame.dims.now.widths.items col in
     let height = slice_index lines.frame.dims.now.heights.items row in
-    let bare : IsBareCell alignment (placement_at settings row col) = lines.are_bare row col alignment (sym c.at.ensures ∙ c.in-Some-at.is) in
+    let bare : IsBareCell alignment (placement_at settings row col) = subst (λ found. IfSome found (λ side. IsBareCell side (placement_at settings row col))) c.in-Some.is c.bare_at.ensures in
     let colored : lines.frame.with_colors ≡ true → IsInColor color coloring =
-    subst (λ (found : Option (Option (Bor Texts))). IfSome found (λ shade. lines.frame.with_colors ≡ true → IsInColor (option_copied shade) coloring)) c.in-Some.is c.requires.bare in
+    subst (λ (found : Option (Option (Bor Texts))). IfSome found (λ shade. lines.frame.with_colors ≡ true → IsInColor (option_copied shade) coloring)) c.in-Some-cell_color.is c.cell_color.ensures in
     let side : Painted = side_painted (option_map mark_of c.args.side) in
     on_done c.push_bare.result c.push_bare.ensures (λ painted.
     paints_as g.O.Output.gains (paint color (bare_text alignment width text)) (row_cell lines row col text 0) side c.args.painter.now c.push_bare.new.self
-    (bare_shown alignment (placement_at settings row col) bare width height text (sym c.is_printable.ensures ∙ c.if-is_printable.true) c.args.painter.now.with_colors color coloring
+    (bare_shown alignment (placement_at settings row col) bare width height c.requires.low text (sym c.is_printable.ensures ∙ c.if-is_printable.true) c.args.painter.now.with_colors color coloring
     (λ wanted. colored (sym c.requires.colors ∙ wanted)))
     (subst (λ n. Paints g.O.Output.gains (paint color (bare_text alignment n text) ++ side) c.args.painter.now c.push_bare.new.self) c.get_width-width.ensures painted))
 

@@ -20,8 +20,8 @@ paint_cell-requires-clause-colors g c = c.loop-col.invariant.same_colors ∙ c.r
 pub paint_cell-requires-clause-bare : goal.paint_cell-requires-clause-bare
 paint_cell-requires-clause-bare g c =
     let lines = c.args.self.now in
-    color_of_cell lines.frame.with_colors lines.frame.cfg.now.settings.cells lines.colors.now c.args.row c.new-position.result.row c.new-position.result.col c.row_color-bare.result
-    c.new-position.ensures.row c.row_color-bare.ensures
+    color_of_cell lines.frame.with_colors lines.frame.cfg.now.settings.cells lines.colors.now c.args.row c.new-position.result.row c.new-position.result.col c.row_color-of_row.result
+    c.new-position.ensures.row c.row_color-of_row.ensures
 
 pub loop-col-preserved : goal.loop-col-preserved
 loop-col-preserved g c =
