@@ -9,31 +9,46 @@ use tabled::{TableError, TextTable};
 use tabled_config::{PrintError, TableOption};
 use tabled_grid::{Cell, OutOfMemory, Position};
 use tabled_options::{Justification, Shadow};
-use tabled_painting::{sizes_of_spanned, spanned_text, table_text};
+use tabled_painting::{TablePage, sizes_of_spanned};
 use tabled_style::Style;
 
-/// What becomes of the text of a configuration, in color or without.
-fn paint(turn: &mut Turn, with_colors: bool) -> Result<Outcome, OutOfMemory> {
-    let mut sample = Sample::new(turn.alloc())?;
+/// What stands before the page of a configuration with a shadow, or with a cell that spans.
+fn begun(alloc: Global, spans: bool) -> Result<Sample, OutOfMemory> {
+    let mut sample = Sample::new(alloc)?;
     let Sample { records, dims, cfg } = &mut sample;
     Shadow::new(1).change(records, cfg, dims)?;
-    let cells = cells_of(turn.alloc(), &[&["a", "b"], &["c", "d"]])?;
-    turn.spend();
-    let (cfg, sizes, shape) = (&sample.cfg, &sample.dims, (2, 2));
-    let text = table_text(cfg, sizes, shape, &cells, false, with_colors);
-    Ok(Outcome::of_value(text.map(|text| text.len() > 40)))
+    if spans {
+        let place = Position::new(0, 0);
+        cfg.config_mut().set_column_span(place, 2)?;
+    }
+    Ok(sample)
 }
 
-/// What becomes of the text of a configuration with a cell that spans, in color or without.
-fn paint_spanned(turn: &mut Turn, with_colors: bool) -> Result<Outcome, OutOfMemory> {
-    let mut sample = Sample::new(turn.alloc())?;
-    let place = Position::new(0, 0);
-    sample.cfg.config_mut().set_column_span(place, 2)?;
-    let cells = cells_of(turn.alloc(), &[&["a", "b"], &["c", "d"]])?;
+/// The page of a configuration, in color or without, with spans or without.
+fn page_of(sample: &Sample, with_colors: bool, spans: bool) -> Result<TablePage<'_, '_>, OutOfMemory> {
+    if spans {
+        return TablePage::with_spans(&sample.cfg, &sample.dims, (2, 2), with_colors);
+    }
+    TablePage::new(&sample.cfg, &sample.dims, (2, 2), with_colors)
+}
+
+/// What becomes of a page, in color or without, with spans or without.
+fn make(turn: &mut Turn, with_colors: bool, spans: bool) -> Result<Outcome, OutOfMemory> {
+    let sample = begun(turn.alloc(), spans)?;
     turn.spend();
-    let (cfg, sizes, shape) = (&sample.cfg, &sample.dims, (2, 2));
-    let text = spanned_text(cfg, sizes, shape, &cells, with_colors);
-    Ok(Outcome::of_value(text.map(|text| text.len() > 10)))
+    let made = page_of(&sample, with_colors, spans);
+    Ok(Outcome::of_value(made.map(|page| page.least_bytes() > 10)))
+}
+
+/// What becomes of the text of a page, in color or without, with spans or without.
+fn print(turn: &mut Turn, with_colors: bool, spans: bool) -> Result<Outcome, OutOfMemory> {
+    let sample = begun(turn.alloc(), spans)?;
+    let cells = cells_of(turn.alloc(), &[&["a", "b"], &["c", "d"]])?;
+    let page = page_of(&sample, with_colors, spans)?;
+    let room = String::new(turn.alloc());
+    turn.spend();
+    let text = page.print(room, &cells);
+    Ok(Outcome::of_value(text.map(|text| text.len() > 40)))
 }
 
 /// What becomes of the sizes of a table with a cell that spans.
@@ -47,12 +62,16 @@ fn measure_spanned(turn: &mut Turn) -> Result<Outcome, OutOfMemory> {
 }
 
 /// The text of a configuration.
-pub(crate) fn texts() -> [Named; 5] {
+pub(crate) fn texts() -> [Named; 9] {
     [
-        ("table_text", |turn| paint(turn, false)),
-        ("table_text (in color)", |turn| paint(turn, true)),
-        ("spanned_text", |turn| paint_spanned(turn, false)),
-        ("spanned_text (in color)", |turn| paint_spanned(turn, true)),
+        ("TablePage<'a, 'b>::new", |turn| make(turn, false, false)),
+        ("TablePage<'a, 'b>::new (in color)", |turn| make(turn, true, false)),
+        ("TablePage<'a, 'b>::with_spans", |turn| make(turn, false, true)),
+        ("TablePage<'a, 'b>::with_spans (in color)", |turn| make(turn, true, true)),
+        ("TablePage<'a, 'b>::print", |turn| print(turn, false, false)),
+        ("TablePage<'a, 'b>::print (in color)", |turn| print(turn, true, false)),
+        ("TablePage<'a, 'b>::print (spans)", |turn| print(turn, false, true)),
+        ("TablePage<'a, 'b>::print (spans, in color)", |turn| print(turn, true, true)),
         ("sizes_of_spanned", measure_spanned),
     ]
 }
