@@ -64,7 +64,7 @@ fn put_into_runs(turn: &mut Turn) -> Result<Outcome, OutOfMemory> {
 pub(crate) fn calls() -> [Named; 8] {
     [
         ("push_after", |turn| write(turn, |text| Ok(push_after(text, '+', 12, '-')?), "+------------")),
-        ("<String as Sink<'a>>::put_after", |turn| write(turn, |text| text.put_after(CROSSING, RUN), "+--")),
+        ("<String as Sink<'a>>::put_after", |turn| write(turn, |text| Ok(text.put_after(CROSSING, RUN)?), "+--")),
         ("<Vec<Mark<'a>> as Sink<'a>>::put_after", put_into_marks),
         ("<Vec<Run<'a>> as Sink<'a>>::put_after", put_into_runs),
         ("<String as Output>::push_str", |turn| write(turn, |text| Ok(Output::push_str(text, "a long text")?), "a long text")),

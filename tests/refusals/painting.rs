@@ -8,7 +8,7 @@ use std::alloc::Global;
 use tabled::{TableError, TextTable};
 use tabled_config::{PrintError, TableOption};
 use tabled_grid::{Cell, OutOfMemory, Position};
-use tabled_options::{Justification, Shadow};
+use tabled_options::{Justification, Padding, Shadow};
 use tabled_painting::{TablePage, sizes_of_spanned};
 use tabled_style::Style;
 
@@ -170,9 +170,44 @@ fn print_ansi_between(turn: &mut Turn) -> Result<Outcome, OutOfMemory> {
     }
 }
 
-/// Tables of texts in color, and with a margin.
-pub(crate) fn tables() -> [Named; 7] {
+/// A table of texts below a title, with a padding.
+fn titled(alloc: Global) -> Result<TextTable, TableError> {
+    let mut table = TextTable::new(alloc, &[&["a", "bb"], &["c\nd", "e"]])?;
+    table.with(Style::ascii())?;
+    table.insert_title("t")?;
+    table.modify(Cell::new(2, 0), Padding::new(2, 1, 1, 0))?;
+    Ok(table)
+}
+
+/// Its text.
+const TITLED: &str =
+    "+---------+\n| t       |\n+----+----+\n| a  | bb |\n+----+----+\n|    | e  |\n|  c |    |\n|  d |    |\n+----+----+";
+
+/// What becomes of its text that is printed to a stream, between two others or alone.
+fn print_titled(turn: &mut Turn, is_between: bool) -> Result<Outcome, OutOfMemory> {
+    let Ok(table) = titled(turn.alloc()) else {
+        return Err(OutOfMemory);
+    };
+    let mut stream = Counts { bytes: 0 };
+    turn.spend();
+    let (returned, length) = if is_between {
+        (table.print_ansi_between("above\n", "\n", &mut stream), TITLED.len() + 7)
+    } else {
+        (table.print_to(&mut stream), TITLED.len())
+    };
+    match returned {
+        Err(TableError::OutOfMemory) if stream.bytes == 0 => Ok(Outcome::AsBefore),
+        Ok(()) if stream.bytes == length => Ok(Outcome::Done),
+        Ok(()) => Ok(Outcome::NotDone),
+        Err(_) => Ok(Outcome::Changed),
+    }
+}
+
+/// Tables of texts in color, with a margin, and with cells that span.
+pub(crate) fn tables() -> [Named; 9] {
     [
+        ("Table<T>::print_to (spans)", |turn| print_titled(turn, false)),
+        ("Table<T>::print_ansi_between (spans)", |turn| print_titled(turn, true)),
         ("Table<T>::to_ansi", |turn| returned(turn, true)),
         ("Table<T>::append_ansi_to", |turn| appended(turn, true)),
         ("Table<T>::write_ansi_to", write_ansi_to),
