@@ -292,6 +292,7 @@ fn a_table_is_printed_to_a_stream_or_the_stream_has_failed(rt: HostRuntime) -> R
     let mut whole = Writes::new(128, None);
     assert!(rt; table.print_to(&mut whole) == Ok(()));
     assert!(rt; whole.taken() == Some(text.as_slice()));
+    assert_eq!(rt; whole.writes, 1);
     let mut bytewise = Writes::new(1, None);
     assert!(rt; table.print_ansi_to(&mut bytewise) == Ok(()));
     assert!(rt; bytewise.taken() == Some(text.as_slice()));

@@ -13,14 +13,14 @@ use tabled::{LentTable, TableError};
 /// How many rows a long table has: so many that its text is longer than what waits to be written.
 const ROWS: usize = 9_000;
 
-/// A table of two rows, which is printed as a whole.
+/// A table of two rows, which is printed in one piece.
 fn short(alloc: Global) -> Result<LentTable<'static>, TableError> {
     let first = vec![in alloc; "tea", "95"]?;
     let second = vec![in alloc; "coffee", "7"]?;
     LentTable::from_rows(alloc, vec![in alloc; first, second]?)
 }
 
-/// A table of many rows, which is printed piece by piece where nothing but a style is set.
+/// A table of many rows, which is printed in several pieces.
 fn long(alloc: Global) -> Result<LentTable<'static>, TableError> {
     let mut rows = Vec::new(alloc);
     for _ in 0..ROWS {

@@ -141,14 +141,33 @@ fn a_large_table_with_a_span_is_printed_between_two_texts(rt: HostRuntime) -> Re
     Ok(())
 }
 
-#[test]
-fn a_small_table_alone_is_one_write(rt: HostRuntime) -> Result<(), Fail> {
-    let table = table_of(rt.alloc(), 3)?;
-    let (mut first, mut second) = (Stream::new(rt.alloc(), usize::MAX, usize::MAX), Stream::new(rt.alloc(), usize::MAX, usize::MAX));
+/// In how many writes a table is printed, plain and in color, alone and between two texts.
+fn writes(alloc: Global, table: &TextTable) -> Result<[usize; 4], TableError> {
+    let (mut first, mut second) = (Stream::new(alloc, usize::MAX, usize::MAX), Stream::new(alloc, usize::MAX, usize::MAX));
+    let (mut third, mut fourth) = (Stream::new(alloc, usize::MAX, usize::MAX), Stream::new(alloc, usize::MAX, usize::MAX));
     table.print_to(&mut first)?;
     table.print_ansi_to(&mut second)?;
-    assert_eq!(rt; first.writes, 1);
-    assert_eq!(rt; second.writes, 1);
+    table.print_between(ABOVE, BELOW, &mut third)?;
+    table.print_ansi_between(ABOVE, BELOW, &mut fourth)?;
+    Ok([first.writes, second.writes, third.writes, fourth.writes])
+}
+
+#[test]
+fn a_small_table_is_one_write_alone_and_with_both_texts(rt: HostRuntime) -> Result<(), Fail> {
+    let mut table = table_of(rt.alloc(), 3)?;
+    assert_eq!(rt; writes(rt.alloc(), &table)?, [1, 1, 1, 1]);
+    table.modify(Cell::new(1, 0), Span::column(2))?;
+    assert_eq!(rt; writes(rt.alloc(), &table)?, [1, 1, 1, 1]);
+    assert!(rt; is_printed(rt.alloc(), &table, usize::MAX)?);
+    Ok(())
+}
+
+#[test]
+fn a_large_table_is_several_writes_also_with_a_span(rt: HostRuntime) -> Result<(), Fail> {
+    let mut table = table_of(rt.alloc(), 5_000)?;
+    assert!(rt; writes(rt.alloc(), &table)?.iter().all(|count| *count > 3));
+    table.modify(Cell::new(7, 0), Span::column(2))?;
+    assert!(rt; writes(rt.alloc(), &table)?.iter().all(|count| *count > 3));
     Ok(())
 }
 

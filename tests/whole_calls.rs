@@ -6,10 +6,10 @@ use std::test::Fail;
 use tabled_border::{ANSIBuf, Border};
 use tabled_config::{ColoredConfig, Mark, Run, SpannedConfig};
 use tabled_grid::{
-    Borders, Entity, FixedDimension, HorizontalLine, Layers, OutOfMemory, Position, Probes,
-    VerticalLine, border_writes,
+    Borders, Entity, FixedDimension, HorizontalLine, Indent, Layers, OutOfMemory, Position, Probes,
+    Sides, VerticalLine, border_writes,
 };
-use tabled_painting::{AlikeLines, Output, sizes_of_spanned, spanned_text, table_text};
+use tabled_painting::{Output, TablePage, sizes_of_spanned};
 use tabled_printing::{Frame, Sink, push_after};
 use tabled_rooms::CellSizes;
 use tabled_settings::EntityMap;
@@ -329,10 +329,31 @@ fn texts_are_painted_as_a_configuration_says(rt: HostRuntime) -> Result<(), Fail
     cfg.set_color(Entity::Cell(0, 0), ANSIBuf::new(alloc, "<", ">")?)?;
     let dims = FixedDimension::new(vec![in alloc; 4usize; 1]?, vec![in alloc; 1usize; 1]?);
     let rows = one_text(alloc, "a")?;
-    let plain = table_text(&cfg, &dims, (1, 1), &rows, false, false)?;
+    let page = TablePage::new(&cfg, &dims, (1, 1), false)?;
+    let plain = page.print(String::new(alloc), &rows)?;
     assert_eq!(rt; plain.as_str(), "+----+\n| a  |\n+----+");
-    let colored = table_text(&cfg, &dims, (1, 1), &rows, true, true)?;
+    let page = TablePage::new(&cfg, &dims, (1, 1), true)?;
+    let colored = page.print(String::new(alloc), &rows)?;
     assert_eq!(rt; colored.as_str(), "+----+\n| <a>  |\n+----+");
+    Ok(())
+}
+
+#[test]
+fn a_margin_stands_around_a_page(rt: HostRuntime) -> Result<(), Fail> {
+    let alloc = rt.alloc();
+    let mut config = SpannedConfig::new(alloc);
+    config.set_borders(ascii_borders());
+    config.set_margin(Sides::new(Indent::new(2, '<'), Indent::new(1, '>'), Indent::new(1, '^'), Indent::new(2, 'v')));
+    let cfg = ColoredConfig::new(config);
+    let dims = FixedDimension::new(vec![in alloc; 4usize; 1]?, vec![in alloc; 2usize; 1]?);
+    let rows = one_text(alloc, "a\nbc")?;
+    let text = "^^^^^^^^^\n<<+----+>\n<<| a  |>\n<<| bc |>\n<<+----+>\nvvvvvvvvv\nvvvvvvvvv";
+    let page = TablePage::new(&cfg, &dims, (1, 1), false)?;
+    assert!(rt; page.least_bytes() <= text.len());
+    assert_eq!(rt; page.print(String::new(alloc), &rows)?.as_str(), text);
+    let page = TablePage::with_spans(&cfg, &dims, (1, 1), false)?;
+    assert!(rt; page.least_bytes() <= text.len());
+    assert_eq!(rt; page.print(String::new(alloc), &rows)?.as_str(), text);
     Ok(())
 }
 
@@ -340,8 +361,9 @@ fn texts_are_painted_as_a_configuration_says(rt: HostRuntime) -> Result<(), Fail
 fn a_text_takes_what_has_no_color(rt: HostRuntime) -> Result<(), Fail> {
     let mut text = String::new(rt.alloc());
     Output::push_str(&mut text, "ab")?;
-    Output::push_spaces(&mut text, 3)?;
-    Output::push_spaces(&mut text, 70)?;
+    Output::push_times(&mut text, 3, ' ')?;
+    Output::push_times(&mut text, 70, ' ')?;
+    Output::push_times(&mut text, 0, 'x')?;
     Output::push(&mut text, '│')?;
     Output::push_times(&mut text, 3, '═')?;
     Output::push_after(&mut text, '┼', 2, '─')?;
@@ -350,17 +372,15 @@ fn a_text_takes_what_has_no_color(rt: HostRuntime) -> Result<(), Fail> {
 }
 
 #[test]
-fn a_table_is_written_line_by_line(rt: HostRuntime) -> Result<(), Fail> {
+fn a_table_is_written_behind_what_a_text_has(rt: HostRuntime) -> Result<(), Fail> {
     let alloc = rt.alloc();
     let mut config = SpannedConfig::new(alloc);
     config.set_borders(ascii_borders());
     let cfg = ColoredConfig::new(config);
     let dims = FixedDimension::new(vec![in alloc; 4usize; 1]?, vec![in alloc; 1usize; 1]?);
     let rows = one_text(alloc, "a")?;
-    let mut text = String::from_str(alloc, "= ")?;
-    if let Some(lines) = AlikeLines::new(&cfg, &dims, (1, 1), false)? {
-        lines.write(&mut text, &rows)?;
-    }
+    let page = TablePage::new(&cfg, &dims, (1, 1), false)?;
+    let text = page.print(String::from_str(alloc, "= ")?, &rows)?;
     assert_eq!(rt; text.as_str(), "= +----+\n| a  |\n+----+");
     Ok(())
 }
@@ -396,9 +416,11 @@ fn texts_of_cells_that_span_are_painted(rt: HostRuntime) -> Result<(), Fail> {
     let sizes = FixedDimension::new(vec![in alloc; 3usize; 1]?, vec![in alloc; 1usize; 2]?);
     let mut rows = one_text(alloc, "a")?;
     rows.append(&mut one_text(alloc, "b")?)?;
-    let plain = spanned_text(&cfg, &sizes, (2, 1), &rows, false)?;
+    let page = TablePage::with_spans(&cfg, &sizes, (2, 1), false)?;
+    let plain = page.print(String::new(alloc), &rows)?;
     assert_eq!(rt; plain.as_str(), "+---+\n| a |\n+   +\n|   |\n+---+");
-    let colored = spanned_text(&cfg, &sizes, (2, 1), &rows, true)?;
+    let page = TablePage::with_spans(&cfg, &sizes, (2, 1), true)?;
+    let colored = page.print(String::new(alloc), &rows)?;
     assert_eq!(rt; colored.as_str(), "+---+\n| <a> |\n+   +\n|   |\n+---+");
     Ok(())
 }

@@ -4,7 +4,7 @@ use crate::turn::{Named, Outcome, Turn};
 use std::alloc::Global;
 use tabled_config::{ColoredConfig, Mark, Run, SpannedConfig};
 use tabled_grid::{FixedDimension, OutOfMemory};
-use tabled_painting::{AlikeLines, Output};
+use tabled_painting::Output;
 use tabled_printing::{Sink, push_after};
 use tabled_style::Style;
 
@@ -61,22 +61,13 @@ fn put_into_runs(turn: &mut Turn) -> Result<Outcome, OutOfMemory> {
 }
 
 /// The calls.
-pub(crate) fn calls() -> [Named; 10] {
+pub(crate) fn calls() -> [Named; 8] {
     [
         ("push_after", |turn| write(turn, |text| Ok(push_after(text, '+', 12, '-')?), "+------------")),
-        ("<String as Sink<'a>>::put_after", |turn| write(turn, |text| text.put_after(CROSSING, RUN), "+--")),
+        ("<String as Sink<'a>>::put_after", |turn| write(turn, |text| Ok(text.put_after(CROSSING, RUN)?), "+--")),
         ("<Vec<Mark<'a>> as Sink<'a>>::put_after", put_into_marks),
         ("<Vec<Run<'a>> as Sink<'a>>::put_after", put_into_runs),
-        ("AlikeLines<'a, 'b>::new", |turn| {
-            let alloc = turn.alloc();
-            let cfg = ColoredConfig::new(framed(alloc)?.0);
-            let dims = FixedDimension::new(vec![in alloc; 4usize; 1]?, vec![in alloc; 1usize; 1]?);
-            turn.spend();
-            let made = AlikeLines::new(&cfg, &dims, (1, 1), false);
-            Ok(Outcome::of_value(made.map(|lines| lines.is_some())))
-        }),
         ("<String as Output>::push_str", |turn| write(turn, |text| Ok(Output::push_str(text, "a long text")?), "a long text")),
-        ("<String as Output>::push_spaces", |turn| write(turn, |text| Ok(Output::push_spaces(text, 9)?), "         ")),
         ("<String as Output>::push", |turn| write(turn, |text| Ok(Output::push(text, '│')?), "│")),
         ("<String as Output>::push_times", |turn| write(turn, |text| Ok(Output::push_times(text, 9, '─')?), "─────────")),
         ("<String as Output>::push_after", |turn| write(turn, |text| Ok(Output::push_after(text, '+', 8, '-')?), "+--------")),

@@ -8,32 +8,47 @@ use std::alloc::Global;
 use tabled::{TableError, TextTable};
 use tabled_config::{PrintError, TableOption};
 use tabled_grid::{Cell, OutOfMemory, Position};
-use tabled_options::{Justification, Shadow};
-use tabled_painting::{sizes_of_spanned, spanned_text, table_text};
+use tabled_options::{Justification, Padding, Shadow};
+use tabled_painting::{TablePage, sizes_of_spanned};
 use tabled_style::Style;
 
-/// What becomes of the text of a configuration, in color or without.
-fn paint(turn: &mut Turn, with_colors: bool) -> Result<Outcome, OutOfMemory> {
-    let mut sample = Sample::new(turn.alloc())?;
+/// What stands before the page of a configuration with a shadow, or with a cell that spans.
+fn begun(alloc: Global, spans: bool) -> Result<Sample, OutOfMemory> {
+    let mut sample = Sample::new(alloc)?;
     let Sample { records, dims, cfg } = &mut sample;
     Shadow::new(1).change(records, cfg, dims)?;
-    let cells = cells_of(turn.alloc(), &[&["a", "b"], &["c", "d"]])?;
-    turn.spend();
-    let (cfg, sizes, shape) = (&sample.cfg, &sample.dims, (2, 2));
-    let text = table_text(cfg, sizes, shape, &cells, false, with_colors);
-    Ok(Outcome::of_value(text.map(|text| text.len() > 40)))
+    if spans {
+        let place = Position::new(0, 0);
+        cfg.config_mut().set_column_span(place, 2)?;
+    }
+    Ok(sample)
 }
 
-/// What becomes of the text of a configuration with a cell that spans, in color or without.
-fn paint_spanned(turn: &mut Turn, with_colors: bool) -> Result<Outcome, OutOfMemory> {
-    let mut sample = Sample::new(turn.alloc())?;
-    let place = Position::new(0, 0);
-    sample.cfg.config_mut().set_column_span(place, 2)?;
-    let cells = cells_of(turn.alloc(), &[&["a", "b"], &["c", "d"]])?;
+/// The page of a configuration, in color or without, with spans or without.
+fn page_of(sample: &Sample, with_colors: bool, spans: bool) -> Result<TablePage<'_, '_>, OutOfMemory> {
+    if spans {
+        return TablePage::with_spans(&sample.cfg, &sample.dims, (2, 2), with_colors);
+    }
+    TablePage::new(&sample.cfg, &sample.dims, (2, 2), with_colors)
+}
+
+/// What becomes of a page, in color or without, with spans or without.
+fn make(turn: &mut Turn, with_colors: bool, spans: bool) -> Result<Outcome, OutOfMemory> {
+    let sample = begun(turn.alloc(), spans)?;
     turn.spend();
-    let (cfg, sizes, shape) = (&sample.cfg, &sample.dims, (2, 2));
-    let text = spanned_text(cfg, sizes, shape, &cells, with_colors);
-    Ok(Outcome::of_value(text.map(|text| text.len() > 10)))
+    let made = page_of(&sample, with_colors, spans);
+    Ok(Outcome::of_value(made.map(|page| page.least_bytes() > 10)))
+}
+
+/// What becomes of the text of a page, in color or without, with spans or without.
+fn print(turn: &mut Turn, with_colors: bool, spans: bool) -> Result<Outcome, OutOfMemory> {
+    let sample = begun(turn.alloc(), spans)?;
+    let cells = cells_of(turn.alloc(), &[&["a", "b"], &["c", "d"]])?;
+    let page = page_of(&sample, with_colors, spans)?;
+    let room = String::new(turn.alloc());
+    turn.spend();
+    let text = page.print(room, &cells);
+    Ok(Outcome::of_value(text.map(|text| text.len() > 40)))
 }
 
 /// What becomes of the sizes of a table with a cell that spans.
@@ -47,12 +62,16 @@ fn measure_spanned(turn: &mut Turn) -> Result<Outcome, OutOfMemory> {
 }
 
 /// The text of a configuration.
-pub(crate) fn texts() -> [Named; 5] {
+pub(crate) fn texts() -> [Named; 9] {
     [
-        ("table_text", |turn| paint(turn, false)),
-        ("table_text (in color)", |turn| paint(turn, true)),
-        ("spanned_text", |turn| paint_spanned(turn, false)),
-        ("spanned_text (in color)", |turn| paint_spanned(turn, true)),
+        ("TablePage<'a, 'b>::new", |turn| make(turn, false, false)),
+        ("TablePage<'a, 'b>::new (in color)", |turn| make(turn, true, false)),
+        ("TablePage<'a, 'b>::with_spans", |turn| make(turn, false, true)),
+        ("TablePage<'a, 'b>::with_spans (in color)", |turn| make(turn, true, true)),
+        ("TablePage<'a, 'b>::print", |turn| print(turn, false, false)),
+        ("TablePage<'a, 'b>::print (in color)", |turn| print(turn, true, false)),
+        ("TablePage<'a, 'b>::print (spans)", |turn| print(turn, false, true)),
+        ("TablePage<'a, 'b>::print (spans, in color)", |turn| print(turn, true, true)),
         ("sizes_of_spanned", measure_spanned),
     ]
 }
@@ -151,9 +170,44 @@ fn print_ansi_between(turn: &mut Turn) -> Result<Outcome, OutOfMemory> {
     }
 }
 
-/// Tables of texts in color, and with a margin.
-pub(crate) fn tables() -> [Named; 7] {
+/// A table of texts below a title, with a padding.
+fn titled(alloc: Global) -> Result<TextTable, TableError> {
+    let mut table = TextTable::new(alloc, &[&["a", "bb"], &["c\nd", "e"]])?;
+    table.with(Style::ascii())?;
+    table.insert_title("t")?;
+    table.modify(Cell::new(2, 0), Padding::new(2, 1, 1, 0))?;
+    Ok(table)
+}
+
+/// Its text.
+const TITLED: &str =
+    "+---------+\n| t       |\n+----+----+\n| a  | bb |\n+----+----+\n|    | e  |\n|  c |    |\n|  d |    |\n+----+----+";
+
+/// What becomes of its text that is printed to a stream, between two others or alone.
+fn print_titled(turn: &mut Turn, is_between: bool) -> Result<Outcome, OutOfMemory> {
+    let Ok(table) = titled(turn.alloc()) else {
+        return Err(OutOfMemory);
+    };
+    let mut stream = Counts { bytes: 0 };
+    turn.spend();
+    let (returned, length) = if is_between {
+        (table.print_ansi_between("above\n", "\n", &mut stream), TITLED.len() + 7)
+    } else {
+        (table.print_to(&mut stream), TITLED.len())
+    };
+    match returned {
+        Err(TableError::OutOfMemory) if stream.bytes == 0 => Ok(Outcome::AsBefore),
+        Ok(()) if stream.bytes == length => Ok(Outcome::Done),
+        Ok(()) => Ok(Outcome::NotDone),
+        Err(_) => Ok(Outcome::Changed),
+    }
+}
+
+/// Tables of texts in color, with a margin, and with cells that span.
+pub(crate) fn tables() -> [Named; 9] {
     [
+        ("Table<T>::print_to (spans)", |turn| print_titled(turn, false)),
+        ("Table<T>::print_ansi_between (spans)", |turn| print_titled(turn, true)),
         ("Table<T>::to_ansi", |turn| returned(turn, true)),
         ("Table<T>::append_ansi_to", |turn| appended(turn, true)),
         ("Table<T>::write_ansi_to", write_ansi_to),

@@ -2,7 +2,7 @@
 
 use crate::sample::{Sample, is_same};
 use crate::turn::{Named, Outcome, Turn};
-use std::alloc::Global;
+use std::alloc::{AllocError, Global};
 use std::fmt::Write;
 use tabled::{TableError, TextTable};
 use tabled_config::{ColoredConfig, Mark, PrintError, Run, line_marks, line_runs, print_plain};
@@ -70,7 +70,7 @@ fn put_a_line(turn: &mut Turn) -> Result<Outcome, OutOfMemory> {
 /// What becomes of a part of a line that is put into a text.
 fn put_a_part(
     turn: &mut Turn,
-    put: fn(&Frame<FixedDimension>, &mut String) -> Result<(), OutOfMemory>,
+    put: fn(&Frame<FixedDimension>, &mut String) -> Result<(), AllocError>,
 ) -> Result<Outcome, OutOfMemory> {
     let sample = Sample::new(turn.alloc())?;
     let frame = Frame::new(sample.cfg.config(), &sample.dims, (2, 2), true)?;
