@@ -92,13 +92,13 @@ line_quiet how colors width aligned line padded filling quiet =
     let fill : ℕ = fill_of how.justification line in
     let first : Painted = paint colors.padding.left (times padding.left.size padding.left.fill) in
     let last : Painted = paint colors.padding.right (times padding.right.size padding.right.fill) in
-    let fills : (count : ℕ) → QuietLine (paint colors.fill (times count fill)) = λ count. paint_quiet colors.fill (times count fill)
+    let filled : (count : ℕ) → QuietLine (paint colors.fill (times count fill)) = λ count. paint_quiet colors.fill (times count fill)
     (Quiet-times count fill (fill_quiet (fills how.justification line) how.justification filling)) in
     both_quiet (first ++ paint colors.fill (times before fill) ++ paint colors.text line ++ paint colors.fill (times after fill)) last
     (both_quiet (first ++ paint colors.fill (times before fill) ++ paint colors.text line) (paint colors.fill (times after fill))
     (both_quiet (first ++ paint colors.fill (times before fill)) (paint colors.text line)
-    (both_quiet first (paint colors.fill (times before fill)) (times_quiet colors.padding.left padding.left.size padding.left.fill padded.left) (fills before))
-    (paint_quiet colors.text line quiet)) (fills after)) (times_quiet colors.padding.right padding.right.size padding.right.fill padded.right)
+    (both_quiet first (paint colors.fill (times before fill)) (times_quiet colors.padding.left padding.left.size padding.left.fill padded.left) (filled before))
+    (paint_quiet colors.text line quiet)) (filled after)) (times_quiet colors.padding.right padding.right.size padding.right.fill padded.right)
 
 module _ (how : Placement) (colors : Coloring) (width height : ℕ) (lines : List (List ℕ)) (n : ℕ) where
   abbrev above : ℕ
