@@ -1,4 +1,4 @@
-pub mod Columns
+pub mod ByRows
 pub mod Entities
 pub mod Lasting
 pub mod Leaving

@@ -1,22 +1,30 @@
--- The kinds of entities are marked as events are put: so an entity of a kind that is not marked need not be looked for.
-use Rattle.std.proofs.Common.{◌≡◌, false, not, ◌||◌, Option, List, [], ◌∷◌, ◌++◌, take, length, get_or, ◌+◌, ◌<◌, ℕ, refl, sym, ap, ◌∙◌}
+-- Entities are marked as events are put: so one that is not marked need not be looked for.
+use Rattle.std.proofs.Common.{◌≡◌, ◌==◌, ◌&&◌, arith, false, not, ◌||◌, Option, List, [], ◌∷◌, ◌++◌, take, length, get_or, ◌+◌, ◌<◌, ℕ, refl, sym, ap, ◌∙◌}
+use Rattle.std.proofs.lemmas.Bool.Decides.{nat_tests}
 use Rattle.std.proofs.lemmas.List.{take_more}
 use Rattle.std.proofs.lemmas.List.Folds.{list_any-append}
 use Rattle.tabled_object.specs.declared.entity.Entity.{Entity}
 use Rattle.tabled_object.specs.declared.entity.Entity.TheVariants.{Global, Column, Row, Cell}
 use Rattle.tabled_settings.specs.declared.kinds.Kinds.{Kinds}
+use Rattle.tabled_settings.specs.declared.kinds.RowRange.{RowRange}
 use Rattle.tabled_settings.specs.Setting.{EntityEvent, same_entity}
 use Rattle.tabled_settings.specs.Live.{without, has_event, put_each}
-use Rattle.tabled_settings.specs.Kinds.{is_marked, with_kind, with_kinds, AreMarked}
+use Rattle.tabled_settings.specs.Kinds.{is_between, is_marked, with_kind, with_kinds, with_row, AreMarked}
 use Rattle.tabled_settings.specs.Slots.{standing}
 use Rattle.tabled_settings.proofs.Placing.{none_filtered}
 
--- what is not marked with the kind of an entity was not marked before, and is not that entity
+-- a row that is not in a range with another one was not in it before, and is not that row
+not_with_row : (rows : RowRange) (row which : ℕ) → is_between (with_row rows row) which ≡ false → (is_between rows which ≡ false) × ((which == row) ≡ false)
+not_with_row rows row which h = (grind (arith, nat_tests, h), grind (arith, nat_tests, h))
+
+-- what is not marked with an entity was not marked before, and is not that entity
 not_with_kind : (kinds : Kinds) (entity which : Entity) → is_marked (with_kind kinds entity) which ≡ false → (is_marked kinds which ≡ false) × (same_entity which entity ≡ false)
 not_with_kind kinds entity Global h = absurd cc
 not_with_kind kinds (Column col) (Column other) h = absurd cc
-not_with_kind kinds (Row row) (Row other) h = absurd cc
-not_with_kind kinds (Cell row col) (Cell other another) h = absurd cc
+not_with_kind kinds (Row row) (Row other) h = not_with_row kinds.rows row other h
+not_with_kind kinds (Cell row col) (Cell other another) h =
+    let each = not_with_row kinds.cells row other h in
+    (each.0, ap (λ same. same && (another == col)) each.1)
 not_with_kind kinds entity which h = (h, refl)
 
 module _ {T : Type 0} where

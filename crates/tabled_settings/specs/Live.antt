@@ -4,7 +4,7 @@ use Rattle.std.specs.List.{list_all, list_any}
 use Rattle.tabled_object.specs.declared.entity.Entity.{Entity}
 use Rattle.tabled_object.specs.declared.entity.Entity.TheVariants.{Global}
 use Rattle.tabled_object.specs.declared.position.Position.{Position}
-use Rattle.tabled_settings.specs.Setting.{EntityEvent, write_of, setting, same_entity, is_column, is_row, is_global}
+use Rattle.tabled_settings.specs.Setting.{EntityEvent, write_of, setting, same_entity, is_row, is_global}
 
 -- the default, the value of the last event of all cells, and of each other entity that had an event since then the last
 -- one, in the order of these events
@@ -51,15 +51,9 @@ after_if live (Some event) = after live event
 abbrev pub events_left : {T : Type 0} → Live T → List (EntityEvent T)
 events_left live = write_of Global live.global ∷ live.since
 
--- whether these are events of one kind of entity alone: of columns, of rows
-abbrev pub are_of : {T : Type 0} → (Entity → Bool) → List (EntityEvent T) → Bool
-are_of kind events = list_all (λ event. kind event.0) events
-
-abbrev pub are_of_columns : {T : Type 0} → List (EntityEvent T) → Bool
-are_of_columns events = are_of is_column events
-
+-- whether these are events of rows alone
 abbrev pub are_of_rows : {T : Type 0} → List (EntityEvent T) → Bool
-are_of_rows events = are_of is_row events
+are_of_rows events = list_all (λ event. is_row event.0) events
 
 -- the value of a cell
 abbrev pub value_at : {T : Type 0} → Live T → Position → T

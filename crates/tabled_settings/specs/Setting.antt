@@ -39,11 +39,7 @@ same_entity _ _ = false
 abbrev pub is_global : Entity → Bool
 is_global entity = same_entity entity Global
 
--- whether an entity is one column, or one row
-abbrev pub is_column : Entity → Bool
-is_column (Column col) = true
-is_column _ = false
-
+-- whether an entity is one row
 abbrev pub is_row : Entity → Bool
 is_row (Row row) = true
 is_row _ = false

@@ -1,16 +1,52 @@
-//! Which kinds of entities may have an event.
+//! Which entities may have an event.
 
 ghost use Rattle.std.specs.Prelude.{◌≡◌};
 
 use tabled_object::Entity;
 
-/// The kinds of entities that may have an event: one that is not marked has none, and is not looked for. A mark stays until all
-/// events are taken away.
+/// The rows from a first to a last one; none where the first comes after the last.
+#[derive(Clone, Copy, Debug)]
+struct RowRange {
+    first: usize,
+    last: usize,
+}
+
+impl RowRange {
+    ghost use Rattle.tabled_settings.specs.Kinds.{is_between, no_rows, with_row};
+
+    /// No rows.
+    const fn none() -> Self
+        ensures { result ≡ no_rows }
+    {
+        RowRange {
+            first: usize::MAX,
+            last: 0,
+        }
+    }
+
+    /// Whether a row is one of them.
+    fn has(self, row: usize) -> bool
+        ensures { result ≡ is_between self row }
+    {
+        self.first <= row && row <= self.last
+    }
+
+    /// Takes a row and those between in.
+    fn stretch(&mut self, row: usize)
+        ensures { self.new ≡ with_row self.old row }
+    {
+        self.first = self.first.min(row);
+        self.last = self.last.max(row);
+    }
+}
+
+/// The kinds of entities that may have an event, and in which rows: one that is not marked has none, and is not looked for. A mark stays
+/// until all events are taken away.
 #[derive(Clone, Copy, Debug)]
 pub(crate) struct Kinds {
-    rows: bool,
+    rows: RowRange,
     columns: bool,
-    cells: bool,
+    cells: RowRange,
 }
 
 impl Kinds {
@@ -21,37 +57,37 @@ impl Kinds {
         ensures { result ≡ no_kinds }
     {
         Kinds {
-            rows: false,
+            rows: RowRange::none(),
             columns: false,
-            cells: false,
+            cells: RowRange::none(),
         }
     }
 
-    /// Whether an entity is of a kind that is marked. That of all cells always is.
+    /// Whether an entity is one that is marked. That of all cells always is.
     pub(crate) fn has(self, entity: Entity) -> bool
         ensures { result ≡ is_marked self entity }
     {
         match entity {
             Entity::Global => true,
             Entity::Column(_) => self.columns,
-            Entity::Row(_) => self.rows,
-            Entity::Cell(_, _) => self.cells,
+            Entity::Row(row) => self.rows.has(row),
+            Entity::Cell(row, _) => self.cells.has(row),
         }
     }
 
-    /// Marks the kind of an entity.
+    /// Marks an entity.
     pub(crate) fn mark(&mut self, entity: Entity)
         ensures { self.new ≡ with_kind self.old entity }
     {
         match entity {
             Entity::Global => {}
             Entity::Column(_) => self.columns = true,
-            Entity::Row(_) => self.rows = true,
-            Entity::Cell(_, _) => self.cells = true,
+            Entity::Row(row) => self.rows.stretch(row),
+            Entity::Cell(row, _) => self.cells.stretch(row),
         }
     }
 
-    /// Marks the kinds of the entities of a list of events.
+    /// Marks the entities of a list of events.
     pub(crate) fn mark_each<T>(&mut self, events: &[(Entity, Option<T>)])
         ensures { self.new ≡ with_kinds self.old events.now }
     {

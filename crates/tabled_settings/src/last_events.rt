@@ -4,7 +4,7 @@ ghost use Rattle.std.specs.Prelude.{◌≡◌, ◌↔◌, ◌++◌, ◌∷◌, [
 ghost use Rattle.std.specs.List.{last_or};
 ghost use Rattle.std.specs.Cmp.Lexicographic.{pointwise};
 ghost use Rattle.tabled_settings.specs.Setting.{covering};
-ghost use Rattle.tabled_settings.specs.Live.{are_of_columns, are_of_rows, without, has_event};
+ghost use Rattle.tabled_settings.specs.Live.{are_of_rows, without, has_event};
 ghost use Rattle.tabled_settings.specs.Same.{same_event};
 
 mod both;
@@ -28,7 +28,7 @@ pub(crate) struct LastEvents<T> {
     /// In which slot the event of each entity stands; nothing while each stands at the likely place of its entity, as those of rows do that
     /// are put in order, and those of columns.
     places: BTreeMap<Entity, usize>,
-    /// Of which kinds of entities there may be events.
+    /// Of which entities there may be events.
     kinds: Kinds,
 }
 
@@ -99,13 +99,6 @@ impl<T> LastEvents<T> {
         let of_cell = slots::place_of(slots, places, kinds, Entity::Cell(row, col));
         let place = slots::later(of_cell, slots::later(of_row, of_column));
         slots::value_at(slots, place)
-    }
-
-    /// Whether each of them is an event of a column.
-    pub(crate) fn has_columns_alone(&self) -> bool
-        ensures { result ≡ are_of_columns self.now }
-    {
-        slots::are_of_columns(&self.slots)
     }
 
     /// Whether each of them is an event of a row.
