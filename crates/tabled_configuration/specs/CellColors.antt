@@ -1,6 +1,7 @@
 -- The colors of cells, by entity.
 use Rattle.std.specs.Prelude.{◌≡◌, ⊤, Bool, true, Option, Some, None, List, [], ◌∷◌}
 use Rattle.tabled_border.specs.Texts.{Texts}
+use Rattle.tabled_settings.specs.declared.cell_settings.CellSettings.{CellSettings}
 use Rattle.tabled_settings.specs.Setting.{EntityEvent, write_of}
 use Rattle.tabled_settings.specs.Live.{Live, at_first, after, are_of_rows}
 
@@ -33,3 +34,8 @@ IsBare (Some live) = (live.since ≡ []) × (live.global ≡ no_color)
 abbrev pub are_by_rows : Option (Live Texts) → Bool
 are_by_rows None = true
 are_by_rows (Some live) = are_of_rows live.since
+
+-- of the colors beside texts none is set but for all cells and for rows
+pub record AreColoredByRows (settings : CellSettings) : Type 0 where
+  pub justification_color : are_of_rows settings.justification_color.since ≡ true
+  pub padding_color : are_of_rows settings.padding_color.since ≡ true

@@ -7,4 +7,3 @@ pub mod Options
 pub mod Compact
 pub mod EntitiesColored
 pub mod EntitiesAligned
-pub mod AlikeCells

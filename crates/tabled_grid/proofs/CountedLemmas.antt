@@ -1,6 +1,7 @@
 -- The numbers of lines stay right.
-use Rattle.std.proofs.Common.{◌≡◌, ℕ, Bool, true, ◌&&◌, Option, Some, None, is_some, IsSome, unwrap_or, refl, sym, ap, subst, ◌∙◌, Result, Ok, Err, OnOk, OnErr, ◌+◌, ◌-◌, ◌<◌, ◌^◌, min, arith, nat_cmp}
+use Rattle.std.proofs.Common.{◌≡◌, ◌↔◌, IsFalse, nat_lt, ℕ, Bool, true, false, ◌&&◌, Option, Some, None, is_some, IsSome, unwrap_or, refl, sym, ap, subst, ◌∙◌, Result, Ok, Err, OnOk, OnErr, ◌+◌, ◌-◌, ◌<◌, ◌^◌, min, arith, nat_cmp}
 use Rattle.std.specs.Cmp.{nat_cmp_total}
+use Rattle.std.proofs.lemmas.Bool.Decides.{nat_tests}
 use Rattle.std.specs.FinMap as map
 use Rattle.tabled_grid.specs.declared.place.LineOf.{LineOf}
 use Rattle.tabled_grid.specs.declared.line_numbers.LineNumbers.{LineNumbers}
@@ -64,6 +65,29 @@ module _ {T : Type 0} (numbers : map.FinMap line_cmp ℕ) (cells : map.FinMap sp
       let found = count_from spots_total exact_spots (λ spot _. lies_on line spot) cells some in
       let facts = and_there (lies_on line found.0) (map.get cells found.0) found.1 in
       (found.0, facts.0, facts.1)
+
+  -- and a number that is zero that of a line with nothing on it
+  pub none_on_line : (line : LineOf) (n : ℕ) → n ≡ number_at numbers line → IsFalse (nat_lt 0 n) ↔ ((at : Spot) → lies_on line at ≡ true → map.get cells at ≡ None)
+  none_on_line line n is = (
+    λ zero at lies. by_case at lies (is_some (map.get cells at)) refl zero,
+    λ none. not_some (nat_lt 0 n) refl none,
+  )
+    where
+      nothing : {A : Type 0} (o : Option A) → is_some o ≡ false → o ≡ None
+      nothing None h = refl
+      nothing (Some x) h = absurd cc
+
+      by_case : (at : Spot) → lies_on line at ≡ true → (b : Bool) → is_some (map.get cells at) ≡ b → nat_lt 0 n ≡ false → map.get cells at ≡ None
+      by_case at lies false kept zero = nothing (map.get cells at) kept
+      by_case at lies true kept zero = absurd (let some = cell_counts at kept line lies in grind (arith, nat_tests, some, is, zero))
+
+      not_some : (b : Bool) → nat_lt 0 n ≡ b → ((at : Spot) → lies_on line at ≡ true → map.get cells at ≡ None) → b ≡ false
+      not_some false test none = refl
+      not_some true test none = absurd (
+        let positive : 0 < number_at numbers line = grind (arith, nat_tests, is, test) in
+        let found = some_on_line line positive in
+        let no : true ≡ false = sym found.2 ∙ ap is_some (none found.0 found.1) in cc
+      )
 
   -- nothing changed, whatever the keys of the numbers
   pub cells_kept : (numbers' : map.FinMap line_cmp ℕ) (cells' : map.FinMap spot_cmp T) → ((line : LineOf) → number_at numbers' line ≡ number_at numbers line) → cells' ≡ cells → CellsCounted numbers' cells'

@@ -10,6 +10,7 @@ pub mod Changing
 pub mod DrawnBy
 pub mod Seen
 pub mod Copied
+pub mod RowOffsets
 pub mod SameLemmas
 pub mod SameSites
 pub mod CountedLemmas
@@ -27,4 +28,3 @@ pub mod WritingAnew
 pub mod WritesLemmas
 pub mod SixLines
 pub mod Leaving
-pub mod ClassAlone

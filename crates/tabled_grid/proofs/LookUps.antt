@@ -10,7 +10,7 @@ use Rattle.tabled_grid.specs.Drawn.{draws, number}
 use Rattle.tabled_grid.specs.Keys.{spot_cmp}
 use Rattle.std.specs.FinMap.{get, get-empty}
 use Rattle.std.proofs.lemmas.Bool.{and_parts, and_from, or_cases, or_left, or_right}
-use Rattle.tabled_grid.specs.Reading.{pick, direction_of, main_of, plain_edge, plain_crossing, edge_shown, HasClassAlone}
+use Rattle.tabled_grid.specs.Reading.{pick, direction_of, main_of, plain_edge, plain_crossing, edge_shown}
 use Rattle.tabled_grid.specs.Calls.{edge_of}
 use Rattle.tabled_grid.specs.declared.offset.Offset.{Offset}
 use Rattle.tabled_grid.specs.State.{State, state_at, edge_place, line_classes, has_class, rank_draws}
@@ -90,24 +90,6 @@ module _ {T : Type 0} (k : State T) where
   unfolding value
   value-crossing rows cols size r c h =
       ap (λ b. cond b (first_sign (state_at k) (sites (rows, cols) size (Place.Cross r c))) None) h ∙ plain-crossing rows cols r c
-
--- where nothing is kept but for classes and by default, those are all that is looked at
-pub class_alone_edge : {T : Type 0} (k : State T) → HasClassAlone k → (line : LineOf) (count at : ℕ) → pick (class_value (edges (direction_of line) (rank count (number line))) k.class_record) k.default_value ≡ plain_edge k line count at
-class_alone_edge k h line count at =
-    let class = pick (class_value (edges (direction_of line) (rank count (number line))) k.class_record) k.default_value in
-    sym (ap (λ cell. pick cell (pick (main_of k line) class)) (ap (λ m. get m (edge_of line at)) h.0 ∙ get-empty spot_cmp (edge_of line at)) ∙ ap (λ main. pick main class) (no_main line))
-  where
-    no_main : (line : LineOf) → main_of k line ≡ None
-    no_main (LineOf.Horizontal n) = ap (option_and_then (λ custom. custom.main)) (ap (λ m. get m n) h.1 ∙ get-empty nat_cmp n)
-    no_main (LineOf.Vertical n) = ap (option_and_then (λ custom. custom.main)) (ap (λ m. get m n) h.2 ∙ get-empty nat_cmp n)
-
-pub class_alone_crossing : {T : Type 0} (k : State T) → HasClassAlone k → (rows cols r c : ℕ) → pick (class_value (crossings (rank rows r) (rank cols c)) k.class_record) k.default_value ≡ plain_crossing k rows cols r c
-class_alone_crossing k h rows cols r c =
-    let class = pick (class_value (crossings (rank rows r) (rank cols c)) k.class_record) k.default_value in
-    let below = pick (option_and_then (vertical_meeting (rank rows r)) (get k.vertical_lines c)) class in
-    sym (ap (λ cell. pick cell (pick (option_and_then (horizontal_meeting (rank cols c)) (get k.horizontal_lines r)) below)) (ap (λ m. get m (Crossing r c)) h.0 ∙ get-empty spot_cmp (Crossing r c))
-    ∙ ap (λ met. pick (option_and_then (horizontal_meeting (rank cols c)) met) below) (ap (λ m. get m r) h.1 ∙ get-empty nat_cmp r)
-    ∙ ap (λ met. pick (option_and_then (vertical_meeting (rank rows r)) met) class) (ap (λ m. get m c) h.2 ∙ get-empty nat_cmp c))
 
 pub is_some-sign : {T : Type 0} (o : Option T) → is_some (option_map sign o) ≡ is_some o
 is_some-sign None = refl

@@ -17,4 +17,3 @@ pub mod Same
 pub mod SameLaws
 pub mod CellBorder
 pub mod Writes
-pub mod ClassAlone

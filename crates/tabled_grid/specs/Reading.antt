@@ -50,10 +50,6 @@ plain_crossing k rows cols r c =
     (pick (option_and_then (vertical_meeting (rank rows r)) (get k.vertical_lines c))
     (pick (class_value (crossings (rank rows r) (rank cols c)) k.class_record) k.default_value)))
 
--- below the offsets nothing is kept but for classes, and by default
-abbrev pub HasClassAlone : {T : Type 0} → State T → Type 0
-HasClassAlone k = (k.cells ≡ empty) × (k.horizontal_lines ≡ empty) × (k.vertical_lines ≡ empty)
-
 -- whether a custom line draws line n, of the lines 0 to count, by the numbers of those that cross it
 abbrev pub across_drawn : LineNumbers → ℕ → ℕ → Bool
 across_drawn numbers count n =

@@ -1,5 +1,5 @@
 -- What a store keeps, as a value, and the same as one function of the sites.
-use Rattle.std.specs.Prelude.{◌≡◌, ℕ, Bool, ◌&&◌, ◌||◌, is_some, Option, None, Some, List, [], ◌∷◌, ◌++◌, option_map, option_and_then}
+use Rattle.std.specs.Prelude.{◌≡◌, ℕ, Bool, true, ◌&&◌, ◌||◌, is_some, Option, None, Some, List, [], ◌∷◌, ◌++◌, option_map, option_and_then}
 use Rattle.std.specs.List.{list_any, filter_map}
 use Rattle.std.specs.Ordering.{nat_cmp}
 use Rattle.std.specs.FinMap.{FinMap, empty, get, entries}
@@ -12,8 +12,9 @@ use Rattle.tabled_grid.specs.declared.keys.EdgePlace.{EdgePlace}
 pub use Rattle.tabled_object.specs.Entities.{position}
 use Rattle.tabled_grid.specs.Keys.{spot_cmp, edge_place_cmp}
 use Rattle.tabled_grid.specs.declared.offset.Offset.{Offset}
-use Rattle.tabled_grid.specs.Site.{Direction, Horizontal, Vertical, Rank, first, inner, last, stands, Class, edges, crossings, class_value, Part, mark, main_edges, meeting, horizontal_meeting, vertical_meeting, Site, the_default, of_class, of_line, at_spot, at_offset}
+use Rattle.tabled_grid.specs.Site.{Direction, Horizontal, Vertical, Rank, first, inner, last, stands, Spot, Class, edges, crossings, class_value, Part, mark, main_edges, meeting, horizontal_meeting, vertical_meeting, Site, the_default, of_class, of_line, at_spot, at_offset}
 use Rattle.tabled_grid.specs.Event.{Written, sign, standing, Event, write, erase, level_sites}
+use Rattle.tabled_grid.specs.Drawn.{lies_on}
 use Rattle.tabled_grid.specs.Lines.{horizontal_line_set, vertical_line_set}
 
 -- what a store keeps, level by level
@@ -31,21 +32,20 @@ abbrev pub offset_values : {T : Type 0} → Direction → State T → FinMap edg
 offset_values Horizontal state = state.horizontal_offsets
 offset_values Vertical state = state.vertical_offsets
 
--- nothing is kept at an offset of an edge of that direction
-abbrev pub HasNoOffsets : {T : Type 0} → Direction → State T → Type 0
-HasNoOffsets d state = offset_values d state ≡ empty
+abbrev pub edge_place : ℕ → ℕ → Offset → EdgePlace
+edge_place r c offset = record { row = r; col = c; offset = offset }
 
 -- nothing is kept for an edge or a crossing by itself
 abbrev pub HasNoCells : {T : Type 0} → State T → Type 0
 HasNoCells state = state.cells ≡ empty
 
-abbrev pub edge_place : ℕ → ℕ → Offset → EdgePlace
-edge_place r c offset = record { row = r; col = c; offset = offset }
+-- nor for one of a line
+abbrev pub HasNoCellsOn : {T : Type 0} → LineOf → State T → Type 0
+HasNoCellsOn line state = (spot : Spot) → lies_on line spot ≡ true → get state.cells spot ≡ None
 
--- no custom line of that direction stands at an index
-abbrev pub HasNoLines : {T : Type 0} → Direction → State T → Type 0
-HasNoLines Horizontal state = state.horizontal_lines ≡ empty
-HasNoLines Vertical state = state.vertical_lines ≡ empty
+-- nothing is kept at an offset of an edge of that direction in a row: on a horizontal line of that number, or beside a row of cells
+abbrev pub HasNoOffsetsAt : {T : Type 0} → Direction → ℕ → State T → Type 0
+HasNoOffsetsAt d r state = (c : ℕ) (offset : Offset) → get (offset_values d state) (edge_place r c offset) ≡ None
 
 -- what a custom line has for each of its parts; that it is there is its mark
 abbrev pub horizontal_part : {T : Type 0} → Part → HorizontalLine T → Option (Written T)

@@ -6,3 +6,4 @@ pub mod Kept
 pub mod KeyLaws
 pub mod Sheet
 pub mod OneMore
+pub mod FirstFrom

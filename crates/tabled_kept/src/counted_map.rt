@@ -4,6 +4,7 @@ ghost use Rattle.std.specs.Prelude.{◌≡◌, ◌↔◌, ◌<◌, ◌^◌, OnOk
 ghost use Rattle.std.specs.FinMap as map;
 ghost use Rattle.tabled_kept.specs.Table.{table};
 ghost use Rattle.tabled_kept.specs.Same.{same_map};
+ghost use Rattle.tabled_kept.specs.FirstFrom.{IsFirstFrom};
 ghost use Rattle.tabled_kept.specs.OneMore.{IsOneMore};
 ghost use Rattle.tabled_kept.specs.Probing.{IsCounted, IsRaised};
 
@@ -15,7 +16,7 @@ use std::alloc::Global;
 use std::marker::{Model, PhantomData};
 use tabled_border::{Keep, OutOfMemory};
 
-/// A map that is read in two ways, each of which is counted. Until something is kept it takes no memory beside itself. In contracts it
+/// A map that is read in three ways, each of which is counted. Until something is kept it takes no memory beside itself. In contracts it
 /// is the list of its entries.
 #[derive(Debug, Drop)]
 pub struct CountedMap<K: Key, V, M = Probes> {
@@ -34,7 +35,7 @@ impl<K: Key, V, M> Model for CountedMap<K, V, M> {
     ghost view = { λ kept. unwrap_or (option_map (λ entries. entries.value) kept.entries) [] };
 }
 
-/// The two readings, for every type of meters.
+/// The readings, for every type of meters.
 impl<K: Key, V, M: Meter> CountedMap<K, V, M> {
     /// What is kept under a key: one reading.
     pub fn read(&self, key: K, probes: &mut M) -> Option<&V>
@@ -44,6 +45,22 @@ impl<K: Key, V, M: Meter> CountedMap<K, V, M> {
     {
         match &self.entries {
             Some(entries) => entries.read(key, probes),
+            None => {
+                probes.raise();
+                None
+            }
+        }
+    }
+
+    /// The first key at or after one, where no key has a slot: one reading.
+    pub fn first_from(&self, key: K, probes: &mut M) -> Option<K>
+        requires { (any : K) → K.slot_of any ≡ None }
+        ensures first { IsFirstFrom K.cmp (table K.cmp self.now) key result }
+        ensures counted { IsCounted (M.made probes.old) (M.made probes.new) }
+        ensures raised { IsRaised 1 (M.made probes.old) (M.made probes.new) }
+    {
+        match &self.entries {
+            Some(entries) => entries.entries.first_from(key, probes),
             None => {
                 probes.raise();
                 None

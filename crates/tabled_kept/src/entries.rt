@@ -4,6 +4,7 @@ ghost use Rattle.std.specs.Prelude.{◌≡◌, ◌<◌, ◌^◌, IsTrue, IsFalse
 ghost use Rattle.std.specs.FinMap as map;
 ghost use Rattle.tabled_kept.specs.Table.{table};
 ghost use Rattle.tabled_kept.specs.Same.{same_map};
+ghost use Rattle.tabled_kept.specs.FirstFrom.{IsFirstFrom};
 ghost use Rattle.tabled_kept.specs.OneMore.{IsOneMore};
 ghost use Rattle.tabled_kept.specs.Probing.{IsCounted, IsRaised};
 
@@ -14,6 +15,7 @@ use crate::sheet::Sheet;
 use std::alloc::Global;
 use std::collections::BTreeMap;
 use std::marker::Model;
+use std::ops::Bound;
 use tabled_border::{Keep, OutOfMemory};
 
 /// The entries of a kept map. A value stands in the slot of its key, if the key has one, and else in an ordered map; so a reading
@@ -56,6 +58,21 @@ impl<K: Key, V> Entries<K, V> {
         match key.slot() {
             Some(slot) => self.dense.get(slot),
             None => self.others.get(&key),
+        }
+    }
+
+    /// The first key at or after one, where no key has a slot: one reading.
+    pub(crate) fn first_from<M: Meter>(&self, key: K, probes: &mut M) -> Option<K>
+        requires { (any : K) → K.slot_of any ≡ None }
+        ensures first { IsFirstFrom K.cmp (table K.cmp self.now) key result }
+        ensures counted { IsCounted (M.made probes.old) (M.made probes.new) }
+        ensures raised { IsRaised 1 (M.made probes.old) (M.made probes.new) }
+    {
+        probes.raise();
+        let from_there = (Bound::Included(key), Bound::Unbounded);
+        match self.others.range(from_there).next() {
+            Some((first, _)) => Some(*first),
+            None => None,
         }
     }
 

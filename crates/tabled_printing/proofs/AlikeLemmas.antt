@@ -1,7 +1,7 @@
 -- What edges, crossings and vertical lines have in common, where nothing is kept for single places or single lines.
-use Rattle.std.proofs.Common.{◌≡◌, ℕ, ◌+◌, ◌==◌, ◌<◌, ◌≤◌, zero, suc, Bool, true, false, ◌&&◌, nat_le, nat_lt, if◌then◌else◌, Option, Some, None, unwrap_or, is_some, option_map, option_and_then, List, [], ◌∷◌, ◌++◌, map, get_or, refl, sym, ap, ◌∙◌, arith}
+use Rattle.std.proofs.Common.{◌≡◌, ℕ, ◌+◌, ◌==◌, ◌<◌, ◌≤◌, zero, suc, Bool, true, false, ◌&&◌, nat_le, nat_lt, if◌then◌else◌, Option, Some, None, unwrap_or, is_some, option_map, option_and_then, List, [], ◌∷◌, ◌++◌, map, get_or, length, refl, sym, ap, subst, ◌∙◌, arith}
+use Rattle.std.specs.Prelude.{IfSome}
 use Rattle.std.specs.FinMap.{FinMap, empty, get, get-empty}
-use Rattle.std.specs.Option.{option_or}
 use Rattle.std.specs.Ordering.{nat_cmp}
 use Rattle.std.specs.declared.cmp.Ordering.{Ordering}
 use Rattle.std.proofs.lemmas.Bool.{lt-ltb, le-leb}
@@ -21,23 +21,22 @@ use Rattle.tabled_grid.specs.declared.site.Part.TheVariants.{Mark as its_mark, E
 use Rattle.tabled_grid.specs.declared.site.Site.{Site}
 use Rattle.tabled_grid.specs.declared.site.Site.TheVariants.{Default as the_default, Class as of_class, Line as of_line, Cell as at_spot, Offset as at_offset}
 use Rattle.tabled_grid.specs.Drawn.{draws, drawn, Drawn}
-use Rattle.tabled_grid.specs.Reading.{direction_of}
 use Rattle.tabled_grid.specs.Site.{class_value, rank, stands}
 use Rattle.tabled_grid.specs.Value.{has_spot, sign_or, plain_value}
-use Rattle.tabled_grid.specs.State.{State, state_at, horizontal_part, vertical_part, HasNoCells, HasNoOffsets}
+use Rattle.tabled_grid.specs.State.{State, state_at, horizontal_part, vertical_part, HasNoCells, HasNoCellsOn}
 use Rattle.tabled_grid.specs.Keys.{spot_cmp}
 use Rattle.tabled_grid.proofs.DrawnLemmas.{drawn-answer, Drawn-drawn}
 use Rattle.tabled_object.specs.Entities.{below}
 use Rattle.tabled_configuration.specs.Configuration.{Configuration, all_writes, characters_of}
 use Rattle.tabled_configuration.proofs.ConfigurationLemmas.{shown_characters}
-use Rattle.tabled_printing.specs.declared.mark.Mark.{Mark}
+use Rattle.tabled_printing.specs.declared.sides.Side.{Side}
 use Rattle.tabled_printing.specs.declared.sides.Sides.{Sides}
-use Rattle.tabled_printing.specs.Alike.{NoneForPlaces, NoneForLines}
+use Rattle.tabled_printing.specs.Alike.{IsBareLine, NoneForCells, NoneForColumns, NoneOnLine, NoOffsetsAt, NoOffsetsOf}
 use Rattle.tabled_printing.specs.LinePieces.{pieces_of, piece_size, crossing_of, edge_of, crossing_places, piece_places}
 use Rattle.tabled_printing.specs.Marks.{mark_of}
 use Rattle.tabled_printing.specs.Picture.{Look, Shown, look, mark_at}
 use Rattle.tabled_printing.specs.Beside.{plain_mark, plain_side, mark_beside, mark_if_drawn}
-use Rattle.tabled_printing.specs.Sides.{side_at, AreSides}
+use Rattle.tabled_printing.specs.Sides.{side_at, side_mark, AreSides, IsAlikeSide}
 use Rattle.tabled_printing.specs.Viewed.{with_colors_if}
 use Rattle.tabled_printing.proofs.LineLemmas.{piece_marks}
 use Rattle.tabled_printing.proofs.LookLemmas.{own_plain, own_plain_color_if, own_crossing, own_crossing_color_if}
@@ -58,11 +57,9 @@ between count n some within =
     not_last : (n m : ℕ) → n < m → (n == m) ≡ false
     not_last n m within = grind (arith, nat_tests)
 
--- what is kept at one site, or else at another
-own_or : {T : Type 0} (own default : Option T) → sign_or (option_map sign own) (sign_or (option_map sign default) None) ≡ option_or own default
-own_or (Some x) default = refl
-own_or None (Some x) = refl
-own_or None None = refl
+-- a number is itself
+itself : (n : ℕ) → (n == n) ≡ true
+itself n = grind (arith, nat_tests)
 
 module _ {T : Type 0} (state : State T) (shape : ℕ × ℕ) where
   by_class : Class → Option T
@@ -73,15 +70,15 @@ module _ {T : Type 0} (state : State T) (shape : ℕ × ℕ) where
   edge_below (LineOf.Horizontal r) = sign_or (option_and_then (horizontal_part main_edges) (get state.horizontal_lines r)) (by_class (edges Horizontal (rank shape.0 r)))
   edge_below (LineOf.Vertical c) = sign_or (option_and_then (vertical_part main_edges) (get state.vertical_lines c)) (by_class (edges Vertical (rank shape.1 c)))
 
-  edge_by_line : (line : LineOf) (n : ℕ) → HasNoCells state → plain_value (state_at state) shape (edge_of line n 0) ≡ (if has_spot shape (edge_of line n 0) then edge_below line else None)
+  edge_by_line : (line : LineOf) (n : ℕ) → HasNoCellsOn line state → plain_value (state_at state) shape (edge_of line n 0) ≡ (if has_spot shape (edge_of line n 0) then edge_below line else None)
   unfolding plain_value by_class edge_below
   edge_by_line (LineOf.Horizontal r) n cells = λ i.
-      if has_spot shape (Place.Horizontal r n 0) then sign_or (option_map sign (absent spot_cmp state.cells (Edge Horizontal r n) cells i)) (edge_below (LineOf.Horizontal r)) else None
+      if has_spot shape (Place.Horizontal r n 0) then sign_or (option_map sign (cells (Edge Horizontal r n) (itself r) i)) (edge_below (LineOf.Horizontal r)) else None
   edge_by_line (LineOf.Vertical c) n cells = λ i.
-      if has_spot shape (Place.Vertical n c 0) then sign_or (option_map sign (absent spot_cmp state.cells (Edge Vertical n c) cells i)) (edge_below (LineOf.Vertical c)) else None
+      if has_spot shape (Place.Vertical n c 0) then sign_or (option_map sign (cells (Edge Vertical n c) (itself c) i)) (edge_below (LineOf.Vertical c)) else None
 
   -- two edges of a line
-  pub edges_same : (line : LineOf) (n m : ℕ) → HasNoCells state → n < pieces_of shape line → m < pieces_of shape line → plain_value (state_at state) shape (edge_of line n 0) ≡ plain_value (state_at state) shape (edge_of line m 0)
+  pub edges_same : (line : LineOf) (n m : ℕ) → HasNoCellsOn line state → n < pieces_of shape line → m < pieces_of shape line → plain_value (state_at state) shape (edge_of line n 0) ≡ plain_value (state_at state) shape (edge_of line m 0)
   edges_same (LineOf.Horizontal r) n m cells in_n in_m =
       let within : nat_lt n shape.1 ≡ nat_lt m shape.1 = lt-ltb n shape.1 in_n ∙ sym (lt-ltb m shape.1 in_m) in
       edge_by_line (LineOf.Horizontal r) n cells
@@ -97,18 +94,18 @@ module _ {T : Type 0} (state : State T) (shape : ℕ × ℕ) where
   crossing_below : ℕ → Rank → Option T
   crossing_below r met = sign_or (option_and_then (horizontal_part (meeting met)) (get state.horizontal_lines r)) (by_class (crossings (rank shape.0 r) met))
 
-  crossing_by_line : (r n : ℕ) → HasNoCells state → state.vertical_lines ≡ empty
+  crossing_by_line : (r n : ℕ) → HasNoCellsOn (LineOf.Horizontal r) state → state.vertical_lines ≡ empty
       → plain_value (state_at state) shape (Place.Cross r n) ≡ (if has_spot shape (Place.Cross r n) then crossing_below r (rank shape.1 n) else None)
   unfolding plain_value by_class crossing_below
   crossing_by_line r n cells lines = λ i.
       if has_spot shape (Place.Cross r n) then
-      sign_or (option_map sign (absent spot_cmp state.cells (Crossing r n) cells i))
+      sign_or (option_map sign (cells (Crossing r n) (itself r) i))
       (sign_or (option_and_then (horizontal_part (meeting (rank shape.1 n))) (get state.horizontal_lines r))
       (sign_or (option_and_then (vertical_part (meeting (rank shape.0 r))) (absent nat_cmp state.vertical_lines n lines i))
       (by_class (crossings (rank shape.0 r) (rank shape.1 n)))))
       else None
 
-  pub crossings_same : (r n m : ℕ) → HasNoCells state → state.vertical_lines ≡ empty → 0 < n → n < shape.1 → 0 < m → m < shape.1
+  pub crossings_same : (r n m : ℕ) → HasNoCellsOn (LineOf.Horizontal r) state → state.vertical_lines ≡ empty → 0 < n → n < shape.1 → 0 < m → m < shape.1
       → plain_value (state_at state) shape (Place.Cross r n) ≡ plain_value (state_at state) shape (Place.Cross r m)
   crossings_same r n m cells lines some_n in_n some_m in_m =
       let within : nat_le n shape.1 ≡ nat_le m shape.1 = le-leb n shape.1 (omega (arith, in_n)) ∙ sym (le-leb m shape.1 (omega (arith, in_m))) in
@@ -126,27 +123,6 @@ module _ {T : Type 0} (state : State T) (shape : ℕ × ℕ) where
       sign_or (option_map sign (absent spot_cmp state.cells (Edge Vertical 0 c) cells i))
       (sign_or (option_and_then (vertical_part main_edges) (absent nat_cmp state.vertical_lines c lines i)) (by_class (edges Vertical (rank shape.1 c))))
       else None
-
-  -- where no custom line stands, the class decides, or the default
-  by_class_is : (class : Class) → by_class class ≡ option_or (class_value class state.class_record) state.default_value
-  unfolding by_class
-  by_class_is class = own_or (class_value class state.class_record) state.default_value
-
-  pub edge_by_class : (r : ℕ) → HasNoCells state → get state.horizontal_lines r ≡ None → has_spot shape (Place.Horizontal r 0 0) ≡ true
-      → plain_value (state_at state) shape (Place.Horizontal r 0 0) ≡ option_or (class_value (edges Horizontal (rank shape.0 r)) state.class_record) state.default_value
-  unfolding edge_below
-  edge_by_class r cells none there =
-      edge_by_line (LineOf.Horizontal r) 0 cells
-      ∙ (λ i. if there i then sign_or (option_and_then (horizontal_part main_edges) (none i)) (by_class (edges Horizontal (rank shape.0 r))) else None)
-      ∙ by_class_is (edges Horizontal (rank shape.0 r))
-
-  pub crossing_by_class : (r n : ℕ) → HasNoCells state → state.vertical_lines ≡ empty → get state.horizontal_lines r ≡ None → has_spot shape (Place.Cross r n) ≡ true
-      → plain_value (state_at state) shape (Place.Cross r n) ≡ option_or (class_value (crossings (rank shape.0 r) (rank shape.1 n)) state.class_record) state.default_value
-  unfolding crossing_below
-  crossing_by_class r n cells lines none there =
-      crossing_by_line r n cells lines
-      ∙ (λ i. if there i then sign_or (option_and_then (horizontal_part (meeting (rank shape.1 n))) (none i)) (by_class (crossings (rank shape.0 r) (rank shape.1 n))) else None)
-      ∙ by_class_is (crossings (rank shape.0 r) (rank shape.1 n))
 
   sides_same : (n m : ℕ) → HasNoCells state → state.vertical_lines ≡ empty → 0 < n → n < shape.1 → 0 < m → m < shape.1
       → plain_value (state_at state) shape (Place.Vertical 0 n 0) ≡ plain_value (state_at state) shape (Place.Vertical 0 m 0)
@@ -194,6 +170,13 @@ pub if_same : {X : Type 0} (wanted : Bool) (x y : Option X) → (wanted ≡ true
 if_same true x y same = same refl
 if_same false x y same = refl
 
+-- the offsets of a row are those of its edges
+offsets_along : (cfg : Configuration) (wanted : Bool) (r n : ℕ) → NoOffsetsAt cfg wanted Horizontal r → NoOffsetsOf cfg wanted (LineOf.Horizontal r) n
+offsets_along cfg wanted r n none = record { characters = none.characters n; colors = λ yes. none.colors yes n }
+
+offsets_beside : (cfg : Configuration) (wanted : Bool) (r c : ℕ) → NoOffsetsAt cfg wanted Vertical r → NoOffsetsOf cfg wanted (LineOf.Vertical c) r
+offsets_beside cfg wanted r c none = record { characters = none.characters c; colors = λ yes. none.colors yes c }
+
 module _ (cfg : Configuration) (wanted : Bool) (shape : ℕ × ℕ) where
   -- two marks that are kept
   marks_same : (p q : Place) → plain_value (state_at cfg.characters) shape p ≡ plain_value (state_at cfg.characters) shape q
@@ -201,42 +184,42 @@ module _ (cfg : Configuration) (wanted : Bool) (shape : ℕ × ℕ) where
   marks_same p q chars colors = mark_by _ _ _ _ chars (if_same wanted (plain_value (state_at cfg.colors) shape p) (plain_value (state_at cfg.colors) shape q) colors)
 
   -- of an edge without offsets that is what each of its places shows, and of a crossing what it shows
-  pub edge_shows : (widths heights : ℕ → ℕ) (line : LineOf) (n k : ℕ) → HasNoOffsets (direction_of line) cfg.characters → (wanted ≡ true → HasNoOffsets (direction_of line) cfg.colors) → k < piece_size widths heights line n
+  pub edge_shows : (widths heights : ℕ → ℕ) (line : LineOf) (n k : ℕ) → NoOffsetsOf cfg wanted line n → k < piece_size widths heights line n
       → plain_mark cfg wanted shape (edge_of line n 0) ≡ mark_at (with_colors_if wanted (look (all_writes cfg) shape widths heights)) (edge_of line n k)
-  edge_shows widths heights line n k none none_colored within =
-      mark_by _ _ _ _ (own_plain cfg shape widths heights line n k _ none refl within) (own_plain_color_if cfg shape widths heights line n k wanted (edge_of line n 0) _ none_colored refl refl within)
+  edge_shows widths heights line n k none within =
+      mark_by _ _ _ _ (own_plain cfg shape widths heights line n k _ none.characters refl within) (own_plain_color_if cfg shape widths heights line n k wanted (edge_of line n 0) _ none.colors refl refl within)
 
   pub crossing_shows : (widths heights : ℕ → ℕ) (line : LineOf) (n : ℕ) → plain_mark cfg wanted shape (crossing_of line n) ≡ mark_at (with_colors_if wanted (look (all_writes cfg) shape widths heights)) (crossing_of line n)
   crossing_shows widths heights line n =
       mark_by _ _ _ _ (own_crossing cfg shape widths heights line n (crossing_of line n) _ refl refl) (own_crossing_color_if cfg shape widths heights line n wanted (crossing_of line n) _ refl refl)
 
   -- each edge of a horizontal line shows what the first one does, and each crossing but the first and the last what the second does
-  module _ (places : NoneForPlaces cfg wanted Horizontal) (r : ℕ) where
+  module _ (r : ℕ) (bare : IsBareLine cfg wanted r) where
     pub edge_as_first : (widths heights : ℕ → ℕ) (n k : ℕ) → n < shape.1 → k < widths n
         → plain_mark cfg wanted shape (Place.Horizontal r 0 0) ≡ mark_at (with_colors_if wanted (look (all_writes cfg) shape widths heights)) (Place.Horizontal r n k)
     edge_as_first widths heights n k in_n within =
         marks_same (Place.Horizontal r 0 0) (Place.Horizontal r n 0)
-        (edges_same cfg.characters shape (LineOf.Horizontal r) 0 n places.characters.0 (omega (arith, in_n)) in_n)
-        (λ yes. edges_same cfg.colors shape (LineOf.Horizontal r) 0 n (places.colors yes).0 (omega (arith, in_n)) in_n)
-        ∙ edge_shows widths heights (LineOf.Horizontal r) n k places.characters.1 (λ yes. (places.colors yes).1) within
+        (edges_same cfg.characters shape (LineOf.Horizontal r) 0 n bare.cells.characters (omega (arith, in_n)) in_n)
+        (λ yes. edges_same cfg.colors shape (LineOf.Horizontal r) 0 n (bare.cells.colors yes) (omega (arith, in_n)) in_n)
+        ∙ edge_shows widths heights (LineOf.Horizontal r) n k (offsets_along cfg wanted r n bare.offsets) within
 
-    pub crossing_as_second : NoneForLines cfg wanted Vertical → (n : ℕ) → 0 < n → n < shape.1 → plain_mark cfg wanted shape (Place.Cross r 1) ≡ plain_mark cfg wanted shape (Place.Cross r n)
+    pub crossing_as_second : NoneForColumns cfg wanted → (n : ℕ) → 0 < n → n < shape.1 → plain_mark cfg wanted shape (Place.Cross r 1) ≡ plain_mark cfg wanted shape (Place.Cross r n)
     crossing_as_second lines n some within =
         marks_same (Place.Cross r 1) (Place.Cross r n)
-        (crossings_same cfg.characters shape r 1 n places.characters.0 lines.characters (omega arith) (omega (arith, some, within)) some within)
-        (λ yes. crossings_same cfg.colors shape r 1 n (places.colors yes).0 (lines.colors yes) (omega arith) (omega (arith, some, within)) some within)
+        (crossings_same cfg.characters shape r 1 n bare.cells.characters lines.characters (omega arith) (omega (arith, some, within)) some within)
+        (λ yes. crossings_same cfg.colors shape r 1 n (bare.cells.colors yes) (lines.colors yes) (omega arith) (omega (arith, some, within)) some within)
 
   -- beside each row a vertical line shows what it does beside the first one
-  pub side_as_first : (widths heights : ℕ → ℕ) (r k c : ℕ) → NoneForPlaces cfg wanted Vertical → r < shape.0 → k < heights r
+  pub side_as_first : (widths heights : ℕ → ℕ) (r k c : ℕ) → NoneOnLine cfg wanted (LineOf.Vertical c) → NoOffsetsAt cfg wanted Vertical r → r < shape.0 → k < heights r
       → plain_mark cfg wanted shape (Place.Vertical 0 c 0) ≡ mark_at (with_colors_if wanted (look (all_writes cfg) shape widths heights)) (Place.Vertical r c k)
-  side_as_first widths heights r k c places in_r within =
+  side_as_first widths heights r k c cells offsets in_r within =
       marks_same (Place.Vertical 0 c 0) (Place.Vertical r c 0)
-      (edges_same cfg.characters shape (LineOf.Vertical c) 0 r places.characters.0 (omega (arith, in_r)) in_r)
-      (λ yes. edges_same cfg.colors shape (LineOf.Vertical c) 0 r (places.colors yes).0 (omega (arith, in_r)) in_r)
-      ∙ edge_shows widths heights (LineOf.Vertical c) r k places.characters.1 (λ yes. (places.colors yes).1) within
+      (edges_same cfg.characters shape (LineOf.Vertical c) 0 r cells.characters (omega (arith, in_r)) in_r)
+      (λ yes. edges_same cfg.colors shape (LineOf.Vertical c) 0 r (cells.colors yes) (omega (arith, in_r)) in_r)
+      ∙ edge_shows widths heights (LineOf.Vertical c) r k (offsets_beside cfg wanted r c offsets) within
 
   -- each vertical line but the first and the last is drawn, and shows beside the first row, as the second is and does
-  pub side_as_second : NoneForPlaces cfg wanted Vertical → NoneForLines cfg wanted Vertical → (n : ℕ) → 0 < n → n < shape.1 → plain_side cfg wanted shape 1 ≡ plain_side cfg wanted shape n
+  pub side_as_second : NoneForCells cfg wanted → NoneForColumns cfg wanted → (n : ℕ) → 0 < n → n < shape.1 → plain_side cfg wanted shape 1 ≡ plain_side cfg wanted shape n
   side_as_second places lines n some within = λ i. if same_drawn i then Some (same_mark i) else None
     where
       more : 1 < shape.1
@@ -245,15 +228,15 @@ module _ (cfg : Configuration) (wanted : Bool) (shape : ℕ × ℕ) where
       same_mark : plain_mark cfg wanted shape (Place.Vertical 0 1 0) ≡ plain_mark cfg wanted shape (Place.Vertical 0 n 0)
       same_mark =
           marks_same (Place.Vertical 0 1 0) (Place.Vertical 0 n 0)
-          (sides_same cfg.characters shape 1 n places.characters.0 lines.characters (omega arith) more some within)
-          (λ yes. sides_same cfg.colors shape 1 n (places.colors yes).0 (lines.colors yes) (omega arith) more some within)
+          (sides_same cfg.characters shape 1 n places.characters lines.characters (omega arith) more some within)
+          (λ yes. sides_same cfg.colors shape 1 n (places.colors yes) (lines.colors yes) (omega arith) more some within)
 
       same_drawn : drawn (characters_of (all_writes cfg)) shape.1 (LineOf.Vertical 1) ≡ drawn (characters_of (all_writes cfg)) shape.1 (LineOf.Vertical n)
       same_drawn =
           let by = Drawn-drawn (characters_of (all_writes cfg)) (state_at cfg.characters) shape.1 (LineOf.Vertical 1) (shown_characters cfg) in
           drawn-answer (characters_of (all_writes cfg)) (state_at cfg.characters) shape.1 (LineOf.Vertical n) (drawn (characters_of (all_writes cfg)) shape.1 (LineOf.Vertical 1)) (shown_characters cfg) (
-            λ yes. Drawn_too cfg.characters shape.1 1 n places.characters.0 lines.characters (omega arith) more some within (by.1 yes),
-            λ other. by.0 (Drawn_too cfg.characters shape.1 n 1 places.characters.0 lines.characters some within (omega arith) more other),
+            λ yes. Drawn_too cfg.characters shape.1 1 n places.characters lines.characters (omega arith) more some within (by.1 yes),
+            λ other. by.0 (Drawn_too cfg.characters shape.1 n 1 places.characters lines.characters some within (omega arith) more other),
           )
 
 -- ---- sides as they are kept
@@ -264,26 +247,26 @@ read_mapped f (x ∷ xs) zero = refl
 read_mapped f (x ∷ xs) (suc n) = read_mapped f xs n
 
 -- one mark more
-pub side_more : (g : ℕ → Option Shown) (xs ys : List (Option Mark)) (x : Option Mark) (n m : ℕ) → m ≡ n → ys ≡ xs ++ x ∷ [] → map (option_map mark_of) xs ≡ map g (below m) → option_map mark_of x ≡ g n → map (option_map mark_of) ys ≡ map g (below (n + 1))
+pub side_more : (g : ℕ → Option Shown) (xs ys : List (Option Side)) (x : Option Side) (n m : ℕ) → m ≡ n → ys ≡ xs ++ x ∷ [] → map (option_map side_mark) xs ≡ map g (below m) → option_map side_mark x ≡ g n → map (option_map side_mark) ys ≡ map g (below (n + 1))
 side_more g xs ys x n m same pushed made is =
-    ap (map (option_map mark_of)) pushed ∙ map-append (option_map mark_of) xs (x ∷ [])
+    ap (map (option_map side_mark)) pushed ∙ map-append (option_map side_mark) xs (x ∷ [])
     ∙ (λ i. (made ∙ ap (λ k. map g (below k)) same) i ++ is i ∷ []) ∙ sym (map-range_with_len_more g 0 n n (omega arith))
 
 -- one by one
-pub listed_sides : (cfg : Configuration) (wanted : Bool) (shape : ℕ × ℕ) (marks : List (Option Mark)) (c : ℕ)
-    → map (option_map mark_of) marks ≡ map (plain_side cfg wanted shape) (below (shape.1 + 1)) → c ≤ shape.1 → option_map mark_of (get_or marks c None) ≡ plain_side cfg wanted shape c
+pub listed_sides : (cfg : Configuration) (wanted : Bool) (shape : ℕ × ℕ) (marks : List (Option Side)) (c : ℕ)
+    → map (option_map side_mark) marks ≡ map (plain_side cfg wanted shape) (below (shape.1 + 1)) → c ≤ shape.1 → option_map side_mark (get_or marks c None) ≡ plain_side cfg wanted shape c
 listed_sides cfg wanted shape marks c are within =
-    read_mapped mark_of marks c
+    read_mapped side_mark marks c
     ∙ ap (λ xs. get_or xs c None) are ∙ get_or-map-range_with_len (plain_side cfg wanted shape) 0 (shape.1 + 1) c c None (omega (arith, within)) (omega arith)
 
 -- or by rank
-pub ranked_sides : (cfg : Configuration) (wanted : Bool) (shape : ℕ × ℕ) (one two end : Option Mark) (c : ℕ) → NoneForPlaces cfg wanted Vertical → NoneForLines cfg wanted Vertical
-    → option_map mark_of one ≡ plain_side cfg wanted shape 0 → option_map mark_of two ≡ plain_side cfg wanted shape 1 → option_map mark_of end ≡ plain_side cfg wanted shape shape.1 → c ≤ shape.1
-    → option_map mark_of (if c == 0 then one else if c == shape.1 then end else two) ≡ plain_side cfg wanted shape c
+pub ranked_sides : (cfg : Configuration) (wanted : Bool) (shape : ℕ × ℕ) (one two end : Option Side) (c : ℕ) → NoneForCells cfg wanted → NoneForColumns cfg wanted
+    → option_map side_mark one ≡ plain_side cfg wanted shape 0 → option_map side_mark two ≡ plain_side cfg wanted shape 1 → option_map side_mark end ≡ plain_side cfg wanted shape shape.1 → c ≤ shape.1
+    → option_map side_mark (if c == 0 then one else if c == shape.1 then end else two) ≡ plain_side cfg wanted shape c
 ranked_sides cfg wanted shape one two end c places lines is_first is_inner is_end within = by_number (c == 0) (c == shape.1) refl refl
   where
     by_number : (at_first at_last : Bool) → (c == 0) ≡ at_first → (c == shape.1) ≡ at_last
-        → option_map mark_of (if at_first then one else if at_last then end else two) ≡ plain_side cfg wanted shape c
+        → option_map side_mark (if at_first then one else if at_last then end else two) ≡ plain_side cfg wanted shape c
     by_number true at_last is_zero ends =
         let same : c ≡ 0 = grind (arith, nat_tests) in
         is_first ∙ ap (plain_side cfg wanted shape) (sym same)
@@ -307,15 +290,48 @@ if_there false x = refl
 pub side_drawn : (cfg : Configuration) (wanted : Bool) (shape : ℕ × ℕ) (sides : Sides) (c : ℕ) → AreSides cfg wanted shape sides → c ≤ shape.1
     → is_some (side_at sides c) ≡ drawn (characters_of (all_writes cfg)) shape.1 (LineOf.Vertical c)
 side_drawn cfg wanted shape sides c are within =
-    sym (there mark_of (side_at sides c)) ∙ ap is_some (are c within) ∙ if_there (drawn (characters_of (all_writes cfg)) shape.1 (LineOf.Vertical c)) (plain_mark cfg wanted shape (Place.Vertical 0 c 0))
+    sym (there side_mark (side_at sides c)) ∙ ap is_some (are.marks c within) ∙ if_there (drawn (characters_of (all_writes cfg)) shape.1 (LineOf.Vertical c)) (plain_mark cfg wanted shape (Place.Vertical 0 c 0))
 
 -- its mark is what is kept beside the first row
-pub drawn_mark : (cfg : Configuration) (wanted : Bool) (shape : ℕ × ℕ) (sides : Sides) (c : ℕ) (mark : Mark) → AreSides cfg wanted shape sides → c ≤ shape.1 → side_at sides c ≡ Some mark
-    → mark_of mark ≡ plain_mark cfg wanted shape (Place.Vertical 0 c 0)
-drawn_mark cfg wanted shape sides c mark are within read =
+pub drawn_mark : (cfg : Configuration) (wanted : Bool) (shape : ℕ × ℕ) (sides : Sides) (c : ℕ) (side : Side) → AreSides cfg wanted shape sides → c ≤ shape.1 → side_at sides c ≡ Some side
+    → side_mark side ≡ plain_mark cfg wanted shape (Place.Vertical 0 c 0)
+drawn_mark cfg wanted shape sides c side are within read =
     let drawn_there : drawn (characters_of (all_writes cfg)) shape.1 (LineOf.Vertical c) ≡ true = sym (side_drawn cfg wanted shape sides c are within) ∙ ap is_some read in
-    ap (λ found. unwrap_or found (mark_of mark))
-    (sym (ap (option_map mark_of) read) ∙ are c within ∙ ap (λ b. if b then Some (plain_mark cfg wanted shape (Place.Vertical 0 c 0)) else None) drawn_there)
+    ap (λ found. unwrap_or found (side_mark side))
+    (sym (ap (option_map side_mark) read) ∙ are.marks c within ∙ ap (λ b. if b then Some (plain_mark cfg wanted shape (Place.Vertical 0 c 0)) else None) drawn_there)
+
+-- ---- which look alike beside all rows
+
+pub no_sides : (cfg : Configuration) (wanted : Bool) (c : ℕ) → IfSome (get_or {A = Option Side} [] c None) (IsAlikeSide cfg wanted c)
+no_sides cfg wanted c = tt
+
+-- one side more
+pub alike_more : (cfg : Configuration) (wanted : Bool) (xs ys : List (Option Side)) (x : Option Side) → ys ≡ xs ++ x ∷ [] → IfSome x (IsAlikeSide cfg wanted (length xs))
+    → ((c : ℕ) → IfSome (get_or xs c None) (IsAlikeSide cfg wanted c)) → (c : ℕ) → IfSome (get_or ys c None) (IsAlikeSide cfg wanted c)
+alike_more cfg wanted xs ys x pushed is all c = subst (λ (list : List (Option Side)). IfSome (get_or list c None) (IsAlikeSide cfg wanted c)) (sym pushed) (put_last (λ n found. IfSome found (IsAlikeSide cfg wanted n)) (λ n. tt) xs x is all c)
+  where
+    put_last : {A : Type 0} (P : ℕ → Option A → Type 0) → ((n : ℕ) → P n None) → (xs : List (Option A)) (x : Option A) → P (length xs) x → ((c : ℕ) → P c (get_or xs c None)) → (c : ℕ) → P c (get_or (xs ++ x ∷ []) c None)
+    put_last P none [] x is all zero = is
+    put_last P none [] x is all (suc c) = none (suc c)
+    put_last P none (first ∷ xs) x is all zero = all 0
+    put_last P none (first ∷ xs) x is all (suc c) = put_last (λ n. P (suc n)) (λ n. none (suc n)) xs x is (λ n. all (suc n)) c
+
+-- by rank
+pub alike_by_rank : (cfg : Configuration) (wanted : Bool) (last c : ℕ) (one two end : Option Side) → NoneForCells cfg wanted
+    → IfSome (if c == 0 then one else if c == last then end else two) (IsAlikeSide cfg wanted c)
+alike_by_rank cfg wanted last c one two end none = of_any (if c == 0 then one else if c == last then end else two)
+  where
+    of_any : (found : Option Side) → IfSome found (IsAlikeSide cfg wanted c)
+    of_any None = tt
+    of_any (Some side) alike = record {
+      characters = λ spot lies. absent spot_cmp cfg.characters.cells spot none.characters;
+      colors = λ yes spot lies. absent spot_cmp cfg.colors.cells spot (none.colors yes);
+    }
+
+-- a line of which it is said
+pub said_alike : (cfg : Configuration) (wanted : Bool) (shape : ℕ × ℕ) (sides : Sides) (c : ℕ) (side : Side) → AreSides cfg wanted shape sides → c ≤ shape.1 → side_at sides c ≡ Some side → side.is_alike ≡ true
+    → NoneOnLine cfg wanted (LineOf.Vertical c)
+said_alike cfg wanted shape sides c side are within read = subst (λ found. IfSome found (IsAlikeSide cfg wanted c)) read (are.alike c within)
 
 -- a line that is not drawn shows nothing, and one that is drawn its mark
 pub none_beside : (view : Look) (r k c : ℕ) → view.vertical c ≡ false → None ≡ mark_beside view r k c

@@ -7,7 +7,6 @@ pub mod AlikeLemmas
 pub mod TextLemmas
 pub mod PieceLemmas
 pub mod TimesLemmas
-pub mod LookedLemmas
 pub mod ViewedLemmas
 pub mod Tiles
 pub mod Straight

@@ -1,12 +1,10 @@
 -- How a table looks, by what its configuration returns.
 use Rattle.std.proofs.Common.{◌≡◌, ℕ, ◌+◌, ◌-◌, ◌<◌, Bool, true, false, ◌&&◌, if◌then◌else◌, Option, None, option_map, List, [], ◌∷◌, ◌++◌, map, refl, sym, ap, ◌∙◌, IsTrue, ◌↔◌, arith}
-use Rattle.std.specs.FinMap.{get, get-empty}
 use Rattle.std.proofs.lemmas.Bool.{lt-ltb}
 use Rattle.std.proofs.lemmas.List.FromFn.{map-range_with_len_more}
 use Rattle.tabled_grid.specs.declared.place.Place.{Place}
 use Rattle.tabled_grid.specs.declared.place.LineOf.{LineOf}
 use Rattle.tabled_grid.specs.declared.offset.Offset.{Offset}
-use Rattle.tabled_grid.specs.declared.site.Direction.{Direction}
 use Rattle.tabled_grid.specs.declared.site.Direction.TheVariants.{Horizontal, Vertical}
 use Rattle.tabled_grid.specs.declared.site.Site.{Site}
 use Rattle.tabled_grid.specs.declared.site.Site.TheVariants.{Offset as at_offset}
@@ -17,13 +15,12 @@ use Rattle.tabled_grid.specs.Event as grid
 use Rattle.tabled_grid.specs.Event.{replay}
 use Rattle.tabled_grid.specs.Value.{has_spot, plain_sites, sign_or, first_sign, value, plain_value}
 use Rattle.tabled_grid.specs.Drawn.{drawn, Drawn}
-use Rattle.tabled_grid.specs.State.{State, state_at, edge_place, HasNoOffsets}
-use Rattle.tabled_grid.specs.Keys.{edge_place_cmp}
+use Rattle.tabled_grid.specs.State.{State, state_at}
 use Rattle.tabled_grid.proofs.DrawnLemmas.{drawn-answer, Drawn-drawn, replay-shown, value-shown}
-use Rattle.tabled_grid.specs.Reading.{direction_of}
 use Rattle.tabled_border.specs.Texts.{Texts}
 use Rattle.tabled_configuration.specs.Configuration.{Configuration, ConfigEvent, Shows, characters_of, colors_of, all_writes}
 use Rattle.tabled_object.specs.Entities.{below}
+use Rattle.tabled_printing.specs.Alike.{HasNoOffsetsOf}
 use Rattle.tabled_printing.specs.Picture.{look, edge_size}
 use Rattle.tabled_printing.specs.LinePieces.{pieces_of, piece_size, crossing_line, crossed_after, crossing_of, edge_of}
 use Rattle.tabled_printing.proofs.LineLemmas.{crossing_size, edge_length}
@@ -55,14 +52,12 @@ own_color cfg shape widths heights place size found sized is =
     ∙ value-shown (colors_of (all_writes cfg)) (state_at cfg.colors) shape (edge_size widths heights place) place (shown_colors cfg)
 
 -- without offsets only what is below them shows
-below_offsets : {T : Type 0} (state : State T) (d : Direction) (r c : ℕ) (start end : Offset) (below : Option T) → HasNoOffsets d state
-    → sign_or (state_at state (at_offset d r c start)) (sign_or (state_at state (at_offset d r c end)) below) ≡ below
-below_offsets state d r c start end below none =
-    ap (λ found. sign_or (option_map sign found) (sign_or (state_at state (at_offset d r c end)) below)) (ap (λ m. get m (edge_place r c start)) none ∙ get-empty edge_place_cmp (edge_place r c start))
-    ∙ ap (λ found. sign_or (option_map sign found) below) (ap (λ m. get m (edge_place r c end)) none ∙ get-empty edge_place_cmp (edge_place r c end))
+below_offsets : {T : Type 0} (start end below : Option T) → start ≡ None → end ≡ None → sign_or (option_map sign start) (sign_or (option_map sign end) below) ≡ below
+below_offsets start end below none_start none_end =
+    ap (λ found. sign_or (option_map sign found) (sign_or (option_map sign end) below)) none_start ∙ ap (λ found. sign_or (option_map sign found) below) none_end
 
 -- so each place of an edge has what the edge has
-pub plain_edge : {T : Type 0} (state : State T) (shape : ℕ × ℕ) (size : ℕ) (line : LineOf) (n k : ℕ) → HasNoOffsets (direction_of line) state → k < size
+pub plain_edge : {T : Type 0} (state : State T) (shape : ℕ × ℕ) (size : ℕ) (line : LineOf) (n k : ℕ) → HasNoOffsetsOf line n state → k < size
     → value (state_at state) shape size (edge_of line n k) ≡ plain_value (state_at state) shape (edge_of line n 0)
 unfolding value plain_value
 plain_edge {T} state shape size (LineOf.Horizontal r) n k none within =
@@ -70,28 +65,28 @@ plain_edge {T} state shape size (LineOf.Horizontal r) n k none within =
     let offsets : Option T = sign_or (state_at state (at_offset Horizontal r n (Offset.Start k))) (sign_or (state_at state (at_offset Horizontal r n (Offset.End (size - 1 - k)))) below) in
     let spot : Bool = has_spot shape (Place.Horizontal r n 0) in
     ap (λ b. if b then offsets else None) (ap (λ b. spot && b) (lt-ltb k size within) ∙ and_true spot)
-    ∙ ap (λ found. if spot then found else None) (below_offsets state Horizontal r n (Offset.Start k) (Offset.End (size - 1 - k)) below none)
+    ∙ ap (λ found. if spot then found else None) (below_offsets _ _ below (none (Offset.Start k)) (none (Offset.End (size - 1 - k))))
 plain_edge {T} state shape size (LineOf.Vertical c) n k none within =
     let below : Option T = first_sign (state_at state) (plain_sites shape (Place.Vertical n c 0)) in
     let offsets : Option T = sign_or (state_at state (at_offset Vertical n c (Offset.Start k))) (sign_or (state_at state (at_offset Vertical n c (Offset.End (size - 1 - k)))) below) in
     let spot : Bool = has_spot shape (Place.Vertical n c 0) in
     ap (λ b. if b then offsets else None) (ap (λ b. spot && b) (lt-ltb k size within) ∙ and_true spot)
-    ∙ ap (λ found. if spot then found else None) (below_offsets state Vertical n c (Offset.Start k) (Offset.End (size - 1 - k)) below none)
+    ∙ ap (λ found. if spot then found else None) (below_offsets _ _ below (none (Offset.Start k)) (none (Offset.End (size - 1 - k))))
 
-pub own_plain : (cfg : Configuration) (shape : ℕ × ℕ) (widths heights : ℕ → ℕ) (line : LineOf) (n k : ℕ) (found : Option ℕ) → HasNoOffsets (direction_of line) cfg.characters
+pub own_plain : (cfg : Configuration) (shape : ℕ × ℕ) (widths heights : ℕ → ℕ) (line : LineOf) (n k : ℕ) (found : Option ℕ) → HasNoOffsetsOf line n cfg.characters
     → found ≡ plain_value (state_at cfg.characters) shape (edge_of line n 0) → k < piece_size widths heights line n → found ≡ (look (all_writes cfg) shape widths heights).shown (edge_of line n k)
 own_plain cfg shape widths heights line n k found none is within =
     own_shown cfg shape widths heights (edge_of line n k) (piece_size widths heights line n) found (sym (edge_length widths heights line n k))
     (is ∙ sym (plain_edge cfg.characters shape (piece_size widths heights line n) line n k none within))
 
-pub own_plain_color : (cfg : Configuration) (shape : ℕ × ℕ) (widths heights : ℕ → ℕ) (line : LineOf) (n k : ℕ) (found : Option Texts) → HasNoOffsets (direction_of line) cfg.colors
+pub own_plain_color : (cfg : Configuration) (shape : ℕ × ℕ) (widths heights : ℕ → ℕ) (line : LineOf) (n k : ℕ) (found : Option Texts) → HasNoOffsetsOf line n cfg.colors
     → found ≡ plain_value (state_at cfg.colors) shape (edge_of line n 0) → k < piece_size widths heights line n → found ≡ (look (all_writes cfg) shape widths heights).color (edge_of line n k)
 own_plain_color cfg shape widths heights line n k found none is within =
     own_color cfg shape widths heights (edge_of line n k) (piece_size widths heights line n) found (sym (edge_length widths heights line n k))
     (is ∙ sym (plain_edge cfg.colors shape (piece_size widths heights line n) line n k none within))
 
 -- the same of a color that is wanted, or not
-pub own_plain_color_if : (cfg : Configuration) (shape : ℕ × ℕ) (widths heights : ℕ → ℕ) (line : LineOf) (n k : ℕ) (wanted : Bool) (edge : Place) (found : Option Texts) → (wanted ≡ true → HasNoOffsets (direction_of line) cfg.colors) → edge ≡ edge_of line n 0
+pub own_plain_color_if : (cfg : Configuration) (shape : ℕ × ℕ) (widths heights : ℕ → ℕ) (line : LineOf) (n k : ℕ) (wanted : Bool) (edge : Place) (found : Option Texts) → (wanted ≡ true → HasNoOffsetsOf line n cfg.colors) → edge ≡ edge_of line n 0
     → found ≡ (if wanted then plain_value (state_at cfg.colors) shape edge else None) → k < piece_size widths heights line n → found ≡ (if wanted then (look (all_writes cfg) shape widths heights).color (edge_of line n k) else None)
 own_plain_color_if cfg shape widths heights line n k true edge found none at is within =
     own_plain_color cfg shape widths heights line n k found (none refl) (is ∙ ap (plain_value (state_at cfg.colors) shape) at) within

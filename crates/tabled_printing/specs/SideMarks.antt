@@ -1,11 +1,11 @@
 -- The marks of vertical lines, one by one or by rank.
 use Rattle.std.specs.Prelude.{ℕ, ◌==◌, if◌then◌else◌, Option, None, length, slice_index_or}
-use Rattle.tabled_printing.specs.declared.mark.Mark.{Mark}
+use Rattle.tabled_printing.specs.declared.sides.Side.{Side}
 use Rattle.tabled_printing.specs.declared.sides.SideMarks.{SideMarks}
 use Rattle.tabled_printing.specs.declared.sides.SideMarks.TheVariants.{ByRank, Each}
 
 -- of lines 0 to `last` line c has its own mark, or that of the first one, of those between, or of the last one
-abbrev pub mark_kept : ℕ → SideMarks → ℕ → Option Mark
+abbrev pub mark_kept : ℕ → SideMarks → ℕ → Option Side
 mark_kept last (ByRank first inner end) c = if c == 0 then first else if c == last then end else inner
 mark_kept last (Each marks) c = slice_index_or marks.items c None
 

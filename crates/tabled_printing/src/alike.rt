@@ -1,53 +1,54 @@
-//! Whether nothing is kept for single places, or for single lines, or but for classes, so that what they show need not be looked up for
-//! each.
+//! Whether nothing is kept for single places, or for single lines, so that what they show need not be looked up for each.
 
 ghost use Rattle.std.specs.Prelude.{◌↔◌, IsTrue};
-ghost use Rattle.std.specs.Option.{ForSome};
-ghost use Rattle.tabled_grid.specs.Reading.{direction_of};
-ghost use Rattle.tabled_printing.specs.Alike.{ClassDecides, HasNoSingles, NoneForPlaces, NoneForLines};
+ghost use Rattle.tabled_grid.specs.Probing.{IsRaised};
+ghost use Rattle.tabled_printing.specs.Alike.{NoneForCells, NoneForColumns, NoneOnLine, NoOffsetsAt};
 
 use tabled_configuration::SpannedConfig;
-use tabled_grid::{Borders, LineOf};
-use tabled_kept::Probes;
+use tabled_grid::{Direction, LineOf};
+use tabled_kept::{Meter, Probes};
 
-/// Whether no character is kept for a single place of the lines of the direction of this one.
-fn has_no_chars(cfg: &SpannedConfig, line: LineOf) -> bool
-    ensures { IsTrue result ↔ HasNoSingles (direction_of line) cfg.now.characters }
+/// Whether nothing is kept for an edge or a crossing by itself: no character and, where colors are wanted, no color.
+pub(crate) fn has_none_for_cells(cfg: &SpannedConfig, with_colors: bool) -> bool
+    ensures { IsTrue result ↔ NoneForCells cfg.now with_colors }
 {
     let probes = &mut Probes::new();
-    !cfg.has_cell_chars(probes) && !cfg.has_char_offsets(line, probes)
+    !cfg.characters().has_cells(probes) && (!with_colors || !cfg.colors().has_cells(probes))
 }
 
-/// Whether no color is.
-fn has_no_colors(cfg: &SpannedConfig, line: LineOf) -> bool
-    ensures { IsTrue result ↔ HasNoSingles (direction_of line) cfg.now.colors }
+/// The same of the edges and the crossings of a line: at most two readings.
+pub(crate) fn has_none_on<M: Meter>(
+    cfg: &SpannedConfig<M>,
+    line: LineOf,
+    with_colors: bool,
+    probes: &mut M,
+) -> bool
+    ensures value { IsTrue result ↔ NoneOnLine cfg.now with_colors line }
+    ensures probes { IsRaised 2 (M.made probes.old) (M.made probes.new) }
+{
+    !cfg.characters().has_cells_on(line, probes)
+        && (!with_colors || !cfg.colors().has_cells_on(line, probes))
+}
+
+/// The same of the offsets of edges of that direction in a row: at most two readings.
+pub(crate) fn has_no_offsets_at<M: Meter>(
+    cfg: &SpannedConfig<M>,
+    direction: Direction,
+    row: usize,
+    with_colors: bool,
+    probes: &mut M,
+) -> bool
+    ensures value { IsTrue result ↔ NoOffsetsAt cfg.now with_colors direction row }
+    ensures probes { IsRaised 2 (M.made probes.old) (M.made probes.new) }
+{
+    !cfg.characters().has_offsets_at(direction, row, probes)
+        && (!with_colors || !cfg.colors().has_offsets_at(direction, row, probes))
+}
+
+/// Whether no custom vertical line stands at an index: none of characters and, where colors are wanted, none of colors.
+pub(crate) fn has_none_for_columns(cfg: &SpannedConfig, with_colors: bool) -> bool
+    ensures { IsTrue result ↔ NoneForColumns cfg.now with_colors }
 {
     let probes = &mut Probes::new();
-    !cfg.has_cell_colors(probes) && !cfg.has_color_offsets(line, probes)
-}
-
-/// Whether nothing is kept for a single place of the lines of the direction of this one: no character and, where colors are
-/// wanted, no color.
-pub(crate) fn has_none_for_places(cfg: &SpannedConfig, line: LineOf, with_colors: bool) -> bool
-    ensures { IsTrue result ↔ NoneForPlaces cfg.now with_colors (direction_of line) }
-{
-    has_no_chars(cfg, line) && (!with_colors || has_no_colors(cfg, line))
-}
-
-/// Whether no custom line stands in the direction of this one: none of characters and, where colors are wanted, none of colors.
-pub(crate) fn has_none_for_lines(cfg: &SpannedConfig, line: LineOf, with_colors: bool) -> bool
-    ensures { IsTrue result ↔ NoneForLines cfg.now with_colors (direction_of line) }
-{
-    let probes = &mut Probes::new();
-    !cfg.has_char_lines(line, probes) && (!with_colors || !cfg.has_color_lines(line, probes))
-}
-
-/// The class record, where no colors are wanted and it alone decides which characters show.
-pub(crate) fn class_deciding(cfg: &SpannedConfig, with_colors: bool) -> Option<&Borders<char>>
-    ensures { ForSome result (λ its. ClassDecides cfg.now with_colors its.now) }
-{
-    if with_colors {
-        return None;
-    }
-    cfg.class_alone(&mut Probes::new())
+    !cfg.characters().has_vlines(probes) && (!with_colors || !cfg.colors().has_vlines(probes))
 }

@@ -1,30 +1,31 @@
 //! What stands around the cells of a table: its lines, and what its vertical lines show beside rows.
 
-ghost use Rattle.std.specs.Prelude.{◌≡◌, ◌↔◌, ◌+◌, ◌*◌, ◌≤◌, ◌<◌, ◌++◌, true, false, None, IfOk, length, map, option_map};
+ghost use Rattle.std.specs.Prelude.{◌≡◌, ◌↔◌, ◌+◌, ◌*◌, ◌≤◌, ◌<◌, ◌++◌, true, false, IsTrue, IsFalse, IfOk, length, map, option_map};
 ghost use Rattle.std.specs.Coded.{codes};
-ghost use Rattle.std.specs.Option.{ForSome};
 ghost use Rattle.std.specs.FinMap as finmap;
 ghost use Rattle.tabled_grid.specs.declared.place.LineOf.{LineOf as Line};
 ghost use Rattle.tabled_grid.specs.declared.place.Place.{Place as Spot};
-ghost use Rattle.tabled_grid.specs.declared.site.Direction.TheVariants.{Horizontal, Vertical};
+ghost use Rattle.tabled_grid.specs.declared.site.Direction.TheVariants.{Vertical};
 ghost use Rattle.tabled_grid.specs.Probing.{IsRaised};
 ghost use Rattle.tabled_object.specs.Entities.{below};
 ghost use Rattle.tabled_printing.specs.Along.{is_empty};
-ghost use Rattle.tabled_printing.specs.Alike.{ClassDecides, NoneForPlaces, NoneForLines};
+ghost use Rattle.tabled_printing.specs.Alike.{IsBareLine, NoOffsetsAt, NoneForColumns};
 ghost use Rattle.tabled_printing.specs.Marks.{mark_of};
 ghost use Rattle.tabled_printing.specs.Picture.{mark_at, marks_along};
 ghost use Rattle.tabled_printing.specs.Beside.{mark_beside, mark_if_drawn, plain_mark};
 ghost use Rattle.tabled_printing.specs.Sides.{AreSides};
 ghost use Rattle.tabled_printing.specs.Sinks.{Put};
 
-use crate::alike::{class_deciding, has_none_for_lines, has_none_for_places};
+use crate::alike::{
+    has_no_offsets_at, has_none_for_cells, has_none_for_columns, has_none_on,
+};
 use crate::mark::{mark_seen, plain_mark};
 use crate::sink::Sink;
 use crate::walk::Walk;
 use crate::{Mark, Run, Sides};
 use tabled_border::OutOfMemory;
 use tabled_configuration::SpannedConfig;
-use tabled_grid::{Borders, HorizontalLine, LineOf, Place, Rank};
+use tabled_grid::{Direction, LineOf, Place};
 use tabled_kept::{Meter, Probes};
 use tabled_object::Dimension;
 
@@ -48,23 +49,14 @@ pub struct Frame<'a, 'b, D, M = Probes> {
     pub shape: (usize, usize),
     /// Whether colors are wanted.
     pub with_colors: bool,
-    /// The class record, where no colors are wanted and it alone decides which characters show.
-    pub class: Option<&'a Borders<char>>,
-    /// What vertical lines show beside the first row.
+    /// What vertical lines show beside rows.
     pub sides: Sides<'a>,
-    /// Whether they show that beside each row, as nothing is kept for single places of theirs.
-    pub has_alike_sides: bool,
-    /// Whether nothing is kept for single places of horizontal lines, so that those between rows look alike, but custom ones.
-    pub has_alike_lines: bool,
     /// Whether no vertical line is a custom one.
     pub has_plain_columns: bool,
     ghost has_places: { is_empty shape ≡ false },
-    ghost class_decides: { ForSome class (λ its. ClassDecides cfg.now with_colors its.now) },
     ghost are_sides: { AreSides cfg.now with_colors shape sides },
     ghost sides_end: { sides.last ≡ shape.1 },
-    ghost alike_sides: { has_alike_sides ≡ true → NoneForPlaces cfg.now with_colors Vertical } by { Prim.hlevel (codes, finmap.code) },
-    ghost alike_lines: { has_alike_lines ≡ true ↔ NoneForPlaces cfg.now with_colors Horizontal } by { Prim.hlevel (codes, finmap.code) },
-    ghost plain_columns: { has_plain_columns ≡ true ↔ NoneForLines cfg.now with_colors Vertical } by { Prim.hlevel (codes, finmap.code) },
+    ghost plain_columns: { has_plain_columns ≡ true ↔ NoneForColumns cfg.now with_colors } by { Prim.hlevel (codes, finmap.code) },
 }
 
 impl<'a, 'b, D: Dimension> Frame<'a, 'b, D> {
@@ -83,21 +75,15 @@ impl<'a, 'b, D: Dimension> Frame<'a, 'b, D> {
         ensures shape { IfOk result (λ frame. frame.shape ≡ shape) }
         ensures with_colors { IfOk result (λ frame. frame.with_colors ≡ with_colors) }
     {
-        let (level, upright) = (LineOf::Horizontal(0), LineOf::Vertical(0));
-        let has_alike_sides = has_none_for_places(cfg, upright, with_colors);
-        let has_plain_columns = has_none_for_lines(cfg, upright, with_colors);
-        let by_rank = has_alike_sides && has_plain_columns;
-        let class = class_deciding(cfg, with_colors);
-        let sides = Sides::of(cfg, shape, with_colors, class, by_rank)?;
+        let has_plain_columns = has_none_for_columns(cfg, with_colors);
+        let by_rank = has_plain_columns && has_none_for_cells(cfg, with_colors);
+        let sides = Sides::of(cfg, shape, with_colors, by_rank)?;
         Ok(Frame {
             cfg,
             dims,
             shape,
             with_colors,
-            class,
             sides,
-            has_alike_sides,
-            has_alike_lines: has_none_for_places(cfg, level, with_colors),
             has_plain_columns,
         })
     }
@@ -120,17 +106,26 @@ impl<'a, 'b, D: Dimension> Frame<'a, 'b, D> {
         mark_seen(self.cfg, self.shape, place, size, self.with_colors, probes)
     }
 
-    /// What a vertical line shows at line `at` of the text of a row, if the line is drawn.
+    /// Whether something is kept at an offset of a vertical line beside a row.
+    pub fn has_offsets_beside(&self, row: usize) -> bool
+        ensures { IsFalse result ↔ NoOffsetsAt self.now.cfg.now self.now.with_colors Vertical row }
+    {
+        let probes = &mut Probes::new();
+        !has_no_offsets_at(self.cfg, Direction::Vertical, row, self.with_colors, probes)
+    }
+
+    /// What a vertical line shows at line `at` of the text of a row, if the line is drawn, where it is known whether the row has offsets.
     #[inline(always)]
-    pub fn side(&self, row: usize, col: usize, at: usize) -> Option<Mark<'a>>
+    pub fn side(&self, row: usize, col: usize, at: usize, has_offsets: bool) -> Option<Mark<'a>>
         requires row { row < self.now.shape.0 }
         requires col { col ≤ self.now.shape.1 }
         requires at { at < D.height_of self.now.dims.now row }
+        requires offsets { has_offsets ≡ false → NoOffsetsAt self.now.cfg.now self.now.with_colors Vertical row }
         ensures { option_map mark_of result ≡ mark_beside (frame_look D.width_of D.height_of self.now) row at col }
     {
-        let mark = self.sides.at(col)?;
-        if self.has_alike_sides {
-            return Some(mark);
+        let side = self.sides.at(col)?;
+        if side.is_alike && !has_offsets {
+            return Some(side.mark);
         }
         Some(self.side_seen(row, col, at))
     }
@@ -171,25 +166,18 @@ impl<'a, 'b, D: Dimension> Frame<'a, 'b, D> {
 impl<'a, 'b, D: Dimension, M: Meter> Frame<'a, 'b, D, M> {
     ghost use Rattle.tabled_printing.specs.Viewed.{frame_look};
 
-    /// What a horizontal line shows whose edges look alike, and whose crossings do between the first one and the last one. Where
-    /// the class record alone decides that, it is read off there.
-    #[inline(always)]
-    fn looks(&self, row: usize, probes: &mut M) -> Looks<'a>
-        requires { row ≤ self.now.shape.0 }
-        ensures edge { mark_of result.edge ≡ plain_mark self.now.cfg.now self.now.with_colors self.now.shape (Spot.Horizontal row 0 0) }
-        ensures first { mark_of result.first ≡ plain_mark self.now.cfg.now self.now.with_colors self.now.shape (Spot.Cross row 0) }
-        ensures inner { 1 < self.now.shape.1 → mark_of result.inner ≡ plain_mark self.now.cfg.now self.now.with_colors self.now.shape (Spot.Cross row 1) }
-        ensures last { mark_of result.last ≡ plain_mark self.now.cfg.now self.now.with_colors self.now.shape (Spot.Cross row self.now.shape.1) }
-        ensures probes { IsRaised 45 (M.made probes.old) (M.made probes.new) }
+    /// Whether nothing is kept for a single place of a horizontal line, so that its edges look alike: at most four readings.
+    pub fn is_bare_line(&self, row: usize, probes: &mut M) -> bool
+        ensures value { IsTrue result ↔ IsBareLine self.now.cfg.now self.now.with_colors row }
+        ensures probes { IsRaised 4 (M.made probes.old) (M.made probes.new) }
     {
-        if let Some(class) = self.class {
-            return Looks::of(class.horizontal_line(Rank::of(row, self.shape.0)));
-        }
-        self.looked_up(row, probes)
+        let line = LineOf::Horizontal(row);
+        has_none_on(self.cfg, line, self.with_colors, probes)
+            && has_no_offsets_at(self.cfg, Direction::Horizontal, row, self.with_colors, probes)
     }
 
-    /// The same, each mark looked up by itself.
-    fn looked_up(&self, row: usize, probes: &mut M) -> Looks<'a>
+    /// What a horizontal line shows whose edges look alike, and whose crossings do between the first one and the last one.
+    fn looks(&self, row: usize, probes: &mut M) -> Looks<'a>
         ensures edge { mark_of result.edge ≡ plain_mark self.now.cfg.now self.now.with_colors self.now.shape (Spot.Horizontal row 0 0) }
         ensures first { mark_of result.first ≡ plain_mark self.now.cfg.now self.now.with_colors self.now.shape (Spot.Cross row 0) }
         ensures inner { mark_of result.inner ≡ plain_mark self.now.cfg.now self.now.with_colors self.now.shape (Spot.Cross row 1) }
@@ -259,10 +247,10 @@ impl<'a, 'b, D: Dimension, M: Meter> Frame<'a, 'b, D, M> {
         probes: &mut M,
     ) -> Result<(), S::Error>
         requires row { row ≤ self.now.shape.0 }
-        requires alike { self.now.has_alike_lines ≡ true }
+        requires alike { IsBareLine self.now.cfg.now self.now.with_colors row }
         requires plain { self.now.has_plain_columns ≡ true }
         ensures put { Put S.puts S.leaves result (marks_along (frame_look D.width_of D.height_of self.now) (Line.Horizontal row)) sink.old sink.new }
-        ensures probes { IsRaised 45 (M.made probes.old) (M.made probes.new) }
+        ensures probes { IsRaised 40 (M.made probes.old) (M.made probes.new) }
     {
         let (_, cols) = self.shape;
         let looks = self.looks(row, probes);
@@ -275,8 +263,8 @@ impl<'a, 'b, D: Dimension, M: Meter> Frame<'a, 'b, D, M> {
     }
 
     /// Puts the marks of a horizontal line, drawn or not. At most twelve readings are made for each place, six for each
-    /// vertical line and 45 for the line; where nothing is kept for single places and no vertical line is a custom one, 45 in
-    /// all. Refused only by the sink.
+    /// vertical line and 45 for the line; where nothing is kept for single places of it and no vertical line is a custom one, 45
+    /// in all. Refused only by the sink.
     pub fn put_line<S: Sink<'a>>(
         &self,
         row: usize,
@@ -286,9 +274,9 @@ impl<'a, 'b, D: Dimension, M: Meter> Frame<'a, 'b, D, M> {
         requires { row ≤ self.now.shape.0 }
         ensures put { Put S.puts S.leaves result (marks_along (frame_look D.width_of D.height_of self.now) (Line.Horizontal row)) sink.old sink.new }
         ensures probes { IsRaised (12 * length (marks_along (frame_look D.width_of D.height_of self.now) (Line.Horizontal row)) + 6 * (self.now.shape.1 + 1) + 45) (M.made probes.old) (M.made probes.new) }
-        ensures looked_up_once { NoneForPlaces self.now.cfg.now self.now.with_colors Horizontal → NoneForLines self.now.cfg.now self.now.with_colors Vertical → IsRaised 45 (M.made probes.old) (M.made probes.new) }
+        ensures looked_up_once { IsBareLine self.now.cfg.now self.now.with_colors row → NoneForColumns self.now.cfg.now self.now.with_colors → IsRaised 45 (M.made probes.old) (M.made probes.new) }
     {
-        if self.has_alike_lines && self.has_plain_columns {
+        if self.has_plain_columns && self.is_bare_line(row, probes) {
             return self.put_alike(row, sink, probes);
         }
         let walk = Walk {
@@ -300,22 +288,5 @@ impl<'a, 'b, D: Dimension, M: Meter> Frame<'a, 'b, D, M> {
             with_colors: self.with_colors,
         };
         walk.put_all(sink, probes)
-    }
-}
-
-impl Looks<'_> {
-    /// What a line of a class record shows, which has no colors.
-    fn of(line: HorizontalLine<char>) -> Self
-        ensures edge { mark_of result.edge ≡ (line.main, None) }
-        ensures first { mark_of result.first ≡ (line.left, None) }
-        ensures inner { mark_of result.inner ≡ (line.intersection, None) }
-        ensures last { mark_of result.last ≡ (line.right, None) }
-    {
-        Looks {
-            edge: Mark::uncolored(line.main),
-            first: Mark::uncolored(line.left),
-            inner: Mark::uncolored(line.intersection),
-            last: Mark::uncolored(line.right),
-        }
     }
 }

@@ -30,5 +30,5 @@ pub use print::{join_lines, print_plain};
 pub use print_error::PrintError;
 pub use repeat::{piece_of, push_times};
 pub use seen::{Seen, character_seen, color_seen, headline, line_seen};
-pub use sides::{SideMarks, Sides};
+pub use sides::{Side, SideMarks, Sides};
 pub use sink::Sink;

@@ -4,6 +4,8 @@ ghost use Rattle.std.specs.Prelude.{◌≡◌, ℕ, ◌≤◌, ◌<◌, ◌++◌
 ghost use Rattle.std.specs.List.{All, flat_map, join_with_byte};
 ghost use Rattle.tabled_configuration.specs.Configuration.{ConfigEvent, Shows, all_writes};
 ghost use Rattle.tabled_printing.specs.Texts.{Appends, texts};
+ghost use Rattle.tabled_grid.specs.declared.site.Direction.TheVariants.{Vertical};
+ghost use Rattle.tabled_printing.specs.Alike.{NoOffsetsAt};
 ghost use Rattle.tabled_printing.specs.Pieces.{lent, first_piece, after_first_piece};
 ghost use Rattle.tabled_printing.specs.Picture.{look, text_shown, side_shown, line_of_pieces, row_lines, line_if_drawn, text_lines, printed};
 ghost use Rattle.tabled_printing.specs.Refusal as refusal;
@@ -65,14 +67,16 @@ fn push_side<D: Dimension>(
     row: usize,
     col: usize,
     at: usize,
+    has_offsets: bool,
 ) -> Result<(), AllocError>
     requires row { row < frame.now.shape.0 }
     requires col { col ≤ frame.now.shape.1 }
     requires at { at < D.height_of frame.now.dims.now row }
+    requires offsets { has_offsets ≡ false → NoOffsetsAt frame.now.cfg.now frame.now.with_colors Vertical row }
     ensures { let view = frame_look D.width_of D.height_of frame.now in
         Appends result text.old text.new (text_shown (side_shown view row at col)) }
 {
-    if let Some(mark) = frame.side(row, col, at) {
+    if let Some(mark) = frame.side(row, col, at, has_offsets) {
         text.push(printed_as(mark.shown))?;
     }
     Ok(())
@@ -95,13 +99,14 @@ fn push_pieces<D: Dimension>(
     ensures rests { OnOk result ((c : ℕ) → slice_index_or (lent rests.new) c [] ≡ after_first_piece (slice_index_or (lent rests.old) c [])) }
 {
     let (_, cols) = frame.shape;
+    let has_offsets = frame.has_offsets_beside(row);
     for col in 0..cols {
-        push_side(text, frame, row, col, at)?;
+        push_side(text, frame, row, col, at, has_offsets)?;
         let (piece, rest) = cut(rests[col]);
         text.push_str(piece)?;
         rests[col] = rest;
     }
-    push_side(text, frame, row, cols, at)
+    push_side(text, frame, row, cols, at, has_offsets)
 }
 
 /// Writes the lines of text of a row, each with a line feed.

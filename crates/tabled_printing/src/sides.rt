@@ -1,30 +1,38 @@
 //! What vertical lines show beside rows, made once for a table.
 
-ghost use Rattle.std.specs.Prelude.{◌≡◌, ◌≤◌, ◌+◌, true, false, IfOk, map, option_map};
-ghost use Rattle.std.specs.Option.{ForSome};
-ghost use Rattle.tabled_grid.specs.declared.site.Direction.TheVariants.{Vertical};
+ghost use Rattle.std.specs.Prelude.{◌≡◌, ◌≤◌, ◌<◌, ◌+◌, ℕ, true, false, Some, None, IfOk, IfSome, map, option_map, slice_index_or};
+ghost use Rattle.tabled_grid.specs.declared.place.LineOf.{LineOf as Line};
 ghost use Rattle.tabled_object.specs.Entities.{below};
-ghost use Rattle.tabled_printing.specs.Alike.{ClassDecides, NoneForPlaces, NoneForLines};
-ghost use Rattle.tabled_printing.specs.Marks.{mark_of};
-ghost use Rattle.tabled_grid.specs.declared.place.Place.{Place as Spot};
+ghost use Rattle.tabled_printing.specs.Alike.{NoneForCells, NoneForColumns, NoneOnLine};
 ghost use Rattle.tabled_printing.specs.Along.{is_empty};
-ghost use Rattle.tabled_printing.specs.Beside.{plain_mark, plain_side};
+ghost use Rattle.tabled_printing.specs.Beside.{plain_side};
+ghost use Rattle.tabled_printing.specs.Sides.{IsAlikeSide, side_mark};
 ghost use Rattle.tabled_printing.specs.SideMarks.{mark_count};
 
 use crate::Mark;
+use crate::alike::has_none_on;
 use crate::mark::{plain_mark, printed_as};
 use tabled_border::OutOfMemory;
 use tabled_configuration::SpannedConfig;
-use tabled_grid::{Borders, LineOf, Place, Rank};
+use tabled_grid::{LineOf, Place};
 use tabled_kept::Probes;
 
-/// The marks of vertical lines beside rows: for each line that is drawn one, and none for one that is not.
+/// What a vertical line shows beside rows.
+#[derive(Clone, Copy, Debug)]
+pub struct Side<'a> {
+    /// What is kept for it beside the first row, without its offsets.
+    pub mark: Mark<'a>,
+    /// Whether it shows that beside each row without offsets, as nothing is kept for an edge or a crossing of it by itself.
+    pub is_alike: bool,
+}
+
+/// What vertical lines show beside rows: something for each line that is drawn, and nothing for one that is not.
 #[derive(Debug, Drop)]
 pub enum SideMarks<'a> {
-    /// That of the first line, that of those between, which look alike, and that of the last one.
-    ByRank(Option<Mark<'a>>, Option<Mark<'a>>, Option<Mark<'a>>),
-    /// That of each line.
-    Each(Vec<Option<Mark<'a>>>),
+    /// What the first line shows, what those between show, which look alike, and what the last one shows.
+    ByRank(Option<Side<'a>>, Option<Side<'a>>, Option<Side<'a>>),
+    /// What each line shows.
+    Each(Vec<Option<Side<'a>>>),
 }
 
 /// What vertical lines show beside rows.
@@ -45,34 +53,32 @@ impl<'a> Sides<'a> {
         cfg: &'a SpannedConfig,
         shape: (usize, usize),
         with_colors: bool,
-        class: Option<&Borders<char>>,
         by_rank: bool,
     ) -> Result<Self, OutOfMemory>
         requires shape { is_empty shape ≡ false }
-        requires class { ForSome class (λ its. ClassDecides cfg.now with_colors its.now) }
-        requires places { by_rank ≡ true → NoneForPlaces cfg.now with_colors Vertical }
-        requires lines { by_rank ≡ true → NoneForLines cfg.now with_colors Vertical }
+        requires cells { by_rank ≡ true → NoneForCells cfg.now with_colors }
+        requires columns { by_rank ≡ true → NoneForColumns cfg.now with_colors }
         ensures sides { IfOk result (AreSides cfg.now with_colors shape) }
         ensures last { IfOk result (λ sides. sides.last ≡ shape.1) }
     {
         let (_, last) = shape;
         if by_rank {
-            let first = side(cfg, shape, 0, with_colors, class);
-            let inner = side(cfg, shape, 1, with_colors, class);
-            let end = side(cfg, shape, last, with_colors, class);
+            let first = side(cfg, shape, 0, with_colors);
+            let inner = side(cfg, shape, 1, with_colors);
+            let end = side(cfg, shape, last, with_colors);
             let marks = SideMarks::ByRank(first, inner, end);
             return Ok(Sides { marks, last });
         }
-        let marks = one_by_one(cfg, shape, with_colors, class)?;
+        let marks = one_by_one(cfg, shape, with_colors)?;
         Ok(Sides {
             marks: SideMarks::Each(marks),
             last,
         })
     }
 
-    /// The mark of a line, if it is drawn.
+    /// What a line shows, if it is drawn.
     #[inline(always)]
-    pub fn at(&self, col: usize) -> Option<Mark<'a>>
+    pub fn at(&self, col: usize) -> Option<Side<'a>>
         requires { col ≤ self.now.last }
         ensures { result ≡ side_at self.now col }
     {
@@ -99,78 +105,62 @@ impl<'a> Sides<'a> {
 }
 
 /// How many bytes the character of a line takes.
-fn bytes_of(mark: &Option<Mark>) -> usize {
-    match mark {
-        Some(mark) => printed_as(mark.shown).len_utf8(),
+fn bytes_of(side: &Option<Side>) -> usize {
+    match side {
+        Some(side) => printed_as(side.mark.shown).len_utf8(),
         None => 0,
     }
 }
 
 /// How many bytes the characters of lines take. It saturates.
-fn bytes_of_each(marks: &[Option<Mark>]) -> usize {
+fn bytes_of_each(sides: &[Option<Side>]) -> usize {
     let mut bytes = 0usize;
-    for mark in marks {
-        bytes = bytes.saturating_add(bytes_of(mark));
+    for side in sides {
+        bytes = bytes.saturating_add(bytes_of(side));
     }
     bytes
 }
 
-/// What is kept for a line without its offsets, beside the first row. Where the class record alone decides that, it is read off there.
-fn mark_beside<'a>(
-    cfg: &'a SpannedConfig,
-    shape: (usize, usize),
-    col: usize,
-    with_colors: bool,
-    class: Option<&Borders<char>>,
-) -> Mark<'a>
-    requires shape { is_empty shape ≡ false }
-    requires col { col ≤ shape.1 }
-    requires class { ForSome class (λ its. ClassDecides cfg.now with_colors its.now) }
-    ensures { mark_of result ≡ plain_mark cfg.now with_colors shape (Spot.Vertical 0 col 0) }
-{
-    if let Some(class) = class {
-        return Mark::uncolored(class.vertical_line(Rank::of(col, shape.1)).main);
-    }
-    let place = Place::Vertical { row: 0, col, at: 0 };
-    plain_mark(cfg, shape, place, with_colors, &mut Probes::new())
-}
-
-/// The same, if the line is drawn.
+/// What a line shows beside the first row without its offsets, and whether beside each other one too, if the line is drawn.
 #[inline(always)]
 pub(crate) fn side<'a>(
     cfg: &'a SpannedConfig,
     shape: (usize, usize),
     col: usize,
     with_colors: bool,
-    class: Option<&Borders<char>>,
-) -> Option<Mark<'a>>
+) -> Option<Side<'a>>
     requires shape { is_empty shape ≡ false }
     requires col { col ≤ shape.1 }
-    requires class { ForSome class (λ its. ClassDecides cfg.now with_colors its.now) }
-    ensures { option_map mark_of result ≡ plain_side cfg.now with_colors shape col }
+    ensures mark { option_map side_mark result ≡ plain_side cfg.now with_colors shape col }
+    ensures alike { IfSome result (IsAlikeSide cfg.now with_colors col) }
 {
-    if !cfg.draws(LineOf::Vertical(col), shape.1, &mut Probes::new()) {
+    let line = LineOf::Vertical(col);
+    let probes = &mut Probes::new();
+    if !cfg.draws(line, shape.1, probes) {
         return None;
     }
-    Some(mark_beside(cfg, shape, col, with_colors, class))
+    let place = Place::Vertical { row: 0, col, at: 0 };
+    Some(Side {
+        mark: plain_mark(cfg, shape, place, with_colors, probes),
+        is_alike: has_none_on(cfg, line, with_colors, probes),
+    })
 }
 
-/// The marks of all lines.
+/// What all lines show.
 fn one_by_one<'a>(
     cfg: &'a SpannedConfig,
     shape: (usize, usize),
     with_colors: bool,
-    class: Option<&Borders<char>>,
-) -> Result<Vec<Option<Mark<'a>>>, OutOfMemory>
+) -> Result<Vec<Option<Side<'a>>>, OutOfMemory>
     requires shape { is_empty shape ≡ false }
-    requires class { ForSome class (λ its. ClassDecides cfg.now with_colors its.now) }
-    ensures { IfOk result (λ marks. map (option_map mark_of) marks.items ≡ map (plain_side cfg.now with_colors shape) (below (shape.1 + 1))) }
+    ensures marks { IfOk result (λ sides. map (option_map side_mark) sides.items ≡ map (plain_side cfg.now with_colors shape) (below (shape.1 + 1))) }
+    ensures alike { IfOk result (λ sides. (c : ℕ) → IfSome (slice_index_or sides.items c None) (IsAlikeSide cfg.now with_colors c)) }
 {
     let (_, last) = shape;
-    let mut marks = Vec::with_capacity(cfg.allocator(), last.saturating_add(1))?;
+    let mut sides = Vec::with_capacity(cfg.allocator(), last.saturating_add(1))?;
     for col in 0..last {
-        marks.push(side(cfg, shape, col, with_colors, class))?;
+        sides.push(side(cfg, shape, col, with_colors))?;
     }
-    marks.push(side(cfg, shape, last, with_colors, class))?;
-    Ok(marks)
+    sides.push(side(cfg, shape, last, with_colors))?;
+    Ok(sides)
 }

@@ -4,20 +4,20 @@
 ghost use Rattle.std.specs.Prelude.{◌≡◌, ℕ, ◌+◌, ◌*◌, ◌≤◌, ◌<◌, true, false, IsFalse, is_some, length, map};
 ghost use Rattle.std.specs.Option.{ForSome};
 ghost use Rattle.tabled_grid.specs.Probing.{IsRaised};
-ghost use Rattle.tabled_grid.specs.Reading.{direction_of};
-ghost use Rattle.tabled_grid.specs.State.{HasNoOffsets};
 ghost use Rattle.tabled_configuration.specs.Configuration.{all_writes};
+ghost use Rattle.tabled_printing.specs.Alike.{NoOffsetsOf};
 ghost use Rattle.tabled_printing.specs.LinePieces.{has_line, pieces_of, piece_size, crossed_after, edge_of, crossing_places, edge_places, piece_places, all_places};
 ghost use Rattle.tabled_printing.specs.Picture.{mark_at};
 ghost use Rattle.tabled_printing.specs.Sides.{side_at};
 ghost use Rattle.tabled_printing.specs.Sinks.{Put};
 
+use crate::alike::has_no_offsets_at;
 use crate::line_pieces::{crossing_line, crossing_of, edge_of, piece_size, pieces_of};
 use crate::mark::{mark_seen, plain_mark};
 use crate::sink::Sink;
 use crate::{Run, Sides};
 use tabled_configuration::SpannedConfig;
-use tabled_grid::LineOf;
+use tabled_grid::{Direction, LineOf};
 use tabled_kept::{Meter, Probes};
 use tabled_object::Dimension;
 
@@ -53,14 +53,21 @@ impl<'a, D: Dimension, M: Meter> Walk<'a, '_, '_, D, M> {
         self.cfg.draws(crossing_line(self.line, n), count, probes)
     }
 
-    /// Whether a place of an edge may show something else than its edge: at most two readings.
+    /// Whether a place of an edge may show something else than its edge: where an offset is kept on the line, if it is a horizontal one, or
+    /// on some vertical line. At most two readings.
     pub(crate) fn has_offsets(&self, probes: &mut M) -> bool
-        ensures characters { IsFalse result → HasNoOffsets (direction_of self.now.line) self.now.cfg.now.characters }
-        ensures colors { IsFalse result → self.now.with_colors ≡ true → HasNoOffsets (direction_of self.now.line) self.now.cfg.now.colors }
+        ensures offsets { IsFalse result → (n : ℕ) → NoOffsetsOf self.now.cfg.now self.now.with_colors self.now.line n }
         ensures probes { IsRaised 2 (M.made probes.old) (M.made probes.new) }
     {
-        self.cfg.has_char_offsets(self.line, probes)
-            || (self.with_colors && self.cfg.has_color_offsets(self.line, probes))
+        match self.line {
+            LineOf::Horizontal(row) => {
+                !has_no_offsets_at(self.cfg, Direction::Horizontal, row, self.with_colors, probes)
+            }
+            LineOf::Vertical(_) => {
+                self.cfg.characters().has_vertical_offsets(probes)
+                    || (self.with_colors && self.cfg.colors().has_vertical_offsets(probes))
+            }
+        }
     }
 
     /// Puts the mark of a crossing, if the other line is drawn.
@@ -114,8 +121,7 @@ impl<'a, D: Dimension, M: Meter> Walk<'a, '_, '_, D, M> {
         probes: &mut M,
     ) -> Result<(), S::Error>
         requires size { size ≡ piece_size (D.width_of self.now.dims.now) (D.height_of self.now.dims.now) self.now.line n }
-        requires characters { HasNoOffsets (direction_of self.now.line) self.now.cfg.now.characters }
-        requires colors { self.now.with_colors ≡ true → HasNoOffsets (direction_of self.now.line) self.now.cfg.now.colors }
+        requires offsets { NoOffsetsOf self.now.cfg.now self.now.with_colors self.now.line n }
         ensures put { let view = walk_look D.width_of D.height_of self.now in
             Put S.puts S.leaves result (map (mark_at view) (edge_places view self.now.line n)) sink.old sink.new }
         ensures probes { IsRaised 10 (M.made probes.old) (M.made probes.new) }
@@ -133,8 +139,7 @@ impl<'a, D: Dimension, M: Meter> Walk<'a, '_, '_, D, M> {
         has_offsets: bool,
         probes: &mut M,
     ) -> Result<(), S::Error>
-        requires characters { has_offsets ≡ false → HasNoOffsets (direction_of self.now.line) self.now.cfg.now.characters }
-        requires colors { has_offsets ≡ false → self.now.with_colors ≡ true → HasNoOffsets (direction_of self.now.line) self.now.cfg.now.colors }
+        requires offsets { has_offsets ≡ false → NoOffsetsOf self.now.cfg.now self.now.with_colors self.now.line n }
         ensures put { let view = walk_look D.width_of D.height_of self.now in
             Put S.puts S.leaves result (map (mark_at view) (edge_places view self.now.line n)) sink.old sink.new }
         ensures probes { let view = walk_look D.width_of D.height_of self.now in
@@ -159,8 +164,7 @@ impl<'a, D: Dimension, M: Meter> Walk<'a, '_, '_, D, M> {
         probes: &mut M,
     ) -> Result<(), S::Error>
         requires within { n < pieces_of self.now.shape self.now.line }
-        requires characters { has_offsets ≡ false → HasNoOffsets (direction_of self.now.line) self.now.cfg.now.characters }
-        requires colors { has_offsets ≡ false → self.now.with_colors ≡ true → HasNoOffsets (direction_of self.now.line) self.now.cfg.now.colors }
+        requires offsets { has_offsets ≡ false → NoOffsetsOf self.now.cfg.now self.now.with_colors self.now.line n }
         ensures put { let view = walk_look D.width_of D.height_of self.now in
             Put S.puts S.leaves result (map (mark_at view) (piece_places view self.now.line n)) sink.old sink.new }
         ensures probes { let view = walk_look D.width_of D.height_of self.now in

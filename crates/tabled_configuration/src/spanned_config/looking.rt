@@ -1,17 +1,15 @@
 //! Look-ups in a configuration's borders. They are written for every type of meters: so none can be made here, and each reading
 //! raises the one that is lent.
 
-ghost use Rattle.std.specs.Prelude.{◌≡◌, ◌↔◌, ◌<◌, IsFalse, IsTrue, None, IfSome, IsSome, OnSome, option_copied};
-ghost use Rattle.tabled_grid.specs.ClassAlone.{ShowsClasses};
+ghost use Rattle.std.specs.Prelude.{◌≡◌, ◌↔◌, ◌<◌, IsTrue, option_copied};
 ghost use Rattle.tabled_grid.specs.Drawn.{Drawn};
 ghost use Rattle.tabled_grid.specs.Probing.{IsRaised};
-ghost use Rattle.tabled_grid.specs.Reading.{direction_of, HasClassAlone};
-ghost use Rattle.tabled_grid.specs.State.{state_at, HasNoCells, HasNoLines, HasNoOffsets};
+ghost use Rattle.tabled_grid.specs.State.{state_at};
 ghost use Rattle.tabled_grid.specs.Value.{plain_value, value};
 
 use super::SpannedConfig;
 use tabled_border::ANSIBuf;
-use tabled_grid::{Borders, LineOf, Place};
+use tabled_grid::{Layers, LineOf, Place};
 use tabled_kept::Meter;
 
 impl<M: Meter> SpannedConfig<M> {
@@ -85,75 +83,17 @@ impl<M: Meter> SpannedConfig<M> {
         self.colors.read_plain(place, shape, probes)
     }
 
-    /// The class record of the characters, where nothing else is looked at below the offset characters: each edge and each
-    /// crossing then shows what the record has for its class. At most five readings are made.
-    #[inline(always)]
-    pub fn class_alone(&self, probes: &mut M) -> Option<&Borders<char>>
-        ensures class { IfSome result (λ class. class.now ≡ self.now.characters.class_record) }
-        ensures shown { OnSome result (ShowsClasses self.now.characters) }
-        ensures lent { HasClassAlone self.now.characters → self.now.characters.default_value ≡ None → IsSome result }
-        ensures probes { IsRaised 5 (M.made probes.old) (M.made probes.new) }
+    /// What is kept of the characters of borders, level by level.
+    pub fn characters(&self) -> &Layers<char, M>
+        ensures { result.now ≡ self.now.characters }
     {
-        self.characters.class_alone(probes)
+        &self.characters
     }
 
-    /// Whether an offset character is kept for some line of the direction of this one: one reading.
-    pub fn has_char_offsets(&self, line: LineOf, probes: &mut M) -> bool
-        ensures value { IsFalse result ↔ HasNoOffsets (direction_of line) self.now.characters }
-        ensures probes { IsRaised 1 (M.made probes.old) (M.made probes.new) }
+    /// What is kept of the colors of borders.
+    pub fn colors(&self) -> &Layers<ANSIBuf, M>
+        ensures { result.now ≡ self.now.colors }
     {
-        match line {
-            LineOf::Horizontal(_) => self.characters.has_horizontal_offsets(probes),
-            LineOf::Vertical(_) => self.characters.has_vertical_offsets(probes),
-        }
-    }
-
-    /// Whether an offset color is kept for some line of the direction of this one: one reading.
-    pub fn has_color_offsets(&self, line: LineOf, probes: &mut M) -> bool
-        ensures value { IsFalse result ↔ HasNoOffsets (direction_of line) self.now.colors }
-        ensures probes { IsRaised 1 (M.made probes.old) (M.made probes.new) }
-    {
-        match line {
-            LineOf::Horizontal(_) => self.colors.has_horizontal_offsets(probes),
-            LineOf::Vertical(_) => self.colors.has_vertical_offsets(probes),
-        }
-    }
-
-    /// Whether a character is kept for an edge or a crossing by itself: one reading.
-    pub fn has_cell_chars(&self, probes: &mut M) -> bool
-        ensures value { IsFalse result ↔ HasNoCells self.now.characters }
-        ensures probes { IsRaised 1 (M.made probes.old) (M.made probes.new) }
-    {
-        self.characters.has_cells(probes)
-    }
-
-    /// Whether a color is kept for an edge or a crossing by itself: one reading.
-    pub fn has_cell_colors(&self, probes: &mut M) -> bool
-        ensures value { IsFalse result ↔ HasNoCells self.now.colors }
-        ensures probes { IsRaised 1 (M.made probes.old) (M.made probes.new) }
-    {
-        self.colors.has_cells(probes)
-    }
-
-    /// Whether a custom line of characters of the direction of this line stands at some index: one reading.
-    pub fn has_char_lines(&self, line: LineOf, probes: &mut M) -> bool
-        ensures value { IsFalse result ↔ HasNoLines (direction_of line) self.now.characters }
-        ensures probes { IsRaised 1 (M.made probes.old) (M.made probes.new) }
-    {
-        match line {
-            LineOf::Horizontal(_) => self.characters.has_hlines(probes),
-            LineOf::Vertical(_) => self.characters.has_vlines(probes),
-        }
-    }
-
-    /// Whether a custom line of colors of the direction of this line stands at some index: one reading.
-    pub fn has_color_lines(&self, line: LineOf, probes: &mut M) -> bool
-        ensures value { IsFalse result ↔ HasNoLines (direction_of line) self.now.colors }
-        ensures probes { IsRaised 1 (M.made probes.old) (M.made probes.new) }
-    {
-        match line {
-            LineOf::Horizontal(_) => self.colors.has_hlines(probes),
-            LineOf::Vertical(_) => self.colors.has_vlines(probes),
-        }
+        &self.colors
     }
 }

@@ -1,15 +1,17 @@
 //! What is asked of edges as wholes and of all cells, besides single places.
 
-ghost use Rattle.std.specs.Prelude.{◌≡◌, ◌↔◌, ◌||◌, [], not, IsTrue, is_some};
+ghost use Rattle.std.specs.Prelude.{◌≡◌, ◌↔◌, ◌||◌, not, IsTrue, is_some};
+ghost use Rattle.tabled_settings.specs.Live.{value_at};
 ghost use Rattle.tabled_settings.specs.Padding as padding;
 ghost use Rattle.std.specs.FinMap as map;
 ghost use Rattle.tabled_grid.specs.Value.{plain_value};
 ghost use Rattle.tabled_grid.specs.State.{state_at};
-ghost use Rattle.tabled_configuration.specs.AlikeCells.{AreAlike, AreColoredByRows, ArePlacedAlike};
+ghost use Rattle.tabled_configuration.specs.CellColors.{AreColoredByRows};
 ghost use Rattle.tabled_configuration.specs.Configuration.{has_no_padding, is_sized_by_texts};
 
 use super::SpannedConfig;
 use tabled_grid::Place;
+use tabled_object::Position;
 use tabled_settings::{Indent, Sides};
 
 impl SpannedConfig {
@@ -20,31 +22,6 @@ impl SpannedConfig {
         self.characters.plain_at(place, shape).copied()
     }
 
-    /// Whether all rows are known to place their texts alike. How texts are placed was set for no entity but `Global` since it was set
-    /// for all; but where they stand between the left and the right side may be set for columns too.
-    pub fn has_alike_placements(&self) -> bool
-        ensures { IsTrue result ↔ ArePlacedAlike self.now.settings.cells }
-    {
-        let cells = &self.settings.cells;
-        cells.alignment_horizontal.has_columns_alone()
-            && cells.alignment_vertical.is_empty()
-            && cells.trim_horizontal.is_empty()
-            && cells.trim_vertical.is_empty()
-            && cells.line_alignment.is_empty()
-            && cells.justification.is_empty()
-            && cells.padding.is_empty()
-    }
-
-    /// The same, also of colors beside texts. These are set for all cells alone then, so all rows have the same settings.
-    pub fn has_alike_rows(&self) -> bool
-        ensures { IsTrue result ↔ AreAlike self.now.settings.cells }
-    {
-        let cells = &self.settings.cells;
-        self.has_alike_placements()
-            && cells.justification_color.is_empty()
-            && cells.padding_color.is_empty()
-    }
-
     /// Whether colors beside texts are set for all cells and for rows alone.
     pub fn has_colors_by_rows(&self) -> bool
         ensures { IsTrue result ↔ AreColoredByRows self.now.settings.cells }
@@ -53,11 +30,12 @@ impl SpannedConfig {
         cells.justification_color.has_rows_alone() && cells.padding_color.has_rows_alone()
     }
 
-    /// Whether all texts are known to stand alike between left and right. That is set for all cells alone.
-    pub fn has_one_alignment(&self) -> bool
-        ensures { IsTrue result ↔ (self.now.settings.cells.alignment_horizontal.since ≡ []) }
+    /// Whether a cell has the padding of one where none was set: one column of spaces at its left and at its right, and no line above or
+    /// below.
+    pub fn has_first_padding(&self, cell: Position) -> bool
+        ensures { result ≡ padding.is_first_padding (value_at self.now.settings.cells.padding cell) }
     {
-        self.settings.cells.alignment_horizontal.is_empty()
+        is_first_padding(self.settings.cells.padding.get(cell))
     }
 
     /// Whether no padding is set: each cell has one column of spaces at its left and at its right, and no line above or below. So it is

@@ -1,6 +1,6 @@
 //! How a store is read.
 
-ghost use Rattle.std.specs.Prelude.{◌≡◌, ◌↔◌, ◌<◌, IsTrue, None, IfOk, IfSome, IsSome, OnSome, option_copied, option_and_then};
+ghost use Rattle.std.specs.Prelude.{◌≡◌, ◌<◌, IfOk, option_copied, option_and_then};
 ghost use Rattle.std.specs.Ordering.{nat_cmp};
 ghost use Rattle.std.specs.FinMap as map;
 ghost use Rattle.tabled_grid.specs.Table.{table};
@@ -122,8 +122,7 @@ impl<T> Layers<T> {
 impl<T, M: Meter> Layers<T, M> {
     ghost use Rattle.tabled_grid.specs.Value.{value, plain_value};
     ghost use Rattle.tabled_grid.specs.State.{state_at};
-    ghost use Rattle.tabled_grid.specs.Reading.{pick, main_of, offset_of, plain_edge, plain_crossing, edge_shown, HasClassAlone};
-    ghost use Rattle.tabled_grid.specs.ClassAlone.{ShowsClasses};
+    ghost use Rattle.tabled_grid.specs.Reading.{pick, main_of, offset_of, plain_edge, plain_crossing, edge_shown};
 
     /// What shows at a place of a table of `shape.0` rows and `shape.1` columns: what is kept at the highest level that has
     /// something there. `size` is the width of a horizontal edge's column or the height of a vertical edge's row; for a crossing it
@@ -165,30 +164,6 @@ impl<T, M: Meter> Layers<T, M> {
             }
             Place::Cross { row, col } => self.plain_crossing(row, col, shape, probes),
         }
-    }
-
-    /// The class record, where nothing else is looked at below the offsets: neither a custom line nor the edges and the crossings
-    /// of cells, and no default. Each edge and each crossing then shows what the record has for its class, so what many places
-    /// show can be read off it at once. At most five readings are made.
-    pub fn class_alone(&self, probes: &mut M) -> Option<&Borders<T>>
-        ensures class { IfSome result (λ class. class.now ≡ self.now.class_record) }
-        ensures shown { OnSome result (ShowsClasses self.now) }
-        ensures lent { HasClassAlone self.now → self.now.default_value ≡ None → IsSome result }
-        ensures probes { IsRaised 5 (M.made probes.old) (M.made probes.new) }
-    {
-        if self.has_class_alone(probes) && self.default_value.read(probes).is_none() {
-            return Some(self.class_record.read(probes));
-        }
-        None
-    }
-
-    /// Whether there is nothing to look for below the offsets but what the class record and the default have: at most three
-    /// readings.
-    fn has_class_alone(&self, probes: &mut M) -> bool
-        ensures value { IsTrue result ↔ HasClassAlone self.now }
-        ensures probes { IsRaised 3 (M.made probes.old) (M.made probes.new) }
-    {
-        !self.has_cells(probes) && !self.has_hlines(probes) && !self.has_vlines(probes)
     }
 
     /// What the edge of a line, of the lines 0 to `line.1` of its direction, shows at place `at.0` of its `at.1` places.
