@@ -7,6 +7,7 @@ ghost use Rattle.tabled_grid.specs.Table.{table};
 ghost use Rattle.tabled_layout.specs.Covering.{covered_by_both_spans, covered_by_column_span, covered_by_row_span};
 ghost use Rattle.tabled_layout.specs.Margin.{of_color, of_offset, of_size};
 ghost use Rattle.tabled_layout.specs.Spans.{position_cmp};
+ghost use Rattle.tabled_settings.specs.Padding.{is_first_padding};
 ghost use Rattle.tabled_settings.specs.CellSettings.{of_alignment_horizontal, of_alignment_vertical, of_justification, of_justification_color, of_line_alignment, of_padding, of_padding_color, of_trim_horizontal, of_trim_vertical};
 ghost use Rattle.tabled_settings.specs.Live.{value_at};
 ghost use Rattle.tabled_settings.specs.Setting.{is_global, write_of};
@@ -306,14 +307,20 @@ pub fn settings_of_a_cell(
     )
 }
 
-/// The padding that is set for a cell; whether none is set for any, and whether one is or some cell spans.
-pub fn padding_of_a_cell(cfg: &SpannedConfig, position: Position) -> (&Sides<Indent>, bool, bool)
+/// The padding that is set for a cell; whether it is that of a table where none was set; whether none is set for any, and whether one is or
+/// some cell spans.
+pub fn padding_of_a_cell(
+    cfg: &SpannedConfig,
+    position: Position,
+) -> (&Sides<Indent>, bool, bool, bool)
     ensures padding { result.0.now ≡ value_at cfg.now.settings.cells.padding position }
-    ensures none { result.1 ≡ has_no_padding cfg.now }
-    ensures sized { result.2 ≡ not (is_sized_by_texts cfg.now) }
+    ensures first { result.1 ≡ is_first_padding (value_at cfg.now.settings.cells.padding position) }
+    ensures none { result.2 ≡ has_no_padding cfg.now }
+    ensures sized { result.3 ≡ not (is_sized_by_texts cfg.now) }
 {
     (
         cfg.get_padding(position),
+        cfg.has_first_padding(position),
         cfg.has_no_padding(),
         cfg.has_spans_or_padding(),
     )

@@ -1,14 +1,11 @@
 //! What a store keeps, level by level.
 
-ghost use Rattle.std.specs.Prelude.{◌↔◌, ◌≡◌, None, IfOk, IfSome, IsFalse, IsSome, OnSome, option_copied};
+ghost use Rattle.std.specs.Prelude.{◌↔◌, ◌≡◌, IfOk, IsFalse, option_copied};
 ghost use Rattle.std.specs.FinMap as map;
 ghost use Rattle.std.specs.Ordering.{nat_cmp};
 ghost use Rattle.tabled_grid.specs.CellBorder.{border_shown};
-ghost use Rattle.tabled_grid.specs.ClassAlone.{ShowsClasses};
 ghost use Rattle.tabled_grid.specs.Probing.{IsRaised};
-ghost use Rattle.tabled_grid.specs.declared.site.Direction.TheVariants.{Horizontal as horizontal, Vertical as vertical};
-ghost use Rattle.tabled_grid.specs.State.{HasNoCells, HasNoLines, HasNoOffsets, state_at};
-ghost use Rattle.tabled_grid.specs.Reading.{HasClassAlone};
+ghost use Rattle.tabled_grid.specs.State.{HasNoCells, HasNoCellsOn, HasNoOffsetsAt, state_at};
 ghost use Rattle.tabled_grid.specs.Table.{table};
 ghost use Rattle.tabled_grid.specs.Value.{plain_value, value};
 ghost use Rattle.tabled_grid.specs.Writes.{kept_at};
@@ -16,7 +13,8 @@ ghost use Rattle.tabled_grid.specs.Writes.{kept_at};
 use std::collections::BTreeMap;
 use tabled_border::{Border, Keep, OutOfMemory};
 use tabled_grid::{
-    Borders, HorizontalLine, HorizontalLines, Layers, Place, Target, VerticalLine, VerticalLines,
+    Borders, Direction, HorizontalLine, HorizontalLines, Layers, LineOf, Place, Target, VerticalLine,
+    VerticalLines,
 };
 use tabled_kept::Meter;
 use tabled_object::Position;
@@ -109,45 +107,40 @@ pub fn value_beside_offsets_counted<'a, T, M: Meter>(
     store.read_plain(place, shape, probes)
 }
 
-/// The class record, where nothing else is looked at below the offsets: neither a custom line nor the edges and the crossings of
-/// cells, and no default. Each edge and each crossing then shows what the record has for its class, so what many places show can
-/// be read off it at once.
-pub fn class_record_alone<'a, T, M: Meter>(
-    store: &'a Layers<T, M>,
-    probes: &mut M,
-) -> Option<&'a Borders<T>>
-    ensures class { IfSome result (λ class. class.now ≡ store.now.class_record) }
-    ensures shown { OnSome result (ShowsClasses store.now) }
-    ensures lent { HasClassAlone store.now → store.now.default_value ≡ None → IsSome result }
-    ensures probes { IsRaised 5 (M.made probes.old) (M.made probes.new) }
-{
-    store.class_alone(probes)
-}
-
-/// Whether anything is kept at numbered places of horizontal edges, of vertical ones, and at the cell level: one reading each.
-pub fn has_offsets_and_cells<T, M: Meter>(
+/// Whether anything is kept at numbered places of vertical edges, at the cell level, and whether a custom vertical line stands at some
+/// index: one reading each.
+pub fn has_offsets_cells_and_lines<T, M: Meter>(
     store: &Layers<T, M>,
     probes: &mut M,
 ) -> (bool, bool, bool)
-    ensures horizontal { IsFalse result.0 ↔ HasNoOffsets horizontal store.now }
-    ensures vertical { IsFalse result.1 ↔ HasNoOffsets vertical store.now }
-    ensures cells { IsFalse result.2 ↔ HasNoCells store.now }
+    ensures offsets { IsFalse result.0 ↔ (store.now.vertical_offsets ≡ map.empty) }
+    ensures cells { IsFalse result.1 ↔ HasNoCells store.now }
+    ensures lines { IsFalse result.2 ↔ (store.now.vertical_lines ≡ map.empty) }
     ensures readings { IsRaised 3 (M.made probes.old) (M.made probes.new) }
 {
     (
-        store.has_horizontal_offsets(probes),
         store.has_vertical_offsets(probes),
         store.has_cells(probes),
+        store.has_vlines(probes),
     )
 }
 
-/// Whether a custom horizontal line stands at some index, and a vertical one: one reading each.
-pub fn has_lines<T, M: Meter>(store: &Layers<T, M>, probes: &mut M) -> (bool, bool)
-    ensures horizontal { IsFalse result.0 ↔ HasNoLines horizontal store.now }
-    ensures vertical { IsFalse result.1 ↔ HasNoLines vertical store.now }
+/// Whether anything is kept at the cell level on a line, and at numbered places of the edges of a direction in a row: one reading each.
+pub fn has_cells_on_a_line_and_offsets_in_a_row<T, M: Meter>(
+    store: &Layers<T, M>,
+    line: LineOf,
+    direction: Direction,
+    row: usize,
+    probes: &mut M,
+) -> (bool, bool)
+    ensures cells { IsFalse result.0 ↔ HasNoCellsOn line store.now }
+    ensures offsets { IsFalse result.1 ↔ HasNoOffsetsAt direction row store.now }
     ensures readings { IsRaised 2 (M.made probes.old) (M.made probes.new) }
 {
-    (store.has_hlines(probes), store.has_vlines(probes))
+    (
+        store.has_cells_on(line, probes),
+        store.has_offsets_at(direction, row, probes),
+    )
 }
 
 /// What shows at the sides and the corners of a cell in a table of `shape.0` rows and `shape.1` columns, without the offsets:

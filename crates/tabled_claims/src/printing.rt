@@ -26,7 +26,7 @@ use tabled_grid::LineOf;
 use tabled_kept::{Meter, Probes};
 use tabled_object::Dimension;
 use tabled_printing::{
-    Frame, Mark, PrintError, Run, Sides, Sink, join_lines, line_marks, line_runs, print_plain,
+    Frame, Mark, PrintError, Run, Side, Sides, Sink, join_lines, line_marks, line_runs, print_plain,
 };
 
 /// The printer appends exactly the picture that the events draw around the cells. It returns the first fault there is, and
@@ -150,11 +150,12 @@ pub fn side_of_a_row<'a, D: Dimension>(
     ensures side { option_map mark_of result.0 ≡ (if (frame_look D.width_of D.height_of frame.now).vertical col then Some (mark_at (frame_look D.width_of D.height_of frame.now) (Spot.Vertical row col at)) else None) }
     ensures drawn { result.1 ≡ (frame_look D.width_of D.height_of frame.now).horizontal row }
 {
-    (frame.side(row, col, at), frame.draws(row))
+    let has_offsets = frame.has_offsets_beside(row);
+    (frame.side(row, col, at, has_offsets), frame.draws(row))
 }
 
-/// The mark that is kept for a vertical line.
-pub fn kept_side<'a>(sides: &Sides<'a>, col: usize) -> Option<Mark<'a>>
+/// What is kept for a vertical line.
+pub fn kept_side<'a>(sides: &Sides<'a>, col: usize) -> Option<Side<'a>>
     requires { col ≤ sides.now.last }
     ensures kept { result ≡ side_at sides.now col }
 {

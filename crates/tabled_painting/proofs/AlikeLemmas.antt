@@ -17,18 +17,17 @@ use Rattle.tabled_grid.specs.declared.site.Part.TheVariants.{Edges as main_edges
 use Rattle.tabled_grid.specs.declared.site.Site.TheVariants.{Default as the_default, Class as of_class}
 use Rattle.tabled_grid.specs.Site.{rank}
 use Rattle.tabled_grid.specs.Value.{inside, sign_or, value}
-use Rattle.tabled_grid.specs.State.{State, state_at, edge_place, horizontal_part, vertical_part, HasNoCells, HasNoOffsets}
-use Rattle.tabled_grid.specs.Keys.{spot_cmp, edge_place_cmp}
+use Rattle.tabled_grid.specs.State.{State, state_at, horizontal_part, vertical_part, HasNoCellsOn, HasNoOffsetsAt}
 use Rattle.tabled_object.specs.declared.dimension.FixedDimension.{FixedDimension}
 use Rattle.tabled_object.specs.Entities.{below}
 use Rattle.tabled_configuration.specs.Configuration.{Configuration, all_writes}
 use Rattle.tabled_printing.specs.declared.frame.Frame.{Frame}
 use Rattle.tabled_printing.specs.Along.{is_empty}
-use Rattle.tabled_printing.specs.Alike.{NoneForPlaces}
+use Rattle.tabled_printing.specs.Alike.{IsBareLine}
 use Rattle.tabled_printing.specs.LinePieces.{edge_of, crossing_places, edge_places, piece_places, places_before, all_places}
 use Rattle.tabled_printing.specs.Picture.{Look, look, edge_size, mark_at, marks_along}
 use Rattle.tabled_printing.specs.Viewed.{with_colors_if}
-use Rattle.tabled_printing.proofs.AlikeLemmas.{absent, between, if_same}
+use Rattle.tabled_printing.proofs.AlikeLemmas.{between, if_same, itself}
 use Rattle.tabled_printing.proofs.LookLemmas.{own_shown, own_color}
 use Rattle.tabled_printing.proofs.LineLemmas.{along_pieces, horizontal_there}
 use Rattle.tabled_printing.proofs.MarkLemmas.{mark_by}
@@ -43,15 +42,15 @@ nothing : {A : Type 0} (o : Option A) → is_some o ≡ false → o ≡ None
 nothing None none = refl
 nothing (Some x) none = absurd cc
 
-pub plain_line : (cfg : Configuration) (r : ℕ) (custom : Bool) → custom ≡ (is_some (get cfg.characters.horizontal_lines r) || is_some (get cfg.colors.horizontal_lines r)) → custom ≡ false → IsPlainLine cfg r
-plain_line cfg r custom is not_custom =
+or_false : (a b : Bool) → a || b ≡ false → (a ≡ false) × (b ≡ false)
+or_false false false e = (refl, refl)
+or_false false true e = absurd cc
+or_false true b e = absurd cc
+
+pub plain_line : (cfg : Configuration) (wanted : Bool) (r : ℕ) (custom : Bool) → custom ≡ (is_some (get cfg.characters.horizontal_lines r) || is_some (get cfg.colors.horizontal_lines r)) → custom ≡ false → IsBareLine cfg wanted r → IsPlainLine cfg wanted r
+plain_line cfg wanted r custom is not_custom bare =
     let both = or_false (is_some (get cfg.characters.horizontal_lines r)) (is_some (get cfg.colors.horizontal_lines r)) (sym is ∙ not_custom) in
-    record { no_characters = nothing (get cfg.characters.horizontal_lines r) both.0; no_colors = nothing (get cfg.colors.horizontal_lines r) both.1 }
-  where
-    or_false : (a b : Bool) → a || b ≡ false → (a ≡ false) × (b ≡ false)
-    or_false false false e = (refl, refl)
-    or_false false true e = absurd cc
-    or_false true b e = absurd cc
+    record { no_characters = nothing (get cfg.characters.horizontal_lines r) both.0; no_colors = nothing (get cfg.colors.horizontal_lines r) both.1; bare = bare }
 
 -- ---- what a store has for a place, where it has nothing for single ones
 
@@ -59,45 +58,45 @@ module _ {T : Type 0} (state : State T) (shape : ℕ × ℕ) where
   by_class : Class → Option T
   by_class class = sign_or (state_at state (of_class class)) (sign_or (state_at state the_default) None)
 
-  edge_by_class : (r c k size : ℕ) → HasNoCells state → HasNoOffsets Horizontal state → get state.horizontal_lines r ≡ None
+  edge_by_class : (r c k size : ℕ) → HasNoCellsOn (LineOf.Horizontal r) state → HasNoOffsetsAt Horizontal r state → get state.horizontal_lines r ≡ None
       → value (state_at state) shape size (Place.Horizontal r c k) ≡ (if inside shape size (Place.Horizontal r c k) then by_class (edges Horizontal (rank shape.0 r)) else None)
   unfolding value by_class
   edge_by_class r c k size cells offsets line = λ i.
       if inside shape size (Place.Horizontal r c k) then
-      sign_or (option_map sign (absent edge_place_cmp state.horizontal_offsets (edge_place r c (Offset.Start k)) offsets i))
-      (sign_or (option_map sign (absent edge_place_cmp state.horizontal_offsets (edge_place r c (Offset.End (size - 1 - k))) offsets i))
-      (sign_or (option_map sign (absent spot_cmp state.cells (Edge Horizontal r c) cells i))
+      sign_or (option_map sign (offsets c (Offset.Start k) i))
+      (sign_or (option_map sign (offsets c (Offset.End (size - 1 - k)) i))
+      (sign_or (option_map sign (cells (Edge Horizontal r c) (itself r) i))
       (sign_or (option_and_then (horizontal_part main_edges) (line i))
       (by_class (edges Horizontal (rank shape.0 r))))))
       else None
 
-  crossing_by_class : (r c : ℕ) → HasNoCells state → get state.horizontal_lines r ≡ None
+  crossing_by_class : (r c : ℕ) → HasNoCellsOn (LineOf.Horizontal r) state → get state.horizontal_lines r ≡ None
       → value (state_at state) shape 0 (Place.Cross r c) ≡ (if inside shape 0 (Place.Cross r c) then sign_or (option_and_then (vertical_part (meeting (rank shape.0 r))) (get state.vertical_lines c)) (by_class (crossings (rank shape.0 r) (rank shape.1 c))) else None)
   unfolding value by_class
   crossing_by_class r c cells line = λ i.
       if inside shape 0 (Place.Cross r c) then
-      sign_or (option_map sign (absent spot_cmp state.cells (Crossing r c) cells i))
+      sign_or (option_map sign (cells (Crossing r c) (itself r) i))
       (sign_or (option_and_then (horizontal_part (meeting (rank shape.1 c))) (line i))
       (sign_or (option_and_then (vertical_part (meeting (rank shape.0 r))) (get state.vertical_lines c))
       (by_class (crossings (rank shape.0 r) (rank shape.1 c)))))
       else None
 
   -- of two horizontal lines of one rank
-  module _ (r s : ℕ) (in_r : r ≤ shape.0) (in_s : s ≤ shape.0) (ranked : rank shape.0 r ≡ rank shape.0 s) (cells : HasNoCells state) (line_r : get state.horizontal_lines r ≡ None) (line_s : get state.horizontal_lines s ≡ None) where
+  module _ (r s : ℕ) (in_r : r ≤ shape.0) (in_s : s ≤ shape.0) (ranked : rank shape.0 r ≡ rank shape.0 s) (cells_r : HasNoCellsOn (LineOf.Horizontal r) state) (cells_s : HasNoCellsOn (LineOf.Horizontal s) state) (line_r : get state.horizontal_lines r ≡ None) (line_s : get state.horizontal_lines s ≡ None) where
     within : nat_le r shape.0 ≡ nat_le s shape.0
     within = le-leb r shape.0 in_r ∙ sym (le-leb s shape.0 in_s)
 
-    pub edges_alike : (c k size : ℕ) → HasNoOffsets Horizontal state → value (state_at state) shape size (Place.Horizontal r c k) ≡ value (state_at state) shape size (Place.Horizontal s c k)
-    edges_alike c k size offsets =
-        edge_by_class r c k size cells offsets line_r
+    pub edges_alike : (c k size : ℕ) → HasNoOffsetsAt Horizontal r state → HasNoOffsetsAt Horizontal s state → value (state_at state) shape size (Place.Horizontal r c k) ≡ value (state_at state) shape size (Place.Horizontal s c k)
+    edges_alike c k size offsets_r offsets_s =
+        edge_by_class r c k size cells_r offsets_r line_r
         ∙ (λ i. if (nat_lt 0 shape.0 && within i && nat_lt c shape.1) && nat_lt k size then by_class (edges Horizontal (ranked i)) else None)
-        ∙ sym (edge_by_class s c k size cells offsets line_s)
+        ∙ sym (edge_by_class s c k size cells_s offsets_s line_s)
 
     pub crossings_alike : (c : ℕ) → value (state_at state) shape 0 (Place.Cross r c) ≡ value (state_at state) shape 0 (Place.Cross s c)
     crossings_alike c =
-        crossing_by_class r c cells line_r
+        crossing_by_class r c cells_r line_r
         ∙ (λ i. if nat_lt 0 shape.0 && nat_lt 0 shape.1 && within i && nat_le c shape.1 then sign_or (option_and_then (vertical_part (meeting (ranked i))) (get state.vertical_lines c)) (by_class (crossings (ranked i) (rank shape.1 c))) else None)
-        ∙ sym (crossing_by_class s c cells line_s)
+        ∙ sym (crossing_by_class s c cells_s line_s)
 
 -- ---- how a table looks, with colors or without them
 
@@ -115,27 +114,27 @@ module _ (cfg : Configuration) (wanted : Bool) (shape : ℕ × ℕ) (widths heig
   colored_by place = sym (own_color cfg shape widths heights place (edge_size widths heights place) (value (state_at cfg.colors) shape (edge_size widths heights place) place) refl refl)
 
   -- two horizontal lines of one rank
-  module _ (r s : ℕ) (in_r : r ≤ shape.0) (in_s : s ≤ shape.0) (ranked : rank shape.0 r ≡ rank shape.0 s) (alike : NoneForPlaces cfg wanted Horizontal) (plain_r : IsPlainLine cfg r) (plain_s : IsPlainLine cfg s) where
+  module _ (r s : ℕ) (in_r : r ≤ shape.0) (in_s : s ≤ shape.0) (ranked : rank shape.0 r ≡ rank shape.0 s) (plain_r : IsPlainLine cfg wanted r) (plain_s : IsPlainLine cfg wanted s) where
     edge_mark : (c k : ℕ) → mark_at view (Place.Horizontal r c k) ≡ mark_at view (Place.Horizontal s c k)
     edge_mark c k =
         mark_by _ _ _ _
         (shown_by (Place.Horizontal r c k)
-        ∙ edges_alike cfg.characters shape r s in_r in_s ranked alike.characters.0 plain_r.no_characters plain_s.no_characters c k (widths c) alike.characters.1
+        ∙ edges_alike cfg.characters shape r s in_r in_s ranked plain_r.bare.cells.characters plain_s.bare.cells.characters plain_r.no_characters plain_s.no_characters c k (widths c) plain_r.bare.offsets.characters plain_s.bare.offsets.characters
         ∙ sym (shown_by (Place.Horizontal s c k)))
         (if_same wanted _ _ (λ yes.
         colored_by (Place.Horizontal r c k)
-        ∙ edges_alike cfg.colors shape r s in_r in_s ranked (alike.colors yes).0 plain_r.no_colors plain_s.no_colors c k (widths c) (alike.colors yes).1
+        ∙ edges_alike cfg.colors shape r s in_r in_s ranked (plain_r.bare.cells.colors yes) (plain_s.bare.cells.colors yes) plain_r.no_colors plain_s.no_colors c k (widths c) (plain_r.bare.offsets.colors yes) (plain_s.bare.offsets.colors yes)
         ∙ sym (colored_by (Place.Horizontal s c k))))
 
     crossing_mark : (c : ℕ) → mark_at view (Place.Cross r c) ≡ mark_at view (Place.Cross s c)
     crossing_mark c =
         mark_by _ _ _ _
         (shown_by (Place.Cross r c)
-        ∙ crossings_alike cfg.characters shape r s in_r in_s ranked alike.characters.0 plain_r.no_characters plain_s.no_characters c
+        ∙ crossings_alike cfg.characters shape r s in_r in_s ranked plain_r.bare.cells.characters plain_s.bare.cells.characters plain_r.no_characters plain_s.no_characters c
         ∙ sym (shown_by (Place.Cross s c)))
         (if_same wanted _ _ (λ yes.
         colored_by (Place.Cross r c)
-        ∙ crossings_alike cfg.colors shape r s in_r in_s ranked (alike.colors yes).0 plain_r.no_colors plain_s.no_colors c
+        ∙ crossings_alike cfg.colors shape r s in_r in_s ranked (plain_r.bare.cells.colors yes) (plain_s.bare.cells.colors yes) plain_r.no_colors plain_s.no_colors c
         ∙ sym (colored_by (Place.Cross s c))))
 
     crossing_part : (b : Bool) (c : ℕ) → map (mark_at view) (if b then Place.Cross r c ∷ [] else []) ≡ map (mark_at view) (if b then Place.Cross s c ∷ [] else [])
@@ -182,13 +181,13 @@ module _ (cfg : Configuration) (wanted : Bool) (shape : ℕ × ℕ) (widths heig
         ∙ sym (ap (map (mark_at view)) (along_pieces view (LineOf.Horizontal s) (horizontal_there shape s any in_s)))
 
 -- one line between two rows is written as all are
-pub all_between : {M : Type 0} (frame : Frame FixedDimension M) (s : ℕ) (text : List ℕ) → NoneForPlaces frame.cfg.now frame.with_colors Horizontal → 0 < s → s < frame.shape.0 → IsPlainLine frame.cfg.now s
+pub all_between : {M : Type 0} (frame : Frame FixedDimension M) (s : ℕ) (text : List ℕ) → 0 < s → s < frame.shape.0 → IsPlainLine frame.cfg.now frame.with_colors s
     → text ≡ line_text frame.with_colors (painted_marks (marks_along (viewed frame) (LineOf.Horizontal s))) → IsBetweenRows frame text
-all_between frame s text alike some within plain_s is r above below plain_r =
+all_between frame s text some within plain_s is r above below plain_r =
     let shape = frame.shape in
     is ∙ ap (λ marks. line_text frame.with_colors (painted_marks marks))
     (marks_alike frame.cfg.now frame.with_colors shape (slice_index frame.dims.now.widths.items) (slice_index frame.dims.now.heights.items) s r (omega arith) (omega arith)
-    (between shape.0 s some within ∙ sym (between shape.0 r above below)) alike plain_s plain_r frame.has_places)
+    (between shape.0 s some within ∙ sym (between shape.0 r above below)) plain_s plain_r frame.has_places)
 
 -- what holds of what is there
 pub of_that : {A : Type 0} (P : A → Type 0) (x y : A) → Some x ≡ Some y → P x → P y

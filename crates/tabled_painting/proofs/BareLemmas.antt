@@ -1,4 +1,4 @@
--- Bare cells: that all are such cells, in the colors of their rows, and how such a one is painted.
+-- Bare cells, in the colors of their rows, and how such a one is painted.
 use Rattle.std.proofs.Common.{◌≡◌, ℕ, ◌+◌, ◌-◌, Bool, true, false, if◌then◌else◌, Option, Some, None, List, [], ◌∷◌, ◌++◌, map, length, refl, sym, ap, subst, ◌∙◌, arith, option_map, nat_lt}
 use Rattle.std.specs.Prelude.{IfSome, option_copied, slice_index_or}
 use denote.Ref.{Bor}
@@ -7,11 +7,9 @@ use Rattle.std.proofs.lemmas.List.{append_assoc, length-map, map-append}
 use Rattle.std.proofs.lemmas.Option.{slice_get_within, get_or_from_slice_get}
 use Rattle.std.proofs.lemmas.List.FromFn.{get_or-map-range_with_len, length-range_with_len}
 use Rattle.tabled_border.specs.Texts.{Texts}
-use Rattle.tabled_object.specs.declared.entity.Entity.TheVariants.{Global}
 use Rattle.tabled_object.specs.declared.position.Position.{Position}
 use Rattle.tabled_object.specs.Entities.{below}
-use Rattle.tabled_settings.proofs.Columns.{value_of_column, value_of_row}
-use Rattle.tabled_settings.specs.Setting.{write_of, setting}
+use Rattle.tabled_settings.proofs.ByRows.{value_of_row}
 use Rattle.tabled_settings.specs.Live.{Live, value_at}
 use Rattle.tabled_settings.specs.declared.alignment.AlignmentHorizontal.{AlignmentHorizontal}
 use Rattle.tabled_settings.specs.declared.cell_settings.CellSettings.{CellSettings}
@@ -19,8 +17,7 @@ use Rattle.tabled_settings.specs.declared.indent.Indent.{Indent}
 use Rattle.tabled_settings.specs.declared.sides.Sides.{Sides}
 use Rattle.tabled_settings.specs.CellSettings.{no_colors as no_sides}
 use Rattle.tabled_settings.specs.Padding.{first_padding}
-use Rattle.tabled_configuration.specs.AlikeCells.{AreAlike, AreColoredByRows, ArePlacedAlike}
-use Rattle.tabled_configuration.specs.CellColors.{are_by_rows}
+use Rattle.tabled_configuration.specs.CellColors.{are_by_rows, AreColoredByRows}
 use Rattle.tabled_printing.specs.Texts.{pieces, width_of_text}
 use Rattle.tabled_printing.proofs.TimesLemmas.{times_both}
 use Rattle.tabled_cells.specs.declared.filling.LineParts.{LineParts}
@@ -34,93 +31,20 @@ use Rattle.tabled_cells.specs.Trimmed.{without_ends, is_space, is_blank, line_sh
 use Rattle.tabled_cells.proofs.Printing.{one_piece, printable_width}
 use Rattle.tabled_painting.specs.Painted.{Painted, paint, plain, colored_if}
 use Rattle.tabled_painting.specs.CellLines.{Coloring, coloring_at, painted_line, cell_line}
-use Rattle.tabled_painting.specs.BareCells.{IsBareCell, IsInColor, IsRowColor, AllAreBare, AreBare, bare_text, side_in, side_of}
-use Rattle.tabled_painting.specs.declared.bare_cells.BareColumns.{BareColumns}
+use Rattle.tabled_painting.specs.BareCells.{HaveRowColors, IsBareCell, IsInColor, IsRowColor, bare_text}
 use Rattle.tabled_painting.proofs.PainterLemmas.{plain_paint}
 use Rattle.tabled_painting.proofs.Plain.{plain_cell}
 
--- ---- all cells
-
--- a setting that no entity had since all cells had it is the same for each cell
-value_alike : {T : Type 0} (live : Live T) (a b : Position) → live.since ≡ [] → value_at live a ≡ value_at live b
-value_alike live a b none =
-    ap (λ events. setting (write_of Global live.global ∷ events) live.default a) none
-    ∙ sym (ap (λ events. setting (write_of Global live.global ∷ events) live.default b) none)
+-- ---- colors of rows
 
 abbrev cell_at : ℕ → ℕ → Position
 cell_at r c = record { row = r; col = c }
-
--- a placement with another side
-abbrev at_side : AlignmentHorizontal → Placement → Placement
-at_side side how = record {
-  alignment_horizontal = side;
-  alignment_vertical = how.alignment_vertical;
-  trim_horizontal = how.trim_horizontal;
-  trim_vertical = how.trim_vertical;
-  line_alignment = how.line_alignment;
-  justification = how.justification;
-  padding = how.padding;
-}
-
-placement_alike : (settings : CellSettings) (r c : ℕ) → ArePlacedAlike settings → at_side (side_of settings c) (placement_at settings 0 0) ≡ placement_at settings r c
-unfolding placement_at
-placement_alike settings r c alike = λ i. record {
-  alignment_horizontal = value_of_column settings.alignment_horizontal 0 r c alike.alignment_horizontal i;
-  alignment_vertical = value_alike settings.alignment_vertical (cell_at 0 0) (cell_at r c) alike.alignment_vertical i;
-  trim_horizontal = value_alike settings.trim_horizontal (cell_at 0 0) (cell_at r c) alike.trim_horizontal i;
-  trim_vertical = value_alike settings.trim_vertical (cell_at 0 0) (cell_at r c) alike.trim_vertical i;
-  line_alignment = value_alike settings.line_alignment (cell_at 0 0) (cell_at r c) alike.line_alignment i;
-  justification = value_alike settings.justification (cell_at 0 0) (cell_at r c) alike.justification i;
-  padding = padding_shown (value_alike settings.padding (cell_at 0 0) (cell_at r c) alike.padding i);
-}
-
--- such a cell, which stands where it stands
-abbrev IsBare : Placement → Type 0
-IsBare how = IsBareCell how.alignment_horizontal how
-
-elsewhere : (side : AlignmentHorizontal) (how : Placement) → IsBare how → IsBareCell side (at_side side how)
-elsewhere side how is = record {
-  stands = refl;
-  whole_lines = is.whole_lines;
-  all_lines = is.all_lines;
-  spaces = is.spaces;
-  padding = is.padding;
-}
-
--- as the first one, which was read
-pub all_bare : (settings : CellSettings) (row col : ℕ) (how : Placement) → row ≡ 0 → col ≡ 0 → how ≡ placement_at settings row col → ArePlacedAlike settings → IsBare how → AllAreBare settings
-all_bare settings row col how at_row at_col placed alike first r c =
-    let side = side_of settings c in
-    let same : how ≡ placement_at settings 0 0 = placed ∙ (λ i. placement_at settings (at_row i) (at_col i)) in
-    subst (IsBareCell side) (placement_alike settings r c alike) (elsewhere side (placement_at settings 0 0) (subst IsBare same first))
-
--- where the texts of columns stand: nowhere, alike, or by a list
-pub none_known : (settings : CellSettings) → AreBare settings BareColumns.Unknown
-none_known settings r c side is = absurd cc
-
-pub one_side : (settings : CellSettings) (cell : Position) (side : AlignmentHorizontal) → side ≡ value_at settings.alignment_horizontal cell → settings.alignment_horizontal.since ≡ []
-    → AllAreBare settings → AreBare settings (BareColumns.Alike side)
-one_side settings cell side read none bare r c other is =
-    let same : side ≡ other = cc in
-    subst (λ place. IsBareCell place (placement_at settings r c)) (value_alike settings.alignment_horizontal (cell_at 0 c) cell none ∙ sym read ∙ same) (bare r c)
-
-pub known_sides : (settings : CellSettings) (count : ℕ) (sides : List AlignmentHorizontal) (known : BareColumns) → ((c : ℕ) → side_in known c ≡ slice_get sides c) → AllAreBare settings
-    → sides ≡ map (side_of settings) (below count) → AreBare settings known
-known_sides settings count sides known listed bare are r c side is =
-    let there : slice_get (map (side_of settings) (below count)) c ≡ Some side = ap (λ list. slice_get list c) (sym are) ∙ sym (listed c) ∙ is in
-    let long : length (map (side_of settings) (below count)) ≡ count = length-map (below count) (side_of settings) ∙ length-range_with_len 0 count in
-    let inside = slice_get_within (map (side_of settings) (below count)) c side there in
-    subst (λ place. IsBareCell place (placement_at settings r c))
-    (sym (get_or-map-range_with_len (side_of settings) 0 count c c side (omega (arith, long, inside)) (omega arith))
-    ∙ get_or_from_slice_get (map (side_of settings) (below count)) c side side there) (bare r c)
-
--- ---- colors of rows
 
 text_by_row : (colors : Option (Live Texts)) (r c : ℕ) → are_by_rows colors ≡ true → option_map (λ live. value_at live (cell_at r c)) colors ≡ option_map (λ live. value_at live (cell_at r 0)) colors
 text_by_row None r c rows = refl
 text_by_row (Some live) r c rows = ap Some (value_of_row live r c 0 rows)
 
-pub by_rows : (settings : CellSettings) (colors : Option (Live Texts)) → AreColoredByRows settings → are_by_rows colors ≡ true → (r c : ℕ) → coloring_at settings colors r c ≡ coloring_at settings colors r 0
+pub by_rows : (settings : CellSettings) (colors : Option (Live Texts)) → AreColoredByRows settings → are_by_rows colors ≡ true → HaveRowColors settings colors
 unfolding coloring_at
 by_rows settings colors beside texts r c = λ i. record {
   text = text_by_row colors r c texts i;
@@ -128,25 +52,9 @@ by_rows settings colors beside texts r c = λ i. record {
   padding = value_of_row settings.padding_color r c 0 beside.padding_color i;
 }
 
-no_color_alike : (colors : Option (Live Texts)) (a b : Position) → colors ≡ None → option_map (λ live. value_at live a) colors ≡ option_map (λ live. value_at live b) colors
-no_color_alike colors a b none = ap (option_map (λ live. value_at live a)) none ∙ sym (ap (option_map (λ live. value_at live b)) none)
-
-coloring_alike : (settings : CellSettings) (colors : Option (Live Texts)) (row col r c : ℕ) → AreAlike settings → colors ≡ None → coloring_at settings colors row col ≡ coloring_at settings colors r c
-unfolding coloring_at
-coloring_alike settings colors row col r c alike none = λ i. record {
-  text = no_color_alike colors (cell_at row col) (cell_at r c) none i;
-  fill = value_alike settings.justification_color (cell_at row col) (cell_at r c) alike.justification_color i;
-  padding = value_alike settings.padding_color (cell_at row col) (cell_at r c) alike.padding_color i;
-}
-
--- no cell has a color, as one has none
-pub no_colors : (settings : CellSettings) (colors : Option (Live Texts)) (row col : ℕ) (coloring : Coloring) → coloring ≡ coloring_at settings colors row col → AreAlike settings → colors ≡ None
-    → IsInColor None coloring → (r c : ℕ) → IsInColor None (coloring_at settings colors r c)
-no_colors settings colors row col coloring read alike none is r c = subst (IsInColor None) (read ∙ coloring_alike settings colors row col r c alike none) is
-
 -- a row has the color of its first cell, if that has one
 pub color_of_row : (wanted : Bool) (settings : CellSettings) (colors : Option (Live Texts)) (row col r : ℕ) (coloring : Coloring) (found : Option (Option (Bor Texts)))
-    → ((r c : ℕ) → coloring_at settings colors r c ≡ coloring_at settings colors r 0) → row ≡ r → col ≡ 0 → coloring ≡ coloring_at settings colors row col
+    → HaveRowColors settings colors → row ≡ r → col ≡ 0 → coloring ≡ coloring_at settings colors row col
     → IfSome found (λ color. IsInColor (option_copied color) coloring) → IfSome found (λ color. IsRowColor wanted settings colors r (option_copied color))
 color_of_row wanted settings colors row col r coloring None alike at_row at_col read is = tt
 color_of_row wanted settings colors row col r coloring (Some color) alike at_row at_col read is = λ yes c.

@@ -1,6 +1,7 @@
 //! The colors of a cell.
 
-ghost use Rattle.std.specs.Prelude.{◌≡◌, None, IfSome, IsTrue, option_copied};
+ghost use Rattle.std.specs.Prelude.{◌≡◌, IfSome, IsTrue, option_copied};
+ghost use Rattle.tabled_painting.specs.BareCells.{HaveRowColors};
 
 use tabled_border::ANSIBuf;
 use tabled_configuration::{ColorMap, Colors, SpannedConfig};
@@ -35,16 +36,6 @@ impl<'a> CellColors<'a> {
         }
     }
 
-    /// Whether neither its text nor what stands beside it has a color.
-    pub(crate) fn is_plain(&self) -> bool
-        ensures { IsTrue result → IsInColor None (coloring_of self.now) }
-    {
-        self.text.is_none()
-            && self.fill.is_none()
-            && self.padding.left.is_none()
-            && self.padding.right.is_none()
-    }
-
     /// The color of its text, if all that stands beside it has the same.
     pub(crate) fn one_color(&self) -> Option<Option<&'a ANSIBuf>>
         ensures { IfSome result (λ color. IsInColor (option_copied color) (coloring_of self.now)) }
@@ -58,4 +49,11 @@ impl<'a> CellColors<'a> {
         }
         Some(color)
     }
+}
+
+/// Whether each cell is known to have the colors of the first one of its row: since all of them are set for all cells and for rows alone.
+pub(crate) fn has_row_colors(cfg: &SpannedConfig, colors: &ColorMap) -> bool
+    ensures { IsTrue result → HaveRowColors cfg.now.settings.cells colors.now }
+{
+    colors.has_rows_alone() && cfg.has_colors_by_rows()
 }

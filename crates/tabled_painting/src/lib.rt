@@ -16,7 +16,6 @@ mod output;
 mod page;
 mod painter;
 mod room;
-mod row_colors;
 mod spanned_lines;
 mod spanned_sizes;
 mod spans;

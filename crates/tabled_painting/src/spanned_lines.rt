@@ -4,6 +4,8 @@ ghost use Rattle.std.specs.Prelude.{◌≡◌, ◌≤◌, ◌<◌, ◌+◌, ◌-
 ghost use Rattle.std.specs.List.{All, flat_map};
 ghost use Rattle.std.specs.declared.option.Option.{Option as Maybe};
 ghost use Rattle.tabled_object.specs.Entities.{below};
+ghost use Rattle.tabled_grid.specs.declared.site.Direction.TheVariants.{Vertical};
+ghost use Rattle.tabled_printing.specs.Alike.{NoOffsetsAt};
 ghost use Rattle.tabled_printing.specs.Texts.{Table};
 ghost use Rattle.tabled_rooms.specs.Rooms.{first_line, room_height};
 ghost use Rattle.tabled_painting.specs.InColor.{Paints};
@@ -131,10 +133,12 @@ impl<'a, 'b, 'c> SpannedLines<'a, 'b, 'c> {
         host: Host,
         room: &mut Option<Room<'a>>,
         line: usize,
+        has_offsets: bool,
     ) -> Result<(), O::Error>
         requires row { place.0 < self.now.lines.now.frame.shape.0 }
         requires at { place.1 < slice_index self.now.lines.now.frame.dims.now.heights.items place.0 }
         requires col { place.2 ≤ self.now.lines.now.frame.shape.1 }
+        requires offsets { has_offsets ≡ false → NoOffsetsAt self.now.lines.now.frame.cfg.now self.now.lines.now.frame.with_colors Vertical place.0 }
         ensures painted { OnOk result (Paints O.gains (begun_piece (viewed self.now.lines.now.frame) place.0 place.1 line place.2 host room.old) painter.old painter.new) }
         ensures same { OnOk result ((at : ℕ) → room_shown room.new at ≡ room_shown room.old at) }
     {
@@ -142,7 +146,7 @@ impl<'a, 'b, 'c> SpannedLines<'a, 'b, 'c> {
         if host.col != col {
             return Ok(());
         }
-        painter.push_side(self.lines.frame.side(row, col, at))?;
+        painter.push_side(self.lines.frame.side(row, col, at, has_offsets))?;
         paint_room(painter, room, line)?;
         Ok(())
     }
@@ -168,10 +172,12 @@ impl<'a, 'b, 'c> SpannedLines<'a, 'b, 'c> {
         let (_, cols) = self.lines.frame.shape;
         let first = self.firsts[row];
         let line = first.saturating_add(at);
+        let has_offsets = self.lines.frame.has_offsets_beside(row);
         for col in 0..cols {
-            self.paint_begun(painter, (row, at, col), hosts[col], &mut rooms[col], line)?;
+            let place = (row, at, col);
+            self.paint_begun(painter, place, hosts[col], &mut rooms[col], line, has_offsets)?;
         }
-        painter.push_side(self.lines.frame.side(row, cols, at))?;
+        painter.push_side(self.lines.frame.side(row, cols, at, has_offsets))?;
         Ok(())
     }
 

@@ -11,17 +11,17 @@ ghost use Rattle.tabled_painting.specs.InColor.{Paints};
 ghost use Rattle.tabled_painting.specs.Pages.{PaintsLines, line_text};
 ghost use Rattle.tabled_painting.specs.PaintedTable.{painted_marks, side_painted};
 ghost use Rattle.tabled_painting.specs.Viewed as looks;
-ghost use Rattle.tabled_painting.specs.BareCells.{AreBare, AreRowColors};
+ghost use Rattle.tabled_painting.specs.BareCells.{HaveRowColors};
 ghost use Rattle.tabled_painting.specs.Between.{IsBetweenRows};
 ghost use Rattle.tabled_painting.specs.TextsBy.{texts_by};
 
-use crate::alike::first_plain_line;
-use crate::bare_cells::{BareColumns, bare_columns, bare_side};
+use crate::alike::{first_plain_line, is_plain_line};
+use crate::bare_cells::bare_side;
+use crate::cell_colors::has_row_colors;
 use crate::cell_lines::CellLines;
 use crate::line_room::{columns_of, room_for_line};
 use crate::page::Page;
 use crate::room::{Room, paint_room};
-use crate::row_colors::{RowColors, row_colors};
 use crate::{CellColors, Output, Painter};
 use std::alloc::Global;
 use std::convert::AsStr;
@@ -31,7 +31,6 @@ use tabled_configuration::{ColorMap, ColoredConfig};
 use tabled_kept::Probes;
 use tabled_object::{Dimension, FixedDimension, Position};
 use tabled_printing::{Frame, Mark};
-use tabled_settings::AlignmentHorizontal;
 use tabled_width::is_printable;
 
 /// From how many rows on it pays to keep what stands between them.
@@ -43,22 +42,18 @@ pub(crate) struct TableLines<'a, 'b> {
     pub(crate) frame: Frame<'a, 'b, FixedDimension>,
     /// The colors of cells.
     pub(crate) colors: &'a ColorMap,
-    /// Where the texts of each column stand, if all cells are bare.
-    bare_columns: BareColumns,
-    /// In which colors the cells of a row are painted.
-    row_colors: RowColors,
-    /// A horizontal line between two rows as it is written, where all of them but custom ones look alike.
+    /// Whether each cell is known to have the colors of the first one of its row.
+    has_row_colors: bool,
+    /// A horizontal line between two rows as it is written, where all of them look alike but those for which something is kept.
     between: Option<String>,
     /// How many columns of a terminal its columns take, as far as a number says it.
     columns: usize,
-    ghost are_bare: { AreBare frame.cfg.now.settings.cells bare_columns },
-    ghost are_row_colors: { AreRowColors row_colors frame.with_colors frame.cfg.now.settings.cells colors.now },
+    ghost are_row_colors: { has_row_colors ≡ true → HaveRowColors frame.cfg.now.settings.cells colors.now },
     ghost is_between: { ForSome between (λ text. IsBetweenRows frame (string_bytes text)) },
 }
 
 impl<'a, 'b> TableLines<'a, 'b> {
-    ghost use Rattle.tabled_cells.specs.Placements.{placement_at};
-    ghost use Rattle.tabled_painting.specs.BareCells.{IsBareCell, IsInColor, IsRowColor};
+    ghost use Rattle.tabled_painting.specs.BareCells.{IsInColor, IsRowColor};
     ghost use Rattle.tabled_painting.specs.CellLines.{coloring_at};
     ghost use Rattle.tabled_painting.specs.Rows.{line_of};
     ghost use Rattle.tabled_painting.specs.PaintedTable.{painted_between, painted_cell, painted_if_drawn, painted_lines};
@@ -83,28 +78,26 @@ impl<'a, 'b> TableLines<'a, 'b> {
         ensures with_colors { IfOk result (λ lines. lines.frame.with_colors ≡ with_colors) }
     {
         let (config, colors) = (cfg.config(), cfg.get_colors());
-        let bare_columns = bare_columns(config, shape.1)?;
-        let row_colors = row_colors(config, colors, with_colors);
+        let has_row_colors = has_row_colors(config, colors);
         let frame = Frame::new(config, sizes, shape, with_colors)?;
         let columns = columns_of(&frame);
         let between = line_between(config.allocator(), &frame, columns)?;
         Ok(TableLines {
             frame,
             colors,
-            bare_columns,
-            row_colors,
+            has_row_colors,
             between,
             columns,
         })
     }
 
-    /// The line that is painted between two rows as it was written before: it is no custom one.
+    /// A line between two rows as it was written before, if nothing is kept for it.
     fn whole_line(&self, row: usize) -> Option<&str>
         ensures { IfSome result (λ text. (0 < row) × (row < self.now.frame.shape.0) × (text.now ≡ line_text self.now.frame.with_colors (painted_marks (marks_along (viewed self.now.frame) (Line.Horizontal row))))) }
     {
         let line = self.between.as_ref()?;
         let is_between = 0 < row && row < self.frame.shape.0;
-        if !is_between || self.frame.cfg.has_custom_line(row) {
+        if !is_between || !is_plain_line(&self.frame, row) {
             return None;
         }
         Some(line.as_str())
@@ -167,15 +160,15 @@ impl<'a, 'b> TableLines<'a, 'b> {
     fn row_color(&self, row: usize) -> Option<Option<&'a ANSIBuf>>
         ensures { IfSome result (λ color. IsRowColor self.now.frame.with_colors self.now.frame.cfg.now.settings.cells self.now.colors.now row (option_copied color)) }
     {
-        match self.row_colors {
-            RowColors::Unknown => None,
-            RowColors::Plain => Some(None),
-            RowColors::ByRow => {
-                let first = Position::new(row, 0);
-                let colors = CellColors::of(self.frame.cfg, self.colors, first);
-                colors.one_color()
-            }
+        if !self.frame.with_colors {
+            return Some(None);
         }
+        if !self.has_row_colors {
+            return None;
+        }
+        let first = Position::new(row, 0);
+        let colors = CellColors::of(self.frame.cfg, self.colors, first);
+        colors.one_color()
     }
 
     /// The color in which a cell is painted, if it has one alone: that of its row, where all cells of it have that one, or as it is looked up.
@@ -195,17 +188,6 @@ impl<'a, 'b> TableLines<'a, 'b> {
         colors.one_color()
     }
 
-    /// Where the text of a cell stands, if the cell is bare: as its column says, or as it is looked up.
-    #[inline(always)]
-    fn bare_at(&self, position: Position) -> Option<AlignmentHorizontal>
-        ensures { IfSome result (λ side. IsBareCell side (placement_at self.now.frame.cfg.now.settings.cells position.row position.col)) }
-    {
-        match self.bare_columns.at(position.col) {
-            Some(side) => Some(side),
-            None => bare_side(self.frame.cfg, position),
-        }
-    }
-
     /// Paints a cell of a row of one line, and then a side, if there is one. The cell may be bare, in one color.
     #[inline(always)]
     fn paint_cell<O: Output>(
@@ -222,7 +204,7 @@ impl<'a, 'b> TableLines<'a, 'b> {
         ensures { OnOk result (Paints O.gains (row_cell self.now position.row position.col text.now 0 ++ side_painted (option_map mark_of side.entry)) painter.old painter.new) }
     {
         if is_printable(text)
-            && let Some(alignment) = self.bare_at(position)
+            && let Some(alignment) = bare_side(self.frame.cfg, position)
             && let Some(color) = self.cell_color(of_row, position)
         {
             let width = self.frame.dims.get_width(position.col);
@@ -247,9 +229,10 @@ impl<'a, 'b> TableLines<'a, 'b> {
         ensures { OnOk result (Paints O.gains (painted_between (viewed self.now.frame) row 0 (λ c. row_cell self.now row c (slice_index_or (map T.text texts.now) c []) 0)) painter.old painter.new) }
     {
         let of_row = self.row_color(row);
-        painter.push_side(self.frame.side(row, 0, 0))?;
+        let has_offsets = self.frame.has_offsets_beside(row);
+        painter.push_side(self.frame.side(row, 0, 0, has_offsets))?;
         for (col, text) in texts.iter().enumerate() {
-            let side = self.frame.side(row, col + 1, 0);
+            let side = self.frame.side(row, col + 1, 0, has_offsets);
             let position = Position::new(row, col);
             self.paint_cell(painter, position, text.as_str(), of_row, side)?;
         }
@@ -283,10 +266,11 @@ impl<'a, 'b> TableLines<'a, 'b> {
         ensures same { OnOk result ((c line : ℕ) (none : Maybe Begun) → room_shown (slice_index_or rooms.new c none) line ≡ room_shown (slice_index_or rooms.old c none) line) }
         ensures count { length rooms.new ≡ length rooms.old }
     {
-        painter.push_side(self.frame.side(row, 0, at))?;
+        let has_offsets = self.frame.has_offsets_beside(row);
+        painter.push_side(self.frame.side(row, 0, at, has_offsets))?;
         for col in 0..rooms.len() {
             paint_room(painter, &mut rooms[col], at)?;
-            painter.push_side(self.frame.side(row, col + 1, at))?;
+            painter.push_side(self.frame.side(row, col + 1, at, has_offsets))?;
         }
         Ok(())
     }
@@ -373,10 +357,10 @@ fn line_between(
     ensures { IfOk result (λ found. ForSome found (λ text. IsBetweenRows frame.now (string_bytes text))) }
 {
     let (rows, _) = frame.shape;
-    if rows < MANY_ROWS || !frame.has_alike_lines {
+    if rows < MANY_ROWS {
         return Ok(None);
     }
-    match first_plain_line(frame.cfg, rows) {
+    match first_plain_line(frame) {
         Some(row) if frame.draws(row) => {
             let room = room_for_line(alloc, frame, columns)?;
             Ok(Some(line_written(room, frame, row)?))

@@ -1,6 +1,6 @@
 -- What edges, crossings and vertical lines have in common, where nothing is kept for single places or single lines.
 use Rattle.std.proofs.Common.{◌≡◌, ℕ, ◌+◌, ◌==◌, ◌<◌, ◌≤◌, zero, suc, Bool, true, false, ◌&&◌, nat_le, nat_lt, if◌then◌else◌, Option, Some, None, unwrap_or, is_some, option_map, option_and_then, List, [], ◌∷◌, ◌++◌, map, get_or, length, refl, sym, ap, subst, ◌∙◌, arith}
-use Rattle.std.specs.Prelude.{IfSome}
+use Rattle.std.specs.Option.{ForSome}
 use Rattle.std.specs.FinMap.{FinMap, empty, get, get-empty}
 use Rattle.std.specs.Ordering.{nat_cmp}
 use Rattle.std.specs.declared.cmp.Ordering.{Ordering}
@@ -23,20 +23,21 @@ use Rattle.tabled_grid.specs.declared.site.Site.TheVariants.{Default as the_defa
 use Rattle.tabled_grid.specs.Drawn.{draws, drawn, Drawn}
 use Rattle.tabled_grid.specs.Site.{class_value, rank, stands}
 use Rattle.tabled_grid.specs.Value.{has_spot, sign_or, plain_value}
-use Rattle.tabled_grid.specs.State.{State, state_at, horizontal_part, vertical_part, HasNoCells, HasNoCellsOn}
-use Rattle.tabled_grid.specs.Keys.{spot_cmp}
+use Rattle.tabled_grid.specs.State.{State, state_at, edge_place, horizontal_part, vertical_part, HasNoCells, HasNoCellsOn}
+use Rattle.tabled_grid.specs.Keys.{edge_place_cmp, spot_cmp}
 use Rattle.tabled_grid.proofs.DrawnLemmas.{drawn-answer, Drawn-drawn}
 use Rattle.tabled_object.specs.Entities.{below}
 use Rattle.tabled_configuration.specs.Configuration.{Configuration, all_writes, characters_of}
 use Rattle.tabled_configuration.proofs.ConfigurationLemmas.{shown_characters}
 use Rattle.tabled_printing.specs.declared.sides.Side.{Side}
 use Rattle.tabled_printing.specs.declared.sides.Sides.{Sides}
-use Rattle.tabled_printing.specs.Alike.{IsBareLine, NoneForCells, NoneForColumns, NoneOnLine, NoOffsetsAt, NoOffsetsOf}
+use Rattle.tabled_printing.specs.Alike.{IsBareLine, NoneForCells, NoneForColumns, NoneOnLine, NoOffsetsAlong, NoOffsetsAt, NoOffsetsOf}
 use Rattle.tabled_printing.specs.LinePieces.{pieces_of, piece_size, crossing_of, edge_of, crossing_places, piece_places}
 use Rattle.tabled_printing.specs.Marks.{mark_of}
 use Rattle.tabled_printing.specs.Picture.{Look, Shown, look, mark_at}
 use Rattle.tabled_printing.specs.Beside.{plain_mark, plain_side, mark_beside, mark_if_drawn}
-use Rattle.tabled_printing.specs.Sides.{side_at, side_mark, AreSides, IsAlikeSide}
+use Rattle.tabled_printing.specs.Sides.{side_at, AreSides}
+use Rattle.tabled_printing.specs.SideMarks.{side_mark, IsAlikeSide}
 use Rattle.tabled_printing.specs.Viewed.{with_colors_if}
 use Rattle.tabled_printing.proofs.LineLemmas.{piece_marks}
 use Rattle.tabled_printing.proofs.LookLemmas.{own_plain, own_plain_color_if, own_crossing, own_crossing_color_if}
@@ -58,7 +59,7 @@ between count n some within =
     not_last n m within = grind (arith, nat_tests)
 
 -- a number is itself
-itself : (n : ℕ) → (n == n) ≡ true
+pub itself : (n : ℕ) → (n == n) ≡ true
 itself n = grind (arith, nat_tests)
 
 module _ {T : Type 0} (state : State T) (shape : ℕ × ℕ) where
@@ -176,6 +177,19 @@ offsets_along cfg wanted r n none = record { characters = none.characters n; col
 
 offsets_beside : (cfg : Configuration) (wanted : Bool) (r c : ℕ) → NoOffsetsAt cfg wanted Vertical r → NoOffsetsOf cfg wanted (LineOf.Vertical c) r
 offsets_beside cfg wanted r c none = record { characters = none.characters c; colors = λ yes. none.colors yes c }
+
+-- so there are none along a horizontal line; and none along a vertical one, where no vertical line has any
+pub none_along_row : (cfg : Configuration) (wanted : Bool) (line : LineOf) (r : ℕ) → line ≡ LineOf.Horizontal r → NoOffsetsAt cfg wanted Horizontal r → NoOffsetsAlong cfg wanted line
+none_along_row cfg wanted line r is none = subst (NoOffsetsAlong cfg wanted) (sym is) (record { of = λ n. offsets_along cfg wanted r n none })
+
+pub none_along_column : (cfg : Configuration) (wanted : Bool) (line : LineOf) (c : ℕ) → line ≡ LineOf.Vertical c → cfg.characters.vertical_offsets ≡ empty → (wanted ≡ true → cfg.colors.vertical_offsets ≡ empty)
+    → NoOffsetsAlong cfg wanted line
+none_along_column cfg wanted line c is none none_colored = subst (NoOffsetsAlong cfg wanted) (sym is) (record {
+  of = λ n. record {
+    characters = λ offset. absent edge_place_cmp cfg.characters.vertical_offsets (edge_place n c offset) none;
+    colors = λ yes offset. absent edge_place_cmp cfg.colors.vertical_offsets (edge_place n c offset) (none_colored yes);
+  };
+})
 
 module _ (cfg : Configuration) (wanted : Bool) (shape : ℕ × ℕ) where
   -- two marks that are kept
@@ -302,36 +316,23 @@ drawn_mark cfg wanted shape sides c side are within read =
 
 -- ---- which look alike beside all rows
 
-pub no_sides : (cfg : Configuration) (wanted : Bool) (c : ℕ) → IfSome (get_or {A = Option Side} [] c None) (IsAlikeSide cfg wanted c)
-no_sides cfg wanted c = tt
-
 -- one side more
-pub alike_more : (cfg : Configuration) (wanted : Bool) (xs ys : List (Option Side)) (x : Option Side) → ys ≡ xs ++ x ∷ [] → IfSome x (IsAlikeSide cfg wanted (length xs))
-    → ((c : ℕ) → IfSome (get_or xs c None) (IsAlikeSide cfg wanted c)) → (c : ℕ) → IfSome (get_or ys c None) (IsAlikeSide cfg wanted c)
-alike_more cfg wanted xs ys x pushed is all c = subst (λ (list : List (Option Side)). IfSome (get_or list c None) (IsAlikeSide cfg wanted c)) (sym pushed) (put_last (λ n found. IfSome found (IsAlikeSide cfg wanted n)) (λ n. tt) xs x is all c)
+pub alike_more : (cfg : Configuration) (wanted : Bool) (xs ys : List (Option Side)) (x : Option Side) → ys ≡ xs ++ x ∷ [] → ForSome x (IsAlikeSide cfg wanted (length xs))
+    → ((c : ℕ) → ForSome (get_or xs c None) (IsAlikeSide cfg wanted c)) → (c : ℕ) → ForSome (get_or ys c None) (IsAlikeSide cfg wanted c)
+alike_more cfg wanted xs ys x pushed is all c = subst (λ (list : List (Option Side)). ForSome (get_or list c None) (IsAlikeSide cfg wanted c)) (sym pushed) (put_last (λ n found. ForSome found (IsAlikeSide cfg wanted n)) (λ n side none. absurd cc) xs x is all c)
   where
     put_last : {A : Type 0} (P : ℕ → Option A → Type 0) → ((n : ℕ) → P n None) → (xs : List (Option A)) (x : Option A) → P (length xs) x → ((c : ℕ) → P c (get_or xs c None)) → (c : ℕ) → P c (get_or (xs ++ x ∷ []) c None)
     put_last P none [] x is all zero = is
     put_last P none [] x is all (suc c) = none (suc c)
-    put_last P none (first ∷ xs) x is all zero = all 0
-    put_last P none (first ∷ xs) x is all (suc c) = put_last (λ n. P (suc n)) (λ n. none (suc n)) xs x is (λ n. all (suc n)) c
+    put_last P none (y ∷ xs) x is all zero = all 0
+    put_last P none (y ∷ xs) x is all (suc c) = put_last (λ n. P (suc n)) (λ n. none (suc n)) xs x is (λ n. all (suc n)) c
 
--- by rank
-pub alike_by_rank : (cfg : Configuration) (wanted : Bool) (last c : ℕ) (one two end : Option Side) → NoneForCells cfg wanted
-    → IfSome (if c == 0 then one else if c == last then end else two) (IsAlikeSide cfg wanted c)
-alike_by_rank cfg wanted last c one two end none = of_any (if c == 0 then one else if c == last then end else two)
-  where
-    of_any : (found : Option Side) → IfSome found (IsAlikeSide cfg wanted c)
-    of_any None = tt
-    of_any (Some side) alike = record {
-      characters = λ spot lies. absent spot_cmp cfg.characters.cells spot none.characters;
-      colors = λ yes spot lies. absent spot_cmp cfg.colors.cells spot (none.colors yes);
-    }
-
--- a line of which it is said
-pub said_alike : (cfg : Configuration) (wanted : Bool) (shape : ℕ × ℕ) (sides : Sides) (c : ℕ) (side : Side) → AreSides cfg wanted shape sides → c ≤ shape.1 → side_at sides c ≡ Some side → side.is_alike ≡ true
-    → NoneOnLine cfg wanted (LineOf.Vertical c)
-said_alike cfg wanted shape sides c side are within read = subst (λ found. IfSome found (IsAlikeSide cfg wanted c)) read (are.alike c within)
+-- where nothing is kept for a single edge or crossing, nothing is for one of a line
+pub none_on : (cfg : Configuration) (wanted : Bool) (line : LineOf) → NoneForCells cfg wanted → NoneOnLine cfg wanted line
+none_on cfg wanted line none = record {
+  characters = λ spot lies. absent spot_cmp cfg.characters.cells spot none.characters;
+  colors = λ yes spot lies. absent spot_cmp cfg.colors.cells spot (none.colors yes);
+}
 
 -- a line that is not drawn shows nothing, and one that is drawn its mark
 pub none_beside : (view : Look) (r k c : ℕ) → view.vertical c ≡ false → None ≡ mark_beside view r k c

@@ -38,6 +38,10 @@ pub record NoOffsetsOf (cfg : Configuration) (wanted : Bool) (line : LineOf) (n 
   pub characters : HasNoOffsetsOf line n cfg.characters
   pub colors : wanted ≡ true → HasNoOffsetsOf line n cfg.colors
 
+-- nor of any edge of the line
+pub record NoOffsetsAlong (cfg : Configuration) (wanted : Bool) (line : LineOf) : Type 0 where
+  pub of : (n : ℕ) → NoOffsetsOf cfg wanted line n
+
 -- nor of the edges of that direction in a row
 pub record NoOffsetsAt (cfg : Configuration) (wanted : Bool) (d : Direction) (r : ℕ) : Type 0 where
   pub characters : HasNoOffsetsAt d r cfg.characters

@@ -1,8 +1,13 @@
 -- The marks of vertical lines, one by one or by rank.
-use Rattle.std.specs.Prelude.{ℕ, ◌==◌, if◌then◌else◌, Option, None, length, slice_index_or}
+use Rattle.std.specs.Prelude.{◌≡◌, ℕ, ◌==◌, if◌then◌else◌, Bool, true, Option, None, length, slice_index_or}
+use Rattle.tabled_grid.specs.declared.place.LineOf.{LineOf}
+use Rattle.tabled_configuration.specs.Configuration.{Configuration}
 use Rattle.tabled_printing.specs.declared.sides.Side.{Side}
 use Rattle.tabled_printing.specs.declared.sides.SideMarks.{SideMarks}
 use Rattle.tabled_printing.specs.declared.sides.SideMarks.TheVariants.{ByRank, Each}
+use Rattle.tabled_printing.specs.Alike.{NoneOnLine}
+use Rattle.tabled_printing.specs.Marks.{mark_of}
+use Rattle.tabled_printing.specs.Picture.{Shown}
 
 -- of lines 0 to `last` line c has its own mark, or that of the first one, of those between, or of the last one
 abbrev pub mark_kept : ℕ → SideMarks → ℕ → Option Side
@@ -13,3 +18,11 @@ mark_kept last (Each marks) c = slice_index_or marks.items c None
 abbrev pub mark_count : ℕ → SideMarks → ℕ
 mark_count lines (ByRank first inner end) = lines
 mark_count lines (Each marks) = length marks.items
+
+-- what a line shows beside the first row
+abbrev pub side_mark : Side → Shown
+side_mark side = mark_of side.mark
+
+-- where line c is said to look alike beside all rows, nothing is kept for an edge or a crossing of it by itself
+abbrev pub IsAlikeSide : Configuration → Bool → ℕ → Side → Type 0
+IsAlikeSide cfg wanted c side = side.is_alike ≡ true → NoneOnLine cfg wanted (LineOf.Vertical c)

@@ -54,7 +54,7 @@ pub struct Frame<'a, 'b, D, M = Probes> {
     /// Whether no vertical line is a custom one.
     pub has_plain_columns: bool,
     ghost has_places: { is_empty shape ≡ false },
-    ghost are_sides: { AreSides cfg.now with_colors shape sides },
+    ghost are_sides: { AreSides cfg.now with_colors shape sides } by { Prim.hlevel (codes, finmap.code) },
     ghost sides_end: { sides.last ≡ shape.1 },
     ghost plain_columns: { has_plain_columns ≡ true ↔ NoneForColumns cfg.now with_colors } by { Prim.hlevel (codes, finmap.code) },
 }
@@ -276,7 +276,8 @@ impl<'a, 'b, D: Dimension, M: Meter> Frame<'a, 'b, D, M> {
         ensures probes { IsRaised (12 * length (marks_along (frame_look D.width_of D.height_of self.now) (Line.Horizontal row)) + 6 * (self.now.shape.1 + 1) + 45) (M.made probes.old) (M.made probes.new) }
         ensures looked_up_once { IsBareLine self.now.cfg.now self.now.with_colors row → NoneForColumns self.now.cfg.now self.now.with_colors → IsRaised 45 (M.made probes.old) (M.made probes.new) }
     {
-        if self.has_plain_columns && self.is_bare_line(row, probes) {
+        let is_bare = self.is_bare_line(row, probes);
+        if is_bare && self.has_plain_columns {
             return self.put_alike(row, sink, probes);
         }
         let walk = Walk {

@@ -1,13 +1,12 @@
 //! What vertical lines show beside rows, made once for a table.
 
-ghost use Rattle.std.specs.Prelude.{◌≡◌, ◌≤◌, ◌<◌, ◌+◌, ℕ, true, false, Some, None, IfOk, IfSome, map, option_map, slice_index_or};
-ghost use Rattle.tabled_grid.specs.declared.place.LineOf.{LineOf as Line};
+ghost use Rattle.std.specs.Prelude.{◌≡◌, ◌≤◌, ◌+◌, ℕ, true, false, None, IfOk, map, option_map, slice_index_or};
+ghost use Rattle.std.specs.Option.{ForSome};
 ghost use Rattle.tabled_object.specs.Entities.{below};
-ghost use Rattle.tabled_printing.specs.Alike.{NoneForCells, NoneForColumns, NoneOnLine};
+ghost use Rattle.tabled_printing.specs.Alike.{NoneForCells, NoneForColumns};
 ghost use Rattle.tabled_printing.specs.Along.{is_empty};
 ghost use Rattle.tabled_printing.specs.Beside.{plain_side};
-ghost use Rattle.tabled_printing.specs.Sides.{IsAlikeSide, side_mark};
-ghost use Rattle.tabled_printing.specs.SideMarks.{mark_count};
+ghost use Rattle.tabled_printing.specs.SideMarks.{mark_count, side_mark, IsAlikeSide};
 
 use crate::Mark;
 use crate::alike::has_none_on;
@@ -63,9 +62,9 @@ impl<'a> Sides<'a> {
     {
         let (_, last) = shape;
         if by_rank {
-            let first = side(cfg, shape, 0, with_colors);
-            let inner = side(cfg, shape, 1, with_colors);
-            let end = side(cfg, shape, last, with_colors);
+            let first = kept_side(cfg, shape, 0, with_colors);
+            let inner = kept_side(cfg, shape, 1, with_colors);
+            let end = kept_side(cfg, shape, last, with_colors);
             let marks = SideMarks::ByRank(first, inner, end);
             return Ok(Sides { marks, last });
         }
@@ -123,7 +122,7 @@ fn bytes_of_each(sides: &[Option<Side>]) -> usize {
 
 /// What a line shows beside the first row without its offsets, and whether beside each other one too, if the line is drawn.
 #[inline(always)]
-pub(crate) fn side<'a>(
+pub(crate) fn kept_side<'a>(
     cfg: &'a SpannedConfig,
     shape: (usize, usize),
     col: usize,
@@ -132,7 +131,7 @@ pub(crate) fn side<'a>(
     requires shape { is_empty shape ≡ false }
     requires col { col ≤ shape.1 }
     ensures mark { option_map side_mark result ≡ plain_side cfg.now with_colors shape col }
-    ensures alike { IfSome result (IsAlikeSide cfg.now with_colors col) }
+    ensures alike { ForSome result (IsAlikeSide cfg.now with_colors col) }
 {
     let line = LineOf::Vertical(col);
     let probes = &mut Probes::new();
@@ -154,13 +153,13 @@ fn one_by_one<'a>(
 ) -> Result<Vec<Option<Side<'a>>>, OutOfMemory>
     requires shape { is_empty shape ≡ false }
     ensures marks { IfOk result (λ sides. map (option_map side_mark) sides.items ≡ map (plain_side cfg.now with_colors shape) (below (shape.1 + 1))) }
-    ensures alike { IfOk result (λ sides. (c : ℕ) → IfSome (slice_index_or sides.items c None) (IsAlikeSide cfg.now with_colors c)) }
+    ensures alike { IfOk result (λ sides. (c : ℕ) → ForSome (slice_index_or sides.items c None) (IsAlikeSide cfg.now with_colors c)) }
 {
     let (_, last) = shape;
     let mut sides = Vec::with_capacity(cfg.allocator(), last.saturating_add(1))?;
     for col in 0..last {
-        sides.push(side(cfg, shape, col, with_colors))?;
+        sides.push(kept_side(cfg, shape, col, with_colors))?;
     }
-    sides.push(side(cfg, shape, last, with_colors))?;
+    sides.push(kept_side(cfg, shape, last, with_colors))?;
     Ok(sides)
 }

@@ -5,7 +5,7 @@ ghost use Rattle.std.specs.Prelude.{◌≡◌, ℕ, ◌+◌, ◌*◌, ◌≤◌,
 ghost use Rattle.std.specs.Option.{ForSome};
 ghost use Rattle.tabled_grid.specs.Probing.{IsRaised};
 ghost use Rattle.tabled_configuration.specs.Configuration.{all_writes};
-ghost use Rattle.tabled_printing.specs.Alike.{NoOffsetsOf};
+ghost use Rattle.tabled_printing.specs.Alike.{NoOffsetsAlong};
 ghost use Rattle.tabled_printing.specs.LinePieces.{has_line, pieces_of, piece_size, crossed_after, edge_of, crossing_places, edge_places, piece_places, all_places};
 ghost use Rattle.tabled_printing.specs.Picture.{mark_at};
 ghost use Rattle.tabled_printing.specs.Sides.{side_at};
@@ -56,7 +56,7 @@ impl<'a, D: Dimension, M: Meter> Walk<'a, '_, '_, D, M> {
     /// Whether a place of an edge may show something else than its edge: where an offset is kept on the line, if it is a horizontal one, or
     /// on some vertical line. At most two readings.
     pub(crate) fn has_offsets(&self, probes: &mut M) -> bool
-        ensures offsets { IsFalse result → (n : ℕ) → NoOffsetsOf self.now.cfg.now self.now.with_colors self.now.line n }
+        ensures offsets { IsFalse result → NoOffsetsAlong self.now.cfg.now self.now.with_colors self.now.line }
         ensures probes { IsRaised 2 (M.made probes.old) (M.made probes.new) }
     {
         match self.line {
@@ -121,7 +121,7 @@ impl<'a, D: Dimension, M: Meter> Walk<'a, '_, '_, D, M> {
         probes: &mut M,
     ) -> Result<(), S::Error>
         requires size { size ≡ piece_size (D.width_of self.now.dims.now) (D.height_of self.now.dims.now) self.now.line n }
-        requires offsets { NoOffsetsOf self.now.cfg.now self.now.with_colors self.now.line n }
+        requires offsets { NoOffsetsAlong self.now.cfg.now self.now.with_colors self.now.line }
         ensures put { let view = walk_look D.width_of D.height_of self.now in
             Put S.puts S.leaves result (map (mark_at view) (edge_places view self.now.line n)) sink.old sink.new }
         ensures probes { IsRaised 10 (M.made probes.old) (M.made probes.new) }
@@ -139,7 +139,7 @@ impl<'a, D: Dimension, M: Meter> Walk<'a, '_, '_, D, M> {
         has_offsets: bool,
         probes: &mut M,
     ) -> Result<(), S::Error>
-        requires offsets { has_offsets ≡ false → NoOffsetsOf self.now.cfg.now self.now.with_colors self.now.line n }
+        requires offsets { has_offsets ≡ false → NoOffsetsAlong self.now.cfg.now self.now.with_colors self.now.line }
         ensures put { let view = walk_look D.width_of D.height_of self.now in
             Put S.puts S.leaves result (map (mark_at view) (edge_places view self.now.line n)) sink.old sink.new }
         ensures probes { let view = walk_look D.width_of D.height_of self.now in
@@ -164,7 +164,7 @@ impl<'a, D: Dimension, M: Meter> Walk<'a, '_, '_, D, M> {
         probes: &mut M,
     ) -> Result<(), S::Error>
         requires within { n < pieces_of self.now.shape self.now.line }
-        requires offsets { has_offsets ≡ false → NoOffsetsOf self.now.cfg.now self.now.with_colors self.now.line n }
+        requires offsets { has_offsets ≡ false → NoOffsetsAlong self.now.cfg.now self.now.with_colors self.now.line }
         ensures put { let view = walk_look D.width_of D.height_of self.now in
             Put S.puts S.leaves result (map (mark_at view) (piece_places view self.now.line n)) sink.old sink.new }
         ensures probes { let view = walk_look D.width_of D.height_of self.now in

@@ -1,11 +1,8 @@
 -- As it is placed, and as its alignment is read.
-use Rattle.std.proofs.Common.{sym, subst, ◌∙◌}
+use Rattle.std.proofs.Common.{sym, subst}
 use Rattle.tabled_cells.specs.Placements.{placement_at}
 use Rattle.tabled_painting.specs.BareCells.{IsBareCell}
 use Rattle.tabled_painting.proofs.bare_cells.bare_side.Goals as goal
-
-pub is_bare-requires : goal.is_bare-requires
-is_bare-requires c = sym c.has_no_padding.ensures ∙ c.if-not-has_no_padding.false
 
 pub returns : goal.returns
 unfolding placement_at

@@ -9,4 +9,4 @@ returns-in_ok-line_written-in-Some c text same =
     let frame = c.args.frame.now in
     let line = c.in_ok-line_written-in-Some.field-0 in
     of_that (λ text. IsBetweenRows frame (string_bytes text)) line text same
-    (all_between frame c.in-Some.row (string_bytes line) (frame.alike_lines.0 c.if-not-frame.false) c.in-Some.ensures.within.0 c.in-Some.ensures.within.1 c.in-Some.ensures.plain c.in_ok-line_written-in-Some.ensures)
+    (all_between frame c.in-Some.row (string_bytes line) c.in-Some.ensures.within.0 c.in-Some.ensures.within.1 c.in-Some.ensures.plain c.in_ok-line_written-in-Some.ensures)

@@ -27,7 +27,7 @@ returns g c =
     let coloring = coloring_at settings lines.colors.now row col in
     let width = slice_index lines.frame.dims.now.widths.items col in
     let height = slice_index lines.frame.dims.now.heights.items row in
-    let bare : IsBareCell alignment (placement_at settings row col) = subst (λ found. IfSome found (λ side. IsBareCell side (placement_at settings row col))) c.in-Some.is c.bare_at.ensures in
+    let bare : IsBareCell alignment (placement_at settings row col) = subst (λ found. IfSome found (λ side. IsBareCell side (placement_at settings row col))) c.in-Some.is c.bare_side.ensures in
     let colored : lines.frame.with_colors ≡ true → IsInColor color coloring =
     subst (λ (found : Option (Option (Bor Texts))). IfSome found (λ shade. lines.frame.with_colors ≡ true → IsInColor (option_copied shade) coloring)) c.in-Some-cell_color.is c.cell_color.ensures in
     let side : Painted = side_painted (option_map mark_of c.args.side) in

@@ -1,13 +1,11 @@
--- None, or that of the first cell of the row.
+-- None is wanted, or that of the first cell of the row.
+use Rattle.std.proofs.Common.{◌≡◌, true, false, sym, ◌∙◌}
 use Rattle.tabled_painting.specs.CellLines.{coloring_of}
 use Rattle.tabled_painting.proofs.BareLemmas.{color_of_row}
 use Rattle.tabled_painting.proofs.table_lines.TableLines.row_color.Goals as goal
 
-pub returns-in-Plain : goal.returns-in-Plain
-returns-in-Plain c = c.args.self.now.are_row_colors.plain c.in-Plain.is c.args.row
-
-pub returns-in-ByRow : goal.returns-in-ByRow
-returns-in-ByRow c =
+pub returns : goal.returns
+returns c =
     let lines = c.args.self.now in
     color_of_row lines.frame.with_colors lines.frame.cfg.now.settings.cells lines.colors.now c.new-first.result.row c.new-first.result.col c.args.row (coloring_of c.of-colors.result) c.one_color.result
-    (lines.are_row_colors.by_row c.in-ByRow.is) c.new-first.ensures.row c.new-first.ensures.col c.of-colors.ensures c.one_color.ensures
+    (lines.are_row_colors c.if-not-self-has_row_colors.false) c.new-first.ensures.row c.new-first.ensures.col c.of-colors.ensures c.one_color.ensures

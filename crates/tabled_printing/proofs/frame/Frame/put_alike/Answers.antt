@@ -28,7 +28,6 @@ loop-col-preserved g c =
     let view : Look = frame_look g.D.Dimension.width_of g.D.Dimension.height_of frame in
     let line = LineOf.Horizontal c.args.row in
     let n = c.loop-col.col in
-    let alike = frame.alike_lines.0 c.requires.alike in
     let plain = frame.plain_columns.0 c.requires.plain in
     record {
       put =
@@ -38,11 +37,11 @@ loop-col-preserved g c =
           ∙ ap (λ marks. map (mark_at view) (places_before view line n) ++ marks)
           (piece_alike view c.args.row n (mark_of c.loop-col.crossing) (mark_of c.looks-looks.result.edge)
           (c.loop-col.invariant.next (omega arith) ∙ crossing_shows frame.cfg.now frame.with_colors frame.shape view.widths view.heights line n)
-          (λ k within. c.looks-looks.ensures.edge ∙ edge_as_first frame.cfg.now frame.with_colors frame.shape alike c.args.row view.widths view.heights n k (omega arith) within)))
+          (λ k within. c.looks-looks.ensures.edge ∙ edge_as_first frame.cfg.now frame.with_colors frame.shape c.args.row c.requires.alike view.widths view.heights n k (omega arith) within)))
           c.loop-col.invariant.put c.in_ok-put_piece.ensures;
       next = λ within.
-          c.looks-looks.ensures.inner (omega (arith, within))
-          ∙ crossing_as_second frame.cfg.now frame.with_colors frame.shape alike c.args.row plain (n + 1) (omega arith) within;
+          c.looks-looks.ensures.inner
+          ∙ crossing_as_second frame.cfg.now frame.with_colors frame.shape c.args.row c.requires.alike plain (n + 1) (omega arith) within;
     }
 
 pub returns-in_err-put_piece-clause-put : goal.returns-in_err-put_piece-clause-put

@@ -19,5 +19,5 @@ returns-clause-put g c =
     (alike_edge view walk.line c.args.n c.args.size mark c.requires.size
     (λ k within.
     c.plain_mark-mark.ensures.mark ∙ ap (plain_mark walk.cfg.now walk.with_colors walk.shape) c.edge_of-place.ensures
-    ∙ edge_shows walk.cfg.now walk.with_colors walk.shape view.widths view.heights walk.line c.args.n k c.requires.characters c.requires.colors within))
+    ∙ edge_shows walk.cfg.now walk.with_colors walk.shape view.widths view.heights walk.line c.args.n k (c.requires.offsets.of c.args.n) within))
     c.put.ensures
