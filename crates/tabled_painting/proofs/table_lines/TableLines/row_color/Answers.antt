@@ -8,4 +8,4 @@ pub returns : goal.returns
 returns c =
     let lines = c.args.self.now in
     color_of_row lines.frame.with_colors lines.frame.cfg.now.settings.cells lines.colors.now c.new-first.result.row c.new-first.result.col c.args.row (coloring_of c.of-colors.result) c.one_color.result
-    (lines.are_row_colors c.if-not-self-has_row_colors.false) c.new-first.ensures.row c.new-first.ensures.col c.of-colors.ensures c.one_color.ensures
+    (lines.are_row_colors c.if-not-self-2.false) c.new-first.ensures.row c.new-first.ensures.col c.of-colors.ensures c.one_color.ensures
