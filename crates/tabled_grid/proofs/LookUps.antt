@@ -1,16 +1,15 @@
 -- What the value of a place and the drawing of a line come to, level by level.
-use Rattle.std.proofs.Common.{◌≡◌, ℕ, Bool, true, false, cond, ◌&&◌, ◌||◌, Option, Some, None, is_some, List, [], ◌∷◌, refl, sym, ap, ◌∙◌, ◌-◌, option_and_then, inl, inr, option_map, nat_cmp}
+use Rattle.std.proofs.Common.{◌≡◌, ℕ, Bool, true, false, cond, ◌&&◌, ◌||◌, Option, Some, None, is_some, List, [], ◌∷◌, refl, sym, ap, ◌∙◌, ◌-◌, option_and_then, inl, inr, option_map}
 use Rattle.tabled_grid.specs.declared.borders.Borders.{Borders}
 use Rattle.tabled_grid.specs.declared.place.Place.{Place}
 use Rattle.tabled_grid.specs.declared.place.LineOf.{LineOf}
 use Rattle.tabled_grid.specs.Site.{Direction, Horizontal, Vertical, Rank, first, inner, last, stands, Class, edges, crossings, main_edges, horizontal_meeting, vertical_meeting, rank, the_default, of_class, of_line, at_spot, Crossing, class_value}
 use Rattle.tabled_grid.specs.Event.{sign}
 use Rattle.tabled_grid.specs.Value.{has_spot, inside, class_at, plain_sites, sites, sign_or, first_sign, value, plain_value}
-use Rattle.tabled_grid.specs.Drawn.{draws, number}
-use Rattle.tabled_grid.specs.Keys.{spot_cmp}
-use Rattle.std.specs.FinMap.{get, get-empty}
+use Rattle.tabled_grid.specs.Drawn.{draws}
+use Rattle.std.specs.FinMap.{get}
 use Rattle.std.proofs.lemmas.Bool.{and_parts, and_from, or_cases, or_left, or_right}
-use Rattle.tabled_grid.specs.Reading.{pick, direction_of, main_of, plain_edge, plain_crossing, edge_shown}
+use Rattle.tabled_grid.specs.Reading.{pick, main_of, plain_edge, plain_crossing, edge_shown}
 use Rattle.tabled_grid.specs.Calls.{edge_of}
 use Rattle.tabled_grid.specs.declared.offset.Offset.{Offset}
 use Rattle.tabled_grid.specs.State.{State, state_at, edge_place, line_classes, has_class, rank_draws}

@@ -1,7 +1,7 @@
 -- How a place is read, level by level.
-use Rattle.std.specs.Prelude.{◌≡◌, ℕ, ◌-◌, Bool, ◌&&◌, ◌||◌, nat_lt, is_some, Option, Some, None, option_and_then}
+use Rattle.std.specs.Prelude.{ℕ, ◌-◌, Bool, ◌&&◌, ◌||◌, nat_lt, is_some, Option, Some, None, option_and_then}
 use Rattle.std.specs.Ordering.{nat_cmp}
-use Rattle.std.specs.FinMap.{FinMap, get, empty}
+use Rattle.std.specs.FinMap.{FinMap, get}
 use Rattle.tabled_grid.specs.declared.line_numbers.LineNumbers.{LineNumbers}
 use Rattle.tabled_grid.specs.Counted.{number_at}
 use Rattle.tabled_grid.specs.Site.{Direction, Horizontal, Vertical, Crossing, first, inner, last, stands, rank, edges, crossings, class_value, horizontal_meeting, vertical_meeting}

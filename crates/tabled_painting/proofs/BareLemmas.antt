@@ -2,13 +2,10 @@
 use Rattle.std.proofs.Common.{◌≡◌, ℕ, ◌+◌, ◌-◌, Bool, true, false, if◌then◌else◌, Option, Some, None, List, [], ◌∷◌, ◌++◌, map, length, refl, sym, ap, subst, ◌∙◌, arith, option_map, nat_lt}
 use Rattle.std.specs.Prelude.{IfSome, option_copied, slice_index_or}
 use denote.Ref.{Bor}
-use Rattle.std.specs.List.{list_all, slice_get}
-use Rattle.std.proofs.lemmas.List.{append_assoc, length-map, map-append}
-use Rattle.std.proofs.lemmas.Option.{slice_get_within, get_or_from_slice_get}
-use Rattle.std.proofs.lemmas.List.FromFn.{get_or-map-range_with_len, length-range_with_len}
+use Rattle.std.specs.List.{list_all}
+use Rattle.std.proofs.lemmas.List.{append_assoc, map-append}
 use Rattle.tabled_border.specs.Texts.{Texts}
 use Rattle.tabled_object.specs.declared.position.Position.{Position}
-use Rattle.tabled_object.specs.Entities.{below}
 use Rattle.tabled_settings.proofs.ByRows.{value_of_row}
 use Rattle.tabled_settings.specs.Live.{Live, value_at}
 use Rattle.tabled_settings.specs.declared.alignment.AlignmentHorizontal.{AlignmentHorizontal}
@@ -24,8 +21,7 @@ use Rattle.tabled_cells.specs.declared.filling.LineParts.{LineParts}
 use Rattle.tabled_cells.specs.declared.placement.Placement.{Placement}
 use Rattle.tabled_settings.specs.declared.alignment.AlignmentVertical.{AlignmentVertical}
 use Rattle.tabled_settings.specs.declared.alignment.AlignmentVertical.TheVariants.{Top, Center, Bottom}
-use Rattle.tabled_cells.specs.Placed.{padding_shown, times, free_before, free_above, fill_of, greatest, line_parts, aligned_width}
-use Rattle.tabled_cells.specs.Placements.{placement_at}
+use Rattle.tabled_cells.specs.Placed.{times, free_before, free_above, fill_of, greatest, line_parts, aligned_width}
 use Rattle.tabled_width.specs.Texts.{is_printable}
 use Rattle.tabled_cells.specs.Trimmed.{without_ends, is_space, is_blank, line_shown, lines_shown}
 use Rattle.tabled_cells.proofs.Printing.{one_piece, printable_width}

@@ -1,14 +1,12 @@
 -- Bare cells of rows that are one line high: their texts are shown whole, between spaces, all in one color.
-use Rattle.std.specs.Prelude.{◌≡◌, ℕ, Bool, true, false, ◌+◌, ◌-◌, Option, Some, None, List, ◌++◌, length}
+use Rattle.std.specs.Prelude.{◌≡◌, ℕ, Bool, true, false, ◌+◌, ◌-◌, Option, List, ◌++◌, length}
 use Rattle.tabled_border.specs.Texts.{Texts}
 use Rattle.tabled_settings.specs.declared.alignment.AlignmentHorizontal.{AlignmentHorizontal}
 use Rattle.tabled_settings.specs.declared.cell_settings.CellSettings.{CellSettings}
-use Rattle.tabled_object.specs.Entities.{position}
-use Rattle.tabled_settings.specs.Live.{Live, value_at}
+use Rattle.tabled_settings.specs.Live.{Live}
 use Rattle.tabled_settings.specs.Padding.{first_padding}
 use Rattle.tabled_cells.specs.declared.placement.Placement.{Placement}
 use Rattle.tabled_cells.specs.Placed.{free_before, times}
-use Rattle.tabled_cells.specs.Placements.{placement_at}
 use Rattle.tabled_painting.specs.CellLines.{Coloring, coloring_at}
 
 -- such a cell, whose text stands there

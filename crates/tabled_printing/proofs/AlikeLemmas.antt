@@ -21,7 +21,7 @@ use Rattle.tabled_grid.specs.declared.site.Part.TheVariants.{Mark as its_mark, E
 use Rattle.tabled_grid.specs.declared.site.Site.{Site}
 use Rattle.tabled_grid.specs.declared.site.Site.TheVariants.{Default as the_default, Class as of_class, Line as of_line, Cell as at_spot, Offset as at_offset}
 use Rattle.tabled_grid.specs.Drawn.{draws, drawn, Drawn}
-use Rattle.tabled_grid.specs.Site.{class_value, rank, stands}
+use Rattle.tabled_grid.specs.Site.{rank, stands}
 use Rattle.tabled_grid.specs.Value.{has_spot, sign_or, plain_value}
 use Rattle.tabled_grid.specs.State.{State, state_at, edge_place, horizontal_part, vertical_part, HasNoCells, HasNoCellsOn}
 use Rattle.tabled_grid.specs.Keys.{edge_place_cmp, spot_cmp}
@@ -33,7 +33,6 @@ use Rattle.tabled_printing.specs.declared.sides.Side.{Side}
 use Rattle.tabled_printing.specs.declared.sides.Sides.{Sides}
 use Rattle.tabled_printing.specs.Alike.{IsBareLine, NoneForCells, NoneForColumns, NoneOnLine, NoOffsetsAlong, NoOffsetsAt, NoOffsetsOf}
 use Rattle.tabled_printing.specs.LinePieces.{pieces_of, piece_size, crossing_of, edge_of, crossing_places, piece_places}
-use Rattle.tabled_printing.specs.Marks.{mark_of}
 use Rattle.tabled_printing.specs.Picture.{Look, Shown, look, mark_at}
 use Rattle.tabled_printing.specs.Beside.{plain_mark, plain_side, mark_beside, mark_if_drawn}
 use Rattle.tabled_printing.specs.Sides.{side_at, AreSides}

@@ -1,6 +1,3 @@
-use Rattle.std.proofs.Common.{◌≡◌, Option, subst}
-use Rattle.std.specs.Prelude.{Some}
-use Rattle.tabled_kept.specs.FirstFrom.{IsFirstFrom}
 use Rattle.tabled_grid.specs.Keys.{edge_place_cmp}
 use Rattle.tabled_grid.specs.Table.{table}
 use Rattle.tabled_grid.proofs.RowOffsets.{row_told}

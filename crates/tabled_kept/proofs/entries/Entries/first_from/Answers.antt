@@ -1,6 +1,6 @@
 -- The first of what the ordered map has from the key on.
 use Rattle.std.proofs.Common.{◌≡◌, List, is_gt, false, sym, ap, subst, ◌∙◌}
-use Rattle.std.specs.Prelude.{is_some, IfSome, IsSome, slice_get, ◌∷◌}
+use Rattle.std.specs.Prelude.{is_some, IfSome, slice_get}
 use Rattle.std.specs.FinMap as map
 use Rattle.std.specs.BTreeMap.{get}
 use Rattle.std.specs.declared.ops.Bound.TheVariants.{Included, Unbounded}

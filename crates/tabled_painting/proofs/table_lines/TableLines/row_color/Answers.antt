@@ -1,5 +1,4 @@
 -- None is wanted, or that of the first cell of the row.
-use Rattle.std.proofs.Common.{◌≡◌, true, false, sym, ◌∙◌}
 use Rattle.tabled_painting.specs.CellLines.{coloring_of}
 use Rattle.tabled_painting.proofs.BareLemmas.{color_of_row}
 use Rattle.tabled_painting.proofs.table_lines.TableLines.row_color.Goals as goal
