@@ -8,7 +8,7 @@ ghost use Rattle.tabled_printing.specs.Along.{is_empty};
 ghost use Rattle.tabled_configuration.specs.Colored.{Shows};
 ghost use Rattle.tabled_configuration.specs.Configuration as borders;
 ghost use Rattle.tabled_configuration.specs.Configuration.{ConfigEvent};
-ghost use Rattle.tabled_text.specs.TableViews.{IsTable, heights_viewed, spanned_viewed, text_viewed, texts_viewed, widths_viewed};
+ghost use Rattle.tabled_text.specs.TableViews.{AreSizes, IsTable, heights_viewed, text_viewed, texts_viewed, widths_viewed};
 ghost use Rattle.tabled_text.specs.TextTable.{painted, text_of};
 ghost use Rattle.tabled_text.specs.declared.table_error.TableError.{TableError as Refusal};
 
@@ -42,18 +42,6 @@ impl<'a, T: AsStr> TableView<'a, T> {
         rows == 0 || cols == 0
     }
 
-    /// The text of a page of it.
-    fn text_of(&self, page: TablePage<'a, '_>) -> Result<String, OutOfMemory>
-        requires table { IsTable T.text self.now }
-        requires shape { page.lines.frame.shape ≡ self.now.shape }
-        ensures { IfOk result (λ text. string_bytes text ≡ text_of_page page.entry (texts_viewed T.text self.now)) }
-    {
-        let alloc = self.config.config().allocator();
-        let room = String::with_capacity(alloc, page.least_bytes())?;
-        let text = page.print(room, self.rows)?;
-        Ok(text)
-    }
-
     /// How wide its columns are and how high its rows, where cells span or have padding.
     pub(crate) fn sizes_with_spans(&self) -> Result<FixedDimension, OutOfMemory>
         requires { IsTable T.text self.now }
@@ -71,31 +59,33 @@ impl<'a, T: AsStr> TableView<'a, T> {
         Ok(sizes)
     }
 
-    /// Its text where no cell spans and no padding is set, in color or without colors.
-    fn text_alone(&self, with_colors: bool) -> Result<String, OutOfMemory>
+    /// How wide its columns are and how high its rows, if these are not what its texts alone ask.
+    fn other_sizes(&self) -> Result<Option<FixedDimension>, OutOfMemory>
         requires { IsTable T.text self.now }
-        ensures { IfOk result (λ text. string_bytes text ≡ text_viewed T.text self.now with_colors) }
+        ensures { IfOk result (λ sizes. AreSizes T.text self.now sizes) }
     {
-        if self.has_no_places() {
-            return Ok(String::new(self.config.config().allocator()));
-        }
-        let page = TablePage::new(self.config, self.sizes, self.shape, with_colors)?;
-        let text = self.text_of(page)?;
-        Ok(text)
-    }
-
-    /// Its text where cells span or have padding, in color or without colors.
-    fn text_with_spans(&self, with_colors: bool) -> Result<String, OutOfMemory>
-        requires { IsTable T.text self.now }
-        ensures { IfOk result (λ text. string_bytes text ≡ spanned_viewed T.text self.now with_colors) }
-    {
-        if self.has_no_places() {
-            return Ok(String::new(self.config.config().allocator()));
+        if !self.config.config().has_spans_or_padding() {
+            return Ok(None);
         }
         let sizes = self.sizes_with_spans()?;
-        let page = TablePage::with_spans(self.config, &sizes, self.shape, with_colors)?;
-        let text = self.text_of(page)?;
-        Ok(text)
+        Ok(Some(sizes))
+    }
+
+    /// Its page, where it has places, in color or without colors: where no cell spans and no padding is set the sizes are those of its texts.
+    fn page<'b>(
+        &'b self,
+        sizes: &'b Option<FixedDimension>,
+        with_colors: bool,
+    ) -> Result<TablePage<'a, 'b>, OutOfMemory>
+        requires places { is_empty self.now.shape ≡ false }
+        requires sizes { AreSizes T.text self.now sizes.now }
+        ensures text { IfOk result (λ page. text_of_page page (texts_viewed T.text self.now) ≡ text_viewed T.text self.now with_colors) }
+        ensures shape { IfOk result (λ page. page.lines.frame.shape ≡ self.now.shape) }
+    {
+        match sizes {
+            Some(sizes) => TablePage::with_spans(self.config, sizes, self.shape, with_colors),
+            None => TablePage::new(self.config, self.sizes, self.shape, with_colors),
+        }
     }
 
     /// Its text, in color or without colors.
@@ -104,71 +94,15 @@ impl<'a, T: AsStr> TableView<'a, T> {
         ensures plain { with_colors ≡ false → (es : List ConfigEvent) → borders.Shows es self.now.config.now.spanned → IfOk result (λ text. string_bytes text ≡ text_of es (texts_viewed T.text self.now)) }
         ensures colored { with_colors ≡ true → (es : List ConfigEvent) → Shows es self.now.config.now → IfOk result (λ text. string_bytes text ≡ colored_text (painted es (texts_viewed T.text self.now))) }
     {
-        if self.config.config().has_spans_or_padding() {
-            let spanned = self.text_with_spans(with_colors)?;
-            return Ok(spanned);
+        let alloc = self.config.config().allocator();
+        if self.has_no_places() {
+            return Ok(String::new(alloc));
         }
-        let text = self.text_alone(with_colors)?;
+        let sizes = self.other_sizes()?;
+        let page = self.page(&sizes, with_colors)?;
+        let room = String::with_capacity(alloc, page.least_bytes())?;
+        let text = page.print(room, self.rows)?;
         Ok(text)
-    }
-
-    /// Writes a text, the text of the table and another text to a stream of bytes, each at once.
-    fn print_whole<W: io::Write>(
-        &self,
-        with_colors: bool,
-        before: &str,
-        after: &str,
-        out: &mut W,
-    ) -> Result<(), TableError>
-        requires { IsTable T.text self.now }
-        ensures plain { with_colors ≡ false → (es : List ConfigEvent) → borders.Shows es self.now.config.now.spanned
-            → OnOk result (Appends (W.contents out.old) (W.contents out.new) (before.now ++ text_of es (texts_viewed T.text self.now) ++ after.now)) }
-        ensures colored { with_colors ≡ true → (es : List ConfigEvent) → Shows es self.now.config.now
-            → OnOk result (Appends (W.contents out.old) (W.contents out.new) (before.now ++ colored_text (painted es (texts_viewed T.text self.now)) ++ after.now)) }
-        ensures refusal { IfErr result (λ e. (e ≡ Refusal.OutOfMemory) ⊎ (e ≡ Refusal.Write)) }
-        ensures unwritten { IfErr result (λ e. (e ≡ Refusal.Write) ⊎ (out.new ≡ out.old)) }
-    {
-        let text = self.text(with_colors)?;
-        write_in_turn(before, text.as_str(), after, out)
-    }
-
-    /// Writes them piece by piece, where no cell spans and no padding is set.
-    fn print_alone<W: io::Write>(
-        &self,
-        with_colors: bool,
-        before: &str,
-        after: &str,
-        out: &mut W,
-    ) -> Result<(), TableError>
-        requires table { IsTable T.text self.now }
-        requires places { is_empty self.now.shape ≡ false }
-        ensures text { OnOk result (Appends (W.contents out.old) (W.contents out.new) (before.now ++ text_viewed T.text self.now with_colors ++ after.now)) }
-        ensures refusal { IfErr result (λ e. (e ≡ Refusal.OutOfMemory) ⊎ (e ≡ Refusal.Write)) }
-        ensures unwritten { IfErr result (λ e. (e ≡ Refusal.Write) ⊎ (out.new ≡ out.old)) }
-    {
-        let alloc = self.config.config().allocator();
-        let page = TablePage::new(self.config, self.sizes, self.shape, with_colors)?;
-        write_page(alloc, page, before, self.rows, after, out)
-    }
-
-    /// Writes them piece by piece, where cells span or have padding.
-    fn print_with_spans<W: io::Write>(
-        &self,
-        with_colors: bool,
-        before: &str,
-        after: &str,
-        out: &mut W,
-    ) -> Result<(), TableError>
-        requires table { IsTable T.text self.now }
-        requires places { is_empty self.now.shape ≡ false }
-        ensures text { OnOk result (Appends (W.contents out.old) (W.contents out.new) (before.now ++ spanned_viewed T.text self.now with_colors ++ after.now)) }
-        ensures refusal { IfErr result (λ e. (e ≡ Refusal.OutOfMemory) ⊎ (e ≡ Refusal.Write)) }
-        ensures unwritten { IfErr result (λ e. (e ≡ Refusal.Write) ⊎ (out.new ≡ out.old)) }
-    {
-        let alloc = self.config.config().allocator();
-        let sizes = self.sizes_with_spans()?;
-        let page = TablePage::with_spans(self.config, &sizes, self.shape, with_colors)?;
-        write_page(alloc, page, before, self.rows, after, out)
     }
 
     /// Writes a text, the text of the table and another text to a stream of bytes. All memory is asked for before something is written.
@@ -188,27 +122,21 @@ impl<'a, T: AsStr> TableView<'a, T> {
         ensures unwritten { IfErr result (λ e. (e ≡ Refusal.Write) ⊎ (out.new ≡ out.old)) }
     {
         if self.has_no_places() {
-            return self.print_whole(with_colors, before, after, out);
+            return write_both(before, after, out);
         }
-        if self.config.config().has_spans_or_padding() {
-            return self.print_with_spans(with_colors, before, after, out);
-        }
-        self.print_alone(with_colors, before, after, out)
+        let sizes = self.other_sizes()?;
+        let page = self.page(&sizes, with_colors)?;
+        let alloc = self.config.config().allocator();
+        write_page(alloc, page, before, self.rows, after, out)
     }
 }
 
-/// Writes three texts to a stream, one after the other.
-fn write_in_turn<W: io::Write>(
-    before: &str,
-    text: &str,
-    after: &str,
-    out: &mut W,
-) -> Result<(), TableError>
-    ensures written { OnOk result (Appends (W.contents out.old) (W.contents out.new) (before.now ++ text.now ++ after.now)) }
+/// Writes two texts to a stream, one after the other.
+fn write_both<W: io::Write>(before: &str, after: &str, out: &mut W) -> Result<(), TableError>
+    ensures written { OnOk result (Appends (W.contents out.old) (W.contents out.new) (before.now ++ after.now)) }
     ensures refused { IfErr result (λ e. e ≡ Refusal.Write) }
 {
     write_bytes(out, before)?;
-    write_bytes(out, text)?;
     write_bytes(out, after)
 }
 
