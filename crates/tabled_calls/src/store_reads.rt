@@ -13,8 +13,8 @@ ghost use Rattle.tabled_grid.specs.Writes.{kept_at};
 use std::collections::BTreeMap;
 use tabled_border::{Border, Keep, OutOfMemory};
 use tabled_grid::{
-    Borders, Direction, HorizontalLine, HorizontalLines, Layers, LineOf, Place, Target, VerticalLine,
-    VerticalLines,
+    Borders, Direction, HorizontalLine, HorizontalLines, Layers, LineOf, Place, Target,
+    VerticalLine, VerticalLines,
 };
 use tabled_kept::Meter;
 use tabled_object::Position;

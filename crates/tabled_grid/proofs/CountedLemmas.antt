@@ -84,10 +84,10 @@ module _ {T : Type 0} (numbers : map.FinMap line_cmp ℕ) (cells : map.FinMap sp
       not_some : (b : Bool) → nat_lt 0 n ≡ b → ((at : Spot) → lies_on line at ≡ true → map.get cells at ≡ None) → b ≡ false
       not_some false test none = refl
       not_some true test none = absurd (
-        let positive : 0 < number_at numbers line = grind (arith, nat_tests, is, test) in
-        let found = some_on_line line positive in
-        let no : true ≡ false = sym found.2 ∙ ap is_some (none found.0 found.1) in cc
-      )
+          let positive : 0 < number_at numbers line = grind (arith, nat_tests, is, test) in
+          let found = some_on_line line positive in
+          let no : true ≡ false = sym found.2 ∙ ap is_some (none found.0 found.1) in cc
+          )
 
   -- nothing changed, whatever the keys of the numbers
   pub cells_kept : (numbers' : map.FinMap line_cmp ℕ) (cells' : map.FinMap spot_cmp T) → ((line : LineOf) → number_at numbers' line ≡ number_at numbers line) → cells' ≡ cells → CellsCounted numbers' cells'

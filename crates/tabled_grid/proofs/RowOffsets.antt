@@ -59,12 +59,12 @@ module _ {T : Type 0} (offsets : map.FinMap edge_place_cmp T) (r : ℕ) (first :
       by_case : (b : Bool) → (first.row == r) ≡ b → b ≡ false
       by_case false same = refl
       by_case true same = absurd (
-        let row : first.row ≡ r = grind (arith, nat_tests) in
-        let kept = is.0.1 in
-        let gone = ap is_some (none first.col first.offset) in
-        let at : is_some (map.get offsets first) ≡ is_some (map.get offsets (edge_place r first.col first.offset)) = ap (λ n. is_some (map.get offsets (edge_place n first.col first.offset))) row in
-        let no : true ≡ false = sym kept ∙ at ∙ gone in cc
-      )
+          let row : first.row ≡ r = grind (arith, nat_tests) in
+          let kept = is.0.1 in
+          let gone = ap is_some (none first.col first.offset) in
+          let at : is_some (map.get offsets first) ≡ is_some (map.get offsets (edge_place r first.col first.offset)) = ap (λ n. is_some (map.get offsets (edge_place n first.col first.offset))) row in
+          let no : true ≡ false = sym kept ∙ at ∙ gone in cc
+          )
 
   pub row_told : IsFalse (first.row == r) ↔ ((c : ℕ) (o : Offset) → map.get offsets (edge_place r c o) ≡ None)
   row_told = (none_there, some_there)

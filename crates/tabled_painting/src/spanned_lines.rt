@@ -175,7 +175,14 @@ impl<'a, 'b, 'c> SpannedLines<'a, 'b, 'c> {
         let has_offsets = self.lines.frame.has_offsets_beside(row);
         for col in 0..cols {
             let place = (row, at, col);
-            self.paint_begun(painter, place, hosts[col], &mut rooms[col], line, has_offsets)?;
+            self.paint_begun(
+                painter,
+                place,
+                hosts[col],
+                &mut rooms[col],
+                line,
+                has_offsets,
+            )?;
         }
         painter.push_side(self.lines.frame.side(row, cols, at, has_offsets))?;
         Ok(())

@@ -16,9 +16,7 @@ ghost use Rattle.tabled_printing.specs.Beside.{mark_beside, mark_if_drawn, plain
 ghost use Rattle.tabled_printing.specs.Sides.{AreSides};
 ghost use Rattle.tabled_printing.specs.Sinks.{Put};
 
-use crate::alike::{
-    has_no_offsets_at, has_none_for_cells, has_none_for_columns, has_none_on,
-};
+use crate::alike::{has_no_offsets_at, has_none_for_cells, has_none_for_columns, has_none_on};
 use crate::mark::{mark_seen, plain_mark};
 use crate::sink::Sink;
 use crate::walk::Walk;
@@ -173,7 +171,13 @@ impl<'a, 'b, D: Dimension, M: Meter> Frame<'a, 'b, D, M> {
     {
         let line = LineOf::Horizontal(row);
         has_none_on(self.cfg, line, self.with_colors, probes)
-            && has_no_offsets_at(self.cfg, Direction::Horizontal, row, self.with_colors, probes)
+            && has_no_offsets_at(
+                self.cfg,
+                Direction::Horizontal,
+                row,
+                self.with_colors,
+                probes,
+            )
     }
 
     /// What a horizontal line shows whose edges look alike, and whose crossings do between the first one and the last one.

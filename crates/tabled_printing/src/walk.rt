@@ -61,7 +61,13 @@ impl<'a, D: Dimension, M: Meter> Walk<'a, '_, '_, D, M> {
     {
         match self.line {
             LineOf::Horizontal(row) => {
-                !has_no_offsets_at(self.cfg, Direction::Horizontal, row, self.with_colors, probes)
+                !has_no_offsets_at(
+                    self.cfg,
+                    Direction::Horizontal,
+                    row,
+                    self.with_colors,
+                    probes,
+                )
             }
             LineOf::Vertical(_) => {
                 self.cfg.characters().has_vertical_offsets(probes)

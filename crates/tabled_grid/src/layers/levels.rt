@@ -60,11 +60,7 @@ impl<T, M: Meter> Layers<T, M> {
 }
 
 /// Whether something is kept at an offset of an edge in a row: one reading.
-fn has_row<T, M: Meter>(
-    offsets: &CountedMap<EdgePlace, T, M>,
-    row: usize,
-    probes: &mut M,
-) -> bool
+fn has_row<T, M: Meter>(offsets: &CountedMap<EdgePlace, T, M>, row: usize, probes: &mut M) -> bool
     ensures value { IsFalse result ↔ ((c : ℕ) (offset : End) → map.get (table edge_place_cmp offsets.now) (edge_place row c offset) ≡ None) }
     ensures counted { IsCounted (M.made probes.old) (M.made probes.new) }
     ensures raised { IsRaised 1 (M.made probes.old) (M.made probes.new) }

@@ -30,8 +30,7 @@ returns-in-Some-clause-first g c =
     ∙ sym (read_others slots_total exact_slots g.met.K.Ord.total g.met.K.Key.exact g.met.K.Key.back kept.dense kept.others.entries c.self.invariant.0 q (c.requires q))
     ∙ ap (table_at cmp q) c.self.view_is in
     let range = c.range.ensures.in_range cc in
-    let there = subst (λ (entries : List (g.row.K.Denot × g.row.V.Denot)). IfSome (slice_get entries 0) (IsEntryInRange cmp (Included c.args.key) Unbounded kept.others)) c.in-Some.ensures.steps range.1 in
-    (
+    let there = subst (λ (entries : List (g.row.K.Denot × g.row.V.Denot)). IfSome (slice_get entries 0) (IsEntryInRange cmp (Included c.args.key) Unbounded kept.others)) c.in-Some.ensures.steps range.1 in (
       (there.0.0, ap is_some (sym (same c.in-Some.first.now) ∙ there.1)),
       λ q is. subst (λ (entries : List (g.row.K.Denot × g.row.V.Denot)). IfSome (slice_get entries 0) (λ e. is_gt (cmp e.0 q) ≡ false)) c.in-Some.ensures.steps (range.2 q (is.0, cc) (ap is_some (same q) ∙ is.1)),
     )
