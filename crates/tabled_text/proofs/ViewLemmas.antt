@@ -21,10 +21,10 @@ use Rattle.tabled_text.proofs.SpanLemmas.{is_spanned_color, is_spanned_text, non
 
 -- without places there is no text
 pub no_text : {T : Type 0} (bytes : T → List ℕ) (view : TableView T) (wanted : Bool) → is_empty view.shape ≡ true → text_viewed bytes view wanted ≡ []
+unfolding painted_table spanned_table
 no_text bytes view wanted none = by_case (is_sized_by_texts view.config.now.spanned)
   where
     by_case : (alone : Bool) → text_of_lines wanted (lines_viewed bytes view alone) ≡ []
-    unfolding painted_table spanned_table
     by_case true =
         let cfg = view.config.now in
         let kept : Look = look (all_writes cfg.spanned) view.shape (slice_index view.sizes.now.widths.items) (slice_index view.sizes.now.heights.items) in
@@ -52,10 +52,10 @@ module _ {T : Type 0} (bytes : T → List ℕ) (view : TableView T) (is : IsTabl
 
   module _ (shows : borders.Shows es view.config.now.spanned) where
     pub plain_text_viewed : text_viewed bytes view false ≡ text_of es (texts_viewed bytes view)
+    unfolding text_of_lines plain_text
     plain_text_viewed = by_case (is_sized_by_texts view.config.now.spanned) refl
       where
         by_case : (alone : Bool) → is_sized_by_texts view.config.now.spanned ≡ alone → text_of_lines false (lines_viewed bytes view alone) ≡ text_of es (texts_viewed bytes view)
-        unfolding text_of_lines plain_text
         by_case true alone =
             plain_viewed view.config.now (texts_viewed bytes view) shape view.sizes.now.widths.items view.sizes.now.heights.items shaped is.widths is.heights es shows
             ∙ sym (text_without es (texts_viewed bytes view) (none_set es view.config.now.spanned false shows (sym (ap not alone)) refl))
@@ -66,10 +66,10 @@ module _ {T : Type 0} (bytes : T → List ℕ) (view : TableView T) (is : IsTabl
 
   module _ (shows : Shows es view.config.now) where
     pub colored_text_viewed : text_viewed bytes view true ≡ colored_text (painted es (texts_viewed bytes view))
+    unfolding text_of_lines colored_text
     colored_text_viewed = by_case (is_sized_by_texts view.config.now.spanned) refl
       where
         by_case : (alone : Bool) → is_sized_by_texts view.config.now.spanned ≡ alone → text_of_lines true (lines_viewed bytes view alone) ≡ colored_text (painted es (texts_viewed bytes view))
-        unfolding text_of_lines colored_text
         by_case true alone =
             colors_viewed view.config.now (texts_viewed bytes view) shape view.sizes.now.widths.items view.sizes.now.heights.items shaped is.widths is.heights es shows
             ∙ ap colored_text (sym (painted_without es (texts_viewed bytes view) (none_set es view.config.now.spanned false shows.spanned_shown (sym (ap not alone)) refl)))
