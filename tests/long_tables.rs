@@ -4,7 +4,7 @@ use std::alloc::Global;
 use std::test::Fail;
 use tabled::settings::object::{Cell, Rows};
 use tabled::settings::style::{Border, BorderColor, HorizontalLine, LineText, VerticalLine};
-use tabled::settings::{Color, Shadow, Style};
+use tabled::settings::{Alignment, Color, Shadow, Style};
 use tabled::{TableError, TextTable};
 use tabled_grid::{Offset, Position};
 
@@ -229,6 +229,60 @@ fn a_margin_stands_beside_each_line(rt: HostRuntime) -> Result<(), Fail> {
 | h | 8 |▒
 +---+---+▒
  ▒▒▒▒▒▒▒▒▒";
+    assert_eq!(rt; table.to_text()?.as_str(), text);
+    assert_eq!(rt; table.to_ansi()?.as_str(), text);
+    Ok(())
+}
+
+#[test]
+fn a_cell_that_is_aligned_stands_so_alone(rt: HostRuntime) -> Result<(), Fail> {
+    let rows: [&[&str]; 5] = [&["name", "n"], &["b", "2"], &["c", "3"], &["d", "4"], &["e", "5"]];
+    let mut table = TextTable::new(rt.alloc(), &rows)?;
+    table.with(Style::ascii())?;
+    table.modify(Cell::new(2, 0), Alignment::right())?;
+    table.modify(Cell::new(4, 0), Alignment::center())?;
+    let text = "\
++------+---+
+| name | n |
++------+---+
+| b    | 2 |
++------+---+
+|    c | 3 |
++------+---+
+| d    | 4 |
++------+---+
+|  e   | 5 |
++------+---+";
+    assert_eq!(rt; table.to_text()?.as_str(), text);
+    assert_eq!(rt; table.to_ansi()?.as_str(), text);
+    Ok(())
+}
+
+#[test]
+fn a_character_at_an_offset_of_a_line_shows_alone(rt: HostRuntime) -> Result<(), Fail> {
+    let mut table = eight(rt.alloc())?;
+    table.with(Style::ascii())?;
+    let cfg = table.config_mut().config_mut();
+    cfg.set_horizontal_char(Position::new(7, 1), Offset::End(0), '!')?;
+    cfg.set_horizontal_char(Position::new(2, 0), Offset::Start(1), '?')?;
+    let text = "\
++---+---+
+| a | 1 |
++---+---+
+| b | 2 |
++-?-+---+
+| c | 3 |
++---+---+
+| d | 4 |
++---+---+
+| e | 5 |
++---+---+
+| f | 6 |
++---+---+
+| g | 7 |
++---+--!+
+| h | 8 |
++---+---+";
     assert_eq!(rt; table.to_text()?.as_str(), text);
     assert_eq!(rt; table.to_ansi()?.as_str(), text);
     Ok(())
