@@ -37,7 +37,7 @@ impl<M: Meter> SpannedConfig<M> {
     /// Asks a getter of the store for the class record.
     pub fn class_by_a_getter(&self, probes: &mut M) -> bool {
         probes.raise();
-        self.characters.get_class().top.is_some() //~ the method `get_class` takes `self` as `&Layers<T>` //= self.characters.class_alone(probes).is_some()
+        self.characters.get_class().top.is_some() //~ the method `get_class` takes `self` as `&Layers<T>` //= self.characters.has_cells(probes)
     }
 
     /// Asks a getter for what an edge shows.

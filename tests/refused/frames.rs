@@ -2,7 +2,6 @@
 //! that was lent. None may compile, and the same function with the line behind `//=` has to.
 
 use super::Frame;
-use crate::Mark;
 use tabled_grid::{LineOf, Meter, Place, Probes};
 use tabled_object::Dimension;
 
@@ -20,8 +19,8 @@ impl<'a, D: Dimension, M: Meter> Frame<'a, '_, D, M> {
     }
 
     /// Asks a call of the frame what stands beside a row, which makes a meter of its own.
-    pub fn side_by_a_call_of_the_frame(&self, probes: &mut M) -> Option<Mark<'a>> {
+    pub fn side_by_a_call_of_the_frame(&self, probes: &mut M) -> bool {
         probes.raise();
-        self.side(0, 0, 0) //~ the method `side` takes `self` as `&Frame //= self.sides.at(0)
+        self.side(0, 0, 0, false).is_some() //~ the method `side` takes `self` as `&Frame //= self.sides.at(0).is_some()
     }
 }
