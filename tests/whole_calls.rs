@@ -295,8 +295,8 @@ fn a_side_is_shown_where_its_line_is_drawn(rt: HostRuntime) -> Result<(), Fail> 
     let frame = Frame::new(&cfg, &dims, (2, 3), false)?;
     let sides = [None, Some(Some('|')), Some(Some('|')), None];
     for (col, side) in sides.iter().enumerate() {
-        assert_eq!(rt; frame.side(1, col, 0).map(|mark| mark.shown), *side);
-        assert_eq!(rt; frame.sides.at(col).map(|mark| mark.shown), *side);
+        assert_eq!(rt; frame.side(1, col, 0, false).map(|mark| mark.shown), *side);
+        assert_eq!(rt; frame.sides.at(col).map(|side| side.mark.shown), *side);
     }
     drop(frame);
     let border = Border {
@@ -305,9 +305,9 @@ fn a_side_is_shown_where_its_line_is_drawn(rt: HostRuntime) -> Result<(), Fail> 
     };
     cfg.set_border(Position::new(1, 0), border)?;
     let frame = Frame::new(&cfg, &dims, (2, 3), false)?;
-    assert_eq!(rt; frame.side(0, 0, 0).map(|mark| mark.shown), Some(None));
-    assert_eq!(rt; frame.side(1, 0, 0).map(|mark| mark.shown), Some(Some('<')));
-    assert_eq!(rt; frame.side(1, 3, 0).map(|mark| mark.shown), None);
+    assert_eq!(rt; frame.side(0, 0, 0, false).map(|mark| mark.shown), Some(None));
+    assert_eq!(rt; frame.side(1, 0, 0, false).map(|mark| mark.shown), Some(Some('<')));
+    assert_eq!(rt; frame.side(1, 3, 0, false).map(|mark| mark.shown), None);
     Ok(())
 }
 
