@@ -5,11 +5,10 @@ ghost use Rattle.std.specs.List.{flat_map, join_with_byte, list_all};
 ghost use Rattle.std.specs.Str.{IsUtf8};
 ghost use Rattle.tabled_grid.specs.declared.place.LineOf.{LineOf as Line};
 ghost use Rattle.tabled_grid.specs.declared.place.Place.{Place as Spot};
-ghost use Rattle.tabled_grid.specs.declared.site.Direction.TheVariants.{Horizontal, Vertical};
 ghost use Rattle.tabled_grid.specs.Probing.{IsRaised};
 ghost use Rattle.tabled_configuration.specs.Configuration.{ConfigEvent, Shows, all_writes};
 ghost use Rattle.tabled_printing.specs.Along.{along, is_empty};
-ghost use Rattle.tabled_printing.specs.Alike.{NoneForPlaces, NoneForLines};
+ghost use Rattle.tabled_printing.specs.Alike.{IsBareLine, NoneForColumns};
 ghost use Rattle.tabled_printing.specs.Columns.{StandsStraight, WritesNarrow, stands_apart, table_width};
 ghost use Rattle.tabled_printing.specs.LinePieces.{lines_met};
 ghost use Rattle.tabled_printing.specs.Marks.{mark_of, marks_of, run_marks};
@@ -95,7 +94,7 @@ pub fn frame_of_a_table<'a, 'b, D: Dimension>(
 }
 
 /// The marks of a horizontal line of a frame, put into whatever takes marks, and what a refusal leaves of that; where nothing is kept
-/// for single places and no vertical line is a custom one, in at most 45 readings, however long the line is.
+/// for single places of the line and no vertical line is a custom one, in at most 45 readings, however long it is.
 pub fn line_put_into_a_sink<'a, D: Dimension, S: Sink<'a>, M: Meter>(
     frame: &Frame<'a, '_, D, M>,
     row: usize,
@@ -105,7 +104,7 @@ pub fn line_put_into_a_sink<'a, D: Dimension, S: Sink<'a>, M: Meter>(
     requires { row ≤ frame.now.shape.0 }
     ensures put { MatchResult result (λ _. S.puts (marks_along (frame_look D.width_of D.height_of frame.now) (Line.Horizontal row)) sink.old sink.new) (λ _. S.leaves sink.old sink.new) }
     ensures readings { IsRaised (12 * length (marks_along (frame_look D.width_of D.height_of frame.now) (Line.Horizontal row)) + 6 * (frame.now.shape.1 + 1) + 45) (M.made probes.old) (M.made probes.new) }
-    ensures looked_up_once { NoneForPlaces frame.now.cfg.now frame.now.with_colors Horizontal → NoneForLines frame.now.cfg.now frame.now.with_colors Vertical → IsRaised 45 (M.made probes.old) (M.made probes.new) }
+    ensures looked_up_once { IsBareLine frame.now.cfg.now frame.now.with_colors row → NoneForColumns frame.now.cfg.now frame.now.with_colors → IsRaised 45 (M.made probes.old) (M.made probes.new) }
 {
     frame.put_line(row, sink, probes)
 }
