@@ -351,7 +351,7 @@ fn a_margin_stands_around_a_page(rt: HostRuntime) -> Result<(), Fail> {
     let page = TablePage::new(&cfg, &dims, (1, 1), false)?;
     assert!(rt; page.least_bytes() <= text.len());
     assert_eq!(rt; page.print(String::new(alloc), &rows)?.as_str(), text);
-    let page = TablePage::with_spans(&cfg, &dims, (1, 1), false)?;
+    let page = TablePage::new(&cfg, &dims, (1, 1), false)?;
     assert!(rt; page.least_bytes() <= text.len());
     assert_eq!(rt; page.print(String::new(alloc), &rows)?.as_str(), text);
     Ok(())
@@ -416,10 +416,10 @@ fn texts_of_cells_that_span_are_painted(rt: HostRuntime) -> Result<(), Fail> {
     let sizes = FixedDimension::new(vec![in alloc; 3usize; 1]?, vec![in alloc; 1usize; 2]?);
     let mut rows = one_text(alloc, "a")?;
     rows.append(&mut one_text(alloc, "b")?)?;
-    let page = TablePage::with_spans(&cfg, &sizes, (2, 1), false)?;
+    let page = TablePage::new(&cfg, &sizes, (2, 1), false)?;
     let plain = page.print(String::new(alloc), &rows)?;
     assert_eq!(rt; plain.as_str(), "+---+\n| a |\n+   +\n|   |\n+---+");
-    let page = TablePage::with_spans(&cfg, &sizes, (2, 1), true)?;
+    let page = TablePage::new(&cfg, &sizes, (2, 1), true)?;
     let colored = page.print(String::new(alloc), &rows)?;
     assert_eq!(rt; colored.as_str(), "+---+\n| <a> |\n+   +\n|   |\n+---+");
     Ok(())

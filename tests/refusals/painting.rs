@@ -24,19 +24,11 @@ fn begun(alloc: Global, spans: bool) -> Result<Sample, OutOfMemory> {
     Ok(sample)
 }
 
-/// The page of a configuration, in color or without, with spans or without.
-fn page_of(sample: &Sample, with_colors: bool, spans: bool) -> Result<TablePage<'_, '_>, OutOfMemory> {
-    if spans {
-        return TablePage::with_spans(&sample.cfg, &sample.dims, (2, 2), with_colors);
-    }
-    TablePage::new(&sample.cfg, &sample.dims, (2, 2), with_colors)
-}
-
 /// What becomes of a page, in color or without, with spans or without.
 fn make(turn: &mut Turn, with_colors: bool, spans: bool) -> Result<Outcome, OutOfMemory> {
     let sample = begun(turn.alloc(), spans)?;
     turn.spend();
-    let made = page_of(&sample, with_colors, spans);
+    let made = TablePage::new(&sample.cfg, &sample.dims, (2, 2), with_colors);
     Ok(Outcome::of_value(made.map(|page| page.least_bytes() > 10)))
 }
 
@@ -44,7 +36,7 @@ fn make(turn: &mut Turn, with_colors: bool, spans: bool) -> Result<Outcome, OutO
 fn print(turn: &mut Turn, with_colors: bool, spans: bool) -> Result<Outcome, OutOfMemory> {
     let sample = begun(turn.alloc(), spans)?;
     let cells = cells_of(turn.alloc(), &[&["a", "b"], &["c", "d"]])?;
-    let page = page_of(&sample, with_colors, spans)?;
+    let page = TablePage::new(&sample.cfg, &sample.dims, (2, 2), with_colors)?;
     let room = String::new(turn.alloc());
     turn.spend();
     let text = page.print(room, &cells);
@@ -66,8 +58,8 @@ pub(crate) fn texts() -> [Named; 9] {
     [
         ("TablePage<'a, 'b>::new", |turn| make(turn, false, false)),
         ("TablePage<'a, 'b>::new (in color)", |turn| make(turn, true, false)),
-        ("TablePage<'a, 'b>::with_spans", |turn| make(turn, false, true)),
-        ("TablePage<'a, 'b>::with_spans (in color)", |turn| make(turn, true, true)),
+        ("TablePage<'a, 'b>::new (spans)", |turn| make(turn, false, true)),
+        ("TablePage<'a, 'b>::new (spans, in color)", |turn| make(turn, true, true)),
         ("TablePage<'a, 'b>::print", |turn| print(turn, false, false)),
         ("TablePage<'a, 'b>::print (in color)", |turn| print(turn, true, false)),
         ("TablePage<'a, 'b>::print (spans)", |turn| print(turn, false, true)),

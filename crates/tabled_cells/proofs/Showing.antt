@@ -42,6 +42,3 @@ module _ (lines from left : List (List ℕ)) (line : List ℕ) (n first : ℕ) (
 greatest_push : (most : ℕ) (ns : List ℕ) (n : ℕ) → fold max most (ns ++ n ∷ []) ≡ max (fold max most ns) n
 greatest_push most [] n = refl
 greatest_push most (m ∷ ms) n = greatest_push (max most m) ms n
-
-pub widest_more : (lines : List (List ℕ)) (n : ℕ) → n < length lines → greatest (map width_of_text (take (n + 1) lines)) ≡ max (greatest (map width_of_text (take n lines))) (width_of_text (get_or lines n []))
-widest_more lines n inside = ap greatest (map_more width_of_text lines n [] inside) ∙ greatest_push 0 (map width_of_text (take n lines)) (width_of_text (get_or lines n []))

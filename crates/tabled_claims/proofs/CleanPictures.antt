@@ -16,7 +16,7 @@ use Rattle.tabled_settings.specs.Live.{value_at}
 use Rattle.tabled_layout.specs.declared.margin.Margin.{Margin}
 use Rattle.tabled_configuration.specs.Configuration.{ConfigEvent}
 use Rattle.tabled_printing.specs.Along.{is_empty, along, crossing_at}
-use Rattle.tabled_printing.specs.Picture.{Look, character, mark_at, marks_along}
+use Rattle.tabled_printing.specs.Picture.{Look, character, look, mark_at, marks_along}
 use Rattle.tabled_printing.specs.Texts.{Table, width_of_text}
 use Rattle.tabled_cells.specs.declared.placement.Placement.{Placement}
 use Rattle.tabled_cells.specs.Placed.{times, lines_above as cell_lines_above, free_before, fills, fill_of, line_parts, aligned_width}
@@ -25,14 +25,14 @@ use Rattle.tabled_cells.specs.Trimmed.{lines_shown}
 use Rattle.tabled_painting.specs.Painted.{Painted, paint, plain}
 use Rattle.tabled_painting.specs.CellLines.{Coloring, coloring_at, painted_line, cell_line}
 use Rattle.tabled_painting.specs.Margin.{Side, side_at, is_left_out, between_sides, strip, in_margin, left_side, right_side, top_side, bottom_side}
-use Rattle.tabled_painting.specs.PaintedTable.{Cells, painted_mark, painted_marks, painted_side, painted_between, painted_if_drawn, painted_row, painted_lines, painted_table, painted_cell, painted_cells, plain_text}
-use Rattle.tabled_painting.specs.PaintedSpans.{columns_spanned, rows_spanned, painted_crossing, painted_edge, lines_above, room_wide, room_high, room_line, spanned_piece, spanned_between, crossed_piece, spanned_across, spanned_if_drawn, spanned_row, spanned_lines, spanned_table, spanned_cells}
+use Rattle.tabled_painting.specs.PaintedTable.{Cells, painted_mark, painted_marks, painted_side, painted_if_drawn, painted_cell, plain_text}
+use Rattle.tabled_painting.specs.PaintedSpans.{columns_spanned, painted_as_set, rows_spanned, painted_crossing, painted_edge, lines_above, room_wide, room_high, room_line, spanned_piece, spanned_between, crossed_piece, spanned_across, spanned_if_drawn, spanned_row, spanned_lines, spanned_table, spanned_cells}
 use Rattle.tabled_rooms.specs.Hosts.{Cell, Counts, host}
 use Rattle.tabled_painting.proofs.PainterLemmas.{plain_paint}
 use Rattle.tabled_painting.proofs.Plain.{plain_both}
 use Rattle.tabled_text.specs.Sizes.{column_count, column_widths, row_heights}
-use Rattle.tabled_text.specs.Cells.{cells_set, margin_set, cell_colors, settings_set, leaves_sizes}
-use Rattle.tabled_text.specs.TextTable.{look_of, look_with_spans, painted, painted_alone, painted_with_spans, text_of, widths_with_spans, heights_with_spans}
+use Rattle.tabled_text.specs.Cells.{cells_set, cell_colors, settings_set, leaves_sizes}
+use Rattle.tabled_text.specs.TextTable.{look_of, look_with_spans, painted, text_of, widths_with_spans, heights_with_spans}
 use Rattle.tabled_claims.specs.Clean.{WritesClean}
 use Rattle.tabled_text.specs.Changed.{CellsAreClean}
 use Rattle.tabled_claims.proofs.CleanCharacters.{space_steers, fill_steers}
@@ -173,35 +173,10 @@ module _ (view : Look) (cells : Cells) (borders : (place : Place) → steers (ch
   beside_quiet : (r k c : ℕ) → QuietLine (painted_side view r k c)
   beside_quiet r k c = if_quiet (view.vertical c) (painted_mark (mark_at view (Place.Vertical r c k))) (mark_quiet (Place.Vertical r c k))
 
-  row_quiet : (r k : ℕ) → QuietLine (painted_between view r k (λ c. cells r c k))
-  row_quiet r k =
-      both_quiet (flat_map (λ c. painted_side view r k c ++ cells r c k) (below view.shape.1)) (painted_side view r k view.shape.1)
-      (flat_quiet (λ c. painted_side view r k c ++ cells r c k) (below view.shape.1) (λ c. both_quiet (painted_side view r k c) (cells r c k) (beside_quiet r k c) (each r c k)))
-      (beside_quiet r k view.shape.1)
-
   drawn_quiet : (r : ℕ) → All QuietLine (painted_if_drawn view r)
   drawn_quiet r =
       All-if (view.horizontal r) (painted_marks (marks_along view (LineOf.Horizontal r)))
       (marks_quiet (along view.horizontal view.vertical view.shape view.widths view.heights (LineOf.Horizontal r)))
-
-  lines_quiet : All QuietLine (painted_lines view cells)
-  unfolding painted_lines
-  lines_quiet =
-      All-append QuietLine (flat_map (λ r. painted_if_drawn view r ++ painted_row view cells r) (below view.shape.0)) (painted_if_drawn view view.shape.0)
-      (All-flat (λ r. painted_if_drawn view r ++ painted_row view cells r) (below view.shape.0)
-      (λ r. All-append QuietLine (painted_if_drawn view r) (painted_row view cells r) (drawn_quiet r)
-      (All-map QuietLine (λ k. painted_between view r k (λ c. cells r c k)) (below (view.heights r)) (λ n d within. row_quiet r (get_or (below (view.heights r)) n d)))))
-      (drawn_quiet view.shape.0)
-
-  table_quiet : (margin : Margin) → All QuietLine (painted_table view margin cells)
-  unfolding painted_table
-  table_quiet margin = by_shape (is_empty view.shape)
-    where
-      by_shape : (none : Bool) → All QuietLine (if none then [] else in_margin margin (length (marks_along view (LineOf.Horizontal 0))) (painted_lines view cells))
-      by_shape true = All-nil QuietLine
-      by_shape false = margin_quiet margin (length (marks_along view (LineOf.Horizontal 0))) (painted_lines view cells) lines_quiet
-
-  -- ---- the same where cells span
 
   module _ (columns rows : Counts) where
     crossing_quiet : (r c : ℕ) → QuietLine (painted_crossing view r c)
@@ -257,20 +232,6 @@ module _ (view : Look) (cells : Cells) (borders : (place : Place) → steers (ch
 -- ---- its text
 
 module _ (events : List ConfigEvent) (table : Table) (clean : CellsAreClean table) (writes : WritesClean events) where
-  cells_quiet : (r c k : ℕ) → QuietLine (painted_cells (cells_set events) (cell_colors events) (column_widths table) (row_heights table) table r c k)
-  unfolding placement_at
-  cells_quiet r c k =
-      let how : Placement = placement_at (cells_set events) r c in
-      let text : List ℕ = slice_index_or (slice_index_or table r []) c [] in
-      cell_quiet how (coloring_at (cells_set events) (cell_colors events) r c) (slice_index (column_widths table) c) (slice_index (row_heights table) r) (lines_shown how text) k
-      (padding_quiet (cells_set events) r c) (writes.filling (record { row = r; col = c })) (shown_clean how text (clean r c))
-
-  alone_quiet : All QuietLine (painted_alone events table)
-  unfolding painted_alone
-  alone_quiet =
-      table_quiet (look_of events table) (painted_cells (cells_set events) (cell_colors events) (column_widths table) (row_heights table) table)
-      (borders_steer events (length table, column_count table) (slice_index (column_widths table)) (slice_index (row_heights table)) writes.borders) cells_quiet (margin_set events)
-
   rooms_quiet : (wide high : ℕ → ℕ → ℕ) (r c k : ℕ) → QuietLine (painted_cell (cells_set events) (cell_colors events) (wide r c) (high r c) (slice_index_or (slice_index_or table r []) c []) r c k)
   unfolding placement_at
   rooms_quiet wide high r c k =
@@ -279,24 +240,22 @@ module _ (events : List ConfigEvent) (table : Table) (clean : CellsAreClean tabl
       cell_quiet how (coloring_at (cells_set events) (cell_colors events) r c) (wide r c) (high r c) (lines_shown how text) k
       (padding_quiet (cells_set events) r c) (writes.filling (record { row = r; col = c })) (shown_clean how text (clean r c))
 
-  with_spans_quiet : All QuietLine (painted_with_spans events table)
-  unfolding painted_with_spans
-  with_spans_quiet =
+  set_quiet : (widths heights : ℕ → ℕ) → All QuietLine (painted_as_set (look events (length table, column_count table) widths heights) (settings_set events) (cell_colors events) table)
+  set_quiet widths heights =
       let settings = settings_set events in
-      let view : Look = look_with_spans events table in
+      let view : Look = look events (length table, column_count table) widths heights in
       let columns : Counts = columns_spanned settings in
       let rows : Counts = rows_spanned settings in
-      spanned_table_quiet view (spanned_cells view columns rows settings.cells (cell_colors events) table)
-      (borders_steer events (length table, column_count table) (slice_index (widths_with_spans settings events table)) (slice_index (heights_with_spans settings events table)) writes.borders)
+      spanned_table_quiet view (spanned_cells view columns rows settings.cells (cell_colors events) table) (borders_steer events (length table, column_count table) widths heights writes.borders)
       (rooms_quiet (room_wide view columns rows) (room_high view columns rows)) columns rows settings.margin
 
   painted_quiet : All QuietLine (painted events table)
   unfolding painted
   painted_quiet = by_case (leaves_sizes events)
     where
-      by_case : (none : Bool) → All QuietLine (if none then painted_alone events table else painted_with_spans events table)
-      by_case true = alone_quiet
-      by_case false = with_spans_quiet
+      by_case : (leaves : Bool) → All QuietLine (painted_as_set (if leaves then look_of events table else look_with_spans events table) (settings_set events) (cell_colors events) table)
+      by_case true = set_quiet (slice_index (column_widths table)) (slice_index (row_heights table))
+      by_case false = set_quiet (slice_index (widths_with_spans (settings_set events) events table)) (slice_index (heights_with_spans (settings_set events) events table))
 
   -- the characters of each painted line
   pub lines_are_clean : All (λ line. is_clean (plain line) ≡ true) (painted events table)

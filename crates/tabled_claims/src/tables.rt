@@ -25,7 +25,7 @@ ghost use Rattle.tabled_printing.specs.declared.print_error.PrintError.{PrintErr
 ghost use Rattle.tabled_text.specs.Fitted.{CanShare, IsFitted, frame_width, least_width};
 ghost use Rattle.tabled_text.specs.Refusal.{unequal};
 ghost use Rattle.tabled_text.specs.Sizes.{cell, column_count, column_widths, row_heights, unequal_row};
-ghost use Rattle.tabled_text.specs.TextTable.{AreRead, heights_read, lent_rows, look_of, look_printed, painted, painted_alone, painted_with_spans, shape_of, text_of, widths_read};
+ghost use Rattle.tabled_text.specs.TextTable.{AreRead, heights_read, lent_rows, look_of, look_printed, painted, painted_alone, shape_of, text_of, widths_read};
 ghost use Rattle.tabled_object.specs.declared.dimension.FixedDimension.{FixedDimension};
 ghost use Rattle.tabled_text.specs.declared.table_error.TableError.{TableError as Refusal};
 ghost use Rattle.std.specs.Fmt.{WritesOnOk};
@@ -139,14 +139,10 @@ pub fn text_of_a_table(table: &TextTable) -> Result<String, PrintError>
     table.to_text()
 }
 
-/// Where cells span or padding is set, the text is that of the cells that are shown, each in the room of all columns and rows that it takes,
-/// around which all places are as they are drawn; and else that of all cells, each at its place.
-pub fn text_with_spans(table: &TextTable) -> Result<String, PrintError>
-    ensures spanned { (events : List ConfigEvent) → borders.Shows events table.now.config.spanned → leaves_sizes events ≡ false
-        → IfOk result (λ text. string_bytes text ≡ plain_text (painted_with_spans events table.now.texts)) }
-    ensures alone { (events : List ConfigEvent) → borders.Shows events table.now.config.spanned → leaves_sizes events ≡ true
+/// Where no cell spans and no padding is set, the text is that of all cells, each in its own column and row.
+pub fn text_of_cells_alone(table: &TextTable) -> Result<String, PrintError>
+    ensures { (events : List ConfigEvent) → borders.Shows events table.now.config.spanned → leaves_sizes events ≡ true
         → IfOk result (λ text. string_bytes text ≡ plain_text (painted_alone events table.now.texts)) }
-    ensures memory_alone { IsOkUnless result Fault.OutOfMemory }
 {
     table.to_text()
 }

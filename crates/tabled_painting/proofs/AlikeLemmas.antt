@@ -31,11 +31,11 @@ use Rattle.tabled_printing.proofs.AlikeLemmas.{between, if_same, itself}
 use Rattle.tabled_printing.proofs.LookLemmas.{own_shown, own_color}
 use Rattle.tabled_printing.proofs.LineLemmas.{along_pieces, horizontal_there}
 use Rattle.tabled_printing.proofs.MarkLemmas.{mark_by}
+use Rattle.tabled_rooms.proofs.SizeLemmas.{flat_map_same}
 use Rattle.tabled_painting.specs.Between.{IsPlainLine, IsBetweenRows}
 use Rattle.tabled_painting.specs.Pages.{line_text}
 use Rattle.tabled_painting.specs.PaintedTable.{painted_marks}
 use Rattle.tabled_painting.specs.Viewed.{viewed}
-use Rattle.tabled_painting.proofs.FrameLemmas.{flat_map_same}
 
 -- a line that is no custom one, neither of characters nor of colors
 nothing : {A : Type 0} (o : Option A) → is_some o ≡ false → o ≡ None

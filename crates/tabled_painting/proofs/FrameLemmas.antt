@@ -1,9 +1,9 @@
 -- Sides, marks, rows and lines of a painted table, part by part.
-use Rattle.std.proofs.Common.{◌≡◌, ◌≢◌, ℕ, ◌+◌, ◌<◌, ◌≤◌, ◌==◌, ◌||◌, zero, suc, Bool, true, false, if◌then◌else◌, Option, Some, None, List, [], ◌∷◌, ◌++◌, map, length, get_or, refl, sym, ap, subst, ◌∙◌, arith, encode_utf8, Vec, option_copied}
+use Rattle.std.proofs.Common.{◌≡◌, ◌≢◌, ℕ, ◌+◌, ◌<◌, ◌≤◌, Bool, true, false, if◌then◌else◌, Option, Some, None, List, [], ◌∷◌, ◌++◌, map, length, get_or, refl, sym, ap, subst, ◌∙◌, arith, encode_utf8, Vec, option_copied}
 use Rattle.std.specs.List.{flat_map}
 use Rattle.std.proofs.lemmas.Bool.Decides.{nat_tests}
 use Rattle.std.proofs.lemmas.List.{append-nil, append_assoc, map-append, length-map, get_or-map}
-use Rattle.std.proofs.lemmas.List.FromFn.{map-range_with_len_more, length-map-range_with_len, get_or-map-range_with_len}
+use Rattle.std.proofs.lemmas.List.FromFn.{map-range_with_len_more, length-map-range_with_len}
 use Rattle.tabled_object.specs.Entities.{below}
 use Rattle.tabled_configuration.proofs.Below.{flat_map_below}
 use Rattle.tabled_printing.specs.Along.{is_empty}
@@ -17,7 +17,7 @@ use Rattle.tabled_cells.specs.Placed.{times}
 use Rattle.tabled_painting.specs.declared.painter.Painter.{Painter}
 use Rattle.tabled_painting.specs.Painted.{Painted, paint}
 use Rattle.tabled_painting.specs.InColor.{Paints}
-use Rattle.tabled_painting.specs.PaintedTable.{painted_mark, painted_marks, side_painted, painted_side, painted_between}
+use Rattle.tabled_painting.specs.PaintedTable.{painted_mark, painted_marks, side_painted, painted_side}
 use Rattle.tabled_painting.specs.TextsBy.{texts_by}
 use Rattle.tabled_painting.proofs.PainterLemmas.{paints_both}
 
@@ -87,49 +87,15 @@ module _ {O : Type 0} (gains : List ℕ → O → O → Type 0) (both : (xs ys :
 pub shown_at : {A B : Type 0} (f : A → B) (xs : List A) (at : ℕ) (x : A) (d : B) → at < length xs → x ≡ get_or xs at x → f x ≡ get_or (map f xs) at d
 shown_at f xs at x d within read = ap f read ∙ sym (get_or-map f xs at x d within)
 
--- parts that are the same up to a number
-pub flat_map_same : {A : Type 0} (f g : ℕ → List A) (n : ℕ) → ((c : ℕ) → c < n → f c ≡ g c) → flat_map f (below n) ≡ flat_map g (below n)
-flat_map_same f g zero same = refl
-flat_map_same f g (suc n) same =
-    let next : suc n ≡ n + 1 = omega arith in
-    ap (λ m. flat_map f (below m)) next ∙ flat_map_below f n
-    ∙ (λ i. flat_map_same f g n (λ c within. same c (omega arith)) i ++ same n (omega arith) i)
-    ∙ sym (flat_map_below g n) ∙ ap (λ m. flat_map g (below m)) (sym next)
-
--- a line of a row, by its cells
-pub cells_same : (view : Look) (r k count : ℕ) (cells : List Painted) (cell : ℕ → Painted) → count ≡ view.shape.1 → cells ≡ map cell (below count)
-    → painted_between view r k (λ c. get_or cells c []) ≡ painted_between view r k cell
-cells_same view r k count cells cell counted are =
-    ap (λ parts. parts ++ painted_side view r k view.shape.1)
-    (flat_map_same (λ c. painted_side view r k c ++ get_or cells c []) (λ c. painted_side view r k c ++ cell c) view.shape.1
-    (λ c within. ap (λ part. painted_side view r k c ++ part) (ap (λ xs. get_or xs c []) are ∙ get_or-map-range_with_len cell 0 count c c [] (omega arith) (omega arith))))
-
 -- the texts of the row at a place
 pub row_texts : {A Z : Type 0} (bytes : A → List ℕ) (rows : List (Vec A Z)) (r : ℕ) (row : Vec A Z) (items : List A) → r < length rows → row ≡ get_or rows r row → items ≡ row.items
     → map bytes items ≡ get_or (texts_by bytes rows) r []
 row_texts bytes rows r row items within read same = ap (map bytes) same ∙ shown_at (λ v. map bytes v.items) rows r row [] within read
 
--- as many cells as columns
-pub cells_count : {A B : Type 0} (f : A → B) (g : ℕ → B) (xs : List A) (n : ℕ) → map f xs ≡ map g (below n) → length xs ≡ n
-cells_count f g xs n are = sym (length-map xs f) ∙ ap length are ∙ length-map-range_with_len g 0 n
-
 -- a row with a further line, and one that is not one line high
 pub higher : (high rows at : ℕ) → high ≡ rows → 1 ≤ at → at < high → rows ≢ 1
 higher high rows at same further within one = omega (arith, same, one)
 
-pub not_one : (high rows : ℕ) → high ≡ rows → rows ≢ 1 → (high == 1) ≡ false
-not_one high rows same some = grind (arith, nat_tests)
-
--- a table that has places has rows
-pub some_rows : (rows cols : ℕ) → is_empty (rows, cols) ≡ false → 0 < rows
-some_rows zero cols any = absurd (let no : true ≡ false = any in cc)
-some_rows (suc rows) cols any = omega arith
-
--- and columns
+-- a table that has places has columns
 pub some_cols : (rows cols : ℕ) → is_empty (rows, cols) ≡ false → 0 < cols
-some_cols rows zero any = absurd (let no : true ≡ false = sym (either_way (rows == 0)) ∙ any in cc)
-  where
-    either_way : (b : Bool) → b || true ≡ true
-    either_way true = refl
-    either_way false = refl
-some_cols rows (suc cols) any = omega arith
+some_cols rows cols any = grind (arith, nat_tests)

@@ -15,4 +15,3 @@ pub mod SpannedLemmas
 pub mod AloneLemmas
 pub mod DrawnLemmas
 pub mod RowLemmas
-pub mod TablePageLemmas

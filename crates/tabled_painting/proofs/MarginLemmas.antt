@@ -15,7 +15,9 @@ use Rattle.tabled_painting.specs.Painted.{Painted, colored_if}
 use Rattle.tabled_painting.specs.InColor.{in_color}
 use Rattle.tabled_painting.specs.Pages.{IsMarginOf, Strips, counted_sides, most, text_of_lines}
 use Rattle.tabled_painting.specs.Margin.{Side, side_of, side_at, is_left_out, between_sides, strip, in_margin}
-use Rattle.tabled_painting.specs.PaintedTable.{Cells, painted_marks, painted_between, painted_if_drawn, painted_row, painted_lines, with_margin}
+use Rattle.tabled_rooms.specs.Hosts.{Counts}
+use Rattle.tabled_painting.specs.PaintedTable.{Cells, painted_marks, painted_if_drawn, with_margin}
+use Rattle.tabled_painting.specs.PaintedSpans.{spanned_across, spanned_between, spanned_if_drawn, spanned_lines, spanned_row}
 
 -- what holds of a value that is returned, by what else holds of it
 pub on_value : {T E : Type 0} (r : Result T E) (P Q : T → Type 0) → IfOk r P → ((x : T) → P x → Q x) → IfOk r Q
@@ -58,21 +60,23 @@ pub one_or_none : {A B : Type 0} (b : Bool) (x : A) (y : B) → length (if b the
 one_or_none true x y = refl
 one_or_none false x y = refl
 
-module _ (view : Look) (cells : Cells) where
-  row_lengths : (r : ℕ) → length (painted_if_drawn view r ++ painted_row view cells r) ≡ length (piece_places view (LineOf.Vertical 0) r)
-  row_lengths r =
-      length-append (painted_if_drawn view r) (painted_row view cells r)
-      ∙ (λ i. one_or_none (view.horizontal r) (painted_marks (marks_along view (LineOf.Horizontal r))) (crossing_of (LineOf.Vertical 0) r) i
-      + length-map-range_with_len (λ k. painted_between view r k (λ c. cells r c k)) 0 (view.heights r) i)
+module _ (view : Look) (columns rows : Counts) (cells : Cells) where
+  abbrev block : ℕ → List Painted
+  block r = spanned_if_drawn view columns rows cells r ++ spanned_row view columns rows cells r
+
+  block_long : (r : ℕ) → length (block r) ≡ length (piece_places view (LineOf.Vertical 0) r)
+  block_long r =
+      length-append (spanned_if_drawn view columns rows cells r) (spanned_row view columns rows cells r)
+      ∙ (λ i. one_or_none (view.horizontal r) (spanned_across view columns rows cells r) (crossing_of (LineOf.Vertical 0) r) i
+      + length-map-range_with_len (spanned_between view columns rows cells r) 0 (view.heights r) i)
       ∙ ap (λ k. length (crossing_places view (LineOf.Vertical 0) r) + k) (sym (length-map-range_with_len (edge_of (LineOf.Vertical 0) r) 0 (view.heights r)))
       ∙ sym (length-append (crossing_places view (LineOf.Vertical 0) r) (edge_places view (LineOf.Vertical 0) r))
 
-  pub lines_count : is_empty view.shape ≡ false → length (painted_lines view cells) ≡ length (marks_along view (LineOf.Vertical 0))
-  unfolding painted_lines all_places places_before
+  pub lines_count : is_empty view.shape ≡ false → length (spanned_lines view columns rows cells) ≡ length (marks_along view (LineOf.Vertical 0))
+  unfolding spanned_lines all_places places_before
   lines_count any =
-      let rows : ℕ → List Painted = λ r. painted_if_drawn view r ++ painted_row view cells r in
-      length-append (flat_map rows (below view.shape.0)) (painted_if_drawn view view.shape.0)
-      ∙ (λ i. same_lengths rows (piece_places view (LineOf.Vertical 0)) (below view.shape.0) row_lengths i
+      length-append (flat_map block (below view.shape.0)) (painted_if_drawn view view.shape.0)
+      ∙ (λ i. same_lengths block (piece_places view (LineOf.Vertical 0)) (below view.shape.0) block_long i
       + one_or_none (view.horizontal view.shape.0) (painted_marks (marks_along view (LineOf.Horizontal view.shape.0))) (crossing_of (LineOf.Vertical 0) view.shape.0) i)
       ∙ sym (length-append (flat_map (piece_places view (LineOf.Vertical 0)) (below view.shape.0)) (crossing_places view (LineOf.Vertical 0) view.shape.0))
       ∙ sym (marks_count view (LineOf.Vertical 0) (vertical_there view.shape any))

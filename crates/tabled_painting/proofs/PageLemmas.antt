@@ -1,5 +1,5 @@
 -- Lines of a page, one after another.
-use Rattle.std.proofs.Common.{◌≡◌, ℕ, ◌+◌, ◌≤◌, Bool, true, false, min, if◌then◌else◌, None, List, [], ◌∷◌, ◌++◌, map, length, replicate, refl, sym, ap, subst, ◌∙◌, arith, option_copied, Result, Ok, Err, OnOk}
+use Rattle.std.proofs.Common.{◌≡◌, ℕ, ◌+◌, ◌≤◌, Bool, true, false, min, if◌then◌else◌, None, List, [], ◌∷◌, ◌++◌, map, length, replicate, refl, sym, ap, subst, ◌∙◌, arith, option_copied}
 use Rattle.std.specs.List.{flat_map, join_with_byte}
 use Rattle.std.proofs.lemmas.List.{append-nil, append_assoc, replicate_more}
 use Rattle.std.proofs.lemmas.List.FromFn.{map-range_with_len_more}
@@ -146,9 +146,3 @@ module _ {O : Type 0} (gains : List ℕ → O → O → Type 0) (both : (xs ys :
   row_more above row n lines old first second new is p q r =
       subst (λ ls. PaintsLines gains ls old new) (sym (flat_map_below (λ k. above k ++ row k) n))
       (lines_both (flat_map (λ k. above k ++ row k) (below n)) (above n ++ row n) old first new p (subst (λ ls. PaintsLines gains (above n ++ ls) first new) is (lines_both (above n) lines first second new q r)))
-
-  -- the last line
-  pub last_lines : {T E : Type 0} (r : Result T E) (xs ys whole : List Painted) (old middle new : Page O) → whole ≡ xs ++ ys → PaintsLines gains xs old middle → OnOk r (PaintsLines gains ys middle new)
-      → OnOk r (PaintsLines gains whole old new)
-  last_lines (Ok x) xs ys whole old middle new is p q = subst (λ lines. PaintsLines gains lines old new) (sym is) (lines_both xs ys old middle new p q)
-  last_lines (Err e) xs ys whole old middle new is p q = tt

@@ -1,8 +1,7 @@
 -- The characters of a painted table are its plain text.
-use Rattle.std.proofs.Common.{◌≡◌, ℕ, ◌+◌, ◌-◌, ◌<◌, zero, suc, Bool, true, false, nat_lt, if◌then◌else◌, None, List, [], ◌∷◌, ◌++◌, map, length, get_or, drop, replicate, refl, sym, ap, ◌∙◌, arith, encode_utf8}
+use Rattle.std.proofs.Common.{◌≡◌, ℕ, ◌+◌, ◌-◌, ◌<◌, Bool, true, false, nat_lt, if◌then◌else◌, None, List, [], ◌∷◌, ◌++◌, map, length, get_or, drop, replicate, refl, sym, ap, ◌∙◌, encode_utf8}
 use Rattle.std.specs.List.{flat_map}
 use Rattle.std.proofs.lemmas.List.{append-nil, map-append, length-map}
-use Rattle.std.proofs.lemmas.List.FromFn.{map-range_with_len_more}
 use Rattle.tabled_object.specs.Entities.{below}
 use Rattle.tabled_grid.specs.declared.place.Place.{Place}
 use Rattle.tabled_grid.specs.declared.place.LineOf.{LineOf}
@@ -13,6 +12,7 @@ use Rattle.tabled_printing.specs.Picture.{Look, Shown, character, text_shown, te
 use Rattle.tabled_cells.specs.declared.placement.Placement.{Placement}
 use Rattle.tabled_cells.specs.Placed.{times, lines_above, line_parts, aligned_width}
 use Rattle.tabled_cells.proofs.Fits.{empty_line, placed_line, placed_at}
+use Rattle.tabled_rooms.proofs.SizeLemmas.{flat_map_same, map_same}
 use Rattle.tabled_painting.specs.Painted.{Painted, paint, plain, colored_if}
 use Rattle.tabled_painting.specs.InColor.{in_color, suffix_of}
 use Rattle.tabled_painting.specs.Margin.{Side, side_at, between_sides, strip, in_margin, left_side, right_side, top_side, bottom_side}
@@ -20,13 +20,7 @@ use Rattle.tabled_painting.specs.CellLines.{Coloring, painted_line, cell_line}
 use Rattle.tabled_painting.specs.PaintedTable.{Cells, painted_mark, painted_marks, painted_side, painted_between, painted_if_drawn, painted_row, painted_lines}
 use Rattle.tabled_painting.proofs.PainterLemmas.{plain_paint, goes_on, stays}
 use Rattle.tabled_painting.proofs.MarginLemmas.{between_none}
-use Rattle.tabled_painting.proofs.FrameLemmas.{flat_map_same}
 use Rattle.tabled_printing.proofs.Straight.{lines_around}
-use Rattle.tabled_printing.proofs.ViewedLemmas.{kept_text, kept_count}
-use Rattle.tabled_painting.specs.Pages.{text_of_lines}
-use Rattle.tabled_painting.specs.PaintedTable.{painted_table}
-use Rattle.tabled_printing.specs.Viewed as looks
-use Rattle.std.specs.List.{join_with_byte}
 
 pub plain_both : (xs ys : Painted) → plain (xs ++ ys) ≡ plain xs ++ plain ys
 plain_both xs ys = map-append (λ painted. painted.0) xs ys
@@ -70,14 +64,6 @@ module _ (view : Look) where
 
   pub plain_if_drawn : (r : ℕ) → map plain (painted_if_drawn view r) ≡ line_if_drawn view r
   plain_if_drawn r = plain_line (view.horizontal r) _ _ (plain_marks (marks_along view (LineOf.Horizontal r)))
-
-  map_same : {A : Type 0} (f g : ℕ → A) (n : ℕ) → ((k : ℕ) → k < n → f k ≡ g k) → map f (below n) ≡ map g (below n)
-  map_same f g zero same = refl
-  map_same f g (suc n) same =
-      let next : suc n ≡ n + 1 = omega arith in
-      ap (λ m. map f (below m)) next ∙ map-range_with_len_more f 0 n n (omega arith)
-      ∙ (λ i. map_same f g n (λ k within. same k (omega arith)) i ++ same n (omega arith) i ∷ [])
-      ∙ sym (map-range_with_len_more g 0 n n (omega arith)) ∙ ap (λ m. map g (below m)) (sym next)
 
   mapped_twice : {A B C : Type 0} (f : B → C) (g : A → B) (xs : List A) → map f (map g xs) ≡ map (λ x. f (g x)) xs
   mapped_twice f g [] = refl
@@ -190,47 +176,6 @@ without_room margin columns lines no_left no_right no_top no_bottom =
     (λ i. replicate (no_top i) (strip (top_side margin) long) ++ between_none left right (length lines) 0 lines no_left no_right i ++ replicate (no_bottom i) (strip (bottom_side margin) long))
     ∙ append-nil lines
 
--- ---- the same characters, with colors or without them
-
-module _ (wanted : Bool) (view : Look) (cells others : Cells) (same : (r c k : ℕ) → plain (cells r c k) ≡ plain (others r c k)) where
-  abbrev kept : Look
-  kept = looks.with_colors_if wanted view
-
-  row_same : (r : ℕ) → map plain (painted_row kept cells r) ≡ map plain (painted_row view others r)
-  row_same r =
-      mapped_twice view plain (λ k. painted_between kept r k (λ c. cells r c k)) (below (view.heights r))
-      ∙ map_same view (λ k. plain (painted_between kept r k (λ c. cells r c k))) (λ k. plain (painted_between view r k (λ c. others r c k))) (view.heights r)
-      (λ k within. plain_between kept r k (λ c. cells r c k) (λ c. plain (others r c k)) (λ c inside. same r c k) ∙ sym (plain_between view r k (λ c. others r c k) (λ c. plain (others r c k)) (λ c inside. refl)))
-      ∙ sym (mapped_twice view plain (λ k. painted_between view r k (λ c. others r c k)) (below (view.heights r)))
-
-  line_same : (r : ℕ) → map plain (painted_if_drawn kept r) ≡ map plain (painted_if_drawn view r)
-  line_same r =
-      plain_if_drawn kept r
-      ∙ ap (λ text. if view.horizontal r then text ∷ [] else []) (kept_text wanted view (LineOf.Horizontal r))
-      ∙ sym (plain_if_drawn view r)
-
-  lines_same : map plain (painted_lines kept cells) ≡ map plain (painted_lines view others)
-  unfolding painted_lines
-  lines_same =
-      let rows : Look → Cells → ℕ → List Painted = λ of of_cells r. painted_if_drawn of r ++ painted_row of of_cells r in
-      map-append plain (flat_map (rows kept cells) (below view.shape.0)) (painted_if_drawn kept view.shape.0)
-      ∙ (λ i. (map_flat plain (rows kept cells) (below view.shape.0)
-      ∙ flat_map_same (λ r. map plain (rows kept cells r)) (λ r. map plain (rows view others r)) view.shape.0
-      (λ r within. map-append plain (painted_if_drawn kept r) (painted_row kept cells r) ∙ (λ j. line_same r j ++ row_same r j) ∙ sym (map-append plain (painted_if_drawn view r) (painted_row view others r)))
-      ∙ sym (map_flat plain (rows view others) (below view.shape.0))) i ++ line_same view.shape.0 i)
-      ∙ sym (map-append plain (flat_map (rows view others) (below view.shape.0)) (painted_if_drawn view view.shape.0))
-
-  pub table_same : (margin : Margin) → map plain (painted_table kept margin cells) ≡ map plain (painted_table view margin others)
-  unfolding painted_table
-  table_same margin = by_case (is_empty view.shape)
-    where
-      by_case : (none : Bool) → map plain (if none then [] else in_margin margin (length (marks_along kept (LineOf.Horizontal 0))) (painted_lines kept cells))
-          ≡ map plain (if none then [] else in_margin margin (length (marks_along view (LineOf.Horizontal 0))) (painted_lines view others))
-      by_case true = refl
-      by_case false =
-          margin_same margin (length (marks_along kept (LineOf.Horizontal 0))) (length (marks_along view (LineOf.Horizontal 0))) (painted_lines kept cells) (painted_lines view others)
-          (kept_count wanted view (LineOf.Horizontal 0)) lines_same
-
 -- ---- as a text
 
 pub uncolored_line : (text : List ℕ) → in_color (paint None text) ≡ text
@@ -243,12 +188,3 @@ text_without_colors (line ∷ lines) = (λ i. uncolored_line (plain line) i ∷ 
 pub text_with_colors : (lines : List Painted) → map (λ line. in_color (colored_if true line)) lines ≡ map in_color lines
 text_with_colors [] = refl
 text_with_colors (line ∷ lines) = ap (λ rest. in_color line ∷ rest) (text_with_colors lines)
-
--- without its colors a table is written as it is without them
-pub written_if : (with_colors : Bool) (view : Look) (margin : Margin) (cells : Cells)
-    → text_of_lines with_colors (painted_table (looks.with_colors_if with_colors view) margin cells) ≡ text_of_lines with_colors (painted_table view margin cells)
-unfolding text_of_lines
-written_if true view margin cells = refl
-written_if false view margin cells =
-    ap (join_with_byte 10)
-    (text_without_colors (painted_table (looks.with_colors_if false view) margin cells) ∙ table_same false view cells cells (λ r c k. refl) margin ∙ sym (text_without_colors (painted_table view margin cells)))

@@ -23,6 +23,7 @@ use Rattle.tabled_settings.specs.declared.cell_settings.CellSettings.{CellSettin
 use Rattle.tabled_settings.specs.Live.{Live}
 use Rattle.tabled_printing.specs.Texts.{Table}
 use Rattle.tabled_rooms.proofs.RoomLemmas.{line_within, room_within, width_same}
+use Rattle.tabled_rooms.proofs.SizeLemmas.{flat_map_same}
 use Rattle.tabled_painting.specs.Pages.{most}
 use Rattle.tabled_painting.specs.Viewed.{viewed}
 use Rattle.tabled_painting.specs.declared.table_lines.TableLines.{TableLines}
@@ -32,7 +33,6 @@ use Rattle.tabled_painting.specs.Painted.{Painted}
 use Rattle.tabled_painting.specs.PaintedTable.{Cells, painted_cell, painted_mark, painted_marks, painted_side}
 use Rattle.tabled_painting.specs.PaintedSpans.{painted_crossing, painted_edge, lines_above, room_line, room_wide, spanned_piece, crossed_piece, spanned_across, spanned_cells}
 use Rattle.tabled_painting.specs.RoomLines.{room_shown, begun_piece, crossed_by, IsRoomAt, AreRooms, AreOpen, AreBegun, AreSpans, ShowTheSame}
-use Rattle.tabled_painting.proofs.FrameLemmas.{flat_map_same}
 
 -- ---- a piece as it is painted
 
@@ -43,21 +43,12 @@ marks_both view xs ys = ap painted_marks (map-append (mark_at view) xs ys) ∙ f
 piece_marks : (view : Look) (r c : ℕ) → painted_marks (map (mark_at view) (piece_places view (LineOf.Horizontal r) c)) ≡ painted_crossing view r c ++ painted_edge view r c
 piece_marks view r c = marks_both view (crossing_at view.vertical (Place.Cross r) c) (map (Place.Horizontal r c) (below (view.widths c)))
 
-abbrev begun_choice : Look → ℕ → ℕ → ℕ → ℕ → Option Room → Bool → Painted
-begun_choice view r k line c room first = if first then painted_side view r k c ++ room_shown room line else []
-
 abbrev crossed_choice : Look → ℕ → ℕ → ℕ → Option Room → Bool → Bool → Painted
 crossed_choice view r line c room own first =
     if own then painted_crossing view r c ++ painted_edge view r c else if first then painted_crossing view r c ++ room_shown room line else []
 
--- what each of them is: nothing, a side and what a room shows, a crossing and an edge, or a crossing and what a room shows
-module _ (view : Look) (r k line c : ℕ) (kept : Host) (room : Option Room) where
-  pub begun_there : kept.col ≡ c → painted_side view r k c ++ room_shown room line ≡ begun_piece view r k line c kept room
-  begun_there here = let test : (kept.col == c) ≡ true = grind (arith, nat_tests) in ap (begun_choice view r k line c room) (sym test)
-
-  pub begun_not : kept.col ≢ c → [] ≡ begun_piece view r k line c kept room
-  begun_not other = let test : (kept.col == c) ≡ false = grind (arith, nat_tests) in ap (begun_choice view r k line c room) (sym test)
-
+-- what it is: nothing, a crossing and an edge, or a crossing and what a room shows
+module _ (view : Look) (r line c : ℕ) (kept : Host) (room : Option Room) where
   pub crossed_own : kept.row ≡ r → painted_marks (map (mark_at view) (piece_places view (LineOf.Horizontal r) c)) ≡ crossed_by view r line c kept room
   crossed_own own =
       let test : (kept.row == r) ≡ true = grind (arith, nat_tests) in
@@ -115,7 +106,7 @@ module _ (view : Look) (columns rows : Counts) (cells : Cells) (shape : ℕ × �
   cell = host columns rows r c
 
   pub piece_is : (k : ℕ) → line ≡ lines_above view columns rows r + k → ((cell.1 == c) ≡ true → IsRoomAt view columns rows cells r c room)
-      → begun_piece view r k line c kept room ≡ spanned_piece view columns rows cells r k c
+      → begun_piece view r k line c (kept.col == c) room ≡ spanned_piece view columns rows cells r k c
   piece_is k there own = ap (λ (h : Host). if h.col == c then painted_side view r k c ++ room_shown room line else []) is ∙ by_case (cell.1 == c) refl
     where
       by_case : (b : Bool) → (cell.1 == c) ≡ b
@@ -164,7 +155,7 @@ module _ (view : Look) (columns rows : Counts) (cells : Cells) (r : ℕ) where
 module _ (view : Look) (columns rows : Counts) (cells : Cells) where
   -- above the first row nothing is shown
   pub none_open : (kept : List (Option Room)) → AreOpen view columns rows cells 0 kept
-  none_open kept c none within above = absurd (let own = top_row columns rows c in let yes : ((host columns rows 0 c).0 == 0) ≡ true = grind (arith, nat_tests) in let no : true ≡ false = sym yes ∙ above in cc)
+  none_open kept c _ within above = absurd (let own = top_row columns rows c in let yes : ((host columns rows 0 c).0 == 0) ≡ true = grind (arith, nat_tests) in let no : true ≡ false = sym yes ∙ above in cc)
 
   -- what is shown in a row stays open below it
   pub still_open : (r : ℕ) (kept : List (Option Room)) → AreRooms view columns rows cells r kept → AreOpen view columns rows cells (r + 1) kept
@@ -244,14 +235,6 @@ wide_within lines firsts sides are hosts first =
 
 pub put_there : (rooms : List (Option Room)) (col : ℕ) (room none : Option Room) → col < length rooms → slice_index_or (set rooms col room) col none ≡ room
 put_there rooms col room none within = get_or-set_same rooms col room none within
-
-pub put_elsewhere : (rooms : List (Option Room)) (col c : ℕ) (room none : Option Room) → (c == col) ≡ false → slice_index_or (set rooms col room) c none ≡ slice_index_or rooms c none
-put_elsewhere rooms col c room none apart = get_or-set_other rooms col c room none (grind (arith, nat_tests))
-
-pub not_own : (a b d : Bool) → (a && b) ≡ true → (a && b && d) ≡ false → d ≡ false
-not_own true true d own apart = apart
-not_own true false d own apart = absurd cc
-not_own false b d own apart = absurd cc
 
 -- ---- how wide a room is, by the hosts of its first row
 

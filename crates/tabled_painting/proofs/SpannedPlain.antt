@@ -1,7 +1,7 @@
--- The characters of a table whose cells span do not depend on colors, and it has as many lines as one without spans.
+-- The characters of a table do not depend on colors.
 use Rattle.std.proofs.Common.{◌≡◌, ℕ, ◌+◌, ◌-◌, ◌==◌, Bool, true, false, if◌then◌else◌, List, [], ◌∷◌, ◌++◌, map, length, refl, sym, ap, ◌∙◌}
 use Rattle.std.specs.List.{flat_map, join_with_byte}
-use Rattle.std.proofs.lemmas.List.{map-append, length-map, length-append}
+use Rattle.std.proofs.lemmas.List.{map-append}
 use Rattle.tabled_object.specs.Entities.{below}
 use Rattle.tabled_grid.specs.declared.place.Place.{Place}
 use Rattle.tabled_grid.specs.declared.place.LineOf.{LineOf}
@@ -14,31 +14,10 @@ use Rattle.tabled_rooms.specs.Hosts.{Cell, Counts, host}
 use Rattle.tabled_painting.specs.Painted.{Painted, plain}
 use Rattle.tabled_painting.specs.Margin.{in_margin}
 use Rattle.tabled_painting.specs.Pages.{text_of_lines}
-use Rattle.tabled_painting.specs.PaintedTable.{Cells, painted_mark, painted_marks, painted_between, painted_side, painted_if_drawn, painted_lines}
+use Rattle.tabled_painting.specs.PaintedTable.{Cells, painted_mark, painted_marks, painted_side, painted_if_drawn}
 use Rattle.tabled_painting.specs.PaintedSpans.{painted_crossing, painted_edge, lines_above, room_line, spanned_piece, spanned_between, crossed_piece, spanned_across, spanned_if_drawn, spanned_row, spanned_lines, spanned_table}
 use Rattle.tabled_painting.proofs.PainterLemmas.{plain_paint}
-use Rattle.tabled_painting.proofs.MarginLemmas.{same_lengths, one_or_none, lines_count}
 use Rattle.tabled_painting.proofs.Plain.{plain_both, plain_side, margin_same, text_without_colors}
-
--- ---- how many lines it has
-
-row_length : (b : Bool) (x y : Painted) (f g : ℕ → Painted) (ks : List ℕ) → length ((if b then x ∷ [] else []) ++ map f ks) ≡ length ((if b then y ∷ [] else []) ++ map g ks)
-row_length b x y f g ks =
-    length-append (if b then x ∷ [] else []) (map f ks) ∙ (λ i. one_or_none b x y i + (length-map ks f ∙ sym (length-map ks g)) i) ∙ sym (length-append (if b then y ∷ [] else []) (map g ks))
-
-module _ (view : Look) (columns rows : Counts) (cells : Cells) where
-  pub spanned_count : is_empty view.shape ≡ false → length (spanned_lines view columns rows cells) ≡ length (marks_along view (LineOf.Vertical 0))
-  unfolding spanned_lines painted_lines
-  spanned_count any =
-      let with_rooms : ℕ → List Painted = λ r. spanned_if_drawn view columns rows cells r ++ spanned_row view columns rows cells r in
-      let without : ℕ → List Painted = λ r. painted_if_drawn view r ++ map (λ k. painted_between view r k (λ c. cells r c k)) (below (view.heights r)) in
-      length-append (flat_map with_rooms (below view.shape.0)) (painted_if_drawn view view.shape.0)
-      ∙ ap (λ n. n + length (painted_if_drawn view view.shape.0))
-      (same_lengths with_rooms without (below view.shape.0)
-      (λ r. row_length (view.horizontal r) (spanned_across view columns rows cells r) (painted_marks (marks_along view (LineOf.Horizontal r))) (spanned_between view columns rows cells r)
-      (λ k. painted_between view r k (λ c. cells r c k)) (below (view.heights r))))
-      ∙ sym (length-append (flat_map without (below view.shape.0)) (painted_if_drawn view view.shape.0))
-      ∙ lines_count view cells any
 
 -- ---- lists of lines with the same characters
 

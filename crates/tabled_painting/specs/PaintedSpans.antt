@@ -1,5 +1,5 @@
--- The picture of a table whose cells span several columns or rows: what is shown over several columns and rows has the room of all of
--- them, with the lines between these; every place around it is as it is without spans.
+-- The picture of a table: a cell that is shown over several columns and rows has the room of all of them, with the lines between these;
+-- each other has that of its own column and row.
 use Rattle.std.specs.Prelude.{ℕ, ◌+◌, ◌-◌, ◌==◌, min, max, if◌then◌else◌, unwrap_or, Option, List, [], ◌∷◌, ◌++◌, map, slice_index, slice_index_or}
 use Rattle.std.specs.FinMap.{get}
 use Rattle.std.specs.List.{flat_map}
@@ -97,14 +97,14 @@ module _ (view : Look) (columns rows : Counts) where
   abbrev pub spanned_cells : CellSettings → Option (Live Texts) → Table → Cells
   spanned_cells settings colors table r c k = painted_cell settings colors (room_wide r c) (room_high r c) (slice_index_or (slice_index_or table r []) c []) r c k
 
--- a table of texts whose cells span, as it looks, by what is set for it
-abbrev pub spanned_as_set : Look → TableSettings → Option (Live Texts) → Table → List Painted
-spanned_as_set view settings colors table =
+-- a table of texts, as it looks, by what is set for it
+abbrev pub painted_as_set : Look → TableSettings → Option (Live Texts) → Table → List Painted
+painted_as_set view settings colors table =
     let columns = columns_spanned settings in
     let rows = rows_spanned settings in
     spanned_table view columns rows (spanned_cells view columns rows settings.cells colors table) settings.margin
 
 -- that of a configuration, of that shape, with columns and rows of these sizes
-abbrev pub spanned_by : Colored → ℕ × ℕ → List ℕ → List ℕ → Table → List Painted
-spanned_by cfg shape widths heights table =
-    spanned_as_set (look (all_writes cfg.spanned) shape (slice_index widths) (slice_index heights)) cfg.spanned.settings cfg.cell_colors table
+abbrev pub painted_by : Colored → ℕ × ℕ → List ℕ → List ℕ → Table → List Painted
+painted_by cfg shape widths heights table =
+    painted_as_set (look (all_writes cfg.spanned) shape (slice_index widths) (slice_index heights)) cfg.spanned.settings cfg.cell_colors table

@@ -10,9 +10,7 @@ use Rattle.tabled_settings.specs.Live.{Live}
 use Rattle.tabled_layout.specs.declared.margin.Margin.{Margin}
 use Rattle.tabled_printing.specs.Along.{is_empty}
 use Rattle.tabled_printing.specs.Texts.{Table}
-use Rattle.tabled_configuration.specs.Colored.{Colored}
-use Rattle.tabled_configuration.specs.Configuration.{all_writes}
-use Rattle.tabled_printing.specs.Picture.{Look, Shown, look, text_shown, mark_at, marks_along}
+use Rattle.tabled_printing.specs.Picture.{Look, Shown, text_shown, mark_at, marks_along}
 use Rattle.tabled_cells.specs.Placements.{placement_at}
 use Rattle.tabled_cells.specs.Trimmed.{lines_shown}
 use Rattle.tabled_painting.specs.Painted.{Painted, paint, plain}
@@ -82,9 +80,3 @@ plain_text lines = join_with_byte 10 (map plain lines)
 
 unfoldable pub colored_text : List Painted → List ℕ
 colored_text lines = join_with_byte 10 (map in_color lines)
-
--- the table of texts of a configuration, of that shape, with columns and rows of these sizes
-abbrev pub painted_by : Colored → ℕ × ℕ → List ℕ → List ℕ → Table → List Painted
-painted_by cfg shape widths heights table =
-    painted_table (look (all_writes cfg.spanned) shape (slice_index widths) (slice_index heights)) cfg.spanned.settings.margin
-    (painted_cells cfg.spanned.settings.cells cfg.cell_colors widths heights table)

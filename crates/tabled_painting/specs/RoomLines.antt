@@ -1,9 +1,10 @@
 -- The rooms of cells as the code keeps them. Private functions alone cite this.
-use Rattle.std.specs.Prelude.{◌≡◌, ℕ, ◌+◌, ◌-◌, ◌<◌, ◌≤◌, ◌==◌, Bool, true, false, if◌then◌else◌, Option, Some, None, List, [], ◌++◌, length, replicate, slice_index, slice_index_or}
+use Rattle.std.specs.Prelude.{◌≡◌, ℕ, ◌+◌, ◌-◌, ◌<◌, ◌≤◌, ◌==◌, min, Bool, true, false, if◌then◌else◌, Option, Some, None, List, [], ◌++◌, length, map, replicate, slice_index, slice_index_or}
 use Rattle.tabled_printing.specs.Picture.{Look}
 use Rattle.tabled_printing.specs.Texts.{Table}
 use Rattle.tabled_rooms.specs.Hosts.{Counts, host}
-use Rattle.std.specs.List.{range_with_len, sum_by}
+use Rattle.std.specs.List.{flat_map, range_with_len, sum_by}
+use Rattle.tabled_object.specs.Entities.{below}
 use Rattle.tabled_rooms.specs.Rooms.{first_line, one_if}
 use Rattle.tabled_painting.specs.Pages.{most}
 use Rattle.tabled_painting.specs.declared.spans.Spans.{Spans}
@@ -21,11 +22,23 @@ abbrev pub room_shown : Option Room → ℕ → Painted
 room_shown None line = []
 room_shown (Some room) line = line_of (line - room.first) room.cell
 
--- one line of text of a row at a column, by the host there and the room that begins in that column
-abbrev pub begun_piece : Look → ℕ → ℕ → ℕ → ℕ → Host → Option Room → Painted
-begun_piece view r k line c kept room = if kept.col == c then painted_side view r k c ++ room_shown room line else []
+-- whether a room begins in a column of a row, by what is kept of its hosts: in each, where nothing is
+abbrev pub begins : List Host → ℕ → Bool
+begins kept c = (slice_index_or kept c (record { row = 0; col = c; bottom = 0; right = 0 })).col == c
 
--- the line above a row at a column, by the same
+-- one line of text of a row at a column, by whether a room begins there, and which
+abbrev pub begun_piece : Look → ℕ → ℕ → ℕ → ℕ → Bool → Option Room → Painted
+begun_piece view r k line c begun room = if begun then painted_side view r k c ++ room_shown room line else []
+
+-- the whole line: the piece at each column, and finally the last side
+abbrev pub rooms_between : Look → ℕ → ℕ → ℕ → List Host → List (Option Room) → Option Room → Painted
+rooms_between view r k line kept rooms none = flat_map (λ c. begun_piece view r k line c (begins kept c) (slice_index_or rooms c none)) (below view.shape.1) ++ painted_side view r k view.shape.1
+
+-- the lines of text of a row, of which the first one is that line of the table
+abbrev pub rooms_row : Look → ℕ → ℕ → List Host → List (Option Room) → Option Room → List Painted
+rooms_row view r first kept rooms none = map (λ k. rooms_between view r k (min (first + k) most) kept rooms none) (below (view.heights r))
+
+-- the line above a row at a column, by the host there and the room that begins in that column
 abbrev pub crossed_by : Look → ℕ → ℕ → ℕ → Host → Option Room → Painted
 crossed_by view r line c kept room =
     if kept.row == r then painted_crossing view r c ++ painted_edge view r c else
@@ -60,19 +73,35 @@ pub record AreSpans (lines : TableLines) (firsts : List ℕ) (sides : List Bool)
   pub widths_counted : length lines.frame.dims.now.widths.items ≡ lines.frame.shape.1
   pub wide_within : sum_by (λ c. one_if (slice_index_or sides c false) + slice_index lines.frame.dims.now.widths.items c) (range_with_len 0 lines.frame.shape.1) ≤ most
 
+-- no cell spans several columns or rows
+pub record NoneSpans (lines : TableLines) : Type 0 where
+  pub columns : (r c : ℕ) → columns_of lines r c ≡ 1
+  pub rows : (r c : ℕ) → rows_of lines r c ≡ 1
+
+-- for so many columns it is kept what is shown: for each where some cell spans, and for none where no cell does
+pub record KeepsSpans (lines : TableLines) (firsts : List ℕ) (sides : List Bool) (count : ℕ) : Type 0 where
+  pub none : count ≡ 0 → NoneSpans lines
+  pub some : 0 < count → AreSpans lines firsts sides
+  pub each : 0 < count → count ≡ lines.frame.shape.1
+
 -- no cell, which reaches nowhere
 abbrev pub nobody : Host
 nobody = record { row = 0; col = 0; bottom = 0; right = 0 }
 
 -- so it is of the spans that were made for a table, where nothing is shown yet
 pub record IsSpansOf (lines : TableLines) (spans : Spans) : Type 0 where
-  pub are : AreSpans lines spans.firsts.items spans.sides.items
-  pub hosts : spans.hosts.items ≡ replicate lines.frame.shape.1 nobody
-  pub wides : length spans.wides.items ≡ lines.frame.shape.1
+  pub keeps : KeepsSpans lines spans.firsts.items spans.sides.items (length spans.hosts.items)
+  pub hosts : spans.hosts.items ≡ replicate (length spans.hosts.items) nobody
+  pub wides : length spans.wides.items ≡ length spans.hosts.items
 
 -- each of the hosts of row r is the cell of its own place, and ends with the row
 abbrev pub StandAlone : ℕ → List Host → Type 0
 StandAlone r kept = (c : ℕ) (none : Host) → c < length kept → let one = slice_index_or kept c none in (one.row ≡ r) × (one.col ≡ c) × (one.bottom ≡ r + 1)
+
+-- so it is of each cell that is shown in row r
+pub record RowAlone (columns rows : Counts) (shape : ℕ × ℕ) (r : ℕ) : Type 0 where
+  pub own : (c : ℕ) → c < shape.1 → host columns rows r c ≡ (r, c)
+  pub ends : (c : ℕ) → c < shape.1 → min (r + rows r c) shape.0 ≡ r + 1
 
 module _ (view : Look) (columns rows : Counts) (cells : Cells) where
   -- in a column a room is that of the cell of row r that begins there

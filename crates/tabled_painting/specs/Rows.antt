@@ -1,21 +1,16 @@
 -- The cells and rows of a table as its lines are painted.
 use Rattle.std.specs.Prelude.{ℕ, List, [], slice_index, slice_index_or}
 use Rattle.tabled_cells.specs.Shown.{shown}
-use Rattle.tabled_printing.specs.Texts.{Table}
 use Rattle.tabled_painting.specs.declared.cell_lines.CellLines.{CellLines}
 use Rattle.tabled_painting.specs.declared.table_lines.TableLines.{TableLines}
 use Rattle.tabled_painting.specs.CellLines.{coloring_of, cell_line}
 use Rattle.tabled_painting.specs.Painted.{Painted}
-use Rattle.tabled_painting.specs.PaintedTable.{Cells, painted_cell, painted_cells, painted_row}
+use Rattle.tabled_painting.specs.PaintedTable.{painted_cell, painted_row}
 use Rattle.tabled_painting.specs.Viewed.{viewed}
 
 -- line n of a cell as the code has it
 abbrev pub line_of : ℕ → CellLines → Painted
 line_of n cell = cell_line cell.how (coloring_of cell.colors) cell.width cell.height (shown cell.lines) n
-
--- the cells of a table
-abbrev pub cells_of : TableLines → Table → Cells
-cells_of lines table = painted_cells lines.frame.cfg.now.settings.cells lines.colors.now lines.frame.dims.now.widths.items lines.frame.dims.now.heights.items table
 
 -- a line of a cell of that text
 abbrev pub row_cell : TableLines → ℕ → ℕ → List ℕ → ℕ → Painted

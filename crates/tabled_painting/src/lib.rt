@@ -9,7 +9,6 @@ mod bare_cells;
 mod cell_colors;
 mod cell_lines;
 mod drawn;
-mod line_room;
 mod margin_side;
 mod margin_sides;
 mod output;

@@ -2,12 +2,13 @@
 
 ghost use Rattle.std.specs.Prelude.{◌≡◌, ℕ, length, IfOk, OnOk};
 ghost use Rattle.tabled_painting.specs.InColor.{Paints};
-ghost use Rattle.tabled_painting.specs.RoomLines.{room_shown};
+ghost use Rattle.tabled_painting.specs.RoomLines.{begins, room_shown};
 
 use crate::cell_lines::CellLines;
 use crate::{Output, Painter};
 use std::alloc::Global;
 use tabled_border::OutOfMemory;
+use tabled_rooms::Host;
 
 /// A cell that is shown over the columns and rows of its room.
 #[derive(Clone, Copy, Debug)]
@@ -44,4 +45,14 @@ pub(crate) fn no_rooms<'a>(alloc: Global, cols: usize) -> Result<Vec<Option<Room
         rooms.push(None)?;
     }
     Ok(rooms)
+}
+
+/// Whether a room begins in a column of a row, by its hosts, where some are kept.
+pub(crate) fn begins_in(hosts: &[Host], col: usize) -> bool
+    ensures { result ≡ begins hosts.now col }
+{
+    match hosts.get(col) {
+        Some(host) => host.col == col,
+        None => true,
+    }
 }

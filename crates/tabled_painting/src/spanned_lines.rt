@@ -1,4 +1,4 @@
-//! The lines of a table whose cells span several columns or rows.
+//! The lines of a table, row by row, and of the rooms of cells that span several columns or rows.
 
 ghost use Rattle.std.specs.Prelude.{◌≡◌, ◌≤◌, ◌<◌, ◌+◌, ◌-◌, ◌++◌, ◌==◌, ◌&&◌, ℕ, [], true, false, None, IsTrue, OnOk, length, map, option_copied, slice_index, slice_index_or};
 ghost use Rattle.std.specs.List.{All, flat_map};
@@ -10,7 +10,7 @@ ghost use Rattle.tabled_printing.specs.Texts.{Table};
 ghost use Rattle.tabled_rooms.specs.Rooms.{first_line, room_height};
 ghost use Rattle.tabled_painting.specs.InColor.{Paints};
 ghost use Rattle.tabled_painting.specs.Pages.{PaintsLines};
-ghost use Rattle.tabled_painting.specs.RoomLines.{AreSpans, ShowTheSame, StandAlone, room_shown};
+ghost use Rattle.tabled_painting.specs.RoomLines.{AreSpans, KeepsSpans, ShowTheSame, StandAlone, room_shown};
 ghost use Rattle.tabled_rooms.specs.declared.host.Host.{Host as Kept};
 ghost use Rattle.tabled_painting.specs.TextsBy.{texts_by};
 ghost use Rattle.tabled_painting.specs.Viewed.{viewed};
@@ -25,16 +25,15 @@ use tabled_kept::Probes;
 use tabled_object::{Dimension, Position};
 use tabled_rooms::{Host, next_hosts, room_widths};
 
-/// The lines of a table that has places and whose cells span, which are painted one after another.
+/// The lines of a table that has places, which are painted one after another. Of its spans nothing is kept where no cell has some.
 #[derive(Drop)]
 pub(crate) struct SpannedLines<'a, 'b, 'c> {
-    /// The table, where its cells did not span.
+    /// Its lines over which no cell reaches, and its rows of cells that stand alone.
     pub(crate) lines: &'c TableLines<'a, 'b>,
     /// Which line begins each row, counted from the first line of text, and last one past the last row.
     pub(crate) firsts: &'c [usize],
     /// Which vertical lines are drawn.
     pub(crate) sides: &'c [bool],
-    ghost are: { AreSpans lines.now firsts.now sides.now },
 }
 
 impl<'a, 'b, 'c> SpannedLines<'a, 'b, 'c> {
@@ -46,6 +45,7 @@ impl<'a, 'b, 'c> SpannedLines<'a, 'b, 'c> {
 
     /// How high the room of a cell is.
     fn height_of(&self, host: Host) -> usize
+        requires spans { AreSpans self.now.lines.now self.now.firsts.now self.now.sides.now }
         requires row { host.row < self.now.lines.now.frame.shape.0 }
         requires bottom { host.bottom ≤ self.now.lines.now.frame.shape.0 }
         ensures { let view = viewed self.now.lines.now.frame in result ≡ room_height view.heights view.horizontal host.row host.bottom }
@@ -60,6 +60,7 @@ impl<'a, 'b, 'c> SpannedLines<'a, 'b, 'c> {
 
     /// The room of a cell that is shown from its own place on.
     fn room_of(&self, host: Host, wide: usize, text: &'a str) -> Room<'a>
+        requires spans { AreSpans self.now.lines.now self.now.firsts.now self.now.sides.now }
         requires row { host.row < self.now.lines.now.frame.shape.0 }
         requires bottom { host.bottom ≤ self.now.lines.now.frame.shape.0 }
         ensures { let lines = self.now.lines.now in let view = viewed lines.frame in
@@ -82,6 +83,7 @@ impl<'a, 'b, 'c> SpannedLines<'a, 'b, 'c> {
         wide: usize,
         text: &'a str,
     )
+        requires spans { AreSpans self.now.lines.now self.now.firsts.now self.now.sides.now }
         requires col { place.1 < length rooms.old }
         requires row { host.row < self.now.lines.now.frame.shape.0 }
         requires bottom { host.bottom ≤ self.now.lines.now.frame.shape.0 }
@@ -105,6 +107,7 @@ impl<'a, 'b, 'c> SpannedLines<'a, 'b, 'c> {
         row: usize,
         texts: &'a [T],
     )
+        requires spans { AreSpans self.now.lines.now self.now.firsts.now self.now.sides.now }
         requires row { row < self.now.lines.now.frame.shape.0 }
         requires rooms { length rooms.old ≡ self.now.lines.now.frame.shape.1 }
         requires wides { length wides.old ≡ self.now.lines.now.frame.shape.1 }
@@ -123,69 +126,6 @@ impl<'a, 'b, 'c> SpannedLines<'a, 'b, 'c> {
         for (col, text) in texts.iter().enumerate() {
             self.begin_room(rooms, (row, col), hosts[col], wides[col], text.as_str());
         }
-    }
-
-    /// Paints one line of text of a row at a column: the side before it and the room that begins there, if one does.
-    fn paint_begun<O: Output>(
-        &self,
-        painter: &mut Painter<'a, O>,
-        place: (usize, usize, usize),
-        host: Host,
-        room: &mut Option<Room<'a>>,
-        line: usize,
-        has_offsets: bool,
-    ) -> Result<(), O::Error>
-        requires row { place.0 < self.now.lines.now.frame.shape.0 }
-        requires at { place.1 < slice_index self.now.lines.now.frame.dims.now.heights.items place.0 }
-        requires col { place.2 ≤ self.now.lines.now.frame.shape.1 }
-        requires offsets { has_offsets ≡ false → NoOffsetsAt self.now.lines.now.frame.cfg.now self.now.lines.now.frame.with_colors Vertical place.0 }
-        ensures painted { OnOk result (Paints O.gains (begun_piece (viewed self.now.lines.now.frame) place.0 place.1 line place.2 host room.old) painter.old painter.new) }
-        ensures same { OnOk result ((at : ℕ) → room_shown room.new at ≡ room_shown room.old at) }
-    {
-        let (row, at, col) = place;
-        if host.col != col {
-            return Ok(());
-        }
-        painter.push_side(self.lines.frame.side(row, col, at, has_offsets))?;
-        paint_room(painter, room, line)?;
-        Ok(())
-    }
-
-    /// Paints one line of text of a row.
-    fn paint_between<O: Output>(
-        &self,
-        painter: &mut Painter<'a, O>,
-        hosts: &[Host],
-        rooms: &mut [Option<Room<'a>>],
-        row: usize,
-        at: usize,
-    ) -> Result<(), O::Error>
-        requires row { row < self.now.lines.now.frame.shape.0 }
-        requires at { at < slice_index self.now.lines.now.frame.dims.now.heights.items row }
-        requires hosts { length hosts.now ≡ self.now.lines.now.frame.shape.1 }
-        requires rooms { length rooms.old ≡ self.now.lines.now.frame.shape.1 }
-        requires are { AreHosts (columns_of self.now.lines.now) (rows_of self.now.lines.now) self.now.lines.now.frame.shape row hosts.now }
-        ensures painted { OnOk result ((cells : Cells) → let lines = self.now.lines.now in AreRooms (viewed lines.frame) (columns_of lines) (rows_of lines) cells row rooms.old
-            → Paints O.gains (spanned_between (viewed lines.frame) (columns_of lines) (rows_of lines) cells row at) painter.old painter.new) }
-        ensures same { OnOk result (ShowTheSame rooms.old rooms.new) }
-    {
-        let (_, cols) = self.lines.frame.shape;
-        let first = self.firsts[row];
-        let line = first.saturating_add(at);
-        let has_offsets = self.lines.frame.has_offsets_beside(row);
-        for col in 0..cols {
-            let place = (row, at, col);
-            self.paint_begun(
-                painter,
-                place,
-                hosts[col],
-                &mut rooms[col],
-                line,
-                has_offsets,
-            )?;
-        }
-        painter.push_side(self.lines.frame.side(row, cols, at, has_offsets))?;
-        Ok(())
     }
 
     /// Paints the line above a row at a column: its crossing and its edge, or the room that reaches over it.
@@ -224,6 +164,7 @@ impl<'a, 'b, 'c> SpannedLines<'a, 'b, 'c> {
         rooms: &mut [Option<Room<'a>>],
         row: usize,
     ) -> Result<(), O::Error>
+        requires spans { AreSpans self.now.lines.now self.now.firsts.now self.now.sides.now }
         requires row { row < self.now.lines.now.frame.shape.0 }
         requires hosts { length hosts.now ≡ self.now.lines.now.frame.shape.1 }
         requires rooms { length rooms.old ≡ self.now.lines.now.frame.shape.1 }
@@ -252,7 +193,7 @@ impl<'a, 'b, 'c> SpannedLines<'a, 'b, 'c> {
         row: usize,
     ) -> Result<(), O::Error>
         requires row { row < self.now.lines.now.frame.shape.0 }
-        requires hosts { length hosts.now ≡ self.now.lines.now.frame.shape.1 }
+        requires keeps { KeepsSpans self.now.lines.now self.now.firsts.now self.now.sides.now (length hosts.now) }
         requires rooms { length rooms.old ≡ self.now.lines.now.frame.shape.1 }
         requires are { AreHosts (columns_of self.now.lines.now) (rows_of self.now.lines.now) self.now.lines.now.frame.shape row hosts.now }
         requires ended { option_copied page.old.painter.color ≡ None }
@@ -274,34 +215,6 @@ impl<'a, 'b, 'c> SpannedLines<'a, 'b, 'c> {
         Ok(())
     }
 
-    /// Paints the lines of text of a row.
-    fn paint_row<O: Output>(
-        &self,
-        page: &mut Page<'a, O>,
-        hosts: &[Host],
-        rooms: &mut [Option<Room<'a>>],
-        row: usize,
-    ) -> Result<(), O::Error>
-        requires row { row < self.now.lines.now.frame.shape.0 }
-        requires hosts { length hosts.now ≡ self.now.lines.now.frame.shape.1 }
-        requires rooms { length rooms.old ≡ self.now.lines.now.frame.shape.1 }
-        requires are { AreHosts (columns_of self.now.lines.now) (rows_of self.now.lines.now) self.now.lines.now.frame.shape row hosts.now }
-        requires ended { option_copied page.old.painter.color ≡ None }
-        ensures painted { OnOk result ((cells : Cells) → let lines = self.now.lines.now in AreRooms (viewed lines.frame) (columns_of lines) (rows_of lines) cells row rooms.old
-            → PaintsLines O.gains (spanned_row (viewed lines.frame) (columns_of lines) (rows_of lines) cells row) page.old page.new) }
-        ensures same { OnOk result (ShowTheSame rooms.old rooms.new) }
-    {
-        let frame = &self.lines.frame;
-        let sizes = frame.dims;
-        let height = sizes.get_height(row);
-        for at in 0..height {
-            page.begin_line()?;
-            self.paint_between(&mut page.painter, hosts, rooms, row, at)?;
-            page.end_line()?;
-        }
-        Ok(())
-    }
-
     /// Paints the lines of text of a row, and begins the rooms of the cells that are shown from there on. Where each of its cells is shown
     /// in its own place alone, the row is painted as it is without spans. `wides` is for what is measured, whatever it had.
     fn paint_shown<O: Output + Drop + 'a, T: AsStr>(
@@ -315,8 +228,8 @@ impl<'a, 'b, 'c> SpannedLines<'a, 'b, 'c> {
     ) -> Result<(), O::Error>
         requires row { row < self.now.lines.now.frame.shape.0 }
         requires texts { length texts.now ≡ self.now.lines.now.frame.shape.1 }
-        requires hosts { length hosts.now ≡ self.now.lines.now.frame.shape.1 }
-        requires wides { length wides.old ≡ self.now.lines.now.frame.shape.1 }
+        requires keeps { KeepsSpans self.now.lines.now self.now.firsts.now self.now.sides.now (length hosts.now) }
+        requires wides { length wides.old ≡ length hosts.now }
         requires rooms { length rooms.old ≡ self.now.lines.now.frame.shape.1 }
         requires are { AreHosts (columns_of self.now.lines.now) (rows_of self.now.lines.now) self.now.lines.now.frame.shape row hosts.now }
         requires ended { option_copied page.old.painter.color ≡ None }
@@ -334,7 +247,8 @@ impl<'a, 'b, 'c> SpannedLines<'a, 'b, 'c> {
             return Ok(());
         }
         self.begin_rooms(rooms, wides, hosts, row, texts);
-        self.paint_row(page, hosts, rooms, row)?;
+        self.lines
+            .paint_rooms(page, row, self.firsts[row], hosts, rooms)?;
         Ok(())
     }
 
@@ -349,8 +263,8 @@ impl<'a, 'b, 'c> SpannedLines<'a, 'b, 'c> {
     ) -> Result<(), O::Error>
         requires rows { length rows.now ≡ self.now.lines.now.frame.shape.0 }
         requires cols { All (λ row. length row ≡ self.now.lines.now.frame.shape.1) (texts_by T.text rows.now) }
-        requires hosts { length hosts.old ≡ self.now.lines.now.frame.shape.1 }
-        requires wides { length wides.old ≡ self.now.lines.now.frame.shape.1 }
+        requires keeps { KeepsSpans self.now.lines.now self.now.firsts.now self.now.sides.now (length hosts.old) }
+        requires wides { length wides.old ≡ length hosts.old }
         requires rooms { length rooms.old ≡ self.now.lines.now.frame.shape.1 }
         requires above { AreAbove (columns_of self.now.lines.now) (rows_of self.now.lines.now) self.now.lines.now.frame.shape 0 hosts.old }
         requires ended { option_copied page.old.painter.color ≡ None }
@@ -381,8 +295,8 @@ impl<'a, 'b, 'c> SpannedLines<'a, 'b, 'c> {
     ) -> Result<(), O::Error>
         requires rows { length rows.now ≡ self.now.lines.now.frame.shape.0 }
         requires cols { All (λ row. length row ≡ self.now.lines.now.frame.shape.1) (texts_by T.text rows.now) }
-        requires hosts { length hosts.old ≡ self.now.lines.now.frame.shape.1 }
-        requires wides { length wides.old ≡ self.now.lines.now.frame.shape.1 }
+        requires keeps { KeepsSpans self.now.lines.now self.now.firsts.now self.now.sides.now (length hosts.old) }
+        requires wides { length wides.old ≡ length hosts.old }
         requires rooms { length rooms.old ≡ self.now.lines.now.frame.shape.1 }
         requires above { AreAbove (columns_of self.now.lines.now) (rows_of self.now.lines.now) self.now.lines.now.frame.shape 0 hosts.old }
         requires ended { option_copied page.old.painter.color ≡ None }
@@ -405,7 +319,8 @@ fn begins_at(host: Host, place: (usize, usize)) -> bool
 
 /// Whether each of these cells begins in a row.
 fn all_begin_in(hosts: &[Host], row: usize) -> bool
-    ensures { IsTrue result → (c : ℕ) (none : Kept) → c < length hosts.now → (slice_index_or hosts.now c none).row ≡ row }
+    ensures all { IsTrue result → (c : ℕ) (none : Kept) → c < length hosts.now → (slice_index_or hosts.now c none).row ≡ row }
+    ensures some { result ≡ false → 0 < length hosts.now }
 {
     hosts.iter().all(|host| host.row == row)
 }
@@ -419,7 +334,8 @@ fn stands_alone(host: Host, row: usize, col: usize) -> bool
 
 /// Whether each of the cells of a row is shown in its own place alone.
 fn all_stand_alone(hosts: &[Host], row: usize) -> bool
-    ensures { IsTrue result → StandAlone row hosts.now }
+    ensures all { IsTrue result → StandAlone row hosts.now }
+    ensures some { result ≡ false → 0 < length hosts.now }
 {
     for (col, host) in hosts.iter().enumerate() {
         if !stands_alone(*host, row, col) {

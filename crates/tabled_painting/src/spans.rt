@@ -1,17 +1,17 @@
 //! What is asked for beforehand of a table whose cells span several columns or rows.
 
-ghost use Rattle.std.specs.Prelude.{◌≡◌, ◌+◌, ◌≤◌, false, IfOk, OnOk, length, replicate, slice_index, slice_index_or};
+ghost use Rattle.std.specs.Prelude.{◌≡◌, ◌+◌, ◌≤◌, false, IfOk, OnOk, length, slice_index, slice_index_or};
 ghost use Rattle.std.specs.List.{range_with_len, sum_by};
 ghost use Rattle.tabled_rooms.specs.Rooms.{one_if};
 ghost use Rattle.tabled_painting.specs.Pages.{most};
-ghost use Rattle.tabled_painting.specs.RoomLines.{AreSpans, nobody};
+ghost use Rattle.tabled_painting.specs.RoomLines.{IsSpansOf};
 
 use crate::drawn::{lines_drawn, sides_drawn};
 use crate::table_lines::TableLines;
 use tabled_border::OutOfMemory;
 use tabled_rooms::{Host, first_lines, no_hosts};
 
-/// Where rooms stand in a table, and a place for what is shown in a row of it.
+/// Where rooms stand in a table, and a place for what is shown in a row of it: nothing, where no cell spans.
 #[derive(Drop)]
 pub(crate) struct Spans {
     /// Which line begins each row, counted from the first line of text, and last one past the last row.
@@ -25,13 +25,32 @@ pub(crate) struct Spans {
 }
 
 impl Spans {
-    /// Those of a table of which each column has a width and each row a height. Refused where no number says how wide or how high it is.
+    /// Those of a table of which each column has a width and each row a height. Refused where cells span and no number says how wide or
+    /// how high it is.
     pub(crate) fn new(lines: &TableLines) -> Result<Self, OutOfMemory>
         requires widths { length lines.now.frame.dims.now.widths.items ≡ lines.now.frame.shape.1 }
         requires heights { length lines.now.frame.dims.now.heights.items ≡ lines.now.frame.shape.0 }
-        ensures are { IfOk result (λ spans. AreSpans lines.now spans.firsts.items spans.sides.items) }
-        ensures hosts { IfOk result (λ spans. spans.hosts.items ≡ replicate lines.now.frame.shape.1 nobody) }
-        ensures wides { IfOk result (λ spans. length spans.wides.items ≡ lines.now.frame.shape.1) }
+        ensures { IfOk result (IsSpansOf lines.now) }
+    {
+        if lines.frame.cfg.has_spans() {
+            return Spans::of_rooms(lines);
+        }
+        let alloc = lines.frame.cfg.allocator();
+        let hosts = Vec::new(alloc);
+        let wides = Vec::new(alloc);
+        Ok(Spans {
+            firsts: Vec::new(alloc),
+            sides: Vec::new(alloc),
+            hosts,
+            wides,
+        })
+    }
+
+    /// Those of such a table where cells span.
+    fn of_rooms(lines: &TableLines) -> Result<Self, OutOfMemory>
+        requires widths { length lines.now.frame.dims.now.widths.items ≡ lines.now.frame.shape.1 }
+        requires heights { length lines.now.frame.dims.now.heights.items ≡ lines.now.frame.shape.0 }
+        ensures { IfOk result (IsSpansOf lines.now) }
     {
         let frame = &lines.frame;
         let alloc = frame.cfg.allocator();
@@ -40,11 +59,13 @@ impl Spans {
         let firsts = first_lines(alloc, frame.dims.heights.as_slice(), &drawn)?;
         let sides = sides_drawn(frame.cfg, cols)?;
         check_width(frame.dims.widths.as_slice(), &sides)?;
+        let hosts = no_hosts(alloc, cols)?;
+        let wides = vec![in alloc; 0usize; cols]?;
         Ok(Spans {
             firsts,
             sides,
-            hosts: no_hosts(alloc, cols)?,
-            wides: vec![in alloc; 0usize; cols]?,
+            hosts,
+            wides,
         })
     }
 }

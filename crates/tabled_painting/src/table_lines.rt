@@ -19,9 +19,8 @@ use crate::alike::{first_plain_line, is_plain_line};
 use crate::bare_cells::bare_side;
 use crate::cell_colors::has_row_colors;
 use crate::cell_lines::CellLines;
-use crate::line_room::{columns_of, room_for_line};
 use crate::page::Page;
-use crate::room::{Room, paint_room};
+use crate::room::{Room, begins_in, paint_room};
 use crate::{CellColors, Output, Painter};
 use std::alloc::Global;
 use std::convert::AsStr;
@@ -31,6 +30,7 @@ use tabled_configuration::{ColorMap, ColoredConfig};
 use tabled_kept::Probes;
 use tabled_object::{Dimension, FixedDimension, Position};
 use tabled_printing::{Frame, Mark};
+use tabled_rooms::Host;
 use tabled_width::is_printable;
 
 /// From how many rows on it pays to keep what stands between them.
@@ -56,9 +56,11 @@ impl<'a, 'b> TableLines<'a, 'b> {
     ghost use Rattle.tabled_painting.specs.BareCells.{IsInColor, IsRowColor};
     ghost use Rattle.tabled_painting.specs.CellLines.{coloring_at};
     ghost use Rattle.tabled_painting.specs.Rows.{line_of};
-    ghost use Rattle.tabled_painting.specs.PaintedTable.{painted_between, painted_cell, painted_if_drawn, painted_lines};
-    ghost use Rattle.tabled_painting.specs.RoomLines.{AreRowCells, room_shown};
-    ghost use Rattle.tabled_painting.specs.Rows.{cells_of, row_cell, row_painted};
+    ghost use Rattle.tabled_painting.specs.PaintedTable.{painted_between, painted_cell, painted_if_drawn};
+    ghost use Rattle.tabled_grid.specs.declared.site.Direction.TheVariants.{Vertical};
+    ghost use Rattle.tabled_printing.specs.Alike.{NoOffsetsAt};
+    ghost use Rattle.tabled_painting.specs.RoomLines.{AreRowCells, ShowTheSame, begun_piece, room_shown, rooms_between, rooms_row};
+    ghost use Rattle.tabled_painting.specs.Rows.{row_cell, row_painted};
     ghost use Rattle.tabled_painting.specs.Viewed.{viewed};
     ghost use Rattle.tabled_painting.specs.declared.room.Room.{Room as Begun};
     ghost use Rattle.std.specs.declared.option.Option.{Option as Maybe};
@@ -81,7 +83,7 @@ impl<'a, 'b> TableLines<'a, 'b> {
         let has_row_colors = has_row_colors(config, colors);
         let frame = Frame::new(config, sizes, shape, with_colors)?;
         let columns = columns_of(&frame);
-        let between = line_between(config.allocator(), &frame, columns)?;
+        let between = line_between(config.allocator(), &frame)?;
         Ok(TableLines {
             frame,
             colors,
@@ -251,31 +253,91 @@ impl<'a, 'b> TableLines<'a, 'b> {
         }
     }
 
-    /// Paints a line of text of a row, of which these are the cells.
+    /// Paints one line of text of a row at a column, if a room begins there: the side before it and the room.
+    fn paint_begun<O: Output>(
+        &self,
+        painter: &mut Painter<'a, O>,
+        place: (usize, usize, usize),
+        begins: bool,
+        room: &mut Option<Room<'a>>,
+        line: usize,
+        has_offsets: bool,
+    ) -> Result<(), O::Error>
+        requires row { place.0 < self.now.frame.shape.0 }
+        requires at { place.1 < slice_index self.now.frame.dims.now.heights.items place.0 }
+        requires col { place.2 ≤ self.now.frame.shape.1 }
+        requires offsets { has_offsets ≡ false → NoOffsetsAt self.now.frame.cfg.now self.now.frame.with_colors Vertical place.0 }
+        ensures painted { OnOk result (Paints O.gains (begun_piece (viewed self.now.frame) place.0 place.1 line place.2 begins room.old) painter.old painter.new) }
+        ensures same { OnOk result ((at : ℕ) → room_shown room.new at ≡ room_shown room.old at) }
+    {
+        if !begins {
+            return Ok(());
+        }
+        let (row, at, col) = place;
+        painter.push_side(self.frame.side(row, col, at, has_offsets))?;
+        paint_room(painter, room, line)?;
+        Ok(())
+    }
+
+    /// Paints a line of text of a row, which is that line of the table, by its hosts, where some are kept, and its rooms.
     fn paint_between<O: Output>(
         &self,
         painter: &mut Painter<'a, O>,
+        place: (usize, usize),
+        line: usize,
+        hosts: &[Host],
+        rooms: &mut [Option<Room<'a>>],
+    ) -> Result<(), O::Error>
+        requires row { place.0 < self.now.frame.shape.0 }
+        requires at { place.1 < slice_index self.now.frame.dims.now.heights.items place.0 }
+        requires rooms { length rooms.old ≡ self.now.frame.shape.1 }
+        ensures painted { OnOk result ((none : Maybe Begun) → Paints O.gains (rooms_between (viewed self.now.frame) place.0 place.1 line hosts.now rooms.old none) painter.old painter.new) }
+        ensures same { OnOk result (ShowTheSame rooms.old rooms.new) }
+    {
+        let (row, at) = place;
+        let (_, cols) = self.frame.shape;
+        let has_offsets = self.frame.has_offsets_beside(row);
+        for col in 0..cols {
+            let begins = begins_in(hosts, col);
+            self.paint_begun(
+                painter,
+                (row, at, col),
+                begins,
+                &mut rooms[col],
+                line,
+                has_offsets,
+            )?;
+        }
+        painter.push_side(self.frame.side(row, cols, at, has_offsets))?;
+        Ok(())
+    }
+
+    /// Paints the lines of text of a row, of which the first one is that line of the table, by its hosts, where some are kept, and its rooms.
+    pub(crate) fn paint_rooms<O: Output + Drop + 'a>(
+        &self,
+        page: &mut Page<'a, O>,
         row: usize,
-        at: usize,
+        first: usize,
+        hosts: &[Host],
         rooms: &mut [Option<Room<'a>>],
     ) -> Result<(), O::Error>
         requires row { row < self.now.frame.shape.0 }
-        requires at { at < slice_index self.now.frame.dims.now.heights.items row }
         requires rooms { length rooms.old ≡ self.now.frame.shape.1 }
-        ensures painted { OnOk result ((none : Maybe Begun) → Paints O.gains (painted_between (viewed self.now.frame) row at (λ c. room_shown (slice_index_or rooms.old c none) at)) painter.old painter.new) }
-        ensures same { OnOk result ((c line : ℕ) (none : Maybe Begun) → room_shown (slice_index_or rooms.new c none) line ≡ room_shown (slice_index_or rooms.old c none) line) }
-        ensures count { length rooms.new ≡ length rooms.old }
+        requires ended { option_copied page.old.painter.color ≡ None }
+        ensures painted { OnOk result ((none : Maybe Begun) → PaintsLines O.gains (rooms_row (viewed self.now.frame) row first hosts.now rooms.old none) page.old page.new) }
+        ensures same { OnOk result (ShowTheSame rooms.old rooms.new) }
     {
-        let has_offsets = self.frame.has_offsets_beside(row);
-        painter.push_side(self.frame.side(row, 0, at, has_offsets))?;
-        for col in 0..rooms.len() {
-            paint_room(painter, &mut rooms[col], at)?;
-            painter.push_side(self.frame.side(row, col + 1, at, has_offsets))?;
+        let height = self.frame.dims.get_height(row);
+        for at in 0..height {
+            let line = first.saturating_add(at);
+            page.begin_line()?;
+            self.paint_between(&mut page.painter, (row, at), line, hosts, rooms)?;
+            page.end_line()?;
         }
         Ok(())
     }
 
-    /// Paints the lines of text of a row. `rooms` is for its cells, whatever it had.
+    /// Paints the lines of text of a row whose cells stand alone. `rooms` is for its cells, whatever it had.
     pub(crate) fn paint_row<O: Output + Drop + 'a, T: AsStr>(
         &self,
         page: &mut Page<'a, O>,
@@ -289,7 +351,7 @@ impl<'a, 'b> TableLines<'a, 'b> {
         requires ended { option_copied page.old.painter.color ≡ None }
         requires colors { page.old.painter.with_colors ≡ self.now.frame.with_colors }
         ensures painted { OnOk result (PaintsLines O.gains (row_painted self.now row (map T.text texts.now)) page.old page.new) }
-        ensures count { length rooms.new ≡ length rooms.old }
+        ensures count { OnOk result (length rooms.new ≡ length rooms.old) }
     {
         let height = self.frame.dims.get_height(row);
         if height == 1 {
@@ -299,33 +361,8 @@ impl<'a, 'b> TableLines<'a, 'b> {
             return Ok(());
         }
         self.begin_cells(rooms, row, texts);
-        for at in 0..height {
-            page.begin_line()?;
-            self.paint_between(&mut page.painter, row, at, rooms)?;
-            page.end_line()?;
-        }
+        self.paint_rooms(page, row, 0, &[], rooms)?;
         Ok(())
-    }
-
-    /// Paints the lines of a table. `rooms` is for the cells of a row, whatever it had.
-    pub(crate) fn paint<O: Output + Drop + 'a, T: AsStr>(
-        &self,
-        page: &mut Page<'a, O>,
-        rooms: &mut [Option<Room<'a>>],
-        rows: &'a [Vec<T>],
-    ) -> Result<(), O::Error>
-        requires rows { length rows.now ≡ self.now.frame.shape.0 }
-        requires cols { All (λ row. length row ≡ self.now.frame.shape.1) (texts_by T.text rows.now) }
-        requires rooms { length rooms.old ≡ self.now.frame.shape.1 }
-        requires ended { option_copied page.old.painter.color ≡ None }
-        requires colors { page.old.painter.with_colors ≡ self.now.frame.with_colors }
-        ensures { OnOk result (PaintsLines O.gains (painted_lines (viewed self.now.frame) (cells_of self.now (texts_by T.text rows.now))) page.old page.new) }
-    {
-        for (row, texts) in rows.iter().enumerate() {
-            self.paint_line(page, row)?;
-            self.paint_row(page, rooms, row, texts)?;
-        }
-        self.paint_line(page, rows.len())
     }
 
     /// How many bytes the lines of a table take at least, or nearly so: each column of a line is one or more. It saturates.
@@ -348,12 +385,18 @@ impl<'a, 'b> TableLines<'a, 'b> {
     }
 }
 
+/// How many columns of a terminal the columns of a table take. It saturates.
+fn columns_of(frame: &Frame<FixedDimension>) -> usize {
+    let (_, cols) = frame.shape;
+    let mut columns = 0usize;
+    for col in 0..cols {
+        columns = columns.saturating_add(frame.dims.get_width(col));
+    }
+    columns
+}
+
 /// A horizontal line between two rows as it is written, where all of them but custom ones look alike, and one is drawn.
-fn line_between(
-    alloc: Global,
-    frame: &Frame<FixedDimension>,
-    columns: usize,
-) -> Result<Option<String>, OutOfMemory>
+fn line_between(alloc: Global, frame: &Frame<FixedDimension>) -> Result<Option<String>, OutOfMemory>
     ensures { IfOk result (λ found. ForSome found (λ text. IsBetweenRows frame.now (string_bytes text))) }
 {
     let (rows, _) = frame.shape;
@@ -361,25 +404,21 @@ fn line_between(
         return Ok(None);
     }
     match first_plain_line(frame) {
-        Some(row) if frame.draws(row) => {
-            let room = room_for_line(alloc, frame, columns)?;
-            Ok(Some(line_written(room, frame, row)?))
-        }
+        Some(row) if frame.draws(row) => Ok(Some(line_written(alloc, frame, row)?)),
         _ => Ok(None),
     }
 }
 
-/// A horizontal line as it is written, in the place of an empty text.
+/// A horizontal line as it is written.
 fn line_written(
-    room: String,
+    alloc: Global,
     frame: &Frame<FixedDimension>,
     row: usize,
 ) -> Result<String, OutOfMemory>
-    requires row { row ≤ frame.now.shape.0 }
-    requires empty { string_bytes room ≡ [] }
+    requires { row ≤ frame.now.shape.0 }
     ensures { IfOk result (λ text. string_bytes text ≡ line_text frame.now.with_colors (painted_marks (marks_along (looks.viewed frame.now) (Line.Horizontal row)))) }
 {
-    let mut painter = Painter::new(room, frame.with_colors);
+    let mut painter = Painter::new(String::new(alloc), frame.with_colors);
     frame.put_line(row, &mut painter, &mut Probes::new())?;
     painter.end_last()?;
     Ok(painter.into_out())

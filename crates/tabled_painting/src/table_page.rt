@@ -2,7 +2,6 @@
 
 ghost use Rattle.std.specs.Prelude.{◌≡◌, false, None, List, length, IfOk, OnOk, option_copied};
 ghost use Rattle.std.specs.List.{All};
-ghost use Rattle.std.specs.Option.{ForSome};
 ghost use Rattle.tabled_painting.specs.Margin.{side_of, between_sides};
 ghost use Rattle.tabled_painting.specs.Pages.{IsMarginOf, PaintsLines, Strips, counted_sides, text_of_lines};
 ghost use Rattle.tabled_grid.specs.declared.place.LineOf.{LineOf as Line};
@@ -10,8 +9,7 @@ ghost use Rattle.tabled_printing.specs.Along.{is_empty};
 ghost use Rattle.tabled_printing.specs.Picture.{marks_along};
 ghost use Rattle.tabled_printing.specs.Texts.{Table};
 ghost use Rattle.tabled_painting.specs.Painted.{Painted};
-ghost use Rattle.tabled_painting.specs.PaintedSpans.{spanned_by};
-ghost use Rattle.tabled_painting.specs.PaintedTable.{painted_by};
+ghost use Rattle.tabled_painting.specs.PaintedSpans.{painted_by};
 ghost use Rattle.tabled_painting.specs.RoomLines.{IsSpansOf};
 ghost use Rattle.tabled_painting.specs.TextsBy.{texts_by};
 ghost use Rattle.tabled_painting.specs.Viewed.{viewed};
@@ -58,7 +56,7 @@ fn columns_long(frame: &Frame<FixedDimension>, margin: &MarginSides) -> Result<u
 pub struct TablePage<'a, 'b> {
     pub(crate) lines: TableLines<'a, 'b>,
     /// Where rooms stand, if cells span several columns or rows.
-    pub(crate) spans: Option<Spans>,
+    pub(crate) spans: Spans,
     pub(crate) margin: MarginSides<'a>,
     /// A place for what is shown in each column.
     pub(crate) rooms: Vec<Option<Room<'a>>>,
@@ -67,7 +65,7 @@ pub struct TablePage<'a, 'b> {
     /// How many columns it is long, where that matters.
     long: usize,
     ghost rooms_counted: { length rooms.items ≡ lines.frame.shape.1 },
-    ghost are_spans: { ForSome spans (IsSpansOf lines) },
+    ghost are_spans: { IsSpansOf lines spans },
     ghost is_margin: { IsMarginOf lines.frame.cfg.now.settings.margin margin },
     ghost highs: { (ls : List Painted) → length ls ≡ length (marks_along (viewed lines.frame) (Line.Vertical 0))
         → counted_sides (side_of margin.left) (side_of margin.right) high 0 ls ≡ between_sides (side_of margin.left) (side_of margin.right) (length ls) 0 ls },
@@ -79,26 +77,10 @@ impl<'a, 'b> TablePage<'a, 'b> {
 
     /// The page of a table that has rows and columns, whose lines are painted in that order: in color, where the color changes along a line,
     /// the text that ends the last color is written and then the text that begins the next, and at the end of a line the text that ends its
-    /// last color; where there is no color nothing is written. Spans are not looked at. `sizes` are the widths of its columns and the heights
-    /// of its rows, `shape` the numbers of its rows and of its columns. Only memory can be refused.
+    /// last color; where there is no color nothing is written. A cell that spans several columns or rows has the room of all of them.
+    /// `sizes` are the widths of its columns and the heights of its rows, `shape` the numbers of its rows and of its columns. Only memory can
+    /// be refused.
     pub fn new(
-        cfg: &'a ColoredConfig,
-        sizes: &'b FixedDimension,
-        shape: (usize, usize),
-        with_colors: bool,
-    ) -> Result<Self, OutOfMemory>
-        requires { is_empty shape ≡ false }
-        ensures text { IfOk result (λ page. (table : Table) → text_of_page page table ≡ text_of_lines with_colors (painted_by cfg.now shape sizes.now.widths.items sizes.now.heights.items table)) }
-        ensures shape { IfOk result (λ page. page.lines.frame.shape ≡ shape) }
-    {
-        let lines = TableLines::new(cfg, sizes, shape, with_colors)?;
-        let page = TablePage::of(lines, None)?;
-        Ok(page)
-    }
-
-    /// The page of such a table, where cells span several columns or rows: each that is shown has the room of all of them. `sizes` are those
-    /// of `sizes_of_spanned`. Only memory can be refused.
-    pub fn with_spans(
         cfg: &'a ColoredConfig,
         sizes: &'b FixedDimension,
         shape: (usize, usize),
@@ -107,25 +89,15 @@ impl<'a, 'b> TablePage<'a, 'b> {
         requires places { is_empty shape ≡ false }
         requires widths { length sizes.now.widths.items ≡ shape.1 }
         requires heights { length sizes.now.heights.items ≡ shape.0 }
-        ensures text { IfOk result (λ page. (table : Table) → text_of_page page table ≡ text_of_lines with_colors (spanned_by cfg.now shape sizes.now.widths.items sizes.now.heights.items table)) }
+        ensures text { IfOk result (λ page. (table : Table) → text_of_page page table ≡ text_of_lines with_colors (painted_by cfg.now shape sizes.now.widths.items sizes.now.heights.items table)) }
         ensures shape { IfOk result (λ page. page.lines.frame.shape ≡ shape) }
     {
         let lines = TableLines::new(cfg, sizes, shape, with_colors)?;
         let spans = Spans::new(&lines)?;
-        let page = TablePage::of(lines, Some(spans))?;
-        Ok(page)
-    }
-
-    /// The page of these lines.
-    fn of(lines: TableLines<'a, 'b>, spans: Option<Spans>) -> Result<Self, OutOfMemory>
-        requires { ForSome spans (IsSpansOf lines) }
-        ensures lines { IfOk result (λ page. page.lines ≡ lines.entry) }
-        ensures spans { IfOk result (λ page. page.spans ≡ spans) }
-    {
-        let (_, cols) = lines.frame.shape;
         let margin = MarginSides::of(lines.frame.cfg);
         let high = lines_high(&lines.frame, &margin)?;
         let long = columns_long(&lines.frame, &margin)?;
+        let (_, cols) = shape;
         let rooms = no_rooms(lines.frame.cfg.allocator(), cols)?;
         Ok(TablePage {
             lines,
@@ -187,7 +159,7 @@ impl<'a, 'b> TablePage<'a, 'b> {
         requires cols { All (λ row. length row ≡ self.lines.frame.shape.1) (texts_by T.text rows.now) }
         requires ended { option_copied page.old.painter.color ≡ None }
         requires colors { page.old.painter.with_colors ≡ self.lines.frame.with_colors }
-        ensures { OnOk result (PaintsLines O.gains (lines_between self.entry (texts_by T.text rows.now)) page.old page.new) }
+        ensures { OnOk result (PaintsLines O.gains (lines_between self.entry.lines (texts_by T.text rows.now)) page.old page.new) }
     {
         let TablePage {
             lines,
@@ -197,9 +169,6 @@ impl<'a, 'b> TablePage<'a, 'b> {
             high: _,
             long: _,
         } = self;
-        let Some(spans) = spans else {
-            return lines.paint(page, &mut rooms, rows);
-        };
         let Spans {
             firsts,
             sides,

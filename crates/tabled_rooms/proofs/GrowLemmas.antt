@@ -55,24 +55,6 @@ whole_room sizes drawn ask k room all is = is ∙ ap (λ n. sum_by (size_part si
 abbrev pub share_so_far : Ask → ℕ → ℕ → ℕ → ℕ
 share_so_far ask missing k n = if nat_lt n (ask.first + k) then share ask missing n else 0
 
-pub share_more : (sizes old : List ℕ) (ask : Ask) (missing k new more : ℕ) → length sizes ≡ length old → k < ask.count → ask.first + ask.count ≤ length old → more ≡ share ask missing (ask.first + k)
-    → new ≡ get_or sizes (ask.first + k) 0 + more
-    → ((n : ℕ) → n < length old → get_or sizes n 0 ≡ get_or old n 0 + share_so_far ask missing k n)
-    → (n : ℕ) → n < length old → get_or (set sizes (ask.first + k) new) n 0 ≡ get_or old n 0 + share_so_far ask missing (k + 1) n
-share_more sizes old ask missing k new more same within inside is made so_far n before =
-    elim (cases_eq n (ask.first + k)) [
-      | inl there ↦
-          let none : share_so_far ask missing k (ask.first + k) ≡ 0 = ap (λ b. if b then share ask missing (ask.first + k) else 0) (let past : nat_lt (ask.first + k) (ask.first + k) ≡ false = grind (arith, nat_tests) in past) in
-          let now : share_so_far ask missing (k + 1) (ask.first + k) ≡ share ask missing (ask.first + k) = ap (λ b. if b then share ask missing (ask.first + k) else 0) (let past : nat_lt (ask.first + k) (ask.first + (k + 1)) ≡ true = grind (arith, nat_tests) in past) in
-          let old_there : get_or sizes (ask.first + k) 0 ≡ get_or old (ask.first + k) 0 + share_so_far ask missing k (ask.first + k) = so_far (ask.first + k) (omega arith) in
-          ap (λ m. get_or (set sizes (ask.first + k) new) m 0) there ∙ get_or-set_same sizes (ask.first + k) new 0 (omega arith)
-          ∙ (let sum : new ≡ get_or old (ask.first + k) 0 + share_so_far ask missing (k + 1) (ask.first + k) = omega (arith, none, now, old_there, made, is) in sum)
-          ∙ ap (λ m. get_or old m 0 + share_so_far ask missing (k + 1) m) (sym there)
-      | inr other ↦
-          get_or-set_other sizes (ask.first + k) n new 0 other ∙ so_far n before
-          ∙ ap (λ b. get_or old n 0 + (if b then share ask missing n else 0)) (let as_before : nat_lt n (ask.first + k) ≡ nat_lt n (ask.first + (k + 1)) = grind (arith, nat_tests) in as_before)
-    ]
-
 pub all_shares : (sizes old : List ℕ) (ask : Ask) (missing k : ℕ) → length sizes ≡ length old → k ≡ ask.count
     → ((n : ℕ) → n < length old → get_or sizes n 0 ≡ get_or old n 0 + share_so_far ask missing k n)
     → sizes ≡ map (λ n. slice_index old n + share ask missing n) (range_with_len 0 (length old))
@@ -98,9 +80,6 @@ not_grown drawn sizes ask over = ap (λ b. if b then map (λ n. slice_index size
 -- something is over some sizes
 pub over_several : (count : ℕ) (ask : Ask) → is_over count ask ≡ true → 0 < ask.count
 over_several count ask over = grind (arith, nat_tests)
-
-pub over_within : (count : ℕ) (ask : Ask) → is_over count ask ≡ true → ask.first + ask.count ≤ count
-over_within count ask over = grind (arith, nat_tests)
 
 -- the sizes after the asks over one count more
 pub grown_more : (drawn : ℕ → Bool) (sizes now new : List ℕ) (asks list : List Ask) (n : ℕ) → now ≡ fold (grown_for drawn) sizes (by_count n asks) → list ≡ over_count asks n

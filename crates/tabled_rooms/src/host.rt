@@ -1,6 +1,6 @@
 //! The cell that is shown at each place of a row.
 
-ghost use Rattle.std.specs.Prelude.{◌≡◌, ◌<◌, ◌+◌, ◌==◌, ◌&&◌, nat_lt, min, length, replicate, Option, IfOk};
+ghost use Rattle.std.specs.Prelude.{◌≡◌, ◌<◌, ◌≤◌, ◌+◌, ◌==◌, ◌&&◌, nat_lt, min, length, replicate, Option, IfOk};
 ghost use Rattle.tabled_rooms.specs.Hosts.{Cell, shown_from};
 ghost use Rattle.tabled_rooms.specs.Holding.{held, Holds, AreAbove, AreHosts};
 
@@ -36,10 +36,10 @@ pub fn no_hosts(alloc: Global, cols: usize) -> Result<Vec<Host>, AllocError>
     vec![in alloc; NONE; cols]
 }
 
-/// Makes the hosts of the row above those of a row. Each cell asks for its spans only where it begins.
+/// Makes the hosts of the row above those of a row, in as many columns as there are hosts. Each cell asks for its spans only where it begins.
 pub fn next_hosts<S: CellSpans>(hosts: &mut [Host], spans: &S, row: usize, shape: (usize, usize))
     requires row { row < shape.0 }
-    requires count { length hosts.old ≡ shape.1 }
+    requires count { length hosts.old ≤ shape.1 }
     requires above { AreAbove (S.columns_at spans.now) (S.rows_at spans.now) shape row hosts.old }
     ensures hosts { AreHosts (S.columns_at spans.now) (S.rows_at spans.now) shape row hosts.new }
 {

@@ -1,7 +1,6 @@
 pub mod Measuring
 pub mod CellLemmas
 pub mod EqualRows
-pub mod Painting
 pub mod Even
 pub mod SpannedEven
 pub mod ChangedLemmas

@@ -4,7 +4,6 @@ use Rattle.std.specs.List.{list_all, position_or_len, reduce}
 use Rattle.tabled_width.specs.Texts.{is_printable}
 use Rattle.tabled_cells.proofs.Printing.{one_piece}
 use Rattle.tabled_printing.specs.Texts.{Table}
-use Rattle.tabled_painting.specs.Printable.{ArePrintable}
 use Rattle.std.proofs.lemmas.List.{length-map, map-append, take_more, take_all, get_or-map, get_or_past}
 use Rattle.std.proofs.lemmas.List.FromFn.{fill_by_all}
 use Rattle.std.proofs.lemmas.Bool.{ltb-true, ltb-false, lt-ltb, le-ltb}
@@ -156,16 +155,6 @@ below_more P n before here k within = by_case (ltb k n) refl
 module _ (Q : List (List ℕ) → Type 0) where
   pub rows_more : (table : Table) (n : ℕ) (row : List (List ℕ)) → get_or table n [] ≡ row → ((r : ℕ) → r < n → Q (get_or table r [])) → Q row → (r : ℕ) → r < n + 1 → Q (get_or table r [])
   rows_more table n row here before is = below_more (λ r. Q (get_or table r [])) n before (subst Q (sym here) is)
-
-  pub all_hold : Q [] → (table : Table) (n : ℕ) → length table ≤ n → ((r : ℕ) → r < n → Q (get_or table r [])) → (r : ℕ) → Q (get_or table r [])
-  all_hold empty table n all so r = by_case (ltb r n) refl
-    where
-      by_case : (b : Bool) → ltb r n ≡ b → Q (get_or table r [])
-      by_case true below = so r (ltb-true r n below)
-      by_case false not_below = let above = ltb-false r n not_below in subst Q (sym (get_or_past table r [] (omega (arith, above, all)))) empty
-
-pub printable_row : (row : List (List ℕ)) (count : ℕ) → length row ≤ count → ((c : ℕ) → c < count → list_all is_printable (cell row c) ≡ true) → ArePrintable row
-printable_row = row_holds (λ text. list_all is_printable text ≡ true) refl
 
 -- in a table whose rows have as many cells each, all texts are of UTF-8 where those of its columns are
 pub utf8_table : (table : Table) (n : ℕ) → length table ≤ n → unequal_row table ≡ None → ((r : ℕ) → r < n → (c : ℕ) → c < column_count table → IsUtf8 (cell (get_or table r []) c)) → AreUtf8 table

@@ -1,11 +1,11 @@
--- The lines of a table where cells span, and where none does.
-use Rattle.std.proofs.Common.{◌≡◌, ℕ, ◌==◌, ◌&&◌, not, Bool, true, false, if◌then◌else◌, Option, List, [], length, refl, sym, ap, subst, ◌∙◌}
+-- The lines of a table by the events that its configuration shows, and where each cell stands alone.
+use Rattle.std.proofs.Common.{◌≡◌, ℕ, ◌==◌, ◌&&◌, Bool, true, false, if◌then◌else◌, Option, List, [], length, refl, sym, ap, subst, ◌∙◌}
 use Rattle.std.specs.Prelude.{slice_index, slice_index_or}
+use Rattle.std.specs.Cmp.{first_so}
 use Rattle.std.specs.FinMap.{len}
 use Rattle.std.specs.List.{join_with_byte}
 use Rattle.tabled_border.specs.Texts.{Texts}
 use Rattle.tabled_object.specs.declared.dimension.FixedDimension.{FixedDimension}
-use Rattle.tabled_object.specs.declared.records.Shape.{Shape}
 use Rattle.tabled_layout.specs.declared.table_settings.TableSettings.{TableSettings}
 use Rattle.tabled_settings.specs.Live.{Live}
 use Rattle.tabled_settings.specs.Padding.{keeps_first_padding}
@@ -15,54 +15,43 @@ use Rattle.tabled_configuration.specs.Colored.{Changes, Colored, Shows}
 use Rattle.tabled_printing.specs.Picture.{Look, look}
 use Rattle.tabled_printing.specs.Texts.{Table}
 use Rattle.tabled_printing.proofs.LookLemmas.{own_look}
+use Rattle.tabled_rooms.specs.Hosts.{Counts}
 use Rattle.tabled_rooms.specs.Sizes.{spanned_widths, spanned_heights}
 use Rattle.tabled_painting.specs.Painted.{plain}
 use Rattle.tabled_painting.specs.PaintedTable.{plain_text}
-use Rattle.tabled_painting.specs.PaintedSpans.{columns_spanned, rows_spanned, room_wide, room_high, spanned_cells, spanned_as_set, spanned_by}
+use Rattle.tabled_painting.specs.PaintedSpans.{columns_spanned, painted_as_set, painted_by, rows_spanned, room_wide, room_high, spanned_cells}
 use Rattle.tabled_painting.specs.CellLines.{coloring_at}
 use Rattle.tabled_cells.specs.Placements.{placement_at}
 use Rattle.tabled_cells.specs.Trimmed.{lines_shown}
+use Rattle.tabled_painting.proofs.AloneLemmas.{alone_table, one_each}
 use Rattle.tabled_painting.proofs.Plain.{plain_cell}
 use Rattle.tabled_painting.proofs.SpannedPlain.{spanned_table_same}
 use Rattle.tabled_text.specs.Sizes.{column_count, column_widths, row_heights, width_with_padding, height_with_padding}
-use Rattle.tabled_text.specs.Cells.{cell_colors, settings_set, leaves_sizes}
-use Rattle.tabled_text.specs.TextTable.{AreRead, Drawing, shape_of, look_with_spans, painted, painted_alone, painted_with_spans, text_of, widths_with_spans, heights_with_spans}
+use Rattle.tabled_text.specs.Cells.{cell_colors, leaves_sizes, sets_no_padding, sets_no_spans, settings_set}
+use Rattle.tabled_text.specs.TextTable.{AreRead, Drawing, heights_read, heights_with_spans, look_of, look_printed, look_with_spans, painted, painted_alone, text_of, widths_read, widths_with_spans}
 
 -- ---- the one or the other
 
+-- where no cell spans and no padding is set each cell stands alone
 pub painted_without : (es : List ConfigEvent) (table : Table) → leaves_sizes es ≡ true → painted es table ≡ painted_alone es table
-unfolding painted
-painted_without es table none = ap (λ b. if b then painted_alone es table else painted_with_spans es table) none
-
-pub painted_spanned : (es : List ConfigEvent) (table : Table) → leaves_sizes es ≡ false → painted es table ≡ painted_with_spans es table
-unfolding painted
-painted_spanned es table some = ap (λ b. if b then painted_alone es table else painted_with_spans es table) some
+unfolding painted painted_alone
+painted_without es table none =
+    let settings = settings_set es in
+    let one = one_each settings (first_so (sets_no_spans es) (sets_no_padding es) none) in
+    ap (λ b. painted_as_set (if b then look_of es table else look_with_spans es table) settings (cell_colors es) table) none
+    ∙ sym (alone_table (look_of es table) (columns_spanned settings) (rows_spanned settings) settings.cells (cell_colors es) table one.0 one.1 settings.margin)
 
 pub text_without : (es : List ConfigEvent) (table : Table) → leaves_sizes es ≡ true → text_of es table ≡ plain_text (painted_alone es table)
 unfolding text_of
 text_without es table none = ap plain_text (painted_without es table none)
 
-pub text_spanned : (es : List ConfigEvent) (table : Table) → leaves_sizes es ≡ false → text_of es table ≡ plain_text (painted_with_spans es table)
-unfolding text_of
-text_spanned es table some = ap plain_text (painted_spanned es table some)
+pub text_spanned : (es : List ConfigEvent) (table : Table) → leaves_sizes es ≡ false → text_of es table ≡ plain_text (painted_as_set (look_with_spans es table) (settings_set es) (cell_colors es) table)
+unfolding text_of painted
+text_spanned es table some = ap (λ b. plain_text (painted_as_set (if b then look_of es table else look_with_spans es table) (settings_set es) (cell_colors es) table)) some
 
 -- a configuration has spans where the events that it shows set some
 pub spans_shown : (es : List ConfigEvent) (cfg : Configuration) → borders.Shows es cfg → is_sized_by_texts cfg ≡ leaves_sizes es
 spans_shown es cfg shows = ap (λ (settings : TableSettings). (len settings.column_spans == 0) && (len settings.row_spans == 0) && keeps_first_padding settings.cells.padding) shows.settings_shown
-
-pub none_set : (es : List ConfigEvent) (cfg : Configuration) (some : Bool) → borders.Shows es cfg → some ≡ not (is_sized_by_texts cfg) → some ≡ false → leaves_sizes es ≡ true
-none_set es cfg some shows is none = sym (spans_shown es cfg shows) ∙ turned (is_sized_by_texts cfg) (sym is ∙ none)
-  where
-    turned : (b : Bool) → not b ≡ false → b ≡ true
-    turned true e = refl
-    turned false e = sym e
-
-pub some_set : (es : List ConfigEvent) (cfg : Configuration) (some : Bool) → borders.Shows es cfg → some ≡ not (is_sized_by_texts cfg) → some ≡ true → leaves_sizes es ≡ false
-some_set es cfg some shows is any = sym (spans_shown es cfg shows) ∙ turned (is_sized_by_texts cfg) (sym is ∙ any)
-  where
-    turned : (b : Bool) → not b ≡ true → b ≡ false
-    turned true e = sym e
-    turned false e = refl
 
 -- ---- the sizes that an option reads
 
@@ -118,29 +107,40 @@ module _ (cfg : Configuration) (table : Table) (es : List ConfigEvent) (shows : 
       λ i. spanned_heights (columns_spanned (shows.settings_shown i)) (rows_spanned (shows.settings_shown i)) (length table, column_count table) (height_with_padding (shows.settings_shown i).cells table)
       (own_look cfg es (length table, column_count table) (λ c. 0) (λ r. 0) shows i).horizontal
 
-  module _ (shape : Shape) (widths heights : List ℕ) (shaped : shape ≡ shape_of table)
-      (wide : widths ≡ widths_with_spans cfg.settings (all_writes cfg) table) (high : heights ≡ heights_with_spans cfg.settings (all_writes cfg) table) (colors : Option (Live Texts)) where
-    by_events : spanned_by (record { spanned = cfg; cell_colors = colors }) (shape.rows, shape.cols) widths heights table ≡ spanned_as_set (look_with_spans es table) (settings_set es) colors table
-    by_events =
-        (λ i. spanned_as_set (own_look cfg es (shape.rows, shape.cols) (slice_index widths) (slice_index heights) shows i) (shows.settings_shown i) colors table)
-        ∙ (λ i. spanned_as_set (look es ((shaped i).rows, (shaped i).cols) (slice_index ((wide ∙ widths_same) i)) (slice_index ((high ∙ heights_same) i))) (settings_set es) colors table)
+  module _ (shape : ℕ × ℕ) (widths heights : List ℕ) (shaped : shape ≡ (length table, column_count table)) (wide : widths ≡ widths_read cfg table) (high : heights ≡ heights_read cfg table) where
+    -- it looks as the events say
+    look_is : look (all_writes cfg) shape (slice_index widths) (slice_index heights) ≡ look_printed es table
+    look_is =
+        own_look cfg es shape (slice_index widths) (slice_index heights) shows
+        ∙ (λ i. look es (shaped i) (slice_index (wide i)) (slice_index (high i)))
+        ∙ (λ i. look es (length table, column_count table) (slice_index (if spans_shown es cfg shows i then column_widths table else widths_same i)) (slice_index (if spans_shown es cfg shows i then row_heights table else heights_same i)))
+        ∙ by_case (leaves_sizes es)
+      where
+        by_case : (leaves : Bool) → look es (length table, column_count table) (slice_index (if leaves then column_widths table else widths_with_spans (settings_set es) es table))
+            (slice_index (if leaves then row_heights table else heights_with_spans (settings_set es) es table)) ≡ (if leaves then look_of es table else look_with_spans es table)
+        by_case true = refl
+        by_case false = refl
+
+    by_events : (colors : Option (Live Texts)) → painted_by (record { spanned = cfg; cell_colors = colors }) shape widths heights table ≡ painted_as_set (look_printed es table) (settings_set es) colors table
+    by_events colors = λ i. painted_as_set (look_is i) (shows.settings_shown i) colors table
 
     -- the plain text, whatever colors the cells have
-    pub is_spanned_text : plain_text (spanned_by (record { spanned = cfg; cell_colors = colors }) (shape.rows, shape.cols) widths heights table) ≡ plain_text (painted_with_spans es table)
-    unfolding painted_with_spans plain_text
-    is_spanned_text =
-        ap plain_text by_events
+    pub is_plain_text : (colors : Option (Live Texts)) → plain_text (painted_by (record { spanned = cfg; cell_colors = colors }) shape widths heights table) ≡ text_of es table
+    unfolding painted plain_text text_of
+    is_plain_text colors =
+        let settings = settings_set es in
+        let view : Look = look_printed es table in
+        let columns : Counts = columns_spanned settings in
+        let rows : Counts = rows_spanned settings in
+        ap plain_text (by_events colors)
         ∙ ap (join_with_byte 10)
-        (spanned_table_same true (look_with_spans es table) (columns_spanned (settings_set es)) (rows_spanned (settings_set es))
-        (spanned_cells (look_with_spans es table) (columns_spanned (settings_set es)) (rows_spanned (settings_set es)) (settings_set es).cells colors table)
-        (spanned_cells (look_with_spans es table) (columns_spanned (settings_set es)) (rows_spanned (settings_set es)) (settings_set es).cells (cell_colors es) table)
-        (same_cells (look_with_spans es table) (settings_set es) colors (cell_colors es) table) (settings_set es).margin)
+        (spanned_table_same true view columns rows (spanned_cells view columns rows settings.cells colors table) (spanned_cells view columns rows settings.cells (cell_colors es) table)
+        (same_cells view settings colors (cell_colors es) table) settings.margin)
 
 -- the text in color is that of the painted lines
-pub is_spanned_color : (cfg : Colored) (table : Table) (shape : Shape) (widths heights : List ℕ) → shape ≡ shape_of table → widths ≡ widths_with_spans cfg.spanned.settings (all_writes cfg.spanned) table
-    → heights ≡ heights_with_spans cfg.spanned.settings (all_writes cfg.spanned) table → (es : List ConfigEvent) → Shows es cfg
-    → spanned_by cfg (shape.rows, shape.cols) widths heights table ≡ painted_with_spans es table
-unfolding painted_with_spans
-is_spanned_color cfg table shape widths heights shaped wide high es shows =
+pub is_colored_text : (cfg : Colored) (table : Table) (shape : ℕ × ℕ) (widths heights : List ℕ) → shape ≡ (length table, column_count table) → widths ≡ widths_read cfg.spanned table → heights ≡ heights_read cfg.spanned table
+    → (es : List ConfigEvent) → Shows es cfg → painted_by cfg shape widths heights table ≡ painted es table
+unfolding painted
+is_colored_text cfg table shape widths heights shaped wide high es shows =
     by_events cfg.spanned table es shows.spanned_shown shape widths heights shaped wide high cfg.cell_colors
-    ∙ ap (λ colors. spanned_as_set (look_with_spans es table) (settings_set es) colors table) shows.cell_colors_shown
+    ∙ ap (λ colors. painted_as_set (look_printed es table) (settings_set es) colors table) shows.cell_colors_shown

@@ -39,7 +39,7 @@ use Rattle.tabled_painting.proofs.SpannedEven.{spanned_even}
 use Rattle.tabled_text.specs.Sizes.{cell, column_count, padded_width, width_with_padding, height_with_padding}
 use Rattle.tabled_text.specs.Changed.{CellsArePrintable}
 use Rattle.tabled_text.specs.Cells.{settings_set, cells_set, margin_set, cell_colors, leaves_sizes, sets_no_padding, sets_no_spans, KeepsApart, StandApart, StartsWithSpace}
-use Rattle.tabled_text.specs.TextTable.{look_of, look_with_spans, look_printed, painted_with_spans, text_of, widths_with_spans, heights_with_spans}
+use Rattle.tabled_text.specs.TextTable.{look_of, look_with_spans, look_printed, text_of, widths_with_spans, heights_with_spans}
 use Rattle.tabled_text.proofs.Even.{text_even}
 use Rattle.tabled_text.proofs.SpanLemmas.{text_spanned}
 
@@ -125,7 +125,6 @@ module _ (es : List ConfigEvent) (table : Table) (utf8 : (r c : ℕ) → IsUtf8 
 
   -- each line is as wide as the others where cells span or have padding
   pub spanned_text_even : leaves_sizes es ≡ false → IsRectangle (text_width view (margin_set es)) (text_of es table)
-  unfolding painted_with_spans
   spanned_text_even some =
       subst (IsRectangle (text_width view (margin_set es))) (sym (text_spanned es table some))
       (spanned_even view narrow columns rows cells some_columns some_rows cells_tiles settings.margin lines_some)

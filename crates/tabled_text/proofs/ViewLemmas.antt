@@ -1,79 +1,53 @@
 -- The text of a table that is lent to be printed is that after the events that its configuration shows.
-use Rattle.std.proofs.Common.{◌≡◌, ℕ, true, false, Bool, List, [], slice_index, not, refl, sym, ap, ◌∙◌}
-use Rattle.std.specs.List.{join_with_byte}
+use Rattle.std.proofs.Common.{◌≡◌, ◌<◌, ℕ, true, false, Bool, List, [], length, get_or, slice_index, refl, sym, ap, ◌∙◌, arith}
+use Rattle.std.specs.List.{All, join_with_byte}
+use Rattle.std.proofs.lemmas.List.{get_or_default}
 use Rattle.tabled_object.specs.declared.records.Shape.{Shape}
+use Rattle.tabled_rooms.specs.Hosts.{Counts}
 use Rattle.tabled_configuration.specs.Configuration as borders
-use Rattle.tabled_configuration.specs.Configuration.{ConfigEvent, is_sized_by_texts}
+use Rattle.tabled_configuration.specs.Configuration.{ConfigEvent, all_writes}
 use Rattle.tabled_configuration.specs.Colored.{Shows}
-use Rattle.tabled_painting.specs.Pages.{text_of_lines}
-use Rattle.tabled_configuration.specs.Configuration.{all_writes}
 use Rattle.tabled_printing.specs.Along.{is_empty}
 use Rattle.tabled_printing.specs.Picture.{Look, look}
-use Rattle.tabled_painting.specs.PaintedSpans.{columns_spanned, rows_spanned, spanned_by, spanned_cells, spanned_lines, spanned_table}
-use Rattle.tabled_painting.specs.PaintedTable.{colored_text, painted_cells, painted_lines, painted_table, plain_text}
+use Rattle.tabled_printing.specs.Texts.{Table}
+use Rattle.tabled_painting.specs.Pages.{text_of_lines}
+use Rattle.tabled_painting.specs.PaintedSpans.{columns_spanned, painted_by, rows_spanned, spanned_cells, spanned_lines, spanned_table}
+use Rattle.tabled_painting.specs.PaintedTable.{colored_text, plain_text}
 use Rattle.tabled_painting.proofs.MarginLemmas.{no_places}
 use Rattle.tabled_painting.proofs.Plain.{text_with_colors, text_without_colors}
-use Rattle.tabled_text.specs.TableViews.{IsTable, heights_viewed, lines_viewed, text_viewed, texts_viewed, widths_viewed}
+use Rattle.tabled_text.specs.Sizes.{column_count}
+use Rattle.tabled_text.specs.TableViews.{IsTable, heights_viewed, text_viewed, texts_viewed, widths_viewed}
 use Rattle.tabled_text.specs.TextTable.{painted, shape_of, text_of}
 use Rattle.tabled_text.specs.declared.table_view.TableView.{TableView}
-use Rattle.tabled_text.proofs.Painting.{colors_viewed, plain_viewed}
-use Rattle.tabled_text.proofs.SpanLemmas.{is_spanned_color, is_spanned_text, none_set, painted_spanned, painted_without, some_set, text_spanned, text_without}
+use Rattle.tabled_text.proofs.SpanLemmas.{is_colored_text, is_plain_text}
 
--- without places there is no text
-pub no_text : {T : Type 0} (bytes : T → List ℕ) (view : TableView T) (wanted : Bool) → is_empty view.shape ≡ true → text_viewed bytes view wanted ≡ []
-unfolding painted_table spanned_table
-no_text bytes view wanted none = by_case (is_sized_by_texts view.config.now.spanned)
-  where
-    by_case : (alone : Bool) → text_of_lines wanted (lines_viewed bytes view alone) ≡ []
-    by_case true =
-        let cfg = view.config.now in
-        let kept : Look = look (all_writes cfg.spanned) view.shape (slice_index view.sizes.now.widths.items) (slice_index view.sizes.now.heights.items) in
-        no_places kept cfg.spanned.settings.margin
-        (painted_lines kept (painted_cells cfg.spanned.settings.cells cfg.cell_colors view.sizes.now.widths.items view.sizes.now.heights.items (texts_viewed bytes view))) wanted none
-    by_case false =
-        let cfg = view.config.now in
-        let settings = cfg.spanned.settings in
-        let kept : Look = look (all_writes cfg.spanned) view.shape (slice_index (widths_viewed bytes view)) (slice_index (heights_viewed bytes view)) in
-        let columns = columns_spanned settings in
-        let rows = rows_spanned settings in
-        no_places kept settings.margin (spanned_lines kept columns rows (spanned_cells kept columns rows settings.cells cfg.cell_colors (texts_viewed bytes view))) wanted none
+module _ {T : Type 0} (bytes : T → List ℕ) (view : TableView T) where
+  -- without places there is no text
+  pub no_text : (wanted : Bool) → is_empty view.shape ≡ true → text_viewed bytes view wanted ≡ []
+  unfolding spanned_table
+  no_text wanted none =
+      let cfg = view.config.now in
+      let settings = cfg.spanned.settings in
+      let kept : Look = look (all_writes cfg.spanned) view.shape (slice_index (widths_viewed bytes view)) (slice_index (heights_viewed bytes view)) in
+      let columns : Counts = columns_spanned settings in
+      let rows : Counts = rows_spanned settings in
+      no_places kept settings.margin (spanned_lines kept columns rows (spanned_cells kept columns rows settings.cells cfg.cell_colors (texts_viewed bytes view))) wanted none
 
--- a page of lines is that of the table
-pub of_table : {T : Type 0} (bytes : T → List ℕ) (view : TableView T) (wanted alone : Bool) (text : List ℕ) → is_sized_by_texts view.config.now.spanned ≡ alone → text ≡ text_of_lines wanted (lines_viewed bytes view alone)
-    → text ≡ text_viewed bytes view wanted
-of_table bytes view wanted alone text is of = of ∙ ap (λ b. text_of_lines wanted (lines_viewed bytes view b)) (sym is)
-
-module _ {T : Type 0} (bytes : T → List ℕ) (view : TableView T) (is : IsTable bytes view) (es : List ConfigEvent) where
-  abbrev shape : Shape
-  shape = record { rows = view.shape.0; cols = view.shape.1 }
-
-  shaped : shape ≡ shape_of (texts_viewed bytes view)
-  shaped = ap (λ (counts : ℕ × ℕ). record { rows = counts.0; cols = counts.1 }) is.shape
-
-  module _ (shows : borders.Shows es view.config.now.spanned) where
-    pub plain_text_viewed : text_viewed bytes view false ≡ text_of es (texts_viewed bytes view)
+  module _ (is : IsTable bytes view) (es : List ConfigEvent) where
+    pub plain_text_viewed : borders.Shows es view.config.now.spanned → text_viewed bytes view false ≡ text_of es (texts_viewed bytes view)
     unfolding text_of_lines plain_text
-    plain_text_viewed = by_case (is_sized_by_texts view.config.now.spanned) refl
-      where
-        by_case : (alone : Bool) → is_sized_by_texts view.config.now.spanned ≡ alone → text_of_lines false (lines_viewed bytes view alone) ≡ text_of es (texts_viewed bytes view)
-        by_case true alone =
-            plain_viewed view.config.now (texts_viewed bytes view) shape view.sizes.now.widths.items view.sizes.now.heights.items shaped is.widths is.heights es shows
-            ∙ sym (text_without es (texts_viewed bytes view) (none_set es view.config.now.spanned false shows (sym (ap not alone)) refl))
-        by_case false alone =
-            ap (join_with_byte 10) (text_without_colors (spanned_by view.config.now view.shape (widths_viewed bytes view) (heights_viewed bytes view) (texts_viewed bytes view)))
-            ∙ is_spanned_text view.config.now.spanned (texts_viewed bytes view) es shows shape (widths_viewed bytes view) (heights_viewed bytes view) shaped refl refl view.config.now.cell_colors
-            ∙ sym (text_spanned es (texts_viewed bytes view) (some_set es view.config.now.spanned true shows (sym (ap not alone)) refl))
+    plain_text_viewed shows =
+        ap (join_with_byte 10) (text_without_colors (painted_by view.config.now view.shape (widths_viewed bytes view) (heights_viewed bytes view) (texts_viewed bytes view)))
+        ∙ is_plain_text view.config.now.spanned (texts_viewed bytes view) es shows view.shape (widths_viewed bytes view) (heights_viewed bytes view) is.shape refl refl view.config.now.cell_colors
 
-  module _ (shows : Shows es view.config.now) where
-    pub colored_text_viewed : text_viewed bytes view true ≡ colored_text (painted es (texts_viewed bytes view))
+    pub colored_text_viewed : Shows es view.config.now → text_viewed bytes view true ≡ colored_text (painted es (texts_viewed bytes view))
     unfolding text_of_lines colored_text
-    colored_text_viewed = by_case (is_sized_by_texts view.config.now.spanned) refl
-      where
-        by_case : (alone : Bool) → is_sized_by_texts view.config.now.spanned ≡ alone → text_of_lines true (lines_viewed bytes view alone) ≡ colored_text (painted es (texts_viewed bytes view))
-        by_case true alone =
-            colors_viewed view.config.now (texts_viewed bytes view) shape view.sizes.now.widths.items view.sizes.now.heights.items shaped is.widths is.heights es shows
-            ∙ ap colored_text (sym (painted_without es (texts_viewed bytes view) (none_set es view.config.now.spanned false shows.spanned_shown (sym (ap not alone)) refl)))
-        by_case false alone =
-            ap (join_with_byte 10) (text_with_colors (spanned_by view.config.now view.shape (widths_viewed bytes view) (heights_viewed bytes view) (texts_viewed bytes view)))
-            ∙ ap colored_text (is_spanned_color view.config.now (texts_viewed bytes view) shape (widths_viewed bytes view) (heights_viewed bytes view) shaped refl refl es shows)
-            ∙ ap colored_text (sym (painted_spanned es (texts_viewed bytes view) (some_set es view.config.now.spanned true shows.spanned_shown (sym (ap not alone)) refl)))
+    colored_text_viewed shows =
+        ap (join_with_byte 10) (text_with_colors (painted_by view.config.now view.shape (widths_viewed bytes view) (heights_viewed bytes view) (texts_viewed bytes view)))
+        ∙ ap colored_text (is_colored_text view.config.now (texts_viewed bytes view) view.shape (widths_viewed bytes view) (heights_viewed bytes view) is.shape refl refl es shows)
+
+-- the rows of a table that is kept have as many cells as it has columns
+pub rows_equal : (table items : Table) (shape : Shape) → items ≡ table → shape ≡ shape_of table → ((r : ℕ) → r < length table → length (get_or table r []) ≡ column_count table) → All (λ row. length row ≡ shape.cols) items
+rows_equal table items shape same shaped equal k d within =
+    let inside : k < length table = (let e = ap length same in omega (arith, within, e)) in
+    ap (λ rows. length (get_or rows k d)) same ∙ ap length (get_or_default table k d [] inside) ∙ equal k inside ∙ sym (ap (λ s. s.cols) shaped)

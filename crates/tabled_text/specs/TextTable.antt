@@ -14,7 +14,7 @@ use Rattle.tabled_rooms.specs.Sizes.{spanned_widths, spanned_heights}
 use Rattle.tabled_printing.specs.Picture.{Look, look}
 use Rattle.tabled_painting.specs.Painted.{Painted}
 use Rattle.tabled_painting.specs.PaintedTable.{painted_table, painted_cells, plain_text}
-use Rattle.tabled_painting.specs.PaintedSpans.{columns_spanned, rows_spanned, spanned_as_set}
+use Rattle.tabled_painting.specs.PaintedSpans.{columns_spanned, painted_as_set, rows_spanned}
 use Rattle.tabled_printing.specs.Texts.{Table}
 use Rattle.tabled_printing.specs.Pieces.{lent}
 use denote.Ref.{Bor}
@@ -39,11 +39,6 @@ shape_of table = record { rows = length table; cols = column_count table }
 abbrev pub look_of : List ConfigEvent → Table → Look
 look_of es table = look es (length table, column_count table) (slice_index (column_widths table)) (slice_index (row_heights table))
 
--- its lines then, each character with its color: its cells as the events set and color them, what the events draw around them, and
--- the margin around all
-unfoldable pub painted_alone : List ConfigEvent → Table → List Painted
-painted_alone es table = painted_table (look_of es table) (margin_set es) (painted_cells (cells_set es) (cell_colors es) (column_widths table) (row_heights table) table)
-
 -- where cells span or have padding: how wide each column is, and how high each row, by what is set and by which lines are drawn
 unfoldable pub widths_with_spans : TableSettings → List ConfigEvent → Table → List ℕ
 widths_with_spans settings es table =
@@ -55,21 +50,23 @@ heights_with_spans settings es table =
     spanned_heights (columns_spanned settings) (rows_spanned settings) (length table, column_count table) (height_with_padding settings.cells table)
     (λ n. drawn (characters_of es) (length table) (LineOf.Horizontal n))
 
--- how the table looks then, and its lines: each cell that is shown in the room of all columns and rows that it takes
+-- how the table looks then
 abbrev pub look_with_spans : List ConfigEvent → Table → Look
 look_with_spans es table =
     look es (length table, column_count table) (slice_index (widths_with_spans (settings_set es) es table)) (slice_index (heights_with_spans (settings_set es) es table))
-
-unfoldable pub painted_with_spans : List ConfigEvent → Table → List Painted
-painted_with_spans es table = spanned_as_set (look_with_spans es table) (settings_set es) (cell_colors es) table
 
 -- how it looks as it is printed: the one or the other
 abbrev pub look_printed : List ConfigEvent → Table → Look
 look_printed es table = if leaves_sizes es then look_of es table else look_with_spans es table
 
--- its lines after a list of events: those of the one or of the other
+-- its lines after a list of events, each character with its color: its cells as the events set and color them, each in the room of all
+-- columns and rows that it takes, what the events draw around them, and the margin around all
 unfoldable pub painted : List ConfigEvent → Table → List Painted
-painted es table = if leaves_sizes es then painted_alone es table else painted_with_spans es table
+painted es table = painted_as_set (look_printed es table) (settings_set es) (cell_colors es) table
+
+-- the lines of a table each of whose cells stands in its own column and row alone
+unfoldable pub painted_alone : List ConfigEvent → Table → List Painted
+painted_alone es table = painted_table (look_of es table) (margin_set es) (painted_cells (cells_set es) (cell_colors es) (column_widths table) (row_heights table) table)
 
 -- its text after a list of events: the characters of these lines
 unfoldable pub text_of : List ConfigEvent → Table → List ℕ

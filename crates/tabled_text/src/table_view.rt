@@ -1,15 +1,15 @@
 //! A table as it is lent to be printed piece by piece.
 
-ghost use Rattle.std.specs.Prelude.{◌≡◌, ◌⊎◌, ◌++◌, List, true, false, length, string_bytes, IfErr, IfOk, OnOk};
+ghost use Rattle.std.specs.Prelude.{◌≡◌, ◌⊎◌, ◌++◌, List, true, false, length, string_bytes, unwrap_or, IfErr, IfOk, OnOk};
 ghost use Rattle.std.specs.Io.KnownBytes.{Appends};
 ghost use Rattle.tabled_painting.specs.PaintedTable.{colored_text};
 ghost use Rattle.tabled_painting.specs.TablePages.{text_of_page};
 ghost use Rattle.tabled_printing.specs.Along.{is_empty};
 ghost use Rattle.tabled_configuration.specs.Colored.{Shows};
 ghost use Rattle.tabled_configuration.specs.Configuration as borders;
-ghost use Rattle.tabled_configuration.specs.Configuration.{ConfigEvent};
-ghost use Rattle.tabled_text.specs.TableViews.{AreSizes, IsTable, heights_viewed, text_viewed, texts_viewed, widths_viewed};
-ghost use Rattle.tabled_text.specs.TextTable.{painted, text_of};
+ghost use Rattle.tabled_configuration.specs.Configuration.{ConfigEvent, all_writes};
+ghost use Rattle.tabled_text.specs.TableViews.{AreSizes, IsTable, text_viewed, texts_viewed};
+ghost use Rattle.tabled_text.specs.TextTable.{heights_with_spans, painted, text_of, widths_with_spans};
 ghost use Rattle.tabled_text.specs.declared.table_error.TableError.{TableError as Refusal};
 
 use crate::TableError;
@@ -45,8 +45,8 @@ impl<'a, T: AsStr> TableView<'a, T> {
     /// How wide its columns are and how high its rows, where cells span or have padding.
     pub(crate) fn sizes_with_spans(&self) -> Result<FixedDimension, OutOfMemory>
         requires { IsTable T.text self.now }
-        ensures widths { IfOk result (λ sizes. sizes.widths.items ≡ widths_viewed T.text self.now) }
-        ensures heights { IfOk result (λ sizes. sizes.heights.items ≡ heights_viewed T.text self.now) }
+        ensures widths { IfOk result (λ sizes. sizes.widths.items ≡ widths_with_spans self.now.config.now.spanned.settings (all_writes self.now.config.now.spanned) (texts_viewed T.text self.now)) }
+        ensures heights { IfOk result (λ sizes. sizes.heights.items ≡ heights_with_spans self.now.config.now.spanned.settings (all_writes self.now.config.now.spanned) (texts_viewed T.text self.now)) }
         ensures columns { IfOk result (λ sizes. length sizes.widths.items ≡ self.now.shape.1) }
         ensures rows { IfOk result (λ sizes. length sizes.heights.items ≡ self.now.shape.0) }
     {
@@ -62,7 +62,7 @@ impl<'a, T: AsStr> TableView<'a, T> {
     /// How wide its columns are and how high its rows, if these are not what its texts alone ask.
     fn other_sizes(&self) -> Result<Option<FixedDimension>, OutOfMemory>
         requires { IsTable T.text self.now }
-        ensures { IfOk result (λ sizes. AreSizes T.text self.now sizes) }
+        ensures { IfOk result (λ other. AreSizes T.text self.now (unwrap_or other self.now.sizes.now)) }
     {
         if !self.config.config().has_spans_or_padding() {
             return Ok(None);
@@ -71,21 +71,22 @@ impl<'a, T: AsStr> TableView<'a, T> {
         Ok(Some(sizes))
     }
 
-    /// Its page, where it has places, in color or without colors: where no cell spans and no padding is set the sizes are those of its texts.
+    /// Its page, where it has places, in color or without colors.
     fn page<'b>(
         &'b self,
-        sizes: &'b Option<FixedDimension>,
+        other: &'b Option<FixedDimension>,
         with_colors: bool,
     ) -> Result<TablePage<'a, 'b>, OutOfMemory>
         requires places { is_empty self.now.shape ≡ false }
-        requires sizes { AreSizes T.text self.now sizes.now }
+        requires sizes { AreSizes T.text self.now (unwrap_or other.now self.now.sizes.now) }
         ensures text { IfOk result (λ page. text_of_page page (texts_viewed T.text self.now) ≡ text_viewed T.text self.now with_colors) }
         ensures shape { IfOk result (λ page. page.lines.frame.shape ≡ self.now.shape) }
     {
-        match sizes {
-            Some(sizes) => TablePage::with_spans(self.config, sizes, self.shape, with_colors),
-            None => TablePage::new(self.config, self.sizes, self.shape, with_colors),
-        }
+        let sizes = match other {
+            Some(sizes) => sizes,
+            None => self.sizes,
+        };
+        TablePage::new(self.config, sizes, self.shape, with_colors)
     }
 
     /// Its text, in color or without colors.
@@ -98,8 +99,8 @@ impl<'a, T: AsStr> TableView<'a, T> {
         if self.has_no_places() {
             return Ok(String::new(alloc));
         }
-        let sizes = self.other_sizes()?;
-        let page = self.page(&sizes, with_colors)?;
+        let other = self.other_sizes()?;
+        let page = self.page(&other, with_colors)?;
         let room = String::with_capacity(alloc, page.least_bytes())?;
         let text = page.print(room, self.rows)?;
         Ok(text)
@@ -124,8 +125,8 @@ impl<'a, T: AsStr> TableView<'a, T> {
         if self.has_no_places() {
             return write_both(before, after, out);
         }
-        let sizes = self.other_sizes()?;
-        let page = self.page(&sizes, with_colors)?;
+        let other = self.other_sizes()?;
+        let page = self.page(&other, with_colors)?;
         let alloc = self.config.config().allocator();
         write_page(alloc, page, before, self.rows, after, out)
     }

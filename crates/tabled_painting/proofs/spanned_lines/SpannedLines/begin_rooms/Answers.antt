@@ -5,7 +5,7 @@ use Rattle.tabled_rooms.specs.Hosts.{host}
 use Rattle.tabled_rooms.specs.Holding.{held}
 use Rattle.tabled_rooms.specs.declared.host.Host.{Host}
 use Rattle.tabled_rooms.proofs.OpenLemmas.{begins_by}
-use Rattle.tabled_painting.specs.RoomLines.{columns_of, nobody, room_cells, rows_of}
+use Rattle.tabled_painting.specs.RoomLines.{columns_of, room_cells, rows_of, nobody}
 use Rattle.tabled_painting.specs.Pages.{most}
 use Rattle.tabled_rooms.specs.Hosts.{Cell}
 use Rattle.tabled_rooms.specs.Holding.{cell_of}
@@ -59,10 +59,10 @@ loop-col-preserved g c =
     let found : slice_index c.room_widths.new.wides n ≡ room_width own_widths drawn own_hosts (length hosts) n =
     c.room_widths.ensures.wide n nobody in_wides
     ∙ (λ i. min (room_width (ap slice_index c.as_slice-widths.ensures.value i) drawn own_hosts (c.requires.hosts i) n) most)
-    ∙ wide_within lines c.args.self.now.firsts.now c.args.self.now.sides.now c.args.self.now.are own_hosts n
+    ∙ wide_within lines c.args.self.now.firsts.now c.args.self.now.sides.now c.requires.spans own_hosts n
     ∙ (λ i. room_width (ap slice_index (sym c.as_slice-widths.ensures.value) i) drawn own_hosts (sym c.requires.hosts i) n) in
     let wide = wide_is view columns rows lines.frame.shape r n (slice_index c.room_widths.new.wides n) hosts nobody own_widths drawn found c.requires.hosts c.requires.are
-    (ap slice_index c.as_slice-widths.ensures.value) c.args.self.now.are.are_sides in
+    (ap slice_index c.as_slice-widths.ensures.value) c.requires.spans.are_sides in
     record {
       count = c.begin_room.ensures.count ∙ c.loop-col.invariant.count;
       begun = λ table there opened.

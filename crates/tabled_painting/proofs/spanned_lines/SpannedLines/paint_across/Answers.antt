@@ -7,7 +7,7 @@ use Rattle.tabled_rooms.specs.Hosts.{host}
 use Rattle.tabled_painting.specs.InColor.{Paints}
 use Rattle.tabled_painting.specs.Painted.{Painted}
 use Rattle.tabled_painting.specs.PaintedSpans.{crossed_piece, lines_above, painted_crossing}
-use Rattle.tabled_painting.specs.RoomLines.{IsRoomAt, columns_of, nobody, rows_of}
+use Rattle.tabled_painting.specs.RoomLines.{IsRoomAt, columns_of, rows_of, nobody}
 use Rattle.tabled_painting.specs.Viewed.{viewed}
 use Rattle.tabled_painting.proofs.PainterLemmas.{parts_more, paints_both, paints_none}
 use Rattle.tabled_painting.proofs.SpannedLemmas.{crossed_is, same_put, same_rooms, same_then, shown_in}
@@ -26,7 +26,7 @@ loop-col-preserved g c =
     let line = c.saturating_sub-line.result in
     let in_hosts : n < length c.args.hosts.now = omega (arith, c.requires.hosts, c.loop-col-test.true) in
     let in_rooms : n < length c.loop-col.rooms = omega (arith, c.requires.rooms, c.loop-col-test.true, c.loop-col.invariant.same.count) in
-    let there : line ≡ lines_above view columns rows c.args.row - 1 = c.saturating_sub-line.ensures ∙ ap (λ k. k - 1) (c.args.self.now.are.are_firsts c.args.row (omega (arith, c.requires.row))) in
+    let there : line ≡ lines_above view columns rows c.args.row - 1 = c.saturating_sub-line.ensures ∙ ap (λ k. k - 1) (c.requires.spans.are_firsts c.args.row (omega (arith, c.requires.row))) in
     let room = slice_index_or c.loop-col.rooms n c.index-rooms-col.result in
     let read = get_or_default c.loop-col.rooms n c.index-rooms-col.result room in_rooms in
     record {

@@ -7,16 +7,16 @@ use Rattle.tabled_painting.proofs.spanned_lines.SpannedLines.paint_crossed.Goals
 pub returns-then-host-row-clause-painted : goal.returns-then-host-row-clause-painted
 returns-then-host-row-clause-painted g c =
     paints_same g.O.Output.gains _ _ _ _
-    (crossed_own (viewed c.args.self.now.lines.now.frame) c.args.place.0 0 c.args.line c.args.place.1 c.args.host c.args.room.now c.if-host-row.true) c.in_ok-put_line_piece.ensures.put
+    (crossed_own (viewed c.args.self.now.lines.now.frame) c.args.place.0 c.args.line c.args.place.1 c.args.host c.args.room.now c.if-host-row.true) c.in_ok-put_line_piece.ensures.put
 
 pub returns-then-host-col-clause-painted : goal.returns-then-host-col-clause-painted
 returns-then-host-col-clause-painted g c =
     paints_same g.O.Output.gains _ _ _ _
-    (crossed_not (viewed c.args.self.now.lines.now.frame) c.args.place.0 0 c.args.line c.args.place.1 c.args.host c.args.room.now c.if-host-row.false c.if-host-col.true)
+    (crossed_not (viewed c.args.self.now.lines.now.frame) c.args.place.0 c.args.line c.args.place.1 c.args.host c.args.room.now c.if-host-row.false c.if-host-col.true)
     (paints_none g.O.Output.gains g.met.O.Output.gains_none c.args.painter.now)
 
 pub returns-clause-painted : goal.returns-clause-painted
 returns-clause-painted g c =
     paints_same g.O.Output.gains _ _ _ _
-    (crossed_room (viewed c.args.self.now.lines.now.frame) c.args.place.0 0 c.args.line c.args.place.1 c.args.host c.args.room.now c.if-host-row.false c.if-host-col.false)
+    (crossed_room (viewed c.args.self.now.lines.now.frame) c.args.place.0 c.args.line c.args.place.1 c.args.host c.args.room.now c.if-host-row.false c.if-host-col.false)
     (paints_both g.O.Output.gains g.met.O.Output.gains_both _ _ c.args.painter.now c.put_line_crossing.new.sink c.paint_room.new.painter c.in_ok-put_line_crossing.ensures.put c.in_ok-paint_room.ensures.painted)

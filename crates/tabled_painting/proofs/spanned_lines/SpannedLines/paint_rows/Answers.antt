@@ -20,7 +20,7 @@ loop-row-init g c =
     record {
       ended = c.requires.ended;
       colors = c.requires.colors;
-      hosts_count = c.requires.hosts;
+      hosts_count = refl;
       wides_count = c.requires.wides;
       rooms_count = c.requires.rooms;
       above = c.requires.above;

@@ -18,8 +18,8 @@ invariant-loop-row g l =
     record {
       ended : option_copied l.page.painter.color ≡ None;
       colors : l.page.painter.with_colors ≡ lines.frame.with_colors;
-      hosts_count : length l.hosts ≡ lines.frame.shape.1;
-      wides_count : length l.wides ≡ lines.frame.shape.1;
+      hosts_count : length l.hosts ≡ length l.initial.hosts;
+      wides_count : length l.wides ≡ length l.initial.hosts;
       rooms_count : length l.rooms ≡ lines.frame.shape.1;
       above : AreAbove (columns_of lines) (rows_of lines) lines.frame.shape l.row l.hosts;
       opened : l.row < lines.frame.shape.0 → AreOpen view (columns_of lines) (rows_of lines) cells l.row l.rooms;

@@ -6,7 +6,7 @@ use Rattle.tabled_painting.specs.TextsBy.{texts_by}
 use Rattle.tabled_text.specs.Sizes.{cell, column_count, column_widths, row_heights, unequal_row}
 use Rattle.tabled_text.specs.TextTable.{Drawing}
 use Rattle.tabled_text.proofs.EqualRows.{all_equal}
-use Rattle.tabled_text.proofs.Painting.{rows_equal}
+use Rattle.tabled_text.proofs.ViewLemmas.{rows_equal}
 use Rattle.tabled_text.proofs.table.Table.view.Goals as goal
 
 pub returns-clause-table : goal.returns-clause-table

@@ -1,1 +1,0 @@
--- The painter had written nothing.
