@@ -24,7 +24,6 @@ impl<'a> CellColors<'a> {
     ghost use Rattle.tabled_painting.specs.CellLines.{coloring_at, coloring_of};
 
     /// The colors that are set for a cell.
-    #[inline(always)]
     #[tactic(auto, unfolding(crate::specs::CellLines::coloring_at))]
     pub(crate) fn of(cfg: &'a SpannedConfig, colors: &'a ColorMap, position: Position) -> Self
         ensures { coloring_of result ≡ coloring_at cfg.now.settings.cells colors.now position.row position.col }

@@ -174,7 +174,6 @@ impl<'a, 'b> TableLines<'a, 'b> {
     }
 
     /// The color in which a cell is painted, if it has one alone: that of its row, where all cells of it have that one, or as it is looked up.
-    #[inline(always)]
     fn cell_color(
         &self,
         of_row: Option<Option<&'a ANSIBuf>>,
