@@ -31,7 +31,6 @@ impl Placement {
     ghost use Rattle.tabled_cells.specs.Placements.{placement_at};
 
     /// How the text of a cell stands in it, by what is set for the cell.
-    #[inline(always)]
     pub fn of(cfg: &SpannedConfig, position: Position) -> Self
         ensures { result ≡ placement_at cfg.now.settings.cells position.row position.col }
     {
@@ -84,7 +83,6 @@ pub fn lines_above(how: &Placement, height: usize, count: usize) -> usize
 }
 
 /// What is shown of the character that fills a side: the character where it draws plainly, else a space.
-#[inline(always)]
 pub fn fill_shown(character: char) -> char
     ensures { result ≡ parts.fill_shown character }
 {
@@ -96,7 +94,6 @@ pub fn fill_shown(character: char) -> char
 }
 
 /// A side of the padding as it is shown.
-#[inline(always)]
 fn indent_shown(side: Indent) -> Indent
     ensures { result ≡ parts.indent_shown side }
 {
@@ -104,7 +101,6 @@ fn indent_shown(side: Indent) -> Indent
 }
 
 /// The padding as it is shown.
-#[inline(always)]
 fn padding_shown(padding: &Sides<Indent>) -> Sides<Indent>
     ensures { result ≡ parts.padding_shown padding.now }
 {

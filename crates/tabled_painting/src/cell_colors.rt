@@ -1,7 +1,6 @@
 //! The colors of a cell.
 
-ghost use Rattle.std.specs.Prelude.{◌≡◌, IfSome, IsTrue, option_copied};
-ghost use Rattle.tabled_painting.specs.BareCells.{HaveRowColors};
+ghost use Rattle.std.specs.Prelude.{◌≡◌, IfSome, option_copied};
 
 use tabled_border::ANSIBuf;
 use tabled_configuration::{ColorMap, Colors, SpannedConfig};
@@ -24,7 +23,6 @@ impl<'a> CellColors<'a> {
     ghost use Rattle.tabled_painting.specs.CellLines.{coloring_at, coloring_of};
 
     /// The colors that are set for a cell.
-    #[inline(always)]
     #[tactic(auto, unfolding(crate::specs::CellLines::coloring_at))]
     pub(crate) fn of(cfg: &'a SpannedConfig, colors: &'a ColorMap, position: Position) -> Self
         ensures { coloring_of result ≡ coloring_at cfg.now.settings.cells colors.now position.row position.col }
@@ -49,11 +47,4 @@ impl<'a> CellColors<'a> {
         }
         Some(color)
     }
-}
-
-/// Whether each cell is known to have the colors of the first one of its row: since all of them are set for all cells and for rows alone.
-pub(crate) fn has_row_colors(cfg: &SpannedConfig, colors: &ColorMap) -> bool
-    ensures { IsTrue result → HaveRowColors cfg.now.settings.cells colors.now }
-{
-    colors.has_rows_alone() && cfg.has_colors_by_rows()
 }

@@ -37,7 +37,6 @@ fn is_left_out(offset: Offset, extent: usize, n: usize) -> bool
 
 impl<'a> MarginSide<'a> {
     /// A side of that room, offset and color.
-    #[inline(always)]
     pub(crate) fn new(indent: Indent, offset: Offset, color: &'a Option<ANSIBuf>) -> Self
         ensures { side_of result ≡ record { size = indent.size; fill = margin.fill_shown indent.fill; offset = offset; color = color.now } }
     {

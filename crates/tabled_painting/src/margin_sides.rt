@@ -20,7 +20,6 @@ pub(crate) struct MarginSides<'a> {
 
 impl<'a> MarginSides<'a> {
     /// The margin of a configuration.
-    #[inline(always)]
     pub(crate) fn of(cfg: &'a SpannedConfig) -> Self
         ensures { IsMarginOf cfg.now.settings.margin result }
     {

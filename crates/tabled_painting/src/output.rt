@@ -46,22 +46,18 @@ impl Output for String {
 
     ghost gains = { gained.text_gains };
 
-    #[inline(always)]
     fn push_str(&mut self, text: &str) -> Result<(), AllocError> {
         String::push_str(self, text)
     }
 
-    #[inline(always)]
     fn push(&mut self, character: char) -> Result<(), AllocError> {
         String::push(self, character)
     }
 
-    #[inline(always)]
     fn push_times(&mut self, count: usize, character: char) -> Result<(), AllocError> {
         push_times(self, count, character)
     }
 
-    #[inline(always)]
     fn push_after(&mut self, first: char, count: usize, character: char) -> Result<(), AllocError> {
         push_after(self, first, count, character)
     }

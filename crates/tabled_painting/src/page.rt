@@ -22,7 +22,6 @@ pub(crate) struct Page<'a, O> {
 
 impl<'a, O: Output> Page<'a, O> {
     /// Begins the next line with its left side.
-    #[inline(always)]
     pub(crate) fn begin_line(&mut self) -> Result<(), O::Error>
         requires ended { option_copied self.old.painter.color ≡ None }
         ensures begun { OnOk result (BeginsLine O.gains (side_at (side_of self.old.left) self.old.high self.old.number self.old.left.size) self.old.painter self.new.painter) }
@@ -38,7 +37,6 @@ impl<'a, O: Output> Page<'a, O> {
     }
 
     /// Paints the right side of a line.
-    #[inline(always)]
     fn paint_right(&mut self) -> Result<(), O::Error>
         ensures painted { OnOk result (Paints O.gains (side_at (side_of self.old.right) self.old.high self.old.number self.old.right.size) self.old.painter self.new.painter) }
         ensures number { self.new.number ≡ self.old.number }

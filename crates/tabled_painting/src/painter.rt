@@ -27,7 +27,6 @@ pub(crate) struct Painter<'a, O> {
 }
 
 /// A color, if colors are wanted.
-#[inline(always)]
 fn color_if<'a>(with_colors: bool, color: Option<&'a ANSIBuf>) -> Option<&'a ANSIBuf>
     ensures { option_copied result ≡ color_if with_colors (option_copied color.entry) }
 {
@@ -105,7 +104,6 @@ impl<'a, O: Output> Painter<'a, O> {
     }
 
     /// Begins what is written next, which is colored if colors are wanted.
-    #[inline(always)]
     #[tactic(auto, unfolding(crate::specs::InColor::between))]
     fn begin(&mut self, color: Option<&'a ANSIBuf>) -> Result<(), O::Error>
         ensures text { OnOk result (O.gains (between (option_copied self.old.color) (color_if self.old.with_colors (option_copied color.entry))) self.old.out self.new.out) }
@@ -152,7 +150,6 @@ impl<'a, O: Output> Painter<'a, O> {
     }
 
     /// Writes a character the given number of times in a color.
-    #[inline(always)]
     pub(crate) fn push_times(
         &mut self,
         color: Option<&'a ANSIBuf>,
@@ -178,7 +175,6 @@ impl<'a, O: Output> Painter<'a, O> {
     }
 
     /// Writes the character of a mark and then those of a run at once, where nothing has a color.
-    #[inline(always)]
     fn push_plain_marks(&mut self, mark: Mark<'a>, run: Run<'a>) -> Result<(), O::Error>
         requires before { option_copied self.old.color ≡ None }
         requires mark { option_copied mark.color ≡ None }
@@ -225,7 +221,6 @@ impl<'a, O: Output> Painter<'a, O> {
     }
 
     /// Begins a line: behind a line that was begun, after a line feed.
-    #[inline(always)]
     pub(crate) fn begin_line(&mut self) -> Result<(), O::Error>
         ensures text { OnOk result (O.gains (feed_if self.old.has_begun) self.old.out self.new.out) }
         ensures begun { OnOk result (self.new.has_begun ≡ true) }

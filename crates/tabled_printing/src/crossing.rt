@@ -59,7 +59,6 @@ fn hyphens_after(character: char) -> Option<&'static str>
 }
 
 /// A text of a character and then `LINES` times another, of those that the lines of tables are mostly drawn with.
-#[inline(always)]
 fn stretch_of(character: char, edge: char) -> Option<&'static str>
     ensures { IfSome result (λ piece. piece.now ≡ encode_utf8 character ++ times 64 edge) }
 {

@@ -206,7 +206,6 @@ impl<'a, 'b, D: Dimension, M: Meter> Frame<'a, 'b, D, M> {
     }
 
     /// Puts a mark for the crossing with a vertical line, if that line is drawn.
-    #[inline(always)]
     fn put_crossing<S: Sink<'a>>(
         &self,
         sink: &mut S,

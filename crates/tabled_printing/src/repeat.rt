@@ -21,7 +21,6 @@ const DOUBLE_LINES: &str = "═════════════════�
 const FEW: usize = 16;
 
 /// A text of one character alone, 64 times: of those that tables are mostly drawn with.
-#[inline(always)]
 pub fn piece_of(character: char) -> Option<&'static str>
     ensures { IfSome result (λ piece. piece.now ≡ times 64 character) }
 {
@@ -72,7 +71,6 @@ fn push_pieces(
 }
 
 /// Writes a character the given number of times, each by itself.
-#[inline(always)]
 fn push_each(text: &mut String, count: usize, character: char) -> Result<(), AllocError>
     ensures ok { OnOk result (string_bytes text.new ≡ string_bytes text.old ++ times count character) }
     ensures err { OnErr result ((some : ℕ) × (string_bytes text.new ≡ string_bytes text.old ++ times some character)) }

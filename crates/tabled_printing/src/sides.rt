@@ -121,7 +121,6 @@ fn bytes_of_each(sides: &[Option<Side>]) -> usize {
 }
 
 /// What a line shows beside the first row without its offsets, and whether beside each other one too, if the line is drawn.
-#[inline(always)]
 pub(crate) fn kept_side<'a>(
     cfg: &'a SpannedConfig,
     shape: (usize, usize),

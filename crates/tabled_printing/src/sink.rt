@@ -50,13 +50,11 @@ impl<'a> Sink<'a> for String {
 
     ghost leaves = { gains.text_kept };
 
-    #[inline(always)]
     fn put(&mut self, run: Run<'a>) -> Result<(), AllocError> {
         push_times(self, run.count, printed_as(run.mark.shown))?;
         Ok(())
     }
 
-    #[inline(always)]
     fn put_after(&mut self, mark: Mark<'a>, run: Run<'a>) -> Result<(), AllocError> {
         let (crossing, edge) = (printed_as(mark.shown), printed_as(run.mark.shown));
         push_after(self, crossing, run.count, edge)?;

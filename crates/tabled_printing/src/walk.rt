@@ -40,7 +40,6 @@ impl<'a, D: Dimension, M: Meter> Walk<'a, '_, '_, D, M> {
     ghost use Rattle.tabled_printing.specs.Viewed.{walk_look};
 
     /// Whether line `n` of the other direction is drawn, so that it crosses this one: at most five readings.
-    #[inline(always)]
     fn is_crossed(&self, n: usize, probes: &mut M) -> bool
         requires { n ≤ pieces_of self.now.shape self.now.line }
         ensures value { result ≡ crossed_after (all_writes self.now.cfg.now) self.now.shape self.now.line n }

@@ -75,7 +75,6 @@ fn measure(text: &str) -> Result<CellSize, OutOfMemory>
 }
 
 /// How many terminal columns a text takes: one of printable characters as many as it is long.
-#[inline(always)]
 fn columns_of(text: &str) -> usize
     ensures { result ≡ greatest (map width_of_text (pieces text.now)) }
 {

@@ -47,7 +47,6 @@ fn fails<W: io::Write>(out: &mut W, bytes: &[u8]) -> bool
 }
 
 /// The first ones of the characters of a piece.
-#[inline(always)]
 fn part_of(piece: &str, count: usize, _character: char) -> &str
     requires piece { piece.now ≡ times 64 _character }
     requires within { count ≤ PIECE }
@@ -73,7 +72,6 @@ impl<W: io::Write> Stream<'_, W> {
     }
 
     /// Sees to it that the given number of bytes have room.
-    #[inline(always)]
     fn make_room(&mut self, bytes: usize)
         requires { bytes ≤ ROOM }
         ensures kept { KeepsStream W.contents self.old self.new }
@@ -86,7 +84,6 @@ impl<W: io::Write> Stream<'_, W> {
     }
 
     /// Writes a text that the room can hold.
-    #[inline(always)]
     fn push_part(&mut self, text: &str)
         requires { length text.now ≤ ROOM }
         ensures { StreamGains W.contents text.now self.old self.new }
@@ -110,7 +107,6 @@ impl<W: io::Write> Stream<'_, W> {
     }
 
     /// Writes a text, for which nothing is done where it is empty.
-    #[inline(always)]
     fn push_text(&mut self, text: &str)
         ensures { StreamGains W.contents text.now self.old self.new }
     {
@@ -124,7 +120,6 @@ impl<W: io::Write> Stream<'_, W> {
     }
 
     /// Writes a character that has room.
-    #[inline(always)]
     fn push_next(&mut self, character: char)
         requires { string_len self.old.waiting.now + length (encode_utf8 character) ≤ ROOM }
         ensures gained { StreamGains W.contents (encode_utf8 character) self.old self.new }
@@ -137,7 +132,6 @@ impl<W: io::Write> Stream<'_, W> {
     }
 
     /// Writes a character.
-    #[inline(always)]
     fn push_character(&mut self, character: char)
         ensures { StreamGains W.contents (encode_utf8 character) self.old self.new }
     {
@@ -146,7 +140,6 @@ impl<W: io::Write> Stream<'_, W> {
     }
 
     /// Writes a character a few times, for which room is made once.
-    #[inline(always)]
     fn push_few(&mut self, count: usize, character: char)
         requires { count ≤ FEW }
         ensures { StreamGains W.contents (times count character) self.old self.new }
@@ -170,7 +163,6 @@ impl<W: io::Write> Stream<'_, W> {
     }
 
     /// Writes a character the given number of times, as pieces of a text that has it alone.
-    #[inline(always)]
     fn push_pieces(&mut self, piece: &str, count: usize, character: char)
         requires { piece.now ≡ times 64 character }
         ensures { StreamGains W.contents (times count character) self.old self.new }
@@ -184,7 +176,6 @@ impl<W: io::Write> Stream<'_, W> {
     }
 
     /// Writes a character the given number of times: up to twice by itself.
-    #[inline(always)]
     fn push_run(&mut self, count: usize, character: char)
         ensures { StreamGains W.contents (times count character) self.old self.new }
     {
@@ -233,25 +224,21 @@ impl<W: io::Write> Output for Stream<'_, W> {
 
     ghost gains = { StreamGains W.contents };
 
-    #[inline(always)]
     fn push_str(&mut self, text: &str) -> Result<(), Infallible> {
         self.push_text(text);
         Ok(())
     }
 
-    #[inline(always)]
     fn push(&mut self, character: char) -> Result<(), Infallible> {
         self.push_character(character);
         Ok(())
     }
 
-    #[inline(always)]
     fn push_times(&mut self, count: usize, character: char) -> Result<(), Infallible> {
         self.push_run(count, character);
         Ok(())
     }
 
-    #[inline(always)]
     fn push_after(&mut self, first: char, count: usize, character: char) -> Result<(), Infallible> {
         self.push_character(first);
         self.push_run(count, character);
