@@ -29,7 +29,7 @@ use Rattle.tabled_painting.specs.declared.table_lines.TableLines.{TableLines}
 use Rattle.tabled_painting.specs.Margin.{in_margin}
 use Rattle.tabled_painting.specs.PaintedTable.{Cells, painted_cell, painted_side, painted_between, painted_if_drawn, painted_lines, painted_row, painted_table}
 use Rattle.tabled_painting.specs.PaintedSpans.{columns_spanned, lines_above, room_line, room_wide, room_high, rows_spanned, spanned_cells, spanned_if_drawn, spanned_lines, spanned_piece, spanned_between, spanned_row, spanned_table}
-use Rattle.tabled_painting.specs.RoomLines.{AreOpen, KeepsSpans, RowAlone, StandAlone, columns_of, rows_of, nobody}
+use Rattle.tabled_painting.specs.RoomLines.{AreOpen, KeepsRooms, KeepsSpans, RowAlone, StandAlone, columns_of, rows_of, nobody}
 use Rattle.tabled_painting.proofs.SpannedLemmas.{across_own}
 
 module _ (columns rows : Counts) (shape : ℕ × ℕ) (r : ℕ) where
@@ -58,7 +58,7 @@ module _ (columns rows : Counts) (shape : ℕ × ℕ) (r : ℕ) where
   }
 
   -- nothing of it is shown below it
-  pub nothing_open : RowAlone columns rows shape r → ((a b : ℕ) → 1 ≤ columns a b) → ((a b : ℕ) → 1 ≤ rows a b) → (view : Look) (cells : Cells) (rooms : List (Option Room)) → length rooms ≡ shape.1
+  pub nothing_open : RowAlone columns rows shape r → ((a b : ℕ) → 1 ≤ columns a b) → ((a b : ℕ) → 1 ≤ rows a b) → (view : Look) (cells : Cells) (rooms : List (Option Room)) → length rooms ≤ shape.1
       → r + 1 < shape.0 → AreOpen view columns rows cells (r + 1) rooms
   nothing_open alone some_columns some_rows view cells rooms long more c _ within above first line = absurd (
       let next : suc r ≡ r + 1 = omega arith in
@@ -102,6 +102,16 @@ module _ (lines : TableLines) (firsts : List ℕ) (sides : List Bool) where
       | inl none ↦ ap (λ (cell : Cell). cell.0) ((unset none).own c inside)
       | inr some ↦ let there : c < length kept = omega (arith, inside, keeps.each (omega (arith, some))) in sym (ap (λ (h : Host). h.row) (are c nobody there)) ∙ begin c nobody there
     ]
+
+-- ---- places for rooms
+
+pub few_rooms : (lines : TableLines) (hosts count : ℕ) → KeepsRooms lines hosts count → count ≤ lines.frame.shape.1
+few_rooms lines hosts zero keeps = omega arith
+few_rooms lines hosts (suc n) keeps = omega (arith, keeps.each (omega arith))
+
+pub all_rooms : (lines : TableLines) (hosts count : ℕ) → KeepsRooms lines hosts count → 0 < hosts → count ≡ lines.frame.shape.1
+all_rooms lines hosts zero keeps some = absurd (omega (arith, keeps.none refl, some))
+all_rooms lines hosts (suc n) keeps some = keeps.each (omega arith)
 
 -- ---- such a row, and such a table
 

@@ -94,6 +94,12 @@ pub record IsSpansOf (lines : TableLines) (spans : Spans) : Type 0 where
   pub hosts : spans.hosts.items ≡ replicate (length spans.hosts.items) nobody
   pub wides : length spans.wides.items ≡ length spans.hosts.items
 
+-- places for rooms are kept for so many columns: for each, or for none where no hosts are kept and each row is one line high
+pub record KeepsRooms (lines : TableLines) (hosts count : ℕ) : Type 0 where
+  pub none : count ≡ 0 → hosts ≡ 0
+  pub low : count ≡ 0 → (r : ℕ) → r < lines.frame.shape.0 → slice_index lines.frame.dims.now.heights.items r ≡ 1
+  pub each : 0 < count → count ≡ lines.frame.shape.1
+
 -- each of the hosts of row r is the cell of its own place, and ends with the row
 abbrev pub StandAlone : ℕ → List Host → Type 0
 StandAlone r kept = (c : ℕ) (none : Host) → c < length kept → let one = slice_index_or kept c none in (one.row ≡ r) × (one.col ≡ c) × (one.bottom ≡ r + 1)

@@ -10,7 +10,7 @@ ghost use Rattle.tabled_printing.specs.Texts.{Table};
 ghost use Rattle.tabled_rooms.specs.Rooms.{first_line, room_height};
 ghost use Rattle.tabled_painting.specs.InColor.{Paints};
 ghost use Rattle.tabled_painting.specs.Pages.{PaintsLines};
-ghost use Rattle.tabled_painting.specs.RoomLines.{AreSpans, KeepsSpans, ShowTheSame, StandAlone, room_shown};
+ghost use Rattle.tabled_painting.specs.RoomLines.{AreSpans, KeepsRooms, KeepsSpans, ShowTheSame, StandAlone, room_shown};
 ghost use Rattle.tabled_rooms.specs.declared.host.Host.{Host as Kept};
 ghost use Rattle.tabled_painting.specs.TextsBy.{texts_by};
 ghost use Rattle.tabled_painting.specs.Viewed.{viewed};
@@ -194,7 +194,7 @@ impl<'a, 'b, 'c> SpannedLines<'a, 'b, 'c> {
     ) -> Result<(), O::Error>
         requires row { row < self.now.lines.now.frame.shape.0 }
         requires keeps { KeepsSpans self.now.lines.now self.now.firsts.now self.now.sides.now (length hosts.now) }
-        requires rooms { length rooms.old ≡ self.now.lines.now.frame.shape.1 }
+        requires rooms { KeepsRooms self.now.lines.now (length hosts.now) (length rooms.old) }
         requires are { AreHosts (columns_of self.now.lines.now) (rows_of self.now.lines.now) self.now.lines.now.frame.shape row hosts.now }
         requires ended { option_copied page.old.painter.color ≡ None }
         requires colors { page.old.painter.with_colors ≡ self.now.lines.now.frame.with_colors }
@@ -230,7 +230,7 @@ impl<'a, 'b, 'c> SpannedLines<'a, 'b, 'c> {
         requires texts { length texts.now ≡ self.now.lines.now.frame.shape.1 }
         requires keeps { KeepsSpans self.now.lines.now self.now.firsts.now self.now.sides.now (length hosts.now) }
         requires wides { length wides.old ≡ length hosts.now }
-        requires rooms { length rooms.old ≡ self.now.lines.now.frame.shape.1 }
+        requires rooms { KeepsRooms self.now.lines.now (length hosts.now) (length rooms.old) }
         requires are { AreHosts (columns_of self.now.lines.now) (rows_of self.now.lines.now) self.now.lines.now.frame.shape row hosts.now }
         requires ended { option_copied page.old.painter.color ≡ None }
         requires colors { page.old.painter.with_colors ≡ self.now.lines.now.frame.with_colors }
@@ -265,7 +265,7 @@ impl<'a, 'b, 'c> SpannedLines<'a, 'b, 'c> {
         requires cols { All (λ row. length row ≡ self.now.lines.now.frame.shape.1) (texts_by T.text rows.now) }
         requires keeps { KeepsSpans self.now.lines.now self.now.firsts.now self.now.sides.now (length hosts.old) }
         requires wides { length wides.old ≡ length hosts.old }
-        requires rooms { length rooms.old ≡ self.now.lines.now.frame.shape.1 }
+        requires rooms { KeepsRooms self.now.lines.now (length hosts.old) (length rooms.old) }
         requires above { AreAbove (columns_of self.now.lines.now) (rows_of self.now.lines.now) self.now.lines.now.frame.shape 0 hosts.old }
         requires ended { option_copied page.old.painter.color ≡ None }
         requires colors { page.old.painter.with_colors ≡ self.now.lines.now.frame.with_colors }
@@ -297,7 +297,7 @@ impl<'a, 'b, 'c> SpannedLines<'a, 'b, 'c> {
         requires cols { All (λ row. length row ≡ self.now.lines.now.frame.shape.1) (texts_by T.text rows.now) }
         requires keeps { KeepsSpans self.now.lines.now self.now.firsts.now self.now.sides.now (length hosts.old) }
         requires wides { length wides.old ≡ length hosts.old }
-        requires rooms { length rooms.old ≡ self.now.lines.now.frame.shape.1 }
+        requires rooms { KeepsRooms self.now.lines.now (length hosts.old) (length rooms.old) }
         requires above { AreAbove (columns_of self.now.lines.now) (rows_of self.now.lines.now) self.now.lines.now.frame.shape 0 hosts.old }
         requires ended { option_copied page.old.painter.color ≡ None }
         requires colors { page.old.painter.with_colors ≡ self.now.lines.now.frame.with_colors }

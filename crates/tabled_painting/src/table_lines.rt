@@ -1,6 +1,6 @@
 //! The lines of a table: its horizontal lines, and its rows, cell by cell.
 
-ghost use Rattle.std.specs.Prelude.{◌≡◌, ◌++◌, ◌<◌, ◌≤◌, ℕ, [], true, false, None, OnOk, IfOk, IfSome, IsSome, length, map, option_copied, option_map, string_bytes, slice_index, slice_index_or};
+ghost use Rattle.std.specs.Prelude.{◌≡◌, ◌++◌, ◌<◌, ◌≤◌, ℕ, [], true, false, None, OnOk, IfOk, IfSome, IsSome, IsTrue, length, map, option_copied, option_map, string_bytes, slice_index, slice_index_or};
 ghost use Rattle.std.specs.Option.{ForSome};
 ghost use Rattle.std.specs.List.{All};
 ghost use Rattle.tabled_printing.specs.Along.{is_empty};
@@ -305,7 +305,8 @@ impl<'a, 'b> TableLines<'a, 'b> {
         Ok(())
     }
 
-    /// Paints the lines of text of a row whose cells stand alone. `rooms` is for its cells, whatever it had.
+    /// Paints the lines of text of a row whose cells stand alone. `rooms` is for its cells, whatever it had; where the row is one line
+    /// high none need be there.
     pub(crate) fn paint_row<O: Output + Drop + 'a, T: AsStr>(
         &self,
         page: &mut Page<'a, O>,
@@ -315,7 +316,8 @@ impl<'a, 'b> TableLines<'a, 'b> {
     ) -> Result<(), O::Error>
         requires row { row < self.now.frame.shape.0 }
         requires texts { length texts.now ≡ self.now.frame.shape.1 }
-        requires rooms { length rooms.old ≡ self.now.frame.shape.1 }
+        requires rooms { 0 < length rooms.old → length rooms.old ≡ self.now.frame.shape.1 }
+        requires low { length rooms.old ≡ 0 → slice_index self.now.frame.dims.now.heights.items row ≡ 1 }
         requires ended { option_copied page.old.painter.color ≡ None }
         requires colors { page.old.painter.with_colors ≡ self.now.frame.with_colors }
         ensures painted { OnOk result (PaintsLines O.gains (row_painted self.now row (map T.text texts.now)) page.old page.new) }
@@ -331,6 +333,19 @@ impl<'a, 'b> TableLines<'a, 'b> {
         self.begin_cells(rooms, row, texts);
         self.paint_rooms(page, row, 0, &[], rooms)?;
         Ok(())
+    }
+
+    /// Whether each row is one line high.
+    pub(crate) fn are_rows_low(&self) -> bool
+        ensures { IsTrue result → (r : ℕ) → r < self.now.frame.shape.0 → slice_index self.now.frame.dims.now.heights.items r ≡ 1 }
+    {
+        let (rows, _) = self.frame.shape;
+        for row in 0..rows {
+            if self.frame.dims.get_height(row) != 1 {
+                return false;
+            }
+        }
+        true
     }
 
     /// How many bytes the lines of a table take at least, or nearly so: each column of a line is one or more. It saturates.

@@ -10,7 +10,7 @@ ghost use Rattle.tabled_printing.specs.Picture.{marks_along};
 ghost use Rattle.tabled_printing.specs.Texts.{Table};
 ghost use Rattle.tabled_painting.specs.Painted.{Painted};
 ghost use Rattle.tabled_painting.specs.PaintedSpans.{painted_by};
-ghost use Rattle.tabled_painting.specs.RoomLines.{IsSpansOf};
+ghost use Rattle.tabled_painting.specs.RoomLines.{IsSpansOf, KeepsRooms};
 ghost use Rattle.tabled_painting.specs.TextsBy.{texts_by};
 ghost use Rattle.tabled_painting.specs.Viewed.{viewed};
 
@@ -51,6 +51,22 @@ fn columns_long(frame: &Frame<FixedDimension>, margin: &MarginSides) -> Result<u
     left.checked_add(margin.right.size).ok_or(OutOfMemory)
 }
 
+/// A place for what is shown in each column, if a row of the table asks for it.
+fn rooms_for<'a>(
+    lines: &TableLines<'a, '_>,
+    spans: &Spans,
+) -> Result<Vec<Option<Room<'a>>>, OutOfMemory>
+    ensures { IfOk result (λ rooms. KeepsRooms lines.now (length spans.now.hosts.items) (length rooms.items)) }
+{
+    let alloc = lines.frame.cfg.allocator();
+    if spans.hosts.is_empty() && lines.are_rows_low() {
+        return Ok(Vec::new(alloc));
+    }
+    let (_, cols) = lines.frame.shape;
+    let rooms = no_rooms(alloc, cols)?;
+    Ok(rooms)
+}
+
 /// A table that has places, with all at hand that its lines ask for: it is printed without memory of its own.
 #[derive(Drop)]
 pub struct TablePage<'a, 'b> {
@@ -58,13 +74,13 @@ pub struct TablePage<'a, 'b> {
     /// Where rooms stand, if cells span several columns or rows.
     pub(crate) spans: Spans,
     pub(crate) margin: MarginSides<'a>,
-    /// A place for what is shown in each column.
+    /// A place for what is shown in each column: none, where no cell spans and each row is one line high.
     pub(crate) rooms: Vec<Option<Room<'a>>>,
     /// How many lines the table has, where that matters.
     high: usize,
     /// How many columns it is long, where that matters.
     long: usize,
-    ghost rooms_counted: { length rooms.items ≡ lines.frame.shape.1 },
+    ghost rooms_counted: { KeepsRooms lines (length spans.hosts.items) (length rooms.items) },
     ghost are_spans: { IsSpansOf lines spans },
     ghost is_margin: { IsMarginOf lines.frame.cfg.now.settings.margin margin },
     ghost highs: { (ls : List Painted) → length ls ≡ length (marks_along (viewed lines.frame) (Line.Vertical 0))
@@ -97,8 +113,7 @@ impl<'a, 'b> TablePage<'a, 'b> {
         let margin = MarginSides::of(lines.frame.cfg);
         let high = lines_high(&lines.frame, &margin)?;
         let long = columns_long(&lines.frame, &margin)?;
-        let (_, cols) = shape;
-        let rooms = no_rooms(lines.frame.cfg.allocator(), cols)?;
+        let rooms = rooms_for(&lines, &spans)?;
         Ok(TablePage {
             lines,
             spans,

@@ -1,10 +1,10 @@
 -- A line over which nothing reaches is painted as one without spans; another piece by piece, if it is drawn.
-use Rattle.std.proofs.Common.{if◌then◌else◌, [], ◌∷◌, refl, sym, subst, ◌∙◌, arith}
+use Rattle.std.proofs.Common.{if◌then◌else◌, [], ◌∷◌, refl, sym, subst, ◌∙◌, arith, length}
 use Rattle.tabled_painting.specs.Pages.{PaintsLines}
 use Rattle.tabled_painting.specs.PaintedSpans.{spanned_across}
 use Rattle.tabled_painting.specs.RoomLines.{columns_of, rows_of}
 use Rattle.tabled_painting.specs.Viewed.{viewed}
-use Rattle.tabled_painting.proofs.AloneLemmas.{all_begin}
+use Rattle.tabled_painting.proofs.AloneLemmas.{all_begin, all_rooms}
 use Rattle.tabled_painting.proofs.PageLemmas.{line_painted, line_drawn, line_not_drawn}
 use Rattle.tabled_painting.proofs.SpannedLemmas.{across_own}
 use Rattle.tabled_painting.proofs.spanned_lines.SpannedLines.paint_line.Goals as goal
@@ -35,3 +35,7 @@ paint_across-requires-clause-spans g c = c.requires.keeps.some (c.all_begin_in.e
 
 pub paint_across-requires-clause-hosts : goal.paint_across-requires-clause-hosts
 paint_across-requires-clause-hosts g c = c.requires.keeps.each (c.all_begin_in.ensures.some c.if-all_begin_in.false)
+
+pub paint_across-requires-clause-rooms : goal.paint_across-requires-clause-rooms
+paint_across-requires-clause-rooms g c =
+    all_rooms c.args.self.now.lines.now (length c.args.hosts.now) (length c.args.rooms.now) c.requires.rooms (c.all_begin_in.ensures.some c.if-all_begin_in.false)

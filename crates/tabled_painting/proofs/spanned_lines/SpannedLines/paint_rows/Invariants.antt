@@ -20,7 +20,7 @@ invariant-loop-row g l =
       colors : l.page.painter.with_colors ≡ lines.frame.with_colors;
       hosts_count : length l.hosts ≡ length l.initial.hosts;
       wides_count : length l.wides ≡ length l.initial.hosts;
-      rooms_count : length l.rooms ≡ lines.frame.shape.1;
+      rooms_count : length l.rooms ≡ length l.initial.rooms;
       above : AreAbove (columns_of lines) (rows_of lines) lines.frame.shape l.row l.hosts;
       opened : l.row < lines.frame.shape.0 → AreOpen view (columns_of lines) (rows_of lines) cells l.row l.rooms;
       painted : PaintsLines g.O.Output.gains (flat_map (λ r. spanned_if_drawn view (columns_of lines) (rows_of lines) cells r ++ spanned_row view (columns_of lines) (rows_of lines) cells r) (below l.row)) l.initial.page l.page;

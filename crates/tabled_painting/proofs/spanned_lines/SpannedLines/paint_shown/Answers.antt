@@ -1,11 +1,11 @@
 -- The row as it is without spans, or its rooms.
-use Rattle.std.proofs.Common.{◌∙◌, List, None, refl, sym, ap, subst, arith}
+use Rattle.std.proofs.Common.{◌∙◌, List, None, refl, sym, ap, subst, arith, length, ◌≤◌, ◌<◌}
 use Rattle.tabled_painting.specs.Painted.{Painted}
 use Rattle.tabled_painting.specs.Pages.{PaintsLines}
 use Rattle.tabled_painting.specs.RoomLines.{columns_of, room_cells, rows_of}
 use Rattle.tabled_painting.specs.Rows.{row_painted}
 use Rattle.tabled_painting.specs.Viewed.{viewed}
-use Rattle.tabled_painting.proofs.AloneLemmas.{alone_row, nothing_open, row_alone}
+use Rattle.tabled_painting.proofs.AloneLemmas.{all_rooms, alone_row, few_rooms, nothing_open, row_alone}
 use Rattle.tabled_painting.proofs.RowLemmas.{rooms_are}
 use Rattle.tabled_painting.proofs.SpannedLemmas.{rooms_same, still_open}
 use Rattle.tabled_painting.proofs.spanned_lines.SpannedLines.paint_shown.Goals as goal
@@ -25,7 +25,22 @@ returns-then-all_stand_alone-clause-opened g c = λ table there opened more.
     let lines = spanned.lines.now in
     let alone = row_alone lines spanned.firsts.now spanned.sides.now c.args.row c.args.hosts.now c.requires.keeps c.requires.are c.requires.row (c.all_stand_alone.ensures.all c.if-all_stand_alone.true) in
     nothing_open (columns_of lines) (rows_of lines) lines.frame.shape c.args.row alone (λ a b. omega arith) (λ a b. omega arith)
-    (viewed lines.frame) (room_cells lines table) c.paint_row.new.rooms (c.in_ok-paint_row.ensures.count ∙ c.requires.rooms) more
+    (viewed lines.frame) (room_cells lines table) c.paint_row.new.rooms (let few = few_rooms lines (length c.args.hosts.now) (length c.args.rooms.now) c.requires.rooms in omega (arith, few, c.in_ok-paint_row.ensures.count)) more
+
+pub paint_row-requires-clause-rooms : goal.paint_row-requires-clause-rooms
+paint_row-requires-clause-rooms g c = c.requires.rooms.each
+
+pub paint_row-requires-clause-low : goal.paint_row-requires-clause-low
+paint_row-requires-clause-low g c = λ none. c.requires.rooms.low none c.args.row c.requires.row
+
+pub begin_rooms-requires-clause-rooms : goal.begin_rooms-requires-clause-rooms
+begin_rooms-requires-clause-rooms g c =
+    all_rooms c.args.self.now.lines.now (length c.args.hosts.now) (length c.args.rooms.now) c.requires.rooms (c.all_stand_alone.ensures.some c.if-all_stand_alone.false)
+
+pub paint_rooms-requires-clause-rooms : goal.paint_rooms-requires-clause-rooms
+paint_rooms-requires-clause-rooms g c =
+    c.begin_rooms.ensures.rooms_count
+    ∙ all_rooms c.args.self.now.lines.now (length c.args.hosts.now) (length c.args.rooms.now) c.requires.rooms (c.all_stand_alone.ensures.some c.if-all_stand_alone.false)
 
 pub begin_rooms-requires-clause-spans : goal.begin_rooms-requires-clause-spans
 begin_rooms-requires-clause-spans g c = c.requires.keeps.some (c.all_stand_alone.ensures.some c.if-all_stand_alone.false)
@@ -42,7 +57,7 @@ returns-clause-painted g c = λ table there opened.
     let lines = spanned.lines.now in
     let some = c.all_stand_alone.ensures.some c.if-all_stand_alone.false in
     subst (λ (painted : List Painted). PaintsLines g.O.Output.gains painted c.args.page.now c.paint_rooms.new.page)
-    (rooms_are lines spanned.firsts.now spanned.sides.now (room_cells lines table) c.args.row _ c.args.hosts.now c.begin_rooms.new.rooms None (c.requires.keeps.some some) c.requires.row refl (c.requires.keeps.each some) (c.begin_rooms.ensures.rooms_count ∙ c.requires.rooms)
+    (rooms_are lines spanned.firsts.now spanned.sides.now (room_cells lines table) c.args.row _ c.args.hosts.now c.begin_rooms.new.rooms None (c.requires.keeps.some some) c.requires.row refl (c.requires.keeps.each some) (c.begin_rooms.ensures.rooms_count ∙ all_rooms lines (length c.args.hosts.now) (length c.args.rooms.now) c.requires.rooms some)
     c.requires.are (c.begin_rooms.ensures.rooms table there opened)) (c.in_ok-paint_rooms.ensures.painted None)
 
 pub returns-clause-opened : goal.returns-clause-opened
