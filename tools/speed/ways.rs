@@ -67,16 +67,27 @@ fn set_cells(table: &mut TextTable) -> Result<(), TableError> {
 /// Sets what is set for one place or one cell.
 fn set_one(table: &mut TextTable, way: &str) -> Result<(), TableError> {
     let cell = Cell::new(ROWS / 2, 1);
-    let set = match way {
-        "a character at an offset" => table.modify(cell, LineChar::vertical('│', Offset::Start(0))),
-        COLORED => table.modify(cell, Color::FG_RED),
-        "a cell aligned" => table.modify(cell, Alignment::right()),
-        "a cell padded" => table.modify(cell, Padding::new(1, 1, 0, 0)),
-        "a cell with a border" => table.modify(cell, Border::filled('*')),
-        "a cell that spans" => table.modify(cell, Span::column(2)),
-        _ => return Ok(()),
-    };
-    set?;
+    match way {
+        "a character at an offset" => {
+            table.modify(cell, LineChar::vertical('│', Offset::Start(0)))?;
+        }
+        COLORED => {
+            table.modify(cell, Color::FG_RED)?;
+        }
+        "a cell aligned" => {
+            table.modify(cell, Alignment::right())?;
+        }
+        "a cell padded" => {
+            table.modify(cell, Padding::new(1, 1, 0, 0))?;
+        }
+        "a cell with a border" => {
+            table.modify(cell, Border::filled('*'))?;
+        }
+        "a cell that spans" => {
+            table.modify(cell, Span::column(2))?;
+        }
+        _ => {}
+    }
     Ok(())
 }
 

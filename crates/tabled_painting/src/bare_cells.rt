@@ -9,7 +9,6 @@ use tabled_object::Position;
 use tabled_settings::AlignmentHorizontal;
 
 /// Whether the text of a cell is shown whole, between spaces, as no padding is set for it.
-#[inline(always)]
 fn is_bare(cfg: &SpannedConfig, cell: Position) -> bool
     ensures { IsTrue result → IsBareCell (placement_at cfg.now.settings.cells cell.row cell.col).alignment_horizontal (placement_at cfg.now.settings.cells cell.row cell.col) }
 {
@@ -20,7 +19,6 @@ fn is_bare(cfg: &SpannedConfig, cell: Position) -> bool
 }
 
 /// Where the text of a cell stands, if the cell is such a one.
-#[inline(always)]
 pub(crate) fn bare_side(cfg: &SpannedConfig, cell: Position) -> Option<AlignmentHorizontal>
     ensures { IfSome result (λ side. IsBareCell side (placement_at cfg.now.settings.cells cell.row cell.col)) }
 {

@@ -104,6 +104,7 @@ impl<'a, O: Output> Painter<'a, O> {
     }
 
     /// Begins what is written next, which is colored if colors are wanted.
+    #[inline(always)]
     #[tactic(auto, unfolding(crate::specs::InColor::between))]
     fn begin(&mut self, color: Option<&'a ANSIBuf>) -> Result<(), O::Error>
         ensures text { OnOk result (O.gains (between (option_copied self.old.color) (color_if self.old.with_colors (option_copied color.entry))) self.old.out self.new.out) }
@@ -150,6 +151,7 @@ impl<'a, O: Output> Painter<'a, O> {
     }
 
     /// Writes a character the given number of times in a color.
+    #[inline(always)]
     pub(crate) fn push_times(
         &mut self,
         color: Option<&'a ANSIBuf>,
@@ -189,7 +191,6 @@ impl<'a, O: Output> Painter<'a, O> {
     /// Writes a text in a column between spaces, all in a color: at least one before it and one after it, and as many more as the column
     /// has room for, where its alignment wants them; and then a side, if there is one. The text takes as many terminal columns as it has
     /// bytes.
-    #[inline(always)]
     pub(crate) fn push_bare(
         &mut self,
         color: Option<&'a ANSIBuf>,

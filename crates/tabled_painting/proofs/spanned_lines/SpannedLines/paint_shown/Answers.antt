@@ -1,5 +1,5 @@
 -- The row as it is without spans, or its rooms.
-use Rattle.std.proofs.Common.{◌∙◌, List, None, refl, sym, ap, subst, arith, length, ◌≤◌, ◌<◌}
+use Rattle.std.proofs.Common.{◌∙◌, List, None, refl, sym, ap, subst, arith, length}
 use Rattle.tabled_painting.specs.Painted.{Painted}
 use Rattle.tabled_painting.specs.Pages.{PaintsLines}
 use Rattle.tabled_painting.specs.RoomLines.{columns_of, room_cells, rows_of}

@@ -1,4 +1,4 @@
--- A bare cell, and any other; and what stands after it.
+-- A bare cell, in the color of its row, and any other; and what stands after it.
 use Rattle.std.proofs.Common.{◌≡◌, ◌++◌, ◌∙◌, true, Option, slice_index, option_copied, option_map, sym, subst}
 use Rattle.std.specs.Prelude.{IfSome}
 use denote.Ref.{Bor}
