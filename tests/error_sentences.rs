@@ -77,7 +77,6 @@ fn refusals_of_tables_are_sentences(rt: HostRuntime) -> Result<(), Fail> {
         (TableError::OutOfMemory, "memory was asked for and refused"),
         (TableError::UnequalRows { row: 3, cells: 2, columns: 4 }, "row 3 has 2 cells where row 0 has 4"),
         (TableError::UnequalColumn { column: 1, cells: 2, rows: 5 }, "column 1 has 2 cells where there are 5 rows"),
-        (TableError::Print(PrintError::Spans), "tables with spans are not printed, and one is set"),
         (TableError::Write, "the writer failed"),
         (TableError::UnknownStyle, "no style of the library has this name"),
     ];

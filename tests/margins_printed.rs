@@ -3,7 +3,7 @@
 use crate::common::printing::is_picture;
 use std::alloc::Global;
 use std::test::Fail;
-use tabled::grid::config::{Indent, PrintError, Sides};
+use tabled::grid::config::{Indent, OutOfMemory, Sides};
 use tabled::settings::object::{Cell, Segment};
 use tabled::settings::style::{BorderColor, Offset};
 use tabled::settings::{Color, MarginColor, Shadow, Style};
@@ -359,8 +359,8 @@ fn a_margin_that_no_memory_holds_is_refused(rt: HostRuntime) -> Result<(), Fail>
     ] {
         table.config_mut().config_mut().set_margin(margin);
         let mut text = String::from_str(rt.alloc(), "before:")?;
-        assert!(rt; table.append_to(&mut text) == Err(PrintError::OutOfMemory));
-        assert!(rt; table.append_ansi_to(&mut text) == Err(PrintError::OutOfMemory));
+        assert!(rt; table.append_to(&mut text) == Err(OutOfMemory));
+        assert!(rt; table.append_ansi_to(&mut text) == Err(OutOfMemory));
         assert_eq!(rt; text.as_str(), "before:");
     }
     Ok(())

@@ -3,7 +3,7 @@
 use crate::common::printing::is_picture;
 use std::alloc::Global;
 use std::test::Fail;
-use tabled::grid::config::{Entity, Indent, Position, PrintError, Sides};
+use tabled::grid::config::{Entity, Indent, OutOfMemory, Position, Sides};
 use tabled::settings::formatting::Justification;
 use tabled::settings::object::{Cell, Columns, Rows, Segment};
 use tabled::settings::style::LineText;
@@ -309,8 +309,8 @@ fn a_cell_is_padded_below_as_the_original_shows(rt: HostRuntime) -> Result<(), F
 fn is_refused(alloc: Global, padding: Padding) -> Result<bool, TableError> {
     let mut table = people(alloc)?;
     table.modify(Cell::new(1, 1), padding)?;
-    let plain = matches!(table.to_text(), Err(PrintError::OutOfMemory));
-    Ok(plain && matches!(table.to_ansi(), Err(PrintError::OutOfMemory)))
+    let plain = matches!(table.to_text(), Err(OutOfMemory));
+    Ok(plain && matches!(table.to_ansi(), Err(OutOfMemory)))
 }
 
 #[test]

@@ -5,7 +5,7 @@ use crate::sample::is_same;
 use crate::turn::{Named, Outcome, Turn};
 use std::alloc::Global;
 use tabled::{LentTable, TableError};
-use tabled_config::{ColoredConfig, PrintError};
+use tabled_config::ColoredConfig;
 use tabled_grid::{Cell, Keep, OutOfMemory};
 use tabled_style::{Border, HorizontalLine, Style};
 
@@ -93,11 +93,10 @@ fn copy(turn: &mut Turn) -> Result<Outcome, OutOfMemory> {
 const DRAWN: &str = "+---+---+\n| a | b |\n+===+---+\n| c | d |\n+---+---+";
 
 /// What became of a text that is returned.
-fn of_text(made: Result<String, PrintError>) -> Outcome {
+fn of_text(made: Result<String, OutOfMemory>) -> Outcome {
     match made {
         Ok(text) => Outcome::of_value::<OutOfMemory>(Ok(text.as_str() == DRAWN)),
-        Err(PrintError::OutOfMemory) => Outcome::AsBefore,
-        Err(_) => Outcome::Changed,
+        Err(OutOfMemory) => Outcome::AsBefore,
     }
 }
 

@@ -6,7 +6,7 @@ use crate::sample::{Sample, color};
 use crate::turn::{Named, Outcome, Turn};
 use std::alloc::Global;
 use tabled::{TableError, TextTable};
-use tabled_config::{PrintError, TableOption};
+use tabled_config::TableOption;
 use tabled_grid::{Cell, OutOfMemory, Position};
 use tabled_options::{Justification, Padding, Shadow};
 use tabled_painting::{TablePage, sizes_of_spanned};
@@ -104,8 +104,7 @@ fn returned(turn: &mut Turn, with_colors: bool) -> Result<Outcome, OutOfMemory> 
     };
     match returned {
         Ok(text) => Ok(Outcome::of_value::<OutOfMemory>(Ok(text.as_str() == expected))),
-        Err(PrintError::OutOfMemory) => Ok(Outcome::AsBefore),
-        Err(_) => Ok(Outcome::Changed),
+        Err(OutOfMemory) => Ok(Outcome::AsBefore),
     }
 }
 

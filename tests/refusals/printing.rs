@@ -270,8 +270,7 @@ fn to_text(turn: &mut Turn) -> Result<Outcome, OutOfMemory> {
     turn.spend();
     match table.to_text() {
         Ok(text) => Ok(Outcome::of_value::<OutOfMemory>(Ok(text.as_str() == DRAWN))),
-        Err(PrintError::OutOfMemory) => Ok(Outcome::AsBefore),
-        Err(_) => Ok(Outcome::Changed),
+        Err(OutOfMemory) => Ok(Outcome::AsBefore),
     }
 }
 

@@ -1,41 +1,41 @@
-//! A table of 1,000 rows of five cells in the style `modern`, turned into a text as often as the second line of standard input says, in
-//! the way that its first line names. It writes how many bytes the texts have.
+//! A table in the style `modern` of the rows of standard input but its first line, whose cells stand between tabs, with one thing set that the
+//! first line names. It writes the text of the table.
 #![tactic(auto)]
 
 use std::alloc::Global;
 use std::io;
 use tabled::grid::config::{HorizontalLine, Offset, VerticalLine};
-use tabled::settings::object::Cell;
-use tabled::settings::style::LineChar;
+use tabled::settings::object::{Cell, Rows, Segment};
+use tabled::settings::style::{BorderColor, LineChar, LineText};
 use tabled::settings::{Alignment, Border, Color, Padding, Span, Style};
 use tabled::{TableError, TextTable};
 
-const ROWS: usize = 1_000;
 /// The way whose text is one in color.
 const COLORED: &str = "a cell with a color";
 
-/// The text of a cell: each tenth row of some tables has one of two lines, or one that is not of ASCII, in its first cell.
-fn text(alloc: Global, way: &str, row: usize, col: usize) -> Result<String, TableError> {
-    let is_tenth = row % 10 == 9 && col == 0;
+/// The text of a cell: in some ways each tenth row has one of two lines, or one that is not of ASCII, in its first cell.
+fn text(alloc: Global, way: &str, cell: &str, is_tenth: bool) -> Result<String, TableError> {
     if is_tenth && way == "two lines in each tenth row" {
-        return Ok(format!(in alloc; "cell\n{row} {col}")?);
+        return Ok(format!(in alloc; "{cell}\n{cell}")?);
     }
     if is_tenth && way == "an é in each tenth row" {
-        return Ok(format!(in alloc; "cé {row} {col}")?);
+        return Ok(format!(in alloc; "é{cell}")?);
     }
-    Ok(format!(in alloc; "cell {row} {col}")?)
+    Ok(String::from_str(alloc, cell)?)
 }
 
-/// The table, with nothing set but its style.
-fn table(alloc: Global, way: &str) -> Result<TextTable, TableError> {
-    let mut rows = Vec::new(alloc);
-    for row in 0..ROWS {
-        let mut cells = Vec::new(alloc);
-        for col in 0..5 {
-            cells.push(text(alloc, way, row, col)?)?;
-        }
-        rows.push(cells)?;
+/// The cells of a line.
+fn cells(alloc: Global, way: &str, line: &str, row: usize) -> Result<Vec<String>, TableError> {
+    let mut cells = Vec::new(alloc);
+    for cell in line.split('\t') {
+        let is_tenth = row % 10 == 9 && cells.is_empty();
+        cells.push(text(alloc, way, cell, is_tenth)?)?;
     }
+    Ok(cells)
+}
+
+/// The table of these rows, with nothing set but its style.
+fn table(alloc: Global, way: &str, rows: Vec<Vec<String>>) -> Result<TextTable, TableError> {
     let mut table = TextTable::from_rows(alloc, rows)?;
     if way == "the style rounded" {
         table.with(Style::rounded())?;
@@ -47,32 +47,55 @@ fn table(alloc: Global, way: &str) -> Result<TextTable, TableError> {
 
 /// Sets a custom line between all rows.
 fn set_lines(table: &mut TextTable) -> Result<(), TableError> {
-    for row in 1..ROWS {
+    for row in 1..table.shape().rows {
         let line = HorizontalLine::new(Some('─'), Some('┼'), Some('├'), Some('┤'));
         table.config_mut().config_mut().insert_horizontal_line(row, line)?;
     }
     Ok(())
 }
 
-/// Sets something for each cell.
+/// Makes each second row a heading over all columns.
+fn set_headings(table: &mut TextTable) -> Result<(), TableError> {
+    let shape = table.shape();
+    for row in 0..shape.rows {
+        if row % 2 == 0 {
+            table.modify(Cell::new(row, 0), Span::column(shape.cols))?;
+        }
+    }
+    Ok(())
+}
+
+/// Sets something for each cell by itself.
 fn set_cells(table: &mut TextTable) -> Result<(), TableError> {
-    for row in 0..ROWS {
-        for col in 0..5 {
+    let shape = table.shape();
+    for row in 0..shape.rows {
+        for col in 0..shape.cols {
             table.modify(Cell::new(row, col), Alignment::right())?;
         }
     }
     Ok(())
 }
 
-/// Sets what is set for one place or one cell.
+/// Sets what one call does.
 fn set_one(table: &mut TextTable, way: &str) -> Result<(), TableError> {
-    let cell = Cell::new(ROWS / 2, 1);
+    let cell = Cell::new(table.shape().rows / 2, 1);
     match way {
         "a character at an offset" => {
             table.modify(cell, LineChar::vertical('│', Offset::Start(0)))?;
         }
         COLORED => {
             table.modify(cell, Color::FG_RED)?;
+        }
+        "all cells aligned" => {
+            table.modify(Segment::all(), Alignment::right())?;
+        }
+        "a colored border of each cell" => {
+            let alloc = table.config().config().allocator();
+            table.modify(Segment::all(), BorderColor::filled(alloc, Color::FG_RED)?)?;
+        }
+        "a title in the top line" => {
+            let alloc = table.config().config().allocator();
+            table.with(LineText::new(alloc, "a title", Rows::first())?)?;
         }
         "a cell aligned" => {
             table.modify(cell, Alignment::right())?;
@@ -101,25 +124,28 @@ fn go(table: &mut TextTable, way: &str) -> Result<(), TableError> {
             table.config_mut().config_mut().insert_vertical_line(1, line)?;
             Ok(())
         }
-        "each cell set" => set_cells(table),
+        "a heading in each second row" => set_headings(table),
+        "each cell set by itself" => set_cells(table),
         "a title over all columns" => table.insert_title("a title"),
         _ => set_one(table, way),
     }
 }
 
 fn main(rt: HostRuntime) -> io::Result<()> {
-    let mut words = Vec::new(rt.alloc());
-    for line in rt.lines(rt.alloc()) {
-        words.push(line?)?;
+    let alloc = rt.alloc();
+    let input = io::read_to_string(alloc, rt.stdin())?;
+    let mut lines = input.as_str().lines();
+    let way = lines.next().unwrap_or("");
+    let mut rows = Vec::new(alloc);
+    for (row, line) in lines.enumerate() {
+        rows.push(cells(alloc, way, line, row)?)?;
     }
-    let mut length = 0usize;
-    if let [way, count] = words.as_slice() {
-        let mut table = table(rt.alloc(), way.as_str())?;
-        go(&mut table, way.as_str())?;
-        for _ in 0..count.as_str().parse::<usize>().unwrap_or(0) {
-            let text = if way.as_str() == COLORED { table.to_ansi()? } else { table.to_text()? };
-            length = length.saturating_add(text.len());
-        }
+    let mut table = table(alloc, way, rows)?;
+    go(&mut table, way)?;
+    if way == COLORED {
+        table.print_ansi_to(&mut rt.stdout())?;
+    } else {
+        table.print_to(&mut rt.stdout())?;
     }
-    println!(rt; "{length}")
+    Ok(())
 }

@@ -1,7 +1,6 @@
 //! What a refusal is called as it is passed on.
 
 ghost use Rattle.std.specs.Prelude.{◌≡◌, [], ◌∷◌};
-ghost use Rattle.tabled_text.specs.Refusal.{of_printer};
 
 use std::alloc::{AllocError, AllocFailed};
 use std::fmt;
@@ -38,16 +37,11 @@ pub fn table_without_memory<T: Drop>(
     ]
 }
 
-/// What a printer is refused for is passed on by a table; an unknown style and a writer that failed are refusals of their own.
-pub fn table_refused(
-    refused: PrintError,
-    unknown: UnknownStyle,
-    failed: fmt::Error,
-) -> [TableError; 3]
-    ensures { result ≡ of_printer refused ∷ TableError.UnknownStyle ∷ TableError.Write ∷ [] }
+/// An unknown style and a writer that failed are refusals of their own.
+pub fn table_refused(unknown: UnknownStyle, failed: fmt::Error) -> [TableError; 2]
+    ensures { result ≡ TableError.UnknownStyle ∷ TableError.Write ∷ [] }
 {
     [
-        TableError::from(refused),
         TableError::from(unknown),
         TableError::from(failed),
     ]

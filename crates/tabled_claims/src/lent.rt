@@ -8,7 +8,6 @@ ghost use Rattle.tabled_painting.specs.Widths.{StandsStraightIn, text_width};
 ghost use Rattle.tabled_printing.specs.Along.{is_empty};
 ghost use Rattle.tabled_printing.specs.Columns.{IsRectangle, WritesNarrow};
 ghost use Rattle.tabled_printing.specs.Texts.{pieces};
-ghost use Rattle.tabled_printing.specs.declared.print_error.PrintError.{PrintError as Fault};
 ghost use Rattle.tabled_text.specs.Cells.{StandApart, leaves_sizes, margin_set};
 ghost use Rattle.tabled_text.specs.Refusal.{unequal};
 ghost use Rattle.tabled_text.specs.Sizes.{column_count, unequal_row};
@@ -17,7 +16,6 @@ ghost use Rattle.tabled_text.specs.declared.table_error.TableError.{TableError a
 
 use std::alloc::Global;
 use tabled_border::OutOfMemory;
-use tabled_printing::PrintError;
 use tabled_text::{LentTable, TableError, TextTable};
 
 /// A table of lent texts has them and nothing else yet; rows of unequal counts are refused for that alone, as by `table_of_rows`.
@@ -46,14 +44,13 @@ pub fn table_of_lent_rows<'a>(
 
 /// Its text is that of any table with these texts and this configuration, a rectangle and with straight vertical lines as `tables` says of
 /// such a text, though nothing is known of the texts but that they are lent; nothing but memory is ever refused.
-pub fn text_of_lent_texts(table: &LentTable) -> Result<String, PrintError>
+pub fn text_of_lent_texts(table: &LentTable) -> Result<String, OutOfMemory>
     ensures text { (events : List ConfigEvent) → borders.Shows events table.now.config.spanned → IfOk result (λ text. string_bytes text ≡ text_of events table.now.texts) }
     ensures rectangle { (events : List ConfigEvent) → borders.Shows events table.now.config.spanned → WritesNarrow events → StandApart events table.now.texts
         → IfOk result (λ text. IsRectangle (text_width (look_printed events table.now.texts) (margin_set events)) (string_bytes text)) }
     ensures straight { (events : List ConfigEvent) → borders.Shows events table.now.config.spanned → WritesNarrow events → leaves_sizes events ≡ true
         → is_empty (look_of events table.now.texts).shape ≡ false → (c : ℕ) → c ≤ column_count table.now.texts → (look_of events table.now.texts).vertical c ≡ true
         → IfOk result (λ text. StandsStraightIn (look_of events table.now.texts) (margin_set events) c (pieces (string_bytes text))) }
-    ensures refusal { IsOkUnless result Fault.OutOfMemory }
 {
     table.to_text()
 }

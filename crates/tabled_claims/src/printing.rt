@@ -154,9 +154,9 @@ pub fn side_of_a_row<'a, D: Dimension>(
 }
 
 /// What is kept for a vertical line.
-pub fn kept_side<'a>(sides: &Sides<'a>, col: usize) -> Option<Side<'a>>
+pub fn kept_side<'a, 'b>(sides: &'b Sides<'a>, col: usize) -> &'b Option<Side<'a>>
     requires { col ≤ sides.now.last }
-    ensures kept { result ≡ side_at sides.now col }
+    ensures kept { result.now ≡ side_at sides.now col }
 {
     sides.at(col)
 }

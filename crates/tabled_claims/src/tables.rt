@@ -21,7 +21,6 @@ ghost use Rattle.tabled_painting.specs.PaintedTable.{plain_text, colored_text};
 ghost use Rattle.tabled_painting.specs.Widths.{StandsStraightIn, text_width};
 ghost use Rattle.tabled_text.specs.Cells.{KeepsApart, StandApart, cell_texts, cells_set, margin_set, leaves_sizes, sets_no_padding, sets_no_spans};
 ghost use Rattle.tabled_text.specs.Changed.{CellsAreClean, CellsArePrintable};
-ghost use Rattle.tabled_printing.specs.declared.print_error.PrintError.{PrintError as Fault};
 ghost use Rattle.tabled_text.specs.Fitted.{CanShare, IsFitted, frame_width, least_width};
 ghost use Rattle.tabled_text.specs.Refusal.{unequal};
 ghost use Rattle.tabled_text.specs.Sizes.{cell, column_count, column_widths, row_heights, unequal_row};
@@ -37,7 +36,6 @@ use std::{fmt, io, mem};
 use tabled_border::OutOfMemory;
 use tabled_configuration::{CellOption, ColoredConfig, TableOption};
 use tabled_object::{FixedDimension, Object, Shape};
-use tabled_printing::PrintError;
 use tabled_text::{TableError, TextTable};
 use tabled_width::Overflow;
 
@@ -132,15 +130,14 @@ where
 
 /// The text of a table is what its options make of its cells, which stand as they are set, draw around them, and leave as a margin
 /// around all; a cell that spans others is shown in the room of all of them. It is refused for memory alone.
-pub fn text_of_a_table(table: &TextTable) -> Result<String, PrintError>
+pub fn text_of_a_table(table: &TextTable) -> Result<String, OutOfMemory>
     ensures text { (events : List ConfigEvent) → borders.Shows events table.now.config.spanned → IfOk result (λ text. string_bytes text ≡ text_of events table.now.texts) }
-    ensures refusal { IsOkUnless result Fault.OutOfMemory }
 {
     table.to_text()
 }
 
 /// Where no cell spans and no padding is set, the text is that of all cells, each in its own column and row.
-pub fn text_of_cells_alone(table: &TextTable) -> Result<String, PrintError>
+pub fn text_of_cells_alone(table: &TextTable) -> Result<String, OutOfMemory>
     ensures { (events : List ConfigEvent) → borders.Shows events table.now.config.spanned → leaves_sizes events ≡ true
         → IfOk result (λ text. string_bytes text ≡ plain_text (painted_alone events table.now.texts)) }
 {
@@ -161,10 +158,9 @@ where
 }
 
 /// The same text after another one, which a refusal leaves as it was.
-pub fn text_appended(table: &TextTable, out: &mut String) -> Result<(), PrintError>
+pub fn text_appended(table: &TextTable, out: &mut String) -> Result<(), OutOfMemory>
     ensures text { (events : List ConfigEvent) → borders.Shows events table.now.config.spanned → OnOk result (string_bytes out.new ≡ string_bytes out.old ++ text_of events table.now.texts) }
     ensures unchanged { OnErr result (string_bytes out.new ≡ string_bytes out.old) }
-    ensures refusal { IsOkUnless result Fault.OutOfMemory }
 {
     table.append_to(out)
 }
@@ -205,7 +201,7 @@ pub fn fitted_table_fits(
     table: &mut TextTable,
     total: usize,
     how: Overflow<'_>,
-) -> Result<String, PrintError>
+) -> Result<String, OutOfMemory>
     ensures fits { (events : List ConfigEvent) → borders.Shows events table.old.config.spanned → WritesNarrow events → KeepsApart events → sets_no_spans events ≡ true → CanShare how.entry 1 (total - frame_width events table.old.texts) table.old.texts
         → least_width 1 events table.old.texts ≤ total → IfOk result (λ text. list_all (λ line. nat_le (width_of_text line) total) (pieces (string_bytes text)) ≡ true) }
     ensures texts { (events : List ConfigEvent) → borders.Shows events table.old.config.spanned
@@ -224,7 +220,7 @@ pub fn fitted_with_least_shares(
     total: usize,
     least: usize,
     how: Overflow<'_>,
-) -> Result<String, PrintError>
+) -> Result<String, OutOfMemory>
     ensures fits { (events : List ConfigEvent) → borders.Shows events table.old.config.spanned → WritesNarrow events → KeepsApart events → sets_no_spans events ≡ true
         → CanShare how.entry (max least 1) (total - frame_width events table.old.texts) table.old.texts → least_width (max least 1) events table.old.texts ≤ total
         → IfOk result (λ text. list_all (λ line. nat_le (width_of_text line) total) (pieces (string_bytes text)) ≡ true) }
@@ -256,7 +252,7 @@ pub fn nothing_steers_the_terminal()
 {}
 
 /// Nothing in the text of a table that was cleaned steers a terminal, whatever its cells said, where its options write nothing that does.
-pub fn cleaned_table_steers_nothing(table: &mut TextTable) -> Result<String, PrintError>
+pub fn cleaned_table_steers_nothing(table: &mut TextTable) -> Result<String, OutOfMemory>
     ensures plain { (events : List ConfigEvent) → borders.Shows events table.old.config.spanned → WritesClean events → IfOk result (λ text. is_clean (string_bytes text) ≡ true) }
     ensures bytes { (events : List ConfigEvent) → borders.Shows events table.old.config.spanned → WritesClean events
         → IfOk result (λ text. list_all (λ byte. (nat_le 32 byte && not (byte == 127)) || (byte == 10)) (string_bytes text) ≡ true) }
@@ -267,7 +263,7 @@ pub fn cleaned_table_steers_nothing(table: &mut TextTable) -> Result<String, Pri
 
 /// The same in color: the text is that of painted lines, and none of their characters steers, so what stands between the texts of the colors does
 /// not.
-pub fn cleaned_table_in_color(table: &mut TextTable) -> Result<String, PrintError>
+pub fn cleaned_table_in_color(table: &mut TextTable) -> Result<String, OutOfMemory>
     ensures { (events : List ConfigEvent) → Shows events table.old.config → WritesClean events
         → IfOk result (λ text. (lines : List Painted) × (string_bytes text ≡ colored_text lines) × All (λ line. is_clean (plain line) ≡ true) lines) }
 {
@@ -285,22 +281,20 @@ pub fn text_without_margin()
 /// The text of a table in color is that of its painted lines, whose characters are the table's text: what its options make of its
 /// cells, draw around them and leave as a margin, each character with the color that they give it. So without the texts of the colors it is a
 /// rectangle where the plain text is one. It is refused as the plain text is.
-pub fn text_in_color(table: &TextTable) -> Result<String, PrintError>
+pub fn text_in_color(table: &TextTable) -> Result<String, OutOfMemory>
     ensures text { (events : List ConfigEvent) → Shows events table.now.config → IfOk result (λ text. string_bytes text ≡ colored_text (painted events table.now.texts)) }
     ensures characters { (events : List ConfigEvent) → Shows events table.now.config
         → IfOk result (λ text. (lines : List Painted) × (string_bytes text ≡ colored_text lines) × (plain_text lines ≡ text_of events table.now.texts)) }
     ensures rectangle { (events : List ConfigEvent) → Shows events table.now.config → WritesNarrow events → StandApart events table.now.texts
         → IfOk result (λ text. (lines : List Painted) × (string_bytes text ≡ colored_text lines) × IsRectangle (text_width (look_printed events table.now.texts) (margin_set events)) (plain_text lines)) }
-    ensures refusal { IsOkUnless result Fault.OutOfMemory }
 {
     table.to_ansi()
 }
 
 /// The same text after another one, which a refusal leaves as it was.
-pub fn text_in_color_appended(table: &TextTable, out: &mut String) -> Result<(), PrintError>
+pub fn text_in_color_appended(table: &TextTable, out: &mut String) -> Result<(), OutOfMemory>
     ensures text { (events : List ConfigEvent) → Shows events table.now.config → OnOk result (string_bytes out.new ≡ string_bytes out.old ++ colored_text (painted events table.now.texts)) }
     ensures unchanged { OnErr result (string_bytes out.new ≡ string_bytes out.old) }
-    ensures refusal { IsOkUnless result Fault.OutOfMemory }
 {
     table.append_ansi_to(out)
 }

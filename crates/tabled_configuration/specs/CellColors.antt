@@ -1,9 +1,8 @@
 -- The colors of cells, by entity.
-use Rattle.std.specs.Prelude.{◌≡◌, ⊤, Bool, true, Option, Some, None, List, [], ◌∷◌}
+use Rattle.std.specs.Prelude.{◌≡◌, ⊤, Option, Some, None, List, [], ◌∷◌}
 use Rattle.tabled_border.specs.Texts.{Texts}
-use Rattle.tabled_settings.specs.declared.cell_settings.CellSettings.{CellSettings}
 use Rattle.tabled_settings.specs.Setting.{EntityEvent, write_of}
-use Rattle.tabled_settings.specs.Live.{Live, at_first, after, are_of_rows}
+use Rattle.tabled_settings.specs.Live.{Live, at_first, after}
 
 -- a map of colors is given, in place of what there was; or a color is written or removed for an entity
 pub data CellColorEvent : Type 0 where
@@ -29,13 +28,3 @@ colors_after colors (event ∷ events) = colors_after (colors_after_event colors
 abbrev pub IsBare : Option (Live Texts) → Type 0
 IsBare None = ⊤
 IsBare (Some live) = (live.since ≡ []) × (live.global ≡ no_color)
-
--- whether there are no colors, or none but for all cells and for rows
-abbrev pub are_by_rows : Option (Live Texts) → Bool
-are_by_rows None = true
-are_by_rows (Some live) = are_of_rows live.since
-
--- of the colors beside texts none is set but for all cells and for rows
-pub record AreColoredByRows (settings : CellSettings) : Type 0 where
-  pub justification_color : are_of_rows settings.justification_color.since ≡ true
-  pub padding_color : are_of_rows settings.padding_color.since ≡ true

@@ -1,5 +1,5 @@
 -- A cell as it is painted, line by line.
-use Rattle.std.specs.Prelude.{ℕ, nat_lt, ◌-◌, if◌then◌else◌, Option, List, [], ◌++◌, length, slice_index_or, option_copied, option_map}
+use Rattle.std.specs.Prelude.{ℕ, nat_lt, ◌+◌, ◌-◌, ◌==◌, if◌then◌else◌, Option, Some, None, List, [], ◌++◌, length, slice_index_or, option_and_then, option_copied}
 use Rattle.tabled_border.specs.Texts.{Texts}
 use Rattle.tabled_object.specs.declared.position.Position.{Position}
 use Rattle.tabled_settings.specs.declared.cell_settings.CellSettings.{CellSettings}
@@ -16,12 +16,20 @@ pub record Coloring : Type 0 where
   pub fill : Option Texts
   pub padding : Sides (Option Texts)
 
+-- a color, if it has texts
+abbrev pub with_texts : Texts → Option Texts
+with_texts color = if length color.prefix + length color.suffix == 0 then None else Some color
+
+-- the color of the text of a cell, by the colors of cells, if there are some
+abbrev pub text_color : Option (Live Texts) → Position → Option Texts
+text_color colors cell = option_and_then (λ live. with_texts (value_at live cell)) colors
+
 -- the colors of the cell at a row and a column, by what is set for cells and by their colors, if there are some
 unfoldable pub coloring_at : CellSettings → Option (Live Texts) → ℕ → ℕ → Coloring
 coloring_at settings colors row col =
     let cell : Position = record { row = row; col = col } in
     record {
-      text = option_map (λ live. value_at live cell) colors;
+      text = text_color colors cell;
       fill = value_at settings.justification_color cell;
       padding = value_at settings.padding_color cell;
     }

@@ -1,7 +1,7 @@
 //! The colors of a cell.
 
-ghost use Rattle.std.specs.Prelude.{◌≡◌, IfSome, IsTrue, option_copied};
-ghost use Rattle.tabled_painting.specs.BareCells.{HaveRowColors};
+ghost use Rattle.std.specs.Prelude.{◌≡◌, IfSome, option_copied};
+ghost use Rattle.tabled_painting.specs.CellLines.{text_color};
 
 use tabled_border::ANSIBuf;
 use tabled_configuration::{ColorMap, Colors, SpannedConfig};
@@ -29,7 +29,7 @@ impl<'a> CellColors<'a> {
         ensures { coloring_of result ≡ coloring_at cfg.now.settings.cells colors.now position.row position.col }
     {
         CellColors {
-            text: colors.get_color(position),
+            text: text_color(colors, position),
             fill: cfg.get_justification_color(position),
             padding: cfg.get_padding_color(position),
         }
@@ -50,9 +50,10 @@ impl<'a> CellColors<'a> {
     }
 }
 
-/// Whether each cell is known to have the colors of the first one of its row: since all of them are set for all cells and for rows alone.
-pub(crate) fn has_row_colors(cfg: &SpannedConfig, colors: &ColorMap) -> bool
-    ensures { IsTrue result → HaveRowColors cfg.now.settings.cells colors.now }
+/// The color of the text of a cell, if it has one with texts.
+fn text_color(colors: &ColorMap, position: Position) -> Option<&ANSIBuf>
+    ensures { option_copied result ≡ text_color colors.now position }
 {
-    colors.has_rows_alone() && cfg.has_colors_by_rows()
+    let color = colors.get_color(position)?;
+    if color.is_empty() { None } else { Some(color) }
 }

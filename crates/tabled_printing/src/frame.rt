@@ -121,7 +121,7 @@ impl<'a, 'b, D: Dimension> Frame<'a, 'b, D> {
         requires offsets { has_offsets ≡ false → NoOffsetsAt self.now.cfg.now self.now.with_colors Vertical row }
         ensures { option_map mark_of result ≡ mark_beside (frame_look D.width_of D.height_of self.now) row at col }
     {
-        let side = self.sides.at(col)?;
+        let side = (*self.sides.at(col))?;
         if side.is_alike && !has_offsets {
             return Some(side.mark);
         }

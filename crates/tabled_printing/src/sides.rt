@@ -77,15 +77,15 @@ impl<'a> Sides<'a> {
 
     /// What a line shows, if it is drawn.
     #[inline(always)]
-    pub fn at(&self, col: usize) -> Option<Side<'a>>
+    pub fn at(&self, col: usize) -> &Option<Side<'a>>
         requires { col ≤ self.now.last }
-        ensures { result ≡ side_at self.now col }
+        ensures { result.now ≡ side_at self.now col }
     {
         match &self.marks {
-            SideMarks::Each(marks) => marks[col],
-            SideMarks::ByRank(first, _, _) if col == 0 => *first,
-            SideMarks::ByRank(_, _, last) if col == self.last => *last,
-            SideMarks::ByRank(_, inner, _) => *inner,
+            SideMarks::Each(marks) => &marks[col],
+            SideMarks::ByRank(first, _, _) if col == 0 => first,
+            SideMarks::ByRank(_, _, last) if col == self.last => last,
+            SideMarks::ByRank(_, inner, _) => inner,
         }
     }
 

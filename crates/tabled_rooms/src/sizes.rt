@@ -36,27 +36,52 @@ fn count_columns(counts: &mut [usize], hosts: &[Host]) -> Result<(), AllocError>
     Ok(())
 }
 
-/// What a cell asks for alone.
-fn alone(shown: bool, count: usize, size: usize) -> usize
-    ensures { result ≡ alone shown count size }
+/// How wide a column is with a cell more, if the cell is shown there, over so many columns: over several it asks for them together.
+fn ask_width<M: CellSizes>(
+    width: usize,
+    asks: &mut Vec<Ask>,
+    cells: &M,
+    place: (usize, usize),
+    shown: bool,
+    count: usize,
+) -> Result<usize, AllocError>
+    ensures width { IfOk result (λ wider. wider ≡ max width (alone shown count (M.width_at cells.now place.0 place.1))) }
+    ensures asks { OnOk result (asks.new.items ≡ asks.old.items ++ over_several shown place.1 count (M.width_at cells.now place.0 place.1)) }
 {
-    if shown && count == 1 { size } else { 0 }
+    let (row, first) = place;
+    if !shown {
+        return Ok(width);
+    }
+    if count == 1 {
+        return cells.wider(row, first, width);
+    }
+    let size = cells.width(row, first)?;
+    asks.push(Ask { first, count, size })?;
+    Ok(width)
 }
 
-/// Notes what a cell asks for over several.
-fn ask_over(
+/// How high a row is with a cell more, if the cell is shown there, over so many rows: over several it asks for them together.
+fn ask_height<M: CellSizes>(
+    height: usize,
     asks: &mut Vec<Ask>,
+    cells: &M,
+    place: (usize, usize),
     shown: bool,
-    first: usize,
     count: usize,
-    size: usize,
-) -> Result<(), AllocError>
-    ensures { OnOk result (asks.new.items ≡ asks.old.items ++ over_several shown first count size) }
+) -> Result<usize, AllocError>
+    ensures height { IfOk result (λ higher. higher ≡ max height (alone shown count (M.height_at cells.now place.0 place.1))) }
+    ensures asks { OnOk result (asks.new.items ≡ asks.old.items ++ over_several shown place.0 count (M.height_at cells.now place.0 place.1)) }
 {
-    if shown && count != 1 {
-        asks.push(Ask { first, count, size })?;
+    let (first, col) = place;
+    if !shown {
+        return Ok(height);
     }
-    Ok(())
+    let size = cells.height(first, col)?;
+    if count == 1 {
+        return Ok(height.max(size));
+    }
+    asks.push(Ask { first, count, size })?;
+    Ok(height)
 }
 
 /// Makes the columns as wide as the cells of a row ask, and notes what these ask for over several columns.
@@ -76,9 +101,8 @@ fn ask_widths<M: CellSizes>(
 {
     for col in 0..hosts.len() {
         let shown = is_shown(hosts[col], row, col);
-        let width = cells.width(row, col)?;
-        widths[col] = widths[col].max(alone(shown, counts[col], width));
-        ask_over(asks, shown, col, counts[col], width)?;
+        let wider = ask_width(widths[col], asks, cells, (row, col), shown, counts[col])?;
+        widths[col] = wider;
     }
     Ok(())
 }
@@ -98,9 +122,8 @@ fn ask_heights<M: CellSizes>(
         let host = hosts[col];
         let shown = is_shown(host, row, col);
         let count = host.bottom.saturating_sub(row);
-        let height = cells.height(row, col)?;
-        high = high.max(alone(shown, count, height));
-        ask_over(asks, shown, row, count, height)?;
+        let higher = ask_height(high, asks, cells, (row, col), shown, count)?;
+        high = higher;
     }
     Ok(high)
 }

@@ -5,7 +5,7 @@ use Rattle.std.specs.BTreeMap.{BTreeMap, Updates}
 use Rattle.std.proofs.lemmas.List.{take_more, drop_more, take_all, nil_from_length}
 use Rattle.std.proofs.lemmas.List.Elements.{filter_map-append}
 use Rattle.std.proofs.lemmas.List.Folds.{list_any-append}
-use Rattle.std.proofs.lemmas.Bool.{eqb-true}
+use Rattle.std.proofs.lemmas.Bool.{eqb-true, or_parts}
 use mathlib.Core.Bool.{or-false}
 use Rattle.tabled_object.specs.declared.entity.Entity.{Entity}
 use Rattle.tabled_object.specs.declared.entity.Entity.TheVariants.{Global, Column, Row, Cell}
@@ -16,7 +16,9 @@ use Rattle.tabled_settings.specs.Live.{without, has_event}
 use Rattle.tabled_settings.specs.Slots.{standing, place, emptied, event_at, later_of, IsOnce, entity_cmp, HasPlaces, HasFewHoles}
 use Rattle.tabled_settings.specs.SameLaws.{entity_equiv}
 use Rattle.tabled_settings.proofs.Entities.{equal_entities, entity_itself, found_entity}
-use Rattle.tabled_settings.proofs.Placing.{Tells, place-push, place-emptied, standing-emptied, standing-push, standing-push_hole, length-emptied, IsOnce-filter, IsOnce-push, none_left, none_filtered, none_before, filter_all, place_or, place_alike, last_at}
+use Rattle.tabled_settings.specs.Kinds.{is_marked, may_cover, AreMarked}
+use Rattle.tabled_settings.specs.declared.kinds.Kinds.{Kinds}
+use Rattle.tabled_settings.proofs.Placing.{Tells, place-none, place-push, place-emptied, standing-emptied, standing-push, standing-push_hole, length-emptied, IsOnce-filter, IsOnce-push, none_left, none_filtered, none_before, filter_all, place_or, place_alike, last_at}
 
 pub entities_told : Tells same_entity
 entities_told = record { equal = equal_entities; itself = entity_itself }
@@ -75,6 +77,16 @@ last_by_three slots cell no_global =
     ∙ sym (
     ap (later_of (place (same_entity (Cell cell.row cell.col)) slots)) (place_or (same_entity (Row cell.row)) (same_entity (Column cell.col)) slots)
     ∙ place_or (same_entity (Cell cell.row cell.col)) (λ e. same_entity (Row cell.row) e || same_entity (Column cell.col) e) slots))
+
+-- none, where no entity that covers the cell is marked
+pub last_unmarked : {T : Type 0} (kinds : Kinds) (slots : List (Option (EntityEvent T))) (cell : Position) → AreMarked kinds (standing slots) → may_cover kinds cell ≡ false → has_event Global (standing slots) ≡ false
+    → last_or None (covering (standing slots) cell) ≡ None
+last_unmarked kinds slots cell marked unmarked no_global =
+    let each = or_parts (is_marked kinds (Column cell.col)) (is_marked kinds (Row cell.row) || is_marked kinds (Cell cell.row cell.col)) unmarked in
+    let others = or_parts (is_marked kinds (Row cell.row)) (is_marked kinds (Cell cell.row cell.col)) each.1 in
+    let none : (entity : Entity) → is_marked kinds entity ≡ false → place (same_entity entity) slots ≡ None = λ entity unmarked. place-none (same_entity entity) slots (marked entity unmarked) in
+    last_by_three slots cell no_global
+    ∙ (λ i. event_at slots (later_of (none (Cell cell.row cell.col) others.1 i) (later_of (none (Row cell.row) others.0 i) (none (Column cell.col) each.0 i))))
 
 -- ---- none at all
 

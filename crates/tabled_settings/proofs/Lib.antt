@@ -1,4 +1,3 @@
-pub mod ByRows
 pub mod Entities
 pub mod Lasting
 pub mod Leaving

@@ -1,10 +1,10 @@
 -- What an entity map shows: of the events so far those that still count.
 use Rattle.std.specs.Prelude.{Bool, not, if◌then◌else◌, Option, Some, None, List, [], ◌∷◌, ◌++◌, filter, unwrap_or}
-use Rattle.std.specs.List.{list_all, list_any}
+use Rattle.std.specs.List.{list_any}
 use Rattle.tabled_object.specs.declared.entity.Entity.{Entity}
 use Rattle.tabled_object.specs.declared.entity.Entity.TheVariants.{Global}
 use Rattle.tabled_object.specs.declared.position.Position.{Position}
-use Rattle.tabled_settings.specs.Setting.{EntityEvent, write_of, setting, same_entity, is_row, is_global}
+use Rattle.tabled_settings.specs.Setting.{EntityEvent, write_of, setting, same_entity, is_global}
 
 -- the default, the value of the last event of all cells, and of each other entity that had an event since then the last
 -- one, in the order of these events
@@ -50,10 +50,6 @@ after_if live (Some event) = after live event
 -- the events that still count: these alone give what the map shows
 abbrev pub events_left : {T : Type 0} → Live T → List (EntityEvent T)
 events_left live = write_of Global live.global ∷ live.since
-
--- whether these are events of rows alone
-abbrev pub are_of_rows : {T : Type 0} → List (EntityEvent T) → Bool
-are_of_rows events = list_all (λ event. is_row event.0) events
 
 -- the value of a cell
 abbrev pub value_at : {T : Type 0} → Live T → Position → T

@@ -38,8 +38,3 @@ same_entity _ _ = false
 
 abbrev pub is_global : Entity → Bool
 is_global entity = same_entity entity Global
-
--- whether an entity is one row
-abbrev pub is_row : Entity → Bool
-is_row (Row row) = true
-is_row _ = false

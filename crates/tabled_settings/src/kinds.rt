@@ -2,7 +2,7 @@
 
 ghost use Rattle.std.specs.Prelude.{◌≡◌};
 
-use tabled_object::Entity;
+use tabled_object::{Entity, Position};
 
 /// The rows from a first to a last one; none where the first comes after the last.
 #[derive(Clone, Copy, Debug)]
@@ -47,10 +47,12 @@ pub(crate) struct Kinds {
     rows: RowRange,
     columns: bool,
     cells: RowRange,
+    /// The last column of the cells.
+    last_column: usize,
 }
 
 impl Kinds {
-    ghost use Rattle.tabled_settings.specs.Kinds.{no_kinds, is_marked, with_kind, with_kinds};
+    ghost use Rattle.tabled_settings.specs.Kinds.{no_kinds, is_marked, may_cover, with_kind, with_kinds};
 
     /// None of them.
     pub(crate) const fn none() -> Self
@@ -60,6 +62,7 @@ impl Kinds {
             rows: RowRange::none(),
             columns: false,
             cells: RowRange::none(),
+            last_column: 0,
         }
     }
 
@@ -75,6 +78,26 @@ impl Kinds {
         }
     }
 
+    /// Whether an entity is marked that covers a cell, but for that of all cells.
+    pub(crate) fn may_cover(&self, cell: Position) -> bool
+        ensures { result ≡ may_cover self.now cell }
+    {
+        self.columns || self.rows.has(cell.row) || self.cells.has(cell.row)
+    }
+
+    /// A guess at where the event of a cell stands: options write those of cells mostly row by row, as many in each. A wrong guess costs a
+    /// comparison.
+    pub(crate) fn likely_place_of_cell(&self, entity: Entity) -> Option<usize> {
+        match entity {
+            Entity::Cell(row, col) => {
+                let columns = self.last_column.saturating_add(1);
+                let before = row.saturating_sub(self.cells.first).saturating_mul(columns);
+                Some(before.saturating_add(col))
+            }
+            Entity::Global | Entity::Column(_) | Entity::Row(_) => None,
+        }
+    }
+
     /// Marks an entity.
     pub(crate) fn mark(&mut self, entity: Entity)
         ensures { self.new ≡ with_kind self.old entity }
@@ -83,7 +106,10 @@ impl Kinds {
             Entity::Global => {}
             Entity::Column(_) => self.columns = true,
             Entity::Row(row) => self.rows.stretch(row),
-            Entity::Cell(row, _) => self.cells.stretch(row),
+            Entity::Cell(row, col) => {
+                self.cells.stretch(row);
+                self.last_column = self.last_column.max(col);
+            }
         }
     }
 

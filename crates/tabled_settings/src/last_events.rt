@@ -4,7 +4,7 @@ ghost use Rattle.std.specs.Prelude.{◌≡◌, ◌↔◌, ◌++◌, ◌∷◌, [
 ghost use Rattle.std.specs.List.{last_or};
 ghost use Rattle.std.specs.Cmp.Lexicographic.{pointwise};
 ghost use Rattle.tabled_settings.specs.Setting.{covering};
-ghost use Rattle.tabled_settings.specs.Live.{are_of_rows, without, has_event};
+ghost use Rattle.tabled_settings.specs.Live.{without, has_event};
 ghost use Rattle.tabled_settings.specs.Same.{same_event};
 
 mod both;
@@ -85,27 +85,32 @@ impl<T> LastEvents<T> {
         Ok(())
     }
 
-    /// The value of the last event that covers a cell, or none inside for a removal. Out of line, so that a map without events is soon
-    /// read.
-    #[inline(never)]
+    /// The value of the last event that covers a cell, or none inside for a removal.
+    #[inline(always)]
     pub(crate) fn last(&self, cell: Position) -> Option<&Option<T>>
         requires { has_event Entity.Global self.now ≡ false }
         ensures { option_copied result ≡ option_map (λ event. event.1) (last_or None (covering self.now cell)) }
     {
+        if !self.kinds.may_cover(cell) {
+            return None;
+        }
+        self.last_found(cell)
+    }
+
+    /// The value of the last event that covers a cell, looked for by each entity that does. Out of line, so that a cell of which there is
+    /// no event is soon told.
+    #[inline(never)]
+    fn last_found(&self, cell: Position) -> Option<&Option<T>>
+        requires { has_event Entity.Global self.now ≡ false }
+        ensures { option_copied result ≡ option_map (λ event. event.1) (last_or None (covering self.now cell)) }
+    {
         let Position { row, col } = cell;
-        let (slots, places, kinds) = (self.slots.as_slice(), &self.places, self.kinds);
+        let (slots, places, kinds) = (self.slots.as_slice(), &self.places, &self.kinds);
         let of_row = slots::place_of(slots, places, kinds, Entity::Row(row));
         let of_column = slots::place_of(slots, places, kinds, Entity::Column(col));
         let of_cell = slots::place_of(slots, places, kinds, Entity::Cell(row, col));
         let place = slots::later(of_cell, slots::later(of_row, of_column));
         slots::value_at(slots, place)
-    }
-
-    /// Whether each of them is an event of a row.
-    pub(crate) fn has_rows_alone(&self) -> bool
-        ensures { result ≡ are_of_rows self.now }
-    {
-        slots::are_of_rows(&self.slots)
     }
 
     /// Whether both have the same events in the same order.

@@ -6,7 +6,6 @@ ghost use Rattle.std.specs.Cmp.Lexicographic.{pointwise};
 ghost use Rattle.tabled_object.specs.declared.entity.Entity.{Entity as Which};
 ghost use Rattle.tabled_settings.specs.Setting.{same_entity};
 ghost use Rattle.tabled_settings.specs.Slots.{standing, passes, place, entity_cmp, IsOnce, HasPlaces, HasFewHoles, IsPlaced, likely_place, emptied, all_emptied, event_at, later_of};
-ghost use Rattle.tabled_settings.specs.Live.{are_of_rows};
 ghost use Rattle.tabled_settings.specs.Kinds.{AreMarked};
 ghost use Rattle.tabled_settings.specs.Same.{same_event};
 
@@ -85,12 +84,12 @@ pub(crate) fn number<T>(slots: &[Slot<T>], places: &mut BTreeMap<Entity, usize>)
 pub(crate) fn place_of<T>(
     slots: &[Slot<T>],
     places: &BTreeMap<Entity, usize>,
-    kinds: Kinds,
+    kinds: &Kinds,
     entity: Entity,
 ) -> Option<usize>
     requires once { IsOnce same_entity (standing slots.now) }
     requires placed { IsPlaced places.now slots.now }
-    requires marked { AreMarked kinds (standing slots.now) }
+    requires marked { AreMarked kinds.now (standing slots.now) }
     ensures { result ≡ place (same_entity entity) slots.now }
 {
     if !kinds.has(entity) {
@@ -99,6 +98,10 @@ pub(crate) fn place_of<T>(
     let likely = likely_place(entity);
     if stands_at(slots, likely, entity) {
         return likely;
+    }
+    let guess = kinds.likely_place_of_cell(entity);
+    if stands_at(slots, guess, entity) {
+        return guess;
     }
     places.get(&entity).copied()
 }
@@ -149,24 +152,6 @@ pub(crate) fn value_at<T>(slots: &[Slot<T>], place: Option<usize>) -> Option<&Op
         Some(None) => None,
         None => None,
     }
-}
-
-/// Whether a slot is a hole, or has an event of a row.
-fn is_of_row<T>(slot: &Slot<T>) -> bool
-    ensures { result ≡ are_of_rows (standing (slot.now ∷ [])) }
-{
-    match slot {
-        Some((Entity::Row(_), _)) => true,
-        Some(_) => false,
-        None => true,
-    }
-}
-
-/// Whether each event that stands in the slots is one of a row.
-pub(crate) fn are_of_rows<T>(slots: &[Slot<T>]) -> bool
-    ensures { result ≡ are_of_rows (standing slots.now) }
-{
-    slots.iter().all(|slot| is_of_row(slot))
 }
 
 /// The first event that stands in the slots, and the slots after it.

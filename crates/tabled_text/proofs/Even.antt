@@ -30,6 +30,7 @@ use Rattle.tabled_painting.proofs.Plain.{plain_cell}
 use Rattle.tabled_text.specs.Sizes.{greatest, cell, column_count, column_width, column_widths, row_height, row_heights, width_asked, height_asked}
 use Rattle.tabled_text.specs.Cells.{cells_set, margin_set, cell_colors, leaves_sizes, sets_no_padding, sets_no_spans}
 use Rattle.tabled_text.specs.TextTable.{look_of, painted_alone, text_of}
+use Rattle.tabled_text.proofs.Measuring.{column_room, row_room}
 use Rattle.tabled_text.proofs.SpanLemmas.{text_without}
 
 -- ---- what cells say is text
@@ -43,20 +44,6 @@ pub utf8_cells : {Z W : Type 0} (rows : List (Vec (String Z) W)) (r c : ℕ) →
 utf8_cells [] r c = IsUtf8-nil
 utf8_cells (row ∷ rows) zero c = utf8_cell row.items c
 utf8_cells (row ∷ rows) (suc r) c = utf8_cells rows r c
-
--- ---- columns and rows leave room for it
-
-pub column_room : (table : Table) (r c : ℕ) → r < length table → c < column_count table → width_asked (cell (get_or table r []) c) ≤ slice_index (column_widths table) c
-unfolding column_widths
-column_room table r c row_within within =
-    let here : slice_index (column_widths table) c ≡ column_width table c = get_or-map-range_with_len (column_width table) 0 (column_count table) c c 0 within (omega arith) in
-    omega (arith, greatest_bound (λ row. width_asked (cell row c)) 0 table r [] row_within, here)
-
-row_room : (table : Table) (r c : ℕ) → r < length table → c < length (get_or table r []) → height_asked (cell (get_or table r []) c) ≤ slice_index (row_heights table) r
-unfolding row_height
-row_room table r c within inside =
-    let here : slice_index (row_heights table) r ≡ row_height (get_or table r []) = get_or-map row_height table r [] 0 within in
-    omega (arith, greatest_bound height_asked 0 (get_or table r []) c [] inside, here)
 
 -- ---- the text
 

@@ -1,18 +1,21 @@
 -- What is measured of texts, row by row.
-use Rattle.std.proofs.Common.{◌≡◌, ℕ, ◌+◌, ◌<◌, ◌≤◌, max, fold, suc, Bool, true, false, not, cond, ltb, ◌==◌, if◌then◌else◌, Option, Some, None, List, [], ◌∷◌, ◌++◌, map, length, take, get_or, unwrap_or, refl, sym, ap, subst, ◌∙◌, arith, String, string_bytes, Vec}
+use Rattle.std.proofs.Common.{◌≡◌, ℕ, ◌+◌, ◌<◌, ◌≤◌, max, fold, suc, Bool, true, false, not, cond, ltb, ◌==◌, if◌then◌else◌, Option, Some, None, List, [], ◌∷◌, ◌++◌, map, length, take, get_or, unwrap_or, inl, inr, refl, sym, ap, subst, ◌∙◌, arith, String, string_bytes, Vec}
+use Rattle.std.specs.Prelude.{slice_index}
 use Rattle.std.specs.List.{list_all, position_or_len, reduce}
 use Rattle.tabled_width.specs.Texts.{is_printable}
+use Rattle.tabled_cells.proofs.Fits.{greatest_bound}
 use Rattle.tabled_cells.proofs.Printing.{one_piece}
 use Rattle.tabled_printing.specs.Texts.{Table}
 use Rattle.std.proofs.lemmas.List.{length-map, map-append, take_more, take_all, get_or-map, get_or_past}
-use Rattle.std.proofs.lemmas.List.FromFn.{fill_by_all}
-use Rattle.std.proofs.lemmas.Bool.{ltb-true, ltb-false, lt-ltb, le-ltb}
+use Rattle.std.proofs.lemmas.List.FromFn.{fill_by_all, get_or-map-range_with_len, length-map-range_with_len}
+use Rattle.std.proofs.lemmas.List.Splits.{length-slice_split}
+use Rattle.std.proofs.lemmas.Bool.{cases_lt, ltb-true, ltb-false, lt-ltb, le-ltb}
 use Rattle.std.specs.Str.{IsUtf8}
 use Rattle.std.proofs.lemmas.Str.{chars-nil, IsUtf8-nil}
 use Rattle.unicode_width.specs.Width.{str_width}
 use Rattle.tabled_painting.specs.TextsBy.{texts_by}
 use Rattle.tabled_text.specs.Cells.{AreUtf8}
-use Rattle.tabled_text.specs.Sizes.{cell, column_count, column_width, column_widths, first_unequal, height_asked, row_height, unequal_row, width_asked}
+use Rattle.tabled_text.specs.Sizes.{cell, column_count, column_width, column_widths, first_unequal, height_asked, row_height, row_heights, unequal_row, width_asked}
 use Rattle.tabled_text.proofs.EqualRows.{all_equal}
 use Rattle.tabled_cells.specs.Placed.{greatest}
 
@@ -64,11 +67,47 @@ pub cell_at : {B : Type 0} (bytes : B → List ℕ) (row : List B) (col : ℕ) (
 cell_at bytes row col text within read = get_or-map bytes row col text [] within ∙ ap bytes (sym read)
 
 -- past the end of a row stands the empty text, which asks for two spaces
-pub nothing_asked : {B : Type 0} (bytes : B → List ℕ) (row : List B) (col : ℕ) → length row ≤ col → 2 ≡ width_asked (cell (map bytes row) col)
+pub nothing_asked : (row : List (List ℕ)) (col : ℕ) → length row ≤ col → 2 ≡ width_asked (cell row col)
 unfolding width_asked str_width
-nothing_asked bytes row col past =
-    ap (λ cs. max 0 (str_width false cs) + 2) (sym chars-nil)
-    ∙ sym (ap width_asked (get_or_past (map bytes row) col [] (rw length-map past)))
+nothing_asked row col past = ap (λ cs. max 0 (str_width false cs) + 2) (sym chars-nil) ∙ sym (ap width_asked (get_or_past row col [] past))
+
+-- ---- columns and rows leave room for texts
+
+pub column_room : (table : Table) (r c : ℕ) → r < length table → c < column_count table → width_asked (cell (get_or table r []) c) ≤ slice_index (column_widths table) c
+unfolding column_widths
+column_room table r c row_within within =
+    let here : slice_index (column_widths table) c ≡ column_width table c = get_or-map-range_with_len (column_width table) 0 (column_count table) c c 0 within (omega arith) in
+    omega (arith, greatest_bound (λ row. width_asked (cell row c)) 0 table r [] row_within, here)
+
+pub row_room : (table : Table) (r c : ℕ) → r < length table → c < length (get_or table r []) → height_asked (cell (get_or table r []) c) ≤ slice_index (row_heights table) r
+unfolding row_height
+row_room table r c within inside =
+    let here : slice_index (row_heights table) r ≡ row_height (get_or table r []) = get_or-map row_height table r [] 0 within in
+    omega (arith, greatest_bound height_asked 0 (get_or table r []) c [] inside, here)
+
+-- a width that leaves room for all texts of a column does for each
+pub asks_within : (table : Table) (widths : List ℕ) (r c wide : ℕ) → widths ≡ column_widths table → c < length widths → slice_index widths c ≤ wide → 2 ≤ wide → width_asked (cell (get_or table r []) c) ≤ wide
+unfolding column_widths
+asks_within table widths r c wide are inside kept two = elim (cases_lt r (length table)) [
+  | inl within ↦
+      let count : length widths ≡ column_count table = ap length are ∙ length-map-range_with_len (column_width table) 0 (column_count table) in
+      let room = column_room table r c within (omega (arith, inside, count)) in
+      let here : slice_index widths c ≡ slice_index (column_widths table) c = ap (λ ws. slice_index ws c) are in
+      omega (arith, room, kept, here)
+  | inr past ↦ subst (λ row. width_asked (cell row c) ≤ wide) (sym (get_or_past table r [] past)) (let none = nothing_asked [] c (omega arith) in omega (arith, none, two))
+]
+
+-- in a row that is one line high each text is one line
+pub one_line : (table : Table) (heights : List ℕ) (r c : ℕ) → heights ≡ row_heights table → r < length heights → slice_index heights r ≡ 1 → 1 ≡ height_asked (cell (get_or table r []) c)
+one_line table heights r c are inside high = elim (cases_lt c (length (get_or table r []))) [
+  | inl within ↦
+      let count : length heights ≡ length table = ap length are ∙ length-map table row_height in
+      let room = row_room table r c (omega (arith, inside, count)) within in
+      let some = length-slice_split (λ byte. byte == 10) (cell (get_or table r []) c) in
+      let here : slice_index heights r ≡ slice_index (row_heights table) r = ap (λ hs. slice_index hs r) are in
+      omega (arith, room, some, high, here)
+  | inr past ↦ subst (λ text. 1 ≡ height_asked text) (sym (get_or_past (get_or table r []) c [] past)) refl
+]
 
 -- a place that is counted from one later
 shift : (start n count : ℕ) (inside : Bool) → ltb n count ≡ inside

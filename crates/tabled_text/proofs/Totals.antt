@@ -38,7 +38,7 @@ use Rattle.tabled_text.specs.Sizes.{cell, column_count, column_width, column_wid
 use Rattle.tabled_text.specs.TextTable.{look_of, look_with_spans, look_printed, widths_with_spans, heights_with_spans}
 use Rattle.tabled_text.proofs.ChangedLemmas.{cells_at, counts_stay, length_cells, place_at, same_columns}
 use Rattle.tabled_text.proofs.EqualRows.{all_equal}
-use Rattle.tabled_text.proofs.Even.{column_room}
+use Rattle.tabled_text.proofs.Measuring.{column_room}
 use Rattle.tabled_cells.proofs.Fits.{greatest_bound}
 use Rattle.tabled_text.proofs.Frames.{across_unset}
 use Rattle.tabled_text.proofs.ShareSums.{sum_bound}

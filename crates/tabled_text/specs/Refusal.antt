@@ -4,21 +4,10 @@ use Rattle.std.specs.List.{AllZip}
 use Rattle.tabled_rows.specs.Spelled.{IsRow}
 use Rattle.tabled_printing.specs.Texts.{Table}
 use Rattle.tabled_text.specs.Sizes.{column_count, unequal_row}
-use Rattle.tabled_printing.specs.declared.print_error.PrintError.{PrintError}
-use Rattle.tabled_printing.specs.declared.print_error.PrintError.TheVariants as print
 use Rattle.std.specs.declared.io.ErrorKind.{ErrorKind}
 use Rattle.std.specs.declared.io.ErrorKind.TheVariants as io
 use Rattle.tabled_text.specs.declared.table_error.TableError.{TableError}
-use Rattle.tabled_text.specs.declared.table_error.TableError.TheVariants.{OutOfMemory, UnequalRows, UnequalColumn, Print, Write, UnknownStyle}
-
--- what a refusal of the printer is for a table of texts: one for memory stays one for memory
-abbrev pub of_printer : PrintError → TableError
-of_printer print.OutOfMemory = OutOfMemory
-of_printer print.Spans = Print print.Spans
-of_printer print.RowCount = Print print.RowCount
-of_printer (print.ColumnCount row) = Print (print.ColumnCount row)
-of_printer (print.Height row col) = Print (print.Height row col)
-of_printer (print.Width row col) = Print (print.Width row col)
+use Rattle.tabled_text.specs.declared.table_error.TableError.TheVariants.{OutOfMemory, UnequalRows, UnequalColumn, Write, UnknownStyle}
 
 -- the refusal of a table whose row of that number has more or fewer cells than its first
 abbrev pub unequal : Table → ℕ → TableError
@@ -33,6 +22,5 @@ abbrev pub kind_of : TableError → ErrorKind
 kind_of OutOfMemory = io.OutOfMemory
 kind_of (UnequalRows row cells columns) = io.InvalidInput
 kind_of (UnequalColumn column cells rows) = io.InvalidInput
-kind_of (Print refused) = io.InvalidInput
 kind_of Write = io.Uncategorized
 kind_of UnknownStyle = io.InvalidInput

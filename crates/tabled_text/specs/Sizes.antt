@@ -1,6 +1,7 @@
 -- How large a table of texts is: its rows and columns, and the width and the height that its cells ask for.
-use Rattle.std.specs.Prelude.{ℕ, ◌+◌, ◌==◌, if◌then◌else◌, Option, Some, None, List, [], ◌∷◌, map, length, slice_index_or}
+use Rattle.std.specs.Prelude.{◌≡◌, ℕ, ◌+◌, ◌==◌, if◌then◌else◌, Option, Some, None, List, [], ◌∷◌, map, length, slice_index_or}
 use Rattle.tabled_object.specs.Entities.{below, position}
+use Rattle.tabled_object.specs.declared.dimension.FixedDimension.{FixedDimension}
 use Rattle.tabled_settings.specs.declared.cell_settings.CellSettings.{CellSettings}
 use Rattle.tabled_settings.specs.declared.indent.Indent.{Indent}
 use Rattle.tabled_settings.specs.declared.sides.Sides.{Sides}
@@ -55,3 +56,8 @@ row_height row = greatest (map height_asked row)
 -- how high each row is
 abbrev pub row_heights : Table → List ℕ
 row_heights table = map row_height table
+
+-- a table has these sizes where no padding is set and no cell spans
+pub record AreSizesOf (sizes : FixedDimension) (table : Table) : Type 0 where
+  pub widths : sizes.widths.items ≡ column_widths table
+  pub heights : sizes.heights.items ≡ row_heights table

@@ -6,7 +6,7 @@ use Rattle.tabled_printing.specs.Texts.{Table}
 use Rattle.tabled_painting.specs.Pages.{text_of_lines}
 use Rattle.tabled_painting.specs.PaintedSpans.{painted_by}
 use Rattle.tabled_painting.specs.TextsBy.{texts_by}
-use Rattle.tabled_text.specs.Sizes.{column_count, column_widths, row_heights}
+use Rattle.tabled_text.specs.Sizes.{column_count, AreSizesOf}
 use Rattle.tabled_text.specs.TextTable.{heights_read, widths_read}
 use Rattle.tabled_text.specs.declared.table_view.TableView.{TableView}
 
@@ -38,5 +38,4 @@ module _ {T : Type 0} (bytes : T → List ℕ) (view : TableView T) where
     pub rows : length view.rows.now ≡ view.shape.0
     pub cols : All (λ row. length row ≡ view.shape.1) texts_viewed
     pub shape : view.shape ≡ (length texts_viewed, column_count texts_viewed)
-    pub widths : view.sizes.now.widths.items ≡ column_widths texts_viewed
-    pub heights : view.sizes.now.heights.items ≡ row_heights texts_viewed
+    pub sized : AreSizesOf view.sizes.now texts_viewed

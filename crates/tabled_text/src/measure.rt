@@ -11,7 +11,7 @@ ghost use Rattle.tabled_width.specs.Texts.{is_printable};
 ghost use Rattle.tabled_text.specs.Cells.{AreUtf8};
 ghost use Rattle.tabled_text.specs.Edited.{widths_with};
 ghost use Rattle.tabled_text.specs.EditedColumns.{heights_with};
-ghost use Rattle.tabled_text.specs.Sizes.{cell, greatest, column_count, column_width, unequal_row, width_asked, height_asked, padded_width, padded_height, column_widths, row_height, row_heights};
+ghost use Rattle.tabled_text.specs.Sizes.{cell, greatest, column_count, column_width, unequal_row, width_asked, height_asked, padded_width, column_widths, row_height, row_heights};
 
 use std::alloc::{AllocError, Global};
 use std::convert::AsStr;
@@ -86,7 +86,7 @@ fn columns_of(text: &str) -> usize
 }
 
 /// A size and those on its two sides. Refused where no number says it.
-fn with_sides(size: usize, before: usize, after: usize) -> Result<usize, AllocError>
+pub(crate) fn with_sides(size: usize, before: usize, after: usize) -> Result<usize, AllocError>
     ensures { IfOk result (λ sum. sum ≡ before + size + after) }
 {
     let first = before.checked_add(size).ok_or(AllocError)?;
@@ -99,13 +99,6 @@ pub(crate) fn padded_width(padding: &Sides<Indent>, text: &str) -> Result<usize,
     ensures { IfOk result (λ width. width ≡ padded_width padding.now text.now) }
 {
     with_sides(columns_of(text), padding.left.size, padding.right.size)
-}
-
-/// How high a text is with a padding. Refused where no number says it.
-pub(crate) fn padded_height(padding: &Sides<Indent>, text: &str) -> Result<usize, AllocError>
-    ensures { IfOk result (λ height. height ≡ padded_height padding.now text.now) }
-{
-    with_sides(height_asked(text), padding.top.size, padding.bottom.size)
 }
 
 /// Measures the cell of a row in a column.
@@ -148,7 +141,7 @@ fn no_widths<T: AsStr>(alloc: Global, rows: &[Vec<T>]) -> Result<Vec<usize>, All
 }
 
 /// How many lines a text asks for.
-fn height_asked(text: &str) -> usize
+pub(crate) fn height_asked(text: &str) -> usize
     ensures { result ≡ height_asked text.now }
 {
     text.as_bytes()

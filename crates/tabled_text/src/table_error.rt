@@ -2,7 +2,7 @@
 
 ghost use Rattle.std.specs.Prelude.{◌≡◌};
 ghost use Rattle.std.specs.IoError.{error_kind};
-ghost use Rattle.tabled_text.specs.Refusal.{kind_of, of_printer};
+ghost use Rattle.tabled_text.specs.Refusal.{kind_of};
 ghost use Rattle.tabled_text.specs.declared.table_error.TableError.TheVariants.{OutOfMemory as Refused, Write as NotWritten, UnknownStyle as NotKnown};
 
 use std::alloc::{AllocError, AllocFailed};
@@ -10,10 +10,9 @@ use std::error::Error;
 use std::io::ErrorKind;
 use std::{fmt, io};
 use tabled_border::OutOfMemory;
-use tabled_printing::PrintError;
 use tabled_style::UnknownStyle;
 
-/// A refusal of a call of a `TextTable`. The refusals of memory, of the printer and of a style's name become one of these by `?`, and one of these
+/// A refusal of a call of a `TextTable`. The refusals of memory and of a style's name become one of these by `?`, and one of these
 /// becomes an `io::Error`, or an error of `anyhow`, in the same way.
 #[derive(Clone, Copy, Debug, PartialEq, Eq)]
 pub enum TableError {
@@ -37,8 +36,6 @@ pub enum TableError {
         /// How many rows there are.
         rows: usize,
     },
-    /// The printer refused a table, and not for memory. No table of texts is refused so: a refusal of `print_plain` becomes this by `?`.
-    Print(PrintError),
     /// The writer failed that the text was written to.
     Write,
     /// No ready style has the name that was asked for.
@@ -63,7 +60,6 @@ impl fmt::Display for TableError {
                 f,
                 "column {column} has {cells} cells where there are {rows} rows"
             ),
-            TableError::Print(refused) => write!(f, "{refused}"),
             TableError::Write => f.write_str("the writer failed"),
             TableError::UnknownStyle => write!(f, "{UnknownStyle}"),
         }
@@ -87,10 +83,6 @@ impl From<TableError> for io::Error {
                 ErrorKind::InvalidInput,
                 "a column does not have as many cells as there are rows",
             ),
-            TableError::Print(_) => io::Error::new(
-                ErrorKind::InvalidInput,
-                "a table with a span is not printed",
-            ),
             TableError::Write => io::Error::from(fmt::Error),
             TableError::UnknownStyle => io::Error::new(
                 ErrorKind::InvalidInput,
@@ -105,17 +97,6 @@ impl From<OutOfMemory> for TableError {
 
     fn from(_refused: OutOfMemory) -> TableError {
         TableError::OutOfMemory
-    }
-}
-
-impl From<PrintError> for TableError {
-    ghost from_gives = { λ refused e. e ≡ of_printer refused };
-
-    fn from(refused: PrintError) -> TableError {
-        match refused {
-            PrintError::OutOfMemory => TableError::OutOfMemory,
-            other => TableError::Print(other),
-        }
     }
 }
 

@@ -54,6 +54,7 @@ impl<'a, T: AsStr> TableView<'a, T> {
         let cells = TextSizes {
             rows: self.rows,
             cfg,
+            sizes: self.sizes,
         };
         let sizes = sizes_of_spanned(cfg, self.shape, &cells)?;
         Ok(sizes)

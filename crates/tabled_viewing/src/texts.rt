@@ -73,10 +73,7 @@ fn sample_text(alloc: Global, style: ReadyStyle) -> Result<String, OutOfMemory>
     ensures { IfOk result (λ text. string_bytes text ≡ text_of (ready_applied style) sample) }
 {
     let table = sample_in(alloc, style)?;
-    match table.to_text() {
-        Ok(text) => Ok(text),
-        Err(_) => Err(OutOfMemory),
-    }
+    table.to_text()
 }
 
 /// Puts a style after what was written: its name, and the small table in it.

@@ -5,10 +5,10 @@ use crate::TableError;
 use crate::table_view::TableView;
 use std::convert::AsStr;
 use std::{fmt, io};
-use tabled_printing::PrintError;
+use tabled_border::OutOfMemory;
 
 impl<T: AsStr + Drop> Table<T> {
-    ghost use Rattle.std.specs.Prelude.{◌≡◌, ◌≤◌, ◌⊎◌, ◌++◌, ℕ, List, true, false, None, IfErr, IfOk, OnErr, OnOk, IsOkUnless, slice_index_or, string_bytes, []};
+    ghost use Rattle.std.specs.Prelude.{◌≡◌, ◌≤◌, ◌⊎◌, ◌++◌, ℕ, List, true, false, None, IfErr, IfOk, OnErr, OnOk, slice_index_or, string_bytes, []};
     ghost use Rattle.std.specs.Str.{IsUtf8};
     ghost use Rattle.std.specs.Io.KnownBytes.{Appends};
     ghost use Rattle.tabled_configuration.specs.Colored.{Shows};
@@ -20,7 +20,6 @@ impl<T: AsStr + Drop> Table<T> {
     ghost use Rattle.tabled_printing.specs.Along.{is_empty};
     ghost use Rattle.tabled_printing.specs.Columns.{IsRectangle, WritesNarrow};
     ghost use Rattle.tabled_printing.specs.Texts.{pieces};
-    ghost use Rattle.tabled_printing.specs.declared.print_error.PrintError.{PrintError as Fault};
     ghost use Rattle.tabled_text.specs.Cells.{StandApart, margin_set, leaves_sizes};
     ghost use Rattle.tabled_text.specs.Sizes.{cell, column_count, unequal_row};
     ghost use Rattle.tabled_text.specs.TableViews.{IsTable, texts_viewed};
@@ -33,14 +32,13 @@ impl<T: AsStr + Drop> Table<T> {
     /// Where only narrow characters were written, and the padding of each cell begins with a space, as it does where none is set, or its text
     /// is of printable ASCII, the text is a rectangle: each of its lines takes as many columns of a terminal as the others. Where no cell
     /// spans, and no padding is set, each vertical line stands in one column.
-    pub fn to_text(&self) -> Result<String, PrintError>
+    pub fn to_text(&self) -> Result<String, OutOfMemory>
         ensures text { (es : List ConfigEvent) → borders.Shows es self.now.config.spanned → IfOk result (λ text. string_bytes text ≡ text_of es self.now.texts) }
         ensures rectangle { (es : List ConfigEvent) → borders.Shows es self.now.config.spanned → WritesNarrow es → StandApart es self.now.texts
             → IfOk result (λ text. IsRectangle (text_width (look_printed es self.now.texts) (margin_set es)) (string_bytes text)) }
         ensures straight { (es : List ConfigEvent) → borders.Shows es self.now.config.spanned → WritesNarrow es → leaves_sizes es ≡ true → is_empty (look_of es self.now.texts).shape ≡ false
             → (c : ℕ) → c ≤ column_count self.now.texts → (look_of es self.now.texts).vertical c ≡ true
             → IfOk result (λ text. StandsStraightIn (look_of es self.now.texts) (margin_set es) c (pieces (string_bytes text))) }
-        ensures refusal { IsOkUnless result Fault.OutOfMemory }
     {
         let text = self.view().text(false)?;
         Ok(text)
@@ -59,10 +57,9 @@ impl<T: AsStr + Drop> Table<T> {
     }
 
     /// Writes the text of the table after what `out` has. Where it is refused, as by `to_text`, `out` is as before.
-    pub fn append_to(&self, out: &mut String) -> Result<(), PrintError>
+    pub fn append_to(&self, out: &mut String) -> Result<(), OutOfMemory>
         ensures text { (es : List ConfigEvent) → borders.Shows es self.now.config.spanned → OnOk result (string_bytes out.new ≡ string_bytes out.old ++ text_of es self.now.texts) }
         ensures unchanged { OnErr result (string_bytes out.new ≡ string_bytes out.old) }
-        ensures refusal { IsOkUnless result Fault.OutOfMemory }
     {
         let text = self.to_text()?;
         out.push_str(text.as_str())?;
@@ -73,23 +70,21 @@ impl<T: AsStr + Drop> Table<T> {
     /// its color. Where the color changes along a line the text that ends the last one is written and then the text that begins
     /// the next, and at the end of a line the text that ends its last color; where there is no color nothing is written. Without
     /// these texts it is a rectangle where `to_text` says that its text is one. Refused as `to_text` is.
-    pub fn to_ansi(&self) -> Result<String, PrintError>
+    pub fn to_ansi(&self) -> Result<String, OutOfMemory>
         ensures text { (es : List ConfigEvent) → Shows es self.now.config → IfOk result (λ text. string_bytes text ≡ colored_text (painted es self.now.texts)) }
         ensures characters { (es : List ConfigEvent) → Shows es self.now.config
             → IfOk result (λ text. (lines : List Painted) × (string_bytes text ≡ colored_text lines) × (plain_text lines ≡ text_of es self.now.texts)) }
         ensures rectangle { (es : List ConfigEvent) → Shows es self.now.config → WritesNarrow es → StandApart es self.now.texts
             → IfOk result (λ text. (lines : List Painted) × (string_bytes text ≡ colored_text lines) × IsRectangle (text_width (look_printed es self.now.texts) (margin_set es)) (plain_text lines)) }
-        ensures refusal { IsOkUnless result Fault.OutOfMemory }
     {
         let text = self.view().text(true)?;
         Ok(text)
     }
 
     /// Writes the text of the table in color after what `out` has. Where it is refused, as by `to_ansi`, `out` is as before.
-    pub fn append_ansi_to(&self, out: &mut String) -> Result<(), PrintError>
+    pub fn append_ansi_to(&self, out: &mut String) -> Result<(), OutOfMemory>
         ensures text { (es : List ConfigEvent) → Shows es self.now.config → OnOk result (string_bytes out.new ≡ string_bytes out.old ++ colored_text (painted es self.now.texts)) }
         ensures unchanged { OnErr result (string_bytes out.new ≡ string_bytes out.old) }
-        ensures refusal { IsOkUnless result Fault.OutOfMemory }
     {
         let text = self.to_ansi()?;
         out.push_str(text.as_str())?;

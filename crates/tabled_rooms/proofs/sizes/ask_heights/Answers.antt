@@ -23,11 +23,11 @@ loop-col-preserved g c =
     record {
       high = λ none.
           let part : ℕ → ℕ = λ j. alone (is_shown (cell_of (slice_index_or c.args.hosts.now j none)) r j) ((slice_index_or c.args.hosts.now j none).bottom - r) (asked j) in
-          c.max-high.ensures ∙ (λ i. max (c.loop-col.invariant.high none i) ((c.alone.ensures ∙ (λ j. alone (shown none j) (left none j) (c.in_ok-height.ensures j))) i)) ∙ sym (greatest_more part n);
+          c.in_ok-higher.ensures.height ∙ (λ i. max (c.loop-col.invariant.high none i) (alone (shown none i) (left none i) (asked n))) ∙ sym (greatest_more part n);
       noted = λ none.
           let f : ℕ → List Ask = λ j. over_several (is_shown (cell_of (slice_index_or c.args.hosts.now j none)) r j) r ((slice_index_or c.args.hosts.now j none).bottom - r) (asked j) in
-          noted_more f n c.args.asks.now.items c.loop-col.asks.items c.ask_over.new.asks.items (over_several c.is_shown-shown.result r c.saturating_sub-count.result c.in_ok-height.height) (c.loop-col.invariant.noted none)
-          (λ i. over_several (shown none i) r (left none i) (c.in_ok-height.ensures i)) c.in_ok-ask_over.ensures;
+          noted_more f n c.args.asks.now.items c.loop-col.asks.items c.ask_height.new.asks.items (over_several c.is_shown-shown.result r c.saturating_sub-count.result (asked n)) (c.loop-col.invariant.noted none)
+          (λ i. over_several (shown none i) r (left none i) (asked n)) c.in_ok-higher.ensures.asks;
     }
 
 pub returns-clause-height : goal.returns-clause-height

@@ -21,16 +21,16 @@ loop-col-preserved g c =
     record {
       widened = λ k none before.
           let part : ℕ → ℕ = λ j. alone (is_shown (cell_of (slice_index_or c.args.hosts.now j none)) r j) (counts j) (asked j) in
-          let is : c.max.result ≡ max (get_or c.args.widths.now n 0) (part n) =
-          c.max.ensures ∙ (λ i. max (c.loop-col.invariant.ahead n (omega arith) i) ((c.alone.ensures ∙ (λ j. alone (shown none j) (counts n) (c.in_ok-width.ensures j))) i)) in
-          widened_more c.args.widths.now c.loop-col.widths part n c.max.result (omega arith) is (λ j within. c.loop-col.invariant.widened j none within) k before;
+          let is : c.in_ok-wider.wider ≡ max (get_or c.args.widths.now n 0) (part n) =
+          c.in_ok-wider.ensures.width ∙ (λ i. max (c.loop-col.invariant.ahead n (omega arith) i) (alone (shown none i) (counts n) (asked n))) in
+          widened_more c.args.widths.now c.loop-col.widths part n c.in_ok-wider.wider (omega arith) is (λ j within. c.loop-col.invariant.widened j none within) k before;
       ahead = λ k from.
           let apart : k ≢ n = omega arith in
-          get_or-set_other c.loop-col.widths n k c.max.result 0 apart ∙ c.loop-col.invariant.ahead k (omega arith);
+          get_or-set_other c.loop-col.widths n k c.in_ok-wider.wider 0 apart ∙ c.loop-col.invariant.ahead k (omega arith);
       noted = λ none.
           let f : ℕ → List Ask = λ j. over_several (is_shown (cell_of (slice_index_or c.args.hosts.now j none)) r j) j (counts j) (asked j) in
-          noted_more f n c.args.asks.now.items c.loop-col.asks.items c.ask_over.new.asks.items (over_several c.is_shown-shown.result n (counts n) c.in_ok-width.width) (c.loop-col.invariant.noted none)
-          (λ i. over_several (shown none i) n (counts n) (c.in_ok-width.ensures i)) c.in_ok-ask_over.ensures;
+          noted_more f n c.args.asks.now.items c.loop-col.asks.items c.ask_width.new.asks.items (over_several c.is_shown-shown.result n (counts n) (asked n)) (c.loop-col.invariant.noted none)
+          (λ i. over_several (shown none i) n (counts n) (asked n)) c.in_ok-wider.ensures.asks;
     }
 
 pub returns-clause-asks : goal.returns-clause-asks

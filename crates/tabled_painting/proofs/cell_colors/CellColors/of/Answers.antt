@@ -4,4 +4,4 @@ use Rattle.tabled_painting.proofs.cell_colors.CellColors.of.Goals as goal
 
 pub returns : goal.returns
 unfolding coloring_at
-returns c = λ i. record { text = c.get_color.ensures i; fill = c.get_justification_color.ensures i; padding = c.get_padding_color.ensures i }
+returns c = λ i. record { text = c.text_color.ensures i; fill = c.get_justification_color.ensures i; padding = c.get_padding_color.ensures i }

@@ -1,18 +1,15 @@
+-- No entity that covers the cell is marked.
 use Rattle.std.proofs.Common.{ap, sym, ◌∙◌, None, option_map}
 use Rattle.std.specs.List.{last_or}
 use Rattle.tabled_object.specs.declared.entity.Entity.TheVariants.{Global}
 use Rattle.tabled_settings.specs.Setting.{covering}
 use Rattle.tabled_settings.specs.Live.{has_event}
-use Rattle.tabled_settings.specs.Slots.{standing, event_at, later_of}
-use Rattle.tabled_settings.proofs.Lasting.{last_by_three}
+use Rattle.tabled_settings.proofs.Lasting.{last_unmarked}
 use Rattle.tabled_settings.proofs.last_events.LastEvents.last.Goals as goal
 
-pub returns : goal.returns
-returns g c =
-    let slots = c.as_slice-slots.result.now in
-    let shown = ap standing c.as_slice-slots.ensures.value ∙ c.self.view_is in
-    c.value_at.ensures
-    ∙ ap (option_map (λ event. event.1)) (
-    ap (event_at slots) (c.later-place.ensures ∙ (λ i. later_of (c.place_of-of_cell.ensures i) ((c.later.ensures ∙ (λ j. later_of (c.place_of-of_row.ensures j) (c.place_of-of_column.ensures j))) i)))
-    ∙ sym (last_by_three slots c.args.cell (ap (has_event Global) shown ∙ c.requires))
-    ∙ ap (λ events. last_or None (covering events c.args.cell)) shown)
+pub returns-then-not-may_cover : goal.returns-then-not-may_cover
+returns-then-not-may_cover g c =
+    let kept = c.self.inside in
+    ap (option_map (λ event. event.1)) (sym (
+    ap (λ events. last_or None (covering events c.args.cell)) (sym c.self.view_is)
+    ∙ last_unmarked kept.kinds kept.slots.items c.args.cell c.self.invariant.1 (sym c.may_cover.ensures ∙ c.if-not-may_cover.true) (ap (has_event Global) c.self.view_is ∙ c.requires)))

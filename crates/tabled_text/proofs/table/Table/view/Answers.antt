@@ -18,8 +18,7 @@ returns-clause-table g c =
       rows = ap length c.deref.ensures.value ∙ sym (length-map table.cells.items (λ row. map g.T.AsStr.text row.items)) ∙ ap (λ shape. shape.rows) (sym c.self.invariant.1);
       cols = rows_equal rows (texts_by g.T.AsStr.text c.deref.result.now) table.shape (sym kept) c.self.invariant.1 (all_equal (column_count rows) 0 rows c.self.invariant.0);
       shape = ap (λ shape. (shape.rows, shape.cols)) c.self.invariant.1 ∙ ap (λ table. (length table, column_count table)) kept;
-      widths = c.self.invariant.2 ∙ ap column_widths kept;
-      heights = c.self.invariant.3 ∙ ap row_heights kept;
+      sized = record { widths = c.self.invariant.2 ∙ ap column_widths kept; heights = c.self.invariant.3 ∙ ap row_heights kept };
     }
 
 pub returns-clause-texts : goal.returns-clause-texts

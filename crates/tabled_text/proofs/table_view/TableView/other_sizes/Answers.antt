@@ -21,8 +21,8 @@ returns-then-not-has_spans_or_padding g c =
     let sized : is_sized_by_texts cfg ≡ true =
     none_set (is_sized_by_texts cfg) (ap (λ (kept : Configuration). not (is_sized_by_texts kept)) (sym c.config.ensures) ∙ sym c.has_spans_or_padding.ensures ∙ c.if-not-has_spans_or_padding.true) in
     record {
-      widths = c.requires.widths ∙ sym (ap (λ b. if b then column_widths table else widths_with_spans cfg.settings (all_writes cfg) table) sized);
-      heights = c.requires.heights ∙ sym (ap (λ b. if b then row_heights table else heights_with_spans cfg.settings (all_writes cfg) table) sized);
-      columns = ap length c.requires.widths ∙ length-map-range_with_len (column_width table) 0 (column_count table) ∙ ap (λ (shape : ℕ × ℕ). shape.1) (sym c.requires.shape);
-      rows = ap length c.requires.heights ∙ length-map table row_height ∙ ap (λ (shape : ℕ × ℕ). shape.0) (sym c.requires.shape);
+      widths = c.requires.sized.widths ∙ sym (ap (λ b. if b then column_widths table else widths_with_spans cfg.settings (all_writes cfg) table) sized);
+      heights = c.requires.sized.heights ∙ sym (ap (λ b. if b then row_heights table else heights_with_spans cfg.settings (all_writes cfg) table) sized);
+      columns = ap length c.requires.sized.widths ∙ length-map-range_with_len (column_width table) 0 (column_count table) ∙ ap (λ (shape : ℕ × ℕ). shape.1) (sym c.requires.shape);
+      rows = ap length c.requires.sized.heights ∙ length-map table row_height ∙ ap (λ (shape : ℕ × ℕ). shape.0) (sym c.requires.shape);
     }
