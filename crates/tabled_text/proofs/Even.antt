@@ -4,8 +4,6 @@ use Rattle.std.specs.Prelude.{slice_index}
 use Rattle.std.specs.Str.{IsUtf8}
 use Rattle.std.specs.List.{list_all}
 use Rattle.std.proofs.lemmas.Bool.Decides.{nat_tests}
-use Rattle.std.proofs.lemmas.List.{get_or-map}
-use Rattle.std.proofs.lemmas.List.FromFn.{get_or-map-range_with_len}
 use Rattle.std.proofs.lemmas.List.Splits.{length-slice_split}
 use Rattle.std.proofs.lemmas.Str.{IsUtf8-nil, IsUtf8-string_bytes}
 use Rattle.std.specs.Cmp.{second_so}
@@ -20,14 +18,14 @@ use Rattle.tabled_printing.proofs.NarrowLemmas.{borders_narrow}
 use Rattle.tabled_printing.proofs.Tiles.{Tile}
 use Rattle.tabled_cells.specs.Placements.{placement_at}
 use Rattle.tabled_cells.specs.Trimmed.{lines_shown}
-use Rattle.tabled_cells.proofs.Fits.{greatest_bound, padding_unset, placed_at_tile, starts_with_spaces}
+use Rattle.tabled_cells.proofs.Fits.{padding_unset, placed_at_tile, starts_with_spaces}
 use Rattle.tabled_painting.specs.Painted.{plain}
 use Rattle.tabled_painting.specs.CellLines.{coloring_at}
 use Rattle.tabled_painting.specs.PaintedTable.{Cells, painted_cells, painted_table, plain_text}
 use Rattle.tabled_painting.specs.Widths.{text_width, StandsStraightIn}
 use Rattle.tabled_painting.proofs.Even.{table_even, table_straight}
 use Rattle.tabled_painting.proofs.Plain.{plain_cell}
-use Rattle.tabled_text.specs.Sizes.{greatest, cell, column_count, column_width, column_widths, row_height, row_heights, width_asked, height_asked}
+use Rattle.tabled_text.specs.Sizes.{greatest, cell, column_count, column_widths, row_heights, width_asked}
 use Rattle.tabled_text.specs.Cells.{cells_set, margin_set, cell_colors, leaves_sizes, sets_no_padding, sets_no_spans}
 use Rattle.tabled_text.specs.TextTable.{look_of, painted_alone, text_of}
 use Rattle.tabled_text.proofs.Measuring.{column_room, row_room}

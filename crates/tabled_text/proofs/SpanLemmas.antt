@@ -28,7 +28,7 @@ use Rattle.tabled_painting.proofs.Plain.{plain_cell}
 use Rattle.tabled_painting.proofs.SpannedPlain.{spanned_table_same}
 use Rattle.tabled_text.specs.Sizes.{column_count, column_widths, row_heights, width_with_padding, height_with_padding}
 use Rattle.tabled_text.specs.Cells.{cell_colors, leaves_sizes, sets_no_padding, sets_no_spans, settings_set}
-use Rattle.tabled_text.specs.TextTable.{AreRead, Drawing, heights_read, heights_with_spans, look_of, look_printed, look_with_spans, painted, painted_alone, text_of, widths_read, widths_with_spans}
+use Rattle.tabled_text.specs.TextTable.{heights_read, heights_with_spans, look_of, look_printed, look_with_spans, painted, painted_alone, text_of, widths_read, widths_with_spans}
 
 -- ---- the one or the other
 
@@ -54,27 +54,6 @@ pub spans_shown : (es : List ConfigEvent) (cfg : Configuration) → borders.Show
 spans_shown es cfg shows = ap (λ (settings : TableSettings). (len settings.column_spans == 0) && (len settings.row_spans == 0) && keeps_first_padding settings.cells.padding) shows.settings_shown
 
 -- ---- the sizes that an option reads
-
-pub are_read_alone : (drawing : Drawing) → is_sized_by_texts drawing.config.spanned ≡ true → drawing.sizes.widths.items ≡ column_widths drawing.texts → drawing.sizes.heights.items ≡ row_heights drawing.texts
-    → AreRead drawing drawing.sizes
-are_read_alone drawing none wide high =
-    let cfg = drawing.config.spanned in
-    record {
-      widths = wide ∙ sym (ap (λ b. if b then column_widths drawing.texts else widths_with_spans cfg.settings (all_writes cfg) drawing.texts) none);
-      heights = high ∙ sym (ap (λ b. if b then row_heights drawing.texts else heights_with_spans cfg.settings (all_writes cfg) drawing.texts) none);
-      kept = λ e. refl;
-    }
-
-pub are_read_spanned : (drawing : Drawing) (sizes : FixedDimension) → is_sized_by_texts drawing.config.spanned ≡ false
-    → sizes.widths.items ≡ widths_with_spans drawing.config.spanned.settings (all_writes drawing.config.spanned) drawing.texts
-    → sizes.heights.items ≡ heights_with_spans drawing.config.spanned.settings (all_writes drawing.config.spanned) drawing.texts → AreRead drawing sizes
-are_read_spanned drawing sizes some wide high =
-    let cfg = drawing.config.spanned in
-    record {
-      widths = wide ∙ sym (ap (λ b. if b then column_widths drawing.texts else widths_with_spans cfg.settings (all_writes cfg) drawing.texts) some);
-      heights = high ∙ sym (ap (λ b. if b then row_heights drawing.texts else heights_with_spans cfg.settings (all_writes cfg) drawing.texts) some);
-      kept = λ e. absurd (let no : true ≡ false = sym e ∙ some in cc);
-    }
 
 pub changes_read : {R : Type 0} (makes : R → FixedDimension → Colored → List ConfigEvent) (records other : R) (sizes read : FixedDimension) (cfg old new : Colored) → records ≡ other → sizes ≡ read → cfg ≡ old
     → Changes (makes records sizes cfg) cfg new → Changes (makes other read old) old new

@@ -2,10 +2,11 @@
 use Rattle.std.proofs.Common.{◌≡◌, ◌<◌, ℕ, true, false, Bool, List, [], length, get_or, slice_index, refl, sym, ap, ◌∙◌, arith}
 use Rattle.std.specs.List.{All, join_with_byte}
 use Rattle.std.proofs.lemmas.List.{get_or_default}
+use Rattle.tabled_object.specs.declared.dimension.FixedDimension.{FixedDimension}
 use Rattle.tabled_object.specs.declared.records.Shape.{Shape}
 use Rattle.tabled_rooms.specs.Hosts.{Counts}
 use Rattle.tabled_configuration.specs.Configuration as borders
-use Rattle.tabled_configuration.specs.Configuration.{ConfigEvent, all_writes}
+use Rattle.tabled_configuration.specs.Configuration.{ConfigEvent, all_writes, is_sized_by_texts}
 use Rattle.tabled_configuration.specs.Colored.{Shows}
 use Rattle.tabled_printing.specs.Along.{is_empty}
 use Rattle.tabled_printing.specs.Picture.{Look, look}
@@ -16,8 +17,8 @@ use Rattle.tabled_painting.specs.PaintedTable.{colored_text, plain_text}
 use Rattle.tabled_painting.proofs.MarginLemmas.{no_places}
 use Rattle.tabled_painting.proofs.Plain.{text_with_colors, text_without_colors}
 use Rattle.tabled_text.specs.Sizes.{column_count}
-use Rattle.tabled_text.specs.TableViews.{IsTable, heights_viewed, text_viewed, texts_viewed, widths_viewed}
-use Rattle.tabled_text.specs.TextTable.{painted, shape_of, text_of}
+use Rattle.tabled_text.specs.TableViews.{AreSizes, IsTable, heights_viewed, text_viewed, texts_viewed, widths_viewed}
+use Rattle.tabled_text.specs.TextTable.{AreRead, Drawing, heights_read, painted, shape_of, text_of, widths_read}
 use Rattle.tabled_text.specs.declared.table_view.TableView.{TableView}
 use Rattle.tabled_text.proofs.SpanLemmas.{is_colored_text, is_plain_text}
 
@@ -32,6 +33,15 @@ module _ {T : Type 0} (bytes : T → List ℕ) (view : TableView T) where
       let columns : Counts = columns_spanned settings in
       let rows : Counts = rows_spanned settings in
       no_places kept settings.margin (spanned_lines kept columns rows (spanned_cells kept columns rows settings.cells cfg.cell_colors (texts_viewed bytes view))) wanted none
+
+  -- with these sizes it is printed, so an option reads them
+  pub are_read : (drawing : Drawing) (sizes : FixedDimension) → AreSizes bytes view sizes → view.config.now ≡ drawing.config → texts_viewed bytes view ≡ drawing.texts
+      → (is_sized_by_texts drawing.config.spanned ≡ true → sizes ≡ drawing.sizes) → AreRead drawing sizes
+  are_read drawing sizes are cfg texts kept = record {
+    widths = are.widths ∙ (λ i. widths_read (cfg i).spanned (texts i));
+    heights = are.heights ∙ (λ i. heights_read (cfg i).spanned (texts i));
+    kept = kept;
+  }
 
   module _ (is : IsTable bytes view) (es : List ConfigEvent) where
     pub plain_text_viewed : borders.Shows es view.config.now.spanned → text_viewed bytes view false ≡ text_of es (texts_viewed bytes view)

@@ -8,7 +8,6 @@ ghost use Rattle.tabled_text.specs.Refusal.{unequal as refusal_of};
 mod columns;
 mod copies;
 mod printing;
-mod spans;
 
 use crate::TableError;
 use crate::fitting::{frame_width, least_for_texts};
@@ -196,10 +195,10 @@ impl<T: AsStr + Drop> Table<T> {
         ensures sizes { self.new.sizes ≡ self.old.sizes }
         ensures err { OnErr result (self.new ≡ self.old) }
     {
-        if self.config().config().has_spans_or_padding() {
-            return self.apply_with_spans(option);
+        match self.view().other_sizes()? {
+            Some(mut sizes) => option.change(&mut self.shape, &mut *self.config, &mut sizes),
+            None => option.change(&mut self.shape, &mut *self.config, &mut self.sizes),
         }
-        self.apply_alone(option)
     }
 
     /// Applies an option to the cells of each entity that an object lists, in turn. Where memory is refused the option may have

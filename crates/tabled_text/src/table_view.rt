@@ -1,13 +1,13 @@
 //! A table as it is lent to be printed piece by piece.
 
-ghost use Rattle.std.specs.Prelude.{◌≡◌, ◌⊎◌, ◌++◌, List, true, false, length, string_bytes, unwrap_or, IfErr, IfOk, OnOk};
+ghost use Rattle.std.specs.Prelude.{◌≡◌, ◌⊎◌, ◌++◌, List, None, true, false, length, string_bytes, unwrap_or, IfErr, IfOk, OnOk};
 ghost use Rattle.std.specs.Io.KnownBytes.{Appends};
 ghost use Rattle.tabled_painting.specs.PaintedTable.{colored_text};
 ghost use Rattle.tabled_painting.specs.TablePages.{text_of_page};
 ghost use Rattle.tabled_printing.specs.Along.{is_empty};
 ghost use Rattle.tabled_configuration.specs.Colored.{Shows};
 ghost use Rattle.tabled_configuration.specs.Configuration as borders;
-ghost use Rattle.tabled_configuration.specs.Configuration.{ConfigEvent, all_writes};
+ghost use Rattle.tabled_configuration.specs.Configuration.{ConfigEvent, all_writes, is_sized_by_texts};
 ghost use Rattle.tabled_text.specs.TableViews.{AreSizes, IsTable, text_viewed, texts_viewed};
 ghost use Rattle.tabled_text.specs.TextTable.{heights_with_spans, painted, text_of, widths_with_spans};
 ghost use Rattle.tabled_text.specs.declared.table_error.TableError.{TableError as Refusal};
@@ -43,7 +43,7 @@ impl<'a, T: AsStr> TableView<'a, T> {
     }
 
     /// How wide its columns are and how high its rows, where cells span or have padding.
-    pub(crate) fn sizes_with_spans(&self) -> Result<FixedDimension, OutOfMemory>
+    fn sizes_with_spans(&self) -> Result<FixedDimension, OutOfMemory>
         requires { IsTable T.text self.now }
         ensures widths { IfOk result (λ sizes. sizes.widths.items ≡ widths_with_spans self.now.config.now.spanned.settings (all_writes self.now.config.now.spanned) (texts_viewed T.text self.now)) }
         ensures heights { IfOk result (λ sizes. sizes.heights.items ≡ heights_with_spans self.now.config.now.spanned.settings (all_writes self.now.config.now.spanned) (texts_viewed T.text self.now)) }
@@ -61,9 +61,10 @@ impl<'a, T: AsStr> TableView<'a, T> {
     }
 
     /// How wide its columns are and how high its rows, if these are not what its texts alone ask.
-    fn other_sizes(&self) -> Result<Option<FixedDimension>, OutOfMemory>
+    pub(crate) fn other_sizes(&self) -> Result<Option<FixedDimension>, OutOfMemory>
         requires { IsTable T.text self.now }
-        ensures { IfOk result (λ other. AreSizes T.text self.now (unwrap_or other self.now.sizes.now)) }
+        ensures sizes { IfOk result (λ other. AreSizes T.text self.now (unwrap_or other self.now.sizes.now)) }
+        ensures none { IfOk result (λ other. is_sized_by_texts self.now.config.now.spanned ≡ true → other ≡ None) }
     {
         if !self.config.config().has_spans_or_padding() {
             return Ok(None);

@@ -137,6 +137,7 @@ impl<T: AsStr + Drop> Table<T> {
         ensures table { IsTable T.text result }
         ensures config { result.config.now ≡ self.now.config }
         ensures texts { texts_viewed T.text result ≡ self.now.texts }
+        ensures sizes { result.sizes.now ≡ self.now.sizes }
         ensures equal { unequal_row self.now.texts ≡ None }
         ensures utf8 { (r c : ℕ) → IsUtf8 (cell (slice_index_or self.now.texts r []) c) }
     {

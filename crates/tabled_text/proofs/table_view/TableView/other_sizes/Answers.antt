@@ -12,9 +12,9 @@ none_set : (b : Bool) → not b ≡ false → b ≡ true
 none_set true e = refl
 none_set false e = sym e
 
-pub returns-then-not-has_spans_or_padding : goal.returns-then-not-has_spans_or_padding
+pub returns-then-not-has_spans_or_padding-clause-sizes : goal.returns-then-not-has_spans_or_padding-clause-sizes
 unfolding column_widths
-returns-then-not-has_spans_or_padding g c =
+returns-then-not-has_spans_or_padding-clause-sizes g c =
     let view = c.args.self.now in
     let cfg = view.config.now.spanned in
     let table = texts_viewed g.T.AsStr.text view in
@@ -26,3 +26,9 @@ returns-then-not-has_spans_or_padding g c =
       columns = ap length c.requires.sized.widths ∙ length-map-range_with_len (column_width table) 0 (column_count table) ∙ ap (λ (shape : ℕ × ℕ). shape.1) (sym c.requires.shape);
       rows = ap length c.requires.sized.heights ∙ length-map table row_height ∙ ap (λ (shape : ℕ × ℕ). shape.0) (sym c.requires.shape);
     }
+
+pub returns-clause-none : goal.returns-clause-none
+returns-clause-none g c sized =
+    let cfg = c.args.self.now.config.now.spanned in
+    let no : true ≡ false = sym c.if-not-has_spans_or_padding.false ∙ c.has_spans_or_padding.ensures ∙ ap (λ (kept : Configuration). not (is_sized_by_texts kept)) c.config.ensures ∙ ap not sized in
+    absurd cc
