@@ -2,6 +2,7 @@
 
 ghost use Rattle.std.specs.Prelude.{◌↔◌, ◌≡◌, IsOk, IsTrue, None, OnErr, OnOk, Option, Some, [], option_copied, option_map};
 ghost use Rattle.tabled_border.specs.Texts.{Texts};
+ghost use Rattle.tabled_configuration.specs.ByRows.{are_by_rows};
 ghost use Rattle.tabled_configuration.specs.CellColors.{IsBare};
 ghost use Rattle.tabled_configuration.specs.Colored.{Changes, Colored, by_cell_color};
 ghost use Rattle.tabled_configuration.specs.Configuration.{Configuration};
@@ -103,6 +104,13 @@ pub fn no_colors_given(colors: &ColorMap) -> bool
     ensures { IsTrue result ↔ (colors.now ≡ None) }
 {
     colors.is_empty()
+}
+
+/// Whether no entity but all cells and rows has a color.
+pub fn rows_alone_have_colors(colors: &ColorMap) -> bool
+    ensures { result ≡ are_by_rows colors.now }
+{
+    colors.has_rows_alone()
 }
 
 /// The configuration of the borders, lent to be changed, is this one's, and so is what is written there; the colors of cells are as

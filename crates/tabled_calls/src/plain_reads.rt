@@ -2,6 +2,7 @@
 
 ghost use Rattle.std.specs.Prelude.{◌||◌, ◌↔◌, ◌≡◌, IsTrue, is_some, option_copied};
 ghost use Rattle.std.specs.FinMap as map;
+ghost use Rattle.tabled_configuration.specs.ByRows.{AreColoredByRows};
 ghost use Rattle.tabled_grid.specs.Probing.{IsRaised};
 ghost use Rattle.tabled_grid.specs.State.{state_at};
 ghost use Rattle.tabled_grid.specs.Value.{plain_value};
@@ -59,6 +60,13 @@ where
     ensures colors { result.1.now ≡ cfg.now.colors }
 {
     (cfg.characters(), cfg.colors())
+}
+
+/// Whether colors beside texts are set for all cells and for rows alone.
+pub fn has_colors_by_rows(cfg: &SpannedConfig) -> bool
+    ensures { IsTrue result ↔ AreColoredByRows cfg.now.settings.cells }
+{
+    cfg.has_colors_by_rows()
 }
 
 /// Whether a custom horizontal line of characters, or one of colors, stands at an index.

@@ -4,6 +4,7 @@ ghost use Rattle.std.specs.Prelude.{◌≡◌, ◌↔◌, Option, None, IsTrue, 
 ghost use Rattle.tabled_object.specs.declared.position.Position.{Position as At};
 ghost use Rattle.tabled_settings.specs.Setting.{write_of, removal_of, is_global};
 ghost use Rattle.tabled_settings.specs.Live.{value_at};
+ghost use Rattle.tabled_configuration.specs.ByRows.{are_by_rows};
 ghost use Rattle.tabled_configuration.specs.CellColors.{changed, colors_after_event, IsBare};
 
 pub(crate) mod coloring;
@@ -63,6 +64,16 @@ impl ColorMap {
         ensures { IsTrue result ↔ (self.now ≡ None) }
     {
         self.map.is_none()
+    }
+
+    /// Whether colors are set for all cells and for rows alone.
+    pub fn has_rows_alone(&self) -> bool
+        ensures { result ≡ are_by_rows self.now }
+    {
+        match &self.map {
+            Some(map) => map.has_rows_alone(),
+            None => true,
+        }
     }
 
     /// Writes a color for the cells of an entity. Where there is no map yet, one is made whose default is the color

@@ -1,6 +1,10 @@
 -- How a bare cell is painted.
 use Rattle.std.proofs.Common.{◌≡◌, ℕ, ◌+◌, ◌-◌, Bool, true, false, if◌then◌else◌, Option, Some, None, List, [], ◌∷◌, ◌++◌, map, length, refl, sym, ap, subst, ◌∙◌, arith, option_map, nat_lt, ◌==◌}
-use Rattle.std.specs.Prelude.{option_and_then, slice_index_or}
+use Rattle.std.specs.Prelude.{IfSome, option_and_then, option_copied, slice_index_or}
+use denote.Ref.{Bor}
+use Rattle.tabled_settings.proofs.ByRows.{value_of_row}
+use Rattle.tabled_settings.specs.declared.cell_settings.CellSettings.{CellSettings}
+use Rattle.tabled_configuration.specs.ByRows.{are_by_rows, AreColoredByRows}
 use Rattle.std.specs.List.{list_all}
 use Rattle.std.proofs.lemmas.Bool.Decides.{nat_tests}
 use Rattle.std.proofs.lemmas.List.{append_assoc, map-append}
@@ -23,8 +27,8 @@ use Rattle.tabled_width.specs.Texts.{is_printable}
 use Rattle.tabled_cells.specs.Trimmed.{without_ends, is_space, is_blank, line_shown, lines_shown}
 use Rattle.tabled_cells.proofs.Printing.{one_piece, printable_width}
 use Rattle.tabled_painting.specs.Painted.{Painted, paint, plain, colored_if}
-use Rattle.tabled_painting.specs.CellLines.{Coloring, painted_line, cell_line, text_color, with_texts}
-use Rattle.tabled_painting.specs.BareCells.{IsBareCell, IsInColor, bare_text}
+use Rattle.tabled_painting.specs.CellLines.{Coloring, coloring_at, painted_line, cell_line, text_color, with_texts}
+use Rattle.tabled_painting.specs.BareCells.{HaveRowColors, IsBareCell, IsInColor, IsRowColor, bare_text}
 use Rattle.tabled_painting.proofs.PainterLemmas.{plain_paint}
 use Rattle.tabled_painting.proofs.Plain.{plain_cell}
 
@@ -45,6 +49,38 @@ some_texts color empty some told = ap (λ b. if b then None else Some color) (by
     by [] [] told = sym (told (refl, refl)) ∙ some
     by [] (b ∷ after) told = grind (arith, nat_tests)
     by (b ∷ before) after told = grind (arith, nat_tests)
+
+-- ---- colors of rows
+
+abbrev cell_at : ℕ → ℕ → Position
+cell_at r c = record { row = r; col = c }
+
+text_by_row : (colors : Option (Live Texts)) (r c : ℕ) → are_by_rows colors ≡ true → text_color colors (cell_at r c) ≡ text_color colors (cell_at r 0)
+text_by_row None r c rows = refl
+text_by_row (Some live) r c rows = ap with_texts (value_of_row live r c 0 rows)
+
+pub by_rows : (settings : CellSettings) (colors : Option (Live Texts)) → AreColoredByRows settings → are_by_rows colors ≡ true → HaveRowColors settings colors
+unfolding coloring_at
+by_rows settings colors beside texts r c = λ i. record {
+  text = text_by_row colors r c texts i;
+  fill = value_of_row settings.justification_color r c 0 beside.justification_color i;
+  padding = value_of_row settings.padding_color r c 0 beside.padding_color i;
+}
+
+-- a row has the color of its first cell, if that has one
+pub color_of_row : (wanted : Bool) (settings : CellSettings) (colors : Option (Live Texts)) (row col r : ℕ) (coloring : Coloring) (found : Option (Option (Bor Texts)))
+    → HaveRowColors settings colors → row ≡ r → col ≡ 0 → coloring ≡ coloring_at settings colors row col
+    → IfSome found (λ color. IsInColor (option_copied color) coloring) → IfSome found (λ color. IsRowColor wanted settings colors r (option_copied color))
+color_of_row wanted settings colors row col r coloring None alike at_row at_col read is = tt
+color_of_row wanted settings colors row col r coloring (Some color) alike at_row at_col read is = λ yes c.
+    subst (IsInColor (option_copied color)) (read ∙ (λ i. coloring_at settings colors (at_row i) (at_col i)) ∙ sym (alike r c)) is
+
+-- and each cell has that of its row
+pub color_of_cell : (wanted : Bool) (settings : CellSettings) (colors : Option (Live Texts)) (r row col : ℕ) (found : Option (Option (Bor Texts))) → row ≡ r
+    → IfSome found (λ color. IsRowColor wanted settings colors r (option_copied color))
+    → IfSome found (λ color. wanted ≡ true → IsInColor (option_copied color) (coloring_at settings colors row col))
+color_of_cell wanted settings colors r row col None at_row is = tt
+color_of_cell wanted settings colors r row col (Some color) at_row is = λ yes. subst (λ n. IsInColor (option_copied color) (coloring_at settings colors n col)) (sym at_row) (is yes col)
 
 -- ---- such a cell
 

@@ -1,11 +1,13 @@
 -- Bare cells of rows that are one line high: their texts are shown whole, between spaces, all in one color.
-use Rattle.std.specs.Prelude.{◌≡◌, ℕ, false, ◌+◌, ◌-◌, Option, List, ◌++◌, length}
+use Rattle.std.specs.Prelude.{◌≡◌, ℕ, Bool, true, false, ◌+◌, ◌-◌, Option, List, ◌++◌, length}
 use Rattle.tabled_border.specs.Texts.{Texts}
 use Rattle.tabled_settings.specs.declared.alignment.AlignmentHorizontal.{AlignmentHorizontal}
+use Rattle.tabled_settings.specs.declared.cell_settings.CellSettings.{CellSettings}
+use Rattle.tabled_settings.specs.Live.{Live}
 use Rattle.tabled_settings.specs.Padding.{first_padding}
 use Rattle.tabled_cells.specs.declared.placement.Placement.{Placement}
 use Rattle.tabled_cells.specs.Placed.{free_before, times}
-use Rattle.tabled_painting.specs.CellLines.{Coloring}
+use Rattle.tabled_painting.specs.CellLines.{Coloring, coloring_at}
 
 -- such a cell, whose text stands there
 pub record IsBareCell (side : AlignmentHorizontal) (how : Placement) : Type 0 where
@@ -21,6 +23,14 @@ pub record IsInColor (color : Option Texts) (colors : Coloring) : Type 0 where
   pub fill : colors.fill ≡ color
   pub before : colors.padding.left ≡ color
   pub after : colors.padding.right ≡ color
+
+-- where colors are wanted, each cell of a row has that one
+abbrev pub IsRowColor : Bool → CellSettings → Option (Live Texts) → ℕ → Option Texts → Type 0
+IsRowColor with_colors settings colors r color = with_colors ≡ true → (c : ℕ) → IsInColor color (coloring_at settings colors r c)
+
+-- each cell has the colors of the first one of its row
+abbrev pub HaveRowColors : CellSettings → Option (Live Texts) → Type 0
+HaveRowColors settings colors = (r c : ℕ) → coloring_at settings colors r c ≡ coloring_at settings colors r 0
 
 -- a text in such a cell of a column of that width: before it and after it a space, and of the spaces that are free as many as its side says
 abbrev pub bare_text : AlignmentHorizontal → ℕ → List ℕ → List ℕ

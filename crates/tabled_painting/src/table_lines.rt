@@ -11,11 +11,13 @@ ghost use Rattle.tabled_painting.specs.InColor.{Paints};
 ghost use Rattle.tabled_painting.specs.Pages.{PaintsLines, line_text};
 ghost use Rattle.tabled_painting.specs.PaintedTable.{painted_marks, side_painted};
 ghost use Rattle.tabled_painting.specs.Viewed as looks;
+ghost use Rattle.tabled_painting.specs.BareCells.{HaveRowColors};
 ghost use Rattle.tabled_painting.specs.Between.{IsBetweenRows};
 ghost use Rattle.tabled_painting.specs.TextsBy.{texts_by};
 
 use crate::alike::{first_plain_line, is_plain_line};
 use crate::bare_cells::bare_side;
+use crate::cell_colors::has_row_colors;
 use crate::cell_lines::CellLines;
 use crate::page::Page;
 use crate::room::{Room, begins_in, paint_room};
@@ -40,15 +42,18 @@ pub(crate) struct TableLines<'a, 'b> {
     pub(crate) frame: Frame<'a, 'b, FixedDimension>,
     /// The colors of cells.
     pub(crate) colors: &'a ColorMap,
+    /// Whether each cell is known to have the colors of the first one of its row.
+    has_row_colors: bool,
     /// A horizontal line between two rows as it is written, where all of them look alike but those for which something is kept.
     between: Option<String>,
     /// How many columns of a terminal its columns take, as far as a number says it.
     columns: usize,
+    ghost are_row_colors: { has_row_colors ≡ true → HaveRowColors frame.cfg.now.settings.cells colors.now },
     ghost is_between: { ForSome between (λ text. IsBetweenRows frame (string_bytes text)) },
 }
 
 impl<'a, 'b> TableLines<'a, 'b> {
-    ghost use Rattle.tabled_painting.specs.BareCells.{IsInColor};
+    ghost use Rattle.tabled_painting.specs.BareCells.{IsInColor, IsRowColor};
     ghost use Rattle.tabled_painting.specs.CellLines.{coloring_at};
     ghost use Rattle.tabled_painting.specs.Rows.{line_of};
     ghost use Rattle.tabled_painting.specs.PaintedTable.{painted_between, painted_cell, painted_if_drawn};
@@ -75,12 +80,14 @@ impl<'a, 'b> TableLines<'a, 'b> {
         ensures with_colors { IfOk result (λ lines. lines.frame.with_colors ≡ with_colors) }
     {
         let (config, colors) = (cfg.config(), cfg.get_colors());
+        let has_row_colors = has_row_colors(config, colors);
         let frame = Frame::new(config, sizes, shape, with_colors)?;
         let columns = columns_of(&frame);
         let between = line_between(config.allocator(), &frame)?;
         Ok(TableLines {
             frame,
             colors,
+            has_row_colors,
             between,
             columns,
         })
@@ -150,12 +157,33 @@ impl<'a, 'b> TableLines<'a, 'b> {
         self.cell_of(position, size, text)
     }
 
-    /// The color in which a cell is painted, if it has one alone; none where no color is wanted.
-    fn cell_color(&self, position: Position) -> Option<Option<&'a ANSIBuf>>
-        ensures { IfSome result (λ color. self.now.frame.with_colors ≡ true → IsInColor (option_copied color) (coloring_at self.now.frame.cfg.now.settings.cells self.now.colors.now position.row position.col)) }
+    /// The color in which all cells of a row of one line are painted, if it is known that there is one: none where they have no color, or
+    /// none is wanted.
+    fn row_color(&self, row: usize) -> Option<Option<&'a ANSIBuf>>
+        ensures { IfSome result (λ color. IsRowColor self.now.frame.with_colors self.now.frame.cfg.now.settings.cells self.now.colors.now row (option_copied color)) }
     {
         if !self.frame.with_colors {
             return Some(None);
+        }
+        if !self.has_row_colors {
+            return None;
+        }
+        let first = Position::new(row, 0);
+        let colors = CellColors::of(self.frame.cfg, self.colors, first);
+        colors.one_color()
+    }
+
+    /// The color in which a cell is painted, if it has one alone: that of its row, where all cells of it have that one, or as it is looked up.
+    fn cell_color(
+        &self,
+        of_row: Option<Option<&'a ANSIBuf>>,
+        position: Position,
+    ) -> Option<Option<&'a ANSIBuf>>
+        requires { IfSome of_row (λ color. self.now.frame.with_colors ≡ true → IsInColor (option_copied color) (coloring_at self.now.frame.cfg.now.settings.cells self.now.colors.now position.row position.col)) }
+        ensures { IfSome result (λ color. self.now.frame.with_colors ≡ true → IsInColor (option_copied color) (coloring_at self.now.frame.cfg.now.settings.cells self.now.colors.now position.row position.col)) }
+    {
+        if of_row.is_some() {
+            return of_row;
         }
         let colors = CellColors::of(self.frame.cfg, self.colors, position);
         colors.one_color()
@@ -167,15 +195,17 @@ impl<'a, 'b> TableLines<'a, 'b> {
         painter: &mut Painter<'a, O>,
         position: Position,
         text: &'a str,
+        of_row: Option<Option<&'a ANSIBuf>>,
         side: Option<Mark<'a>>,
     ) -> Result<(), O::Error>
         requires colors { painter.old.with_colors ≡ self.now.frame.with_colors }
         requires low { slice_index self.now.frame.dims.now.heights.items position.row ≡ 1 }
+        requires bare { IfSome of_row (λ color. self.now.frame.with_colors ≡ true → IsInColor (option_copied color) (coloring_at self.now.frame.cfg.now.settings.cells self.now.colors.now position.row position.col)) }
         ensures { OnOk result (Paints O.gains (row_cell self.now position.row position.col text.now 0 ++ side_painted (option_map mark_of side.entry)) painter.old painter.new) }
     {
         if is_printable(text)
             && let Some(alignment) = bare_side(self.frame.cfg, position)
-            && let Some(color) = self.cell_color(position)
+            && let Some(color) = self.cell_color(of_row, position)
         {
             let width = self.frame.dims.get_width(position.col);
             return painter.push_bare(color, alignment, width, text, side);
@@ -198,12 +228,13 @@ impl<'a, 'b> TableLines<'a, 'b> {
         requires colors { painter.old.with_colors ≡ self.now.frame.with_colors }
         ensures { OnOk result (Paints O.gains (painted_between (viewed self.now.frame) row 0 (λ c. row_cell self.now row c (slice_index_or (map T.text texts.now) c []) 0)) painter.old painter.new) }
     {
+        let of_row = self.row_color(row);
         let has_offsets = self.frame.has_offsets_beside(row);
         painter.push_side(self.frame.side(row, 0, 0, has_offsets))?;
         for (col, text) in texts.iter().enumerate() {
             let side = self.frame.side(row, col + 1, 0, has_offsets);
             let position = Position::new(row, col);
-            self.paint_cell(painter, position, text.as_str(), side)?;
+            self.paint_cell(painter, position, text.as_str(), of_row, side)?;
         }
         Ok(())
     }

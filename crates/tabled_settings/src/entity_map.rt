@@ -37,6 +37,7 @@ impl<T> Model for EntityMap<T> {
 
 impl<T> EntityMap<T> {
     ghost use Rattle.tabled_settings.specs.Setting.{write_of, removal_of, is_global};
+    ghost use Rattle.tabled_settings.specs.ByRows.{are_of_rows};
     ghost use Rattle.tabled_settings.specs.Live.{at_first, after, value_at};
 
     /// A map in which every cell has the default.
@@ -109,6 +110,14 @@ impl<T> EntityMap<T> {
         ensures { IsTrue result ↔ (self.now.since ≡ []) }
     {
         self.since.is_empty()
+    }
+
+    /// Whether no entity but `Global` and rows had an event since the last one of `Global`, so that the value of a cell does not depend on
+    /// its column.
+    pub fn has_rows_alone(&self) -> bool
+        ensures { result ≡ are_of_rows self.now.since }
+    {
+        self.since.has_rows_alone()
     }
 
     /// Writes or removes the value of all cells.

@@ -4,6 +4,7 @@ ghost use Rattle.std.specs.Prelude.{◌≡◌, ◌↔◌, ◌++◌, ◌∷◌, [
 ghost use Rattle.std.specs.List.{last_or};
 ghost use Rattle.std.specs.Cmp.Lexicographic.{pointwise};
 ghost use Rattle.tabled_settings.specs.Setting.{covering};
+ghost use Rattle.tabled_settings.specs.ByRows.{are_of_rows};
 ghost use Rattle.tabled_settings.specs.Live.{without, has_event, put_each};
 ghost use Rattle.tabled_settings.specs.Same.{same_event};
 
@@ -155,6 +156,16 @@ impl<T> EventsSince<T> {
         match &self.events {
             Some(events) => events.last(cell),
             None => None,
+        }
+    }
+
+    /// Whether each of them is an event of a row.
+    pub(crate) fn has_rows_alone(&self) -> bool
+        ensures { result ≡ are_of_rows self.now }
+    {
+        match &self.events {
+            Some(events) => events.has_rows_alone(),
+            None => true,
         }
     }
 

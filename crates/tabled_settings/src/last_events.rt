@@ -4,6 +4,7 @@ ghost use Rattle.std.specs.Prelude.{◌≡◌, ◌↔◌, ◌++◌, ◌∷◌, [
 ghost use Rattle.std.specs.List.{last_or};
 ghost use Rattle.std.specs.Cmp.Lexicographic.{pointwise};
 ghost use Rattle.tabled_settings.specs.Setting.{covering};
+ghost use Rattle.tabled_settings.specs.ByRows.{are_of_rows};
 ghost use Rattle.tabled_settings.specs.Live.{without, has_event};
 ghost use Rattle.tabled_settings.specs.Same.{same_event};
 
@@ -111,6 +112,13 @@ impl<T> LastEvents<T> {
         let of_cell = slots::place_of(slots, places, kinds, Entity::Cell(row, col));
         let place = slots::later(of_cell, slots::later(of_row, of_column));
         slots::value_at(slots, place)
+    }
+
+    /// Whether each of them is an event of a row.
+    pub(crate) fn has_rows_alone(&self) -> bool
+        ensures { result ≡ are_of_rows self.now }
+    {
+        slots::are_of_rows(&self.slots)
     }
 
     /// Whether both have the same events in the same order.

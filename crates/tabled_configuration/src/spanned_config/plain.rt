@@ -1,11 +1,12 @@
 //! What is asked of edges as wholes and of all cells, besides single places.
 
-ghost use Rattle.std.specs.Prelude.{◌≡◌, ◌||◌, not, is_some};
+ghost use Rattle.std.specs.Prelude.{◌≡◌, ◌↔◌, ◌||◌, not, IsTrue, is_some};
 ghost use Rattle.tabled_settings.specs.Live.{value_at};
 ghost use Rattle.tabled_settings.specs.Padding as padding;
 ghost use Rattle.std.specs.FinMap as map;
 ghost use Rattle.tabled_grid.specs.Value.{plain_value};
 ghost use Rattle.tabled_grid.specs.State.{state_at};
+ghost use Rattle.tabled_configuration.specs.ByRows.{AreColoredByRows};
 ghost use Rattle.tabled_configuration.specs.Configuration.{has_no_padding, is_sized_by_texts};
 
 use super::SpannedConfig;
@@ -19,6 +20,14 @@ impl SpannedConfig {
         ensures { result ≡ plain_value (state_at self.now.characters) shape place }
     {
         self.characters.plain_at(place, shape).copied()
+    }
+
+    /// Whether colors beside texts are set for all cells and for rows alone.
+    pub fn has_colors_by_rows(&self) -> bool
+        ensures { IsTrue result ↔ AreColoredByRows self.now.settings.cells }
+    {
+        let cells = &self.settings.cells;
+        cells.justification_color.has_rows_alone() && cells.padding_color.has_rows_alone()
     }
 
     /// Whether a cell has the padding of one where none was set: one column of spaces at its left and at its right, and no line above or
