@@ -41,8 +41,5 @@ pub fn table_without_memory<T: Drop>(
 pub fn table_refused(unknown: UnknownStyle, failed: fmt::Error) -> [TableError; 2]
     ensures { result ≡ TableError.UnknownStyle ∷ TableError.Write ∷ [] }
 {
-    [
-        TableError::from(unknown),
-        TableError::from(failed),
-    ]
+    [TableError::from(unknown), TableError::from(failed)]
 }

@@ -18,7 +18,7 @@ returns-in-Some-clause-config g c =
     on_ok c.change.result (λ changes. (
       sizes,
       are_read g.T.AsStr.text view drawing sizes sized is.config is.texts
-      (λ e. absurd (let no : None ≡ Some sizes = sym (c.in_ok-sizes.ensures.none (ap (λ cfg. is_sized_by_texts cfg.spanned) is.config ∙ e)) ∙ c.in-Some.is in cc)),
+          (λ e. absurd (let no : None ≡ Some sizes = sym (c.in_ok-sizes.ensures.none (ap (λ cfg. is_sized_by_texts cfg.spanned) is.config ∙ e)) ∙ c.in-Some.is in cc)),
       changes_read (g.P.TableOption.makes c.args.option) c.self.inside.shape (shape_of drawing.texts) sizes sizes c.deref_mut.result.now drawing.config c.change.new.cfg
           (c.self.invariant.1 ∙ ap (λ (drawing : Drawing). shape_of drawing.texts) c.self.view_is) refl
           (c.deref_mut.ensures.value ∙ ap (λ (drawing : Drawing). drawing.config) c.self.view_is) changes,
