@@ -8,20 +8,20 @@ use tabled::settings::object::{Columns, Segment};
 use tabled::settings::style::BorderColor;
 use tabled::settings::themes::Colorization;
 use tabled::settings::{Alignment, Color, Style};
-use tabled::{TableError, TextTable};
+use tabled::{LentTable, TableError};
 
 /// The cells of a line.
-fn cells(alloc: Global, line: &str) -> Result<Vec<String>, TableError> {
+fn cells<'a>(alloc: Global, line: &'a str) -> Result<Vec<&'a str>, TableError> {
     let mut cells = Vec::new(alloc);
     for cell in line.split('\t') {
-        cells.push(String::from_str(alloc, cell)?)?;
+        cells.push(cell)?;
     }
     Ok(cells)
 }
 
 /// The table of these rows.
-fn table(alloc: Global, rows: Vec<Vec<String>>) -> Result<TextTable, TableError> {
-    let mut table = TextTable::from_rows(alloc, rows)?;
+fn table<'a>(alloc: Global, rows: Vec<Vec<&'a str>>) -> Result<LentTable<'a>, TableError> {
+    let mut table = LentTable::from_rows(alloc, rows)?;
     let grounds = vec![in alloc; Color::BG_BLUE, Color::BG_GREEN]?;
     table
         .with(Style::ascii())?

@@ -2,7 +2,7 @@
 
 ghost use Rattle.std.specs.Prelude.{◌↔◌, ◌≡◌, IsOk, IsTrue, None, OnErr, OnOk, Option, Some, [], option_copied, option_map};
 ghost use Rattle.tabled_border.specs.Texts.{Texts};
-ghost use Rattle.tabled_configuration.specs.ByRows.{are_by_rows};
+ghost use Rattle.tabled_configuration.specs.AlikeRows.{AreColorsAlike};
 ghost use Rattle.tabled_configuration.specs.CellColors.{IsBare};
 ghost use Rattle.tabled_configuration.specs.Colored.{Changes, Colored, by_cell_color};
 ghost use Rattle.tabled_configuration.specs.Configuration.{Configuration};
@@ -106,11 +106,12 @@ pub fn no_colors_given(colors: &ColorMap) -> bool
     colors.is_empty()
 }
 
-/// Whether no entity but all cells and rows has a color.
-pub fn rows_alone_have_colors(colors: &ColorMap) -> bool
-    ensures { result ≡ are_by_rows colors.now }
+/// Whether each cell of a row is known to have the same color: where none was given yet, it is.
+pub fn colors_of_a_row_are_alike(colors: &ColorMap, row: usize) -> bool
+    ensures alike { IsTrue result → AreColorsAlike colors.now row }
+    ensures none { colors.now ≡ None → IsTrue result }
 {
-    colors.has_rows_alone()
+    colors.is_row_alike(row)
 }
 
 /// The configuration of the borders, lent to be changed, is this one's, and so is what is written there; the colors of cells are as

@@ -1,11 +1,12 @@
 //! What a configuration has beside its offsets, and whether it has anything of a kind.
 
-ghost use Rattle.std.specs.Prelude.{◌||◌, ◌↔◌, ◌≡◌, IsTrue, is_some, option_copied};
+ghost use Rattle.std.specs.Prelude.{◌||◌, ◌≡◌, IsTrue, is_some, option_copied};
 ghost use Rattle.std.specs.FinMap as map;
-ghost use Rattle.tabled_configuration.specs.ByRows.{AreColoredByRows};
+ghost use Rattle.tabled_configuration.specs.AlikeRows.{AreCellsAlike};
 ghost use Rattle.tabled_grid.specs.Probing.{IsRaised};
 ghost use Rattle.tabled_grid.specs.State.{state_at};
 ghost use Rattle.tabled_grid.specs.Value.{plain_value};
+ghost use Rattle.tabled_settings.specs.CellSettings.{first_settings};
 
 use tabled_border::ANSIBuf;
 use tabled_configuration::SpannedConfig;
@@ -62,11 +63,12 @@ where
     (cfg.characters(), cfg.colors())
 }
 
-/// Whether colors beside texts are set for all cells and for rows alone.
-pub fn has_colors_by_rows(cfg: &SpannedConfig) -> bool
-    ensures { IsTrue result ↔ AreColoredByRows cfg.now.settings.cells }
+/// Whether each cell of a row is known to have the same padding, justification and trims: where nothing is set, it is.
+pub fn cells_of_a_row_are_alike(cfg: &SpannedConfig, row: usize) -> bool
+    ensures alike { IsTrue result → AreCellsAlike cfg.now.settings.cells row }
+    ensures none { cfg.now.settings.cells ≡ first_settings → IsTrue result }
 {
-    cfg.has_colors_by_rows()
+    cfg.is_row_alike(row)
 }
 
 /// Whether a custom horizontal line of characters, or one of colors, stands at an index.

@@ -1,10 +1,10 @@
 //! What is set for cells, for the margin and as spans, call by call.
 
-ghost use Rattle.std.specs.Prelude.{◌++◌, ◌<◌, ◌≡◌, IsOk, IsTrue, OnErr, OnOk, not, option_copied, [], ◌∷◌};
+ghost use Rattle.std.specs.Prelude.{◌++◌, ◌<◌, ◌≡◌, ◌||◌, IsOk, IsTrue, OnErr, OnOk, not, option_copied, [], ◌∷◌};
 ghost use Rattle.tabled_configuration.specs.Configuration.{Changes, by_column_span, by_margin, by_row_span, by_setting, has_no_padding, has_no_spans, is_sized_by_texts};
 ghost use Rattle.tabled_configuration.specs.EntitiesAligned.{entities_aligned};
 ghost use Rattle.tabled_grid.specs.Table.{table};
-ghost use Rattle.tabled_layout.specs.Covering.{covered_by_both_spans, covered_by_column_span, covered_by_row_span};
+ghost use Rattle.tabled_layout.specs.Covering.{covered_by_both_spans, covered_by_column_span, covered_by_row_span, has_span};
 ghost use Rattle.tabled_layout.specs.Margin.{of_color, of_offset, of_size};
 ghost use Rattle.tabled_layout.specs.Spans.{position_cmp};
 ghost use Rattle.tabled_settings.specs.Padding.{is_first_padding};
@@ -364,4 +364,11 @@ pub fn covered_by_spans(cfg: &SpannedConfig, position: Position) -> [bool; 4]
         cfg.is_cell_covered_by_both_spans(position),
         cfg.has_spans(),
     ]
+}
+
+/// Whether one of the first cells of a row spans.
+pub fn spans_in_a_row(cfg: &SpannedConfig, row: usize, count: usize) -> bool
+    ensures { result ≡ (has_span cfg.now.settings.column_spans row count || has_span cfg.now.settings.row_spans row count) }
+{
+    cfg.has_span_in_row(row, count)
 }

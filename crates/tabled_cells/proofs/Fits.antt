@@ -71,7 +71,7 @@ narrow_after text n character narrow splits = ap (str_width false) (splits (time
 
 -- ---- a line in its column
 
-before_fits : (side : AlignmentHorizontal) (free : ℕ) → free_before side free ≤ free
+pub before_fits : (side : AlignmentHorizontal) (free : ℕ) → free_before side free ≤ free
 before_fits Left free = omega arith
 before_fits Center free = omega arith
 before_fits Right free = omega arith

@@ -11,7 +11,7 @@ ghost use Rattle.tabled_settings.specs.declared.cell_settings.CellSettings.{Cell
 ghost use Rattle.tabled_settings.specs.CellSettings.{SettingEvent, settings_after, first_settings, settings_left, no_colors, alignment_horizontal_event, alignment_vertical_event, trim_horizontal_event, trim_vertical_event, line_alignment_event, justification_event, justification_color_event, padding_event, padding_color_event};
 ghost use Rattle.tabled_settings.specs.Padding.{first_padding};
 ghost use Rattle.tabled_settings.specs.Live.{after, after_all, at_first, value_at};
-ghost use Rattle.tabled_settings.specs.ByRows.{are_of_rows};
+ghost use Rattle.tabled_settings.specs.AlikeRows.{IsRowAlike};
 ghost use Rattle.tabled_settings.specs.Setting.{EntityEvent, is_global, removal_of, setting, write_of};
 ghost use Rattle.tabled_configuration.specs.EntitiesColored.{entities_colored, text_writes};
 ghost use Rattle.tabled_color.specs.Shade.{Shade, texts_of};
@@ -141,13 +141,13 @@ pub fn nothing_since_all_cells<T>(map: &EntityMap<T>) -> bool
     map.is_empty()
 }
 
-/// Whether no entity but `Global` and rows had an event since the last one of `Global`. Then a cell has the value of each other cell of its
-/// row.
-pub fn rows_alone_since_all_cells<T>(map: &EntityMap<T>) -> bool
-    ensures value { result ≡ are_of_rows map.now.since }
-    ensures by_row { IsTrue result → (row col other : ℕ) → value_at map.now (position row col) ≡ value_at map.now (position row other) }
+/// Where each cell of a row is known to have the same value, one has that of any other; where no entity but `Global` had an event since the
+/// last one of `Global`, it is known.
+pub fn values_of_a_row_are_alike<T>(map: &EntityMap<T>, row: usize) -> bool
+    ensures alike { IsTrue result → IsRowAlike map.now row }
+    ensures none { map.now.since ≡ [] → IsTrue result }
 {
-    map.has_rows_alone()
+    map.is_row_alike(row)
 }
 
 /// After any list of events an entity map has, for every cell, the value that the last event covering it gives.

@@ -7,4 +7,4 @@ pub mod Options
 pub mod Compact
 pub mod EntitiesColored
 pub mod EntitiesAligned
-pub mod ByRows
+pub mod AlikeRows

@@ -4,7 +4,7 @@ ghost use Rattle.std.specs.Prelude.{◌≡◌, ◌↔◌, Option, None, IsTrue, 
 ghost use Rattle.tabled_object.specs.declared.position.Position.{Position as At};
 ghost use Rattle.tabled_settings.specs.Setting.{write_of, removal_of, is_global};
 ghost use Rattle.tabled_settings.specs.Live.{value_at};
-ghost use Rattle.tabled_configuration.specs.ByRows.{are_by_rows};
+ghost use Rattle.tabled_configuration.specs.AlikeRows.{AreColorsAlike};
 ghost use Rattle.tabled_configuration.specs.CellColors.{changed, colors_after_event, IsBare};
 
 pub(crate) mod coloring;
@@ -66,12 +66,13 @@ impl ColorMap {
         self.map.is_none()
     }
 
-    /// Whether colors are set for all cells and for rows alone.
-    pub fn has_rows_alone(&self) -> bool
-        ensures { result ≡ are_by_rows self.now }
+    /// Whether each cell of a row is known to have the same color, whatever its column. It takes as long where many have one as where few do.
+    pub fn is_row_alike(&self, row: usize) -> bool
+        ensures alike { IsTrue result → AreColorsAlike self.now row }
+        ensures none { self.now ≡ None → IsTrue result }
     {
         match &self.map {
-            Some(map) => map.has_rows_alone(),
+            Some(map) => map.is_row_alike(row),
             None => true,
         }
     }

@@ -7,12 +7,13 @@ use Rattle.std.specs.FinMap.Entries.{below_all}
 use Rattle.std.specs.FinMap as map
 use Rattle.std.specs.BTreeMap.Range.{range_contains}
 use Rattle.std.specs.declared.ops.Bound.TheVariants.{Included, Excluded}
-use Rattle.std.proofs.lemmas.Bool.{and_parts, eqb-true, eqb-false, eq-eqb, ltb-true, and_from, or_left, or_right}
+use Rattle.std.proofs.lemmas.Bool.{and_parts, eqb-true, eqb-false, eq-eqb, ltb-true, lt-ltb, and_from, or_left, or_right}
 use Rattle.std.proofs.lemmas.Bool.Decides.{nat_tests}
 use Rattle.tabled_object.specs.declared.position.Position.{Position}
+use Rattle.tabled_object.specs.Entities.{position}
 use Rattle.tabled_object.specs.contracts.position.PositionOrd.TheImpl.Laws.{total-law}
 use Rattle.tabled_layout.specs.Spans.{position_cmp, SpanMap, SpanEvent, NoLonger, ReachedFrom, spans_in_row}
-use Rattle.tabled_layout.specs.Covering.{within_columns, within_rows, within_its_rows, covered_by_row_span, covered_by_both_spans, covered_from_row}
+use Rattle.tabled_layout.specs.Covering.{within_columns, within_rows, within_its_rows, covered_by_row_span, covered_by_both_spans, covered_from_row, has_span}
 use Rattle.tabled_layout.proofs.SpanLemmas.{positions_apart, found_in_whole, second_half}
 
 -- ---- an entry that passes a test is a span that is kept
@@ -115,6 +116,30 @@ any_in_row spans row first cell test reached within =
     let parts = and_parts (row == event.0.row) (test event) h in
     let bounds = within_count event.0.col event.1 cell.col (within event parts.1) in
     and_from (in_the_row row first cell.col event.0) (test event) (in_row_if row first cell.col event.0 (eqb-true row event.0.row parts.0) (reached event.0 event.1 kept event.0.col bounds.1) bounds.0) parts.1)
+
+-- the spans of the first cells of a row are some where one of them spans
+pub some_in_row : (spans : SpanMap) (row count : ℕ) → list_any (λ span. true) (spans_in_row spans row 0 count) ≡ has_span spans row count
+unfolding in_the_row
+some_in_row spans row count =
+    any_of_part (λ span. in_the_row row 0 count span.0) (λ span. true) (map.entries spans)
+    ∙ same_any spans (λ span. in_the_row row 0 count span.0 && true) (λ span. (row == span.0.row) && nat_lt span.0.col count)
+    (λ event kept h.
+    let lies = lies_in_row row 0 count event.0 (and_parts (in_the_row row 0 count event.0) true h).0 in
+    and_from (row == event.0.row) (nat_lt event.0.col count) (eq-eqb row event.0.row lies.0) (lt-ltb event.0.col count lies.2))
+    (λ event kept h.
+    let parts = and_parts (row == event.0.row) (nat_lt event.0.col count) h in
+    and_from (in_the_row row 0 count event.0) true (in_row_if row 0 count event.0 (eqb-true row event.0.row parts.0) (omega arith) (ltb-true event.0.col count parts.1)) refl)
+
+-- and where none does, nothing is kept for any of them
+pub none_in_row : (spans : SpanMap) (row count : ℕ) → has_span spans row count ≡ false → (col : ℕ) → col < count → map.get spans (position row col) ≡ None
+none_in_row spans row count none col within = by (map.get spans (position row col)) refl
+  where
+    by : (kept : Option ℕ) → map.get spans (position row col) ≡ kept → kept ≡ None
+    by None is = refl
+    by (Some n) is =
+        let never : true ≡ false =
+        sym (passes_if_kept spans (λ span. (row == span.0.row) && nat_lt span.0.col count) (position row col, n) is (and_from (row == row) (nat_lt col count) (eq-eqb row row refl) (lt-ltb col count within))) ∙ none in
+        absurd cc
 
 -- a cell stands within the rows that a position spans only where that has a row span
 its_rows_kept : (rows : SpanMap) (position cell : Position) → within_its_rows rows position cell ≡ true → (count : ℕ) × (map.get rows position ≡ Some count) × (within_rows (position, count) cell ≡ true)

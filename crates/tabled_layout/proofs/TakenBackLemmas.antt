@@ -1,12 +1,12 @@
 -- Spans that are set and taken back.
-use Rattle.std.proofs.Common.{◌≡◌, ℕ, nat_lt, ◌<◌, arith, Bool, true, false, cond, ◌≤◌, OnOk, Option, Some, None, List, [], ◌∷◌, ◌++◌, refl, sym, ap, ◌∙◌, if◌then◌else◌, is_some, take, map, Result, OnErr, Ok, Err}
+use Rattle.std.proofs.Common.{◌≡◌, ℕ, nat_lt, ◌<◌, arith, Bool, true, false, cond, ◌≤◌, OnOk, Option, Some, None, List, [], ◌∷◌, ◌++◌, refl, sym, ap, ◌∙◌, if◌then◌else◌, is_some, Result, OnErr, Ok, Err}
 use Rattle.std.specs.Ordering.{eq_by_cmp}
 use Rattle.std.specs.Cmp.{Equal-is, eq_by_cmp_equiv}
 use Rattle.std.specs.FinMap as finmap
 use Rattle.std.proofs.lemmas.Bool.Decides.{nat_tests}
 use Rattle.tabled_object.specs.declared.position.Position.{Position}
 use Rattle.tabled_object.specs.contracts.position.PositionOrd.TheImpl.Laws.{total-law}
-use Rattle.tabled_layout.specs.Spans.{position_cmp, SpanMap, SpanEvent, after_span, spans_after, calls_for}
+use Rattle.tabled_layout.specs.Spans.{position_cmp, SpanMap, after_span, spans_after, calls_for}
 use Rattle.tabled_layout.specs.TakenBack.{Note, put_back, taken_back}
 use Rattle.tabled_layout.proofs.SpanLemmas.{positions_apart}
 

@@ -12,6 +12,10 @@ within_columns (position, count) cell = nat_lt position.col cell.col && nat_lt c
 abbrev pub within_rows : SpanEvent → Position → Bool
 within_rows (position, count) cell = nat_lt position.row cell.row && nat_lt cell.row (position.row + count)
 
+-- whether one of the first cells of a row spans
+abbrev pub has_span : SpanMap → ℕ → ℕ → Bool
+has_span spans row count = list_any (λ span. (row == span.0.row) && nat_lt span.0.col count) (entries spans)
+
 -- a column span covers cells of its own row, a row span those of its own column
 abbrev pub covered_by_column_span : SpanMap → Position → Bool
 covered_by_column_span spans cell = list_any (λ span. (cell.row == span.0.row) && within_columns span cell) (entries spans)

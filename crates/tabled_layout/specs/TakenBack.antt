@@ -1,5 +1,5 @@
 -- Spans that are taken back by what was noted before each of them was set. Private functions alone cite this.
-use Rattle.std.specs.Prelude.{ℕ, Bool, is_some, if◌then◌else◌, Option, Some, None, List, [], ◌∷◌}
+use Rattle.std.specs.Prelude.{ℕ, is_some, if◌then◌else◌, Option, Some, None, List, [], ◌∷◌}
 use Rattle.std.specs.FinMap.{get, insert, remove}
 use Rattle.tabled_object.specs.declared.position.Position.{Position}
 use Rattle.tabled_layout.specs.Spans.{SpanMap}

@@ -1,7 +1,7 @@
 //! Which cells spans cover.
 
 ghost use Rattle.std.specs.Prelude.{◌≡◌};
-ghost use Rattle.tabled_layout.specs.Covering.{within_columns, within_rows, within_its_rows, covered_by_column_span, covered_by_row_span, covered_by_both_spans, covered_from_row};
+ghost use Rattle.tabled_layout.specs.Covering.{within_columns, within_rows, within_its_rows, covered_by_column_span, covered_by_row_span, covered_by_both_spans, covered_from_row, has_span};
 
 use crate::Spans;
 use tabled_object::Position;
@@ -21,6 +21,13 @@ fn is_within_rows(position: Position, count: usize, cell: Position) -> bool
 }
 
 impl Spans {
+    /// Whether one of the first `count` cells of a row spans.
+    pub fn has_some(&self, row: usize, count: usize) -> bool
+        ensures { result ≡ has_span self.now row count }
+    {
+        self.in_row(row, 0, count).any(|_| true)
+    }
+
     /// Whether, as spans of several columns, they cover a cell: it stands at the right of one in its row.
     pub fn cover_in_row(&self, cell: Position) -> bool
         ensures { result ≡ covered_by_column_span self.now cell }

@@ -2,9 +2,8 @@
 use Rattle.std.proofs.Common.{◌≡◌, ℕ, ◌+◌, ◌-◌, Bool, true, false, if◌then◌else◌, Option, Some, None, List, [], ◌∷◌, ◌++◌, map, length, refl, sym, ap, subst, ◌∙◌, arith, option_map, nat_lt, ◌==◌}
 use Rattle.std.specs.Prelude.{IfSome, option_and_then, option_copied, slice_index_or}
 use denote.Ref.{Bor}
-use Rattle.tabled_settings.proofs.ByRows.{value_of_row}
 use Rattle.tabled_settings.specs.declared.cell_settings.CellSettings.{CellSettings}
-use Rattle.tabled_configuration.specs.ByRows.{are_by_rows, AreColoredByRows}
+use Rattle.tabled_configuration.specs.AlikeRows.{AreCellsAlike, AreColorsAlike}
 use Rattle.std.specs.List.{list_all}
 use Rattle.std.proofs.lemmas.Bool.Decides.{nat_tests}
 use Rattle.std.proofs.lemmas.List.{append_assoc, map-append}
@@ -22,13 +21,14 @@ use Rattle.tabled_cells.specs.declared.filling.LineParts.{LineParts}
 use Rattle.tabled_cells.specs.declared.placement.Placement.{Placement}
 use Rattle.tabled_settings.specs.declared.alignment.AlignmentVertical.{AlignmentVertical}
 use Rattle.tabled_settings.specs.declared.alignment.AlignmentVertical.TheVariants.{Top, Center, Bottom}
-use Rattle.tabled_cells.specs.Placed.{times, free_before, free_above, fill_of, greatest, line_parts, aligned_width}
+use Rattle.tabled_cells.specs.Placed.{times, free_before, free_above, fill_of, greatest, line_parts, aligned_width, padding_shown}
+use Rattle.tabled_cells.specs.Placements.{placement_at}
 use Rattle.tabled_width.specs.Texts.{is_printable}
 use Rattle.tabled_cells.specs.Trimmed.{without_ends, is_space, is_blank, line_shown, lines_shown}
 use Rattle.tabled_cells.proofs.Printing.{one_piece, printable_width}
 use Rattle.tabled_painting.specs.Painted.{Painted, paint, plain, colored_if}
 use Rattle.tabled_painting.specs.CellLines.{Coloring, coloring_at, painted_line, cell_line, text_color, with_texts}
-use Rattle.tabled_painting.specs.BareCells.{HaveRowColors, IsBareCell, IsInColor, IsRowColor, bare_text}
+use Rattle.tabled_painting.specs.BareCells.{IsBareCell, IsBareIn, IsInColor, bare_text}
 use Rattle.tabled_painting.proofs.PainterLemmas.{plain_paint}
 use Rattle.tabled_painting.proofs.Plain.{plain_cell}
 
@@ -50,37 +50,52 @@ some_texts color empty some told = ap (λ b. if b then None else Some color) (by
     by [] (b ∷ after) told = grind (arith, nat_tests)
     by (b ∷ before) after told = grind (arith, nat_tests)
 
--- ---- colors of rows
+-- ---- cells of rows
 
 abbrev cell_at : ℕ → ℕ → Position
 cell_at r c = record { row = r; col = c }
 
-text_by_row : (colors : Option (Live Texts)) (r c : ℕ) → are_by_rows colors ≡ true → text_color colors (cell_at r c) ≡ text_color colors (cell_at r 0)
-text_by_row None r c rows = refl
-text_by_row (Some live) r c rows = ap with_texts (value_of_row live r c 0 rows)
+text_alike : (colors : Option (Live Texts)) (r c : ℕ) → AreColorsAlike colors r → text_color colors (cell_at r c) ≡ text_color colors (cell_at r 0)
+text_alike None r c alike = refl
+text_alike (Some live) r c alike = ap with_texts (alike c 0)
 
-pub by_rows : (settings : CellSettings) (colors : Option (Live Texts)) → AreColoredByRows settings → are_by_rows colors ≡ true → HaveRowColors settings colors
+colors_alike : (settings : CellSettings) (colors : Option (Live Texts)) (r c : ℕ) → AreCellsAlike settings r → AreColorsAlike colors r → coloring_at settings colors r c ≡ coloring_at settings colors r 0
 unfolding coloring_at
-by_rows settings colors beside texts r c = λ i. record {
-  text = text_by_row colors r c texts i;
-  fill = value_of_row settings.justification_color r c 0 beside.justification_color i;
-  padding = value_of_row settings.padding_color r c 0 beside.padding_color i;
+colors_alike settings colors r c beside texts = λ i. record {
+  text = text_alike colors r c texts i;
+  fill = beside.justification_color c 0 i;
+  padding = beside.padding_color c 0 i;
 }
 
--- a row has the color of its first cell, if that has one
-pub color_of_row : (wanted : Bool) (settings : CellSettings) (colors : Option (Live Texts)) (row col r : ℕ) (coloring : Coloring) (found : Option (Option (Bor Texts)))
-    → HaveRowColors settings colors → row ≡ r → col ≡ 0 → coloring ≡ coloring_at settings colors row col
-    → IfSome found (λ color. IsInColor (option_copied color) coloring) → IfSome found (λ color. IsRowColor wanted settings colors r (option_copied color))
-color_of_row wanted settings colors row col r coloring None alike at_row at_col read is = tt
-color_of_row wanted settings colors row col r coloring (Some color) alike at_row at_col read is = λ yes c.
-    subst (IsInColor (option_copied color)) (read ∙ (λ i. coloring_at settings colors (at_row i) (at_col i)) ∙ sym (alike r c)) is
+bare_alike : (wanted : Bool) (settings : CellSettings) (colors : Option (Live Texts)) (r c : ℕ) (color : Option Texts) → AreCellsAlike settings r → AreColorsAlike colors r → IsBareIn wanted settings colors r 0 color → IsBareIn wanted settings colors r c color
+unfolding placement_at
+bare_alike wanted settings colors r c color beside texts is = record {
+  bare = record {
+    whole_lines = beside.trim_horizontal c 0 ∙ is.bare.whole_lines;
+    all_lines = beside.trim_vertical c 0 ∙ is.bare.all_lines;
+    spaces = beside.justification c 0 ∙ is.bare.spaces;
+    padding = ap padding_shown (beside.padding c 0) ∙ is.bare.padding;
+  };
+  in_color = λ yes. subst (IsInColor color) (sym (colors_alike settings colors r c beside texts)) (is.in_color yes);
+}
 
--- and each cell has that of its row
-pub color_of_cell : (wanted : Bool) (settings : CellSettings) (colors : Option (Live Texts)) (r row col : ℕ) (found : Option (Option (Bor Texts))) → row ≡ r
-    → IfSome found (λ color. IsRowColor wanted settings colors r (option_copied color))
-    → IfSome found (λ color. wanted ≡ true → IsInColor (option_copied color) (coloring_at settings colors row col))
-color_of_cell wanted settings colors r row col None at_row is = tt
-color_of_cell wanted settings colors r row col (Some color) at_row is = λ yes. subst (λ n. IsInColor (option_copied color) (coloring_at settings colors n col)) (sym at_row) (is yes col)
+-- what is known of the first cell of such a row is known of each
+pub bare_row : (wanted : Bool) (settings : CellSettings) (colors : Option (Live Texts)) (row col r : ℕ) (found : Option (Option (Bor Texts))) → AreCellsAlike settings r → AreColorsAlike colors r → row ≡ r → col ≡ 0
+    → IfSome found (λ color. IsBareIn wanted settings colors row col (option_copied color)) → IfSome found (λ color. (c : ℕ) → IsBareIn wanted settings colors r c (option_copied color))
+bare_row wanted settings colors row col r None beside texts at_row at_col is = tt
+bare_row wanted settings colors row col r (Some color) beside texts at_row at_col is = λ c.
+    bare_alike wanted settings colors r c (option_copied color) beside texts (subst (λ n. IsBareIn wanted settings colors n 0 (option_copied color)) at_row (subst (λ n. IsBareIn wanted settings colors row n (option_copied color)) at_col is))
+
+-- and so of each
+pub bare_of_row : (wanted : Bool) (settings : CellSettings) (colors : Option (Live Texts)) (r row col : ℕ) (found : Option (Option (Bor Texts))) → row ≡ r
+    → IfSome found (λ color. (c : ℕ) → IsBareIn wanted settings colors r c (option_copied color)) → IfSome found (λ color. IsBareIn wanted settings colors row col (option_copied color))
+bare_of_row wanted settings colors r row col None at_row is = tt
+bare_of_row wanted settings colors r row col (Some color) at_row is = subst (λ n. IsBareIn wanted settings colors n col (option_copied color)) (sym at_row) (is col)
+
+-- where the text of a cell stands, as it is read
+pub stands_at : (settings : CellSettings) (row col : ℕ) (read : AlignmentHorizontal) → read ≡ value_at settings.alignment_horizontal (cell_at row col) → read ≡ (placement_at settings row col).alignment_horizontal
+unfolding placement_at
+stands_at settings row col read is = is
 
 -- ---- such a cell
 
@@ -102,13 +117,16 @@ one_greatest n = omega arith
 abbrev no_coloring : Coloring
 no_coloring = record { text = None; fill = None; padding = no_sides }
 
-module _ (side : AlignmentHorizontal) (how : Placement) (is : IsBareCell side how) (width height : ℕ) (low : height ≡ 1) (text : List ℕ) (printable : list_all is_printable text ≡ true) where
+module _ (how : Placement) (is : IsBareCell how) (width height : ℕ) (low : height ≡ 1) (text : List ℕ) (printable : list_all is_printable text ≡ true) where
   shown : lines_shown how text ≡ text ∷ []
   unfolding lines_shown
   shown =
       ap (λ b. if b then without_ends is_blank (map (line_shown how) (pieces text)) else map (line_shown how) (pieces text)) is.all_lines
       ∙ ap (map (line_shown how)) (one_piece text printable)
       ∙ ap (λ b. (if b then without_ends is_space text else text) ∷ []) is.whole_lines
+
+  abbrev side : AlignmentHorizontal
+  side = how.alignment_horizontal
 
   abbrev free : ℕ
   free = width - 2 - length text
@@ -137,7 +155,6 @@ module _ (side : AlignmentHorizontal) (how : Placement) (is : IsBareCell side ho
       let all : width - 1 - 1 - length text ≡ free = omega arith in
       let rest : width - 1 - 1 - before - length text ≡ after = omega arith in
       ap (λ padding. made padding how.alignment_horizontal how.justification aligned (width_of_text text)) is.padding
-      ∙ ap (λ place. made first_padding place how.justification aligned (width_of_text text)) is.stands
       ∙ ap (λ character. made first_padding side character aligned (width_of_text text)) is.spaces
       ∙ (λ i. made first_padding side 32 (long i) (printable_width text printable i))
       ∙ (λ i. of (free_before side (all i)) (width - 1 - 1 - free_before side (all i) - length text) (fill_of 32 text))

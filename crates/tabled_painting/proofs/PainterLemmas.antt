@@ -1,11 +1,12 @@
 -- Painted lines as texts in color, part by part.
-use Rattle.std.proofs.Common.{◌≡◌, eq-eqb, ℕ, ◌-◌, Bool, true, false, ◌==◌, ◌&&◌, if◌then◌else◌, Option, Some, None, List, [], ◌∷◌, ◌++◌, refl, sym, ap, ◌∙◌, option_copied, zero, suc, ◌+◌, ◌≤◌, length, subst, arith, replicate, Result, Ok, Err, OnOk}
+use Rattle.std.proofs.Common.{◌≡◌, eq-eqb, ℕ, ◌-◌, Bool, true, false, ◌==◌, ◌&&◌, if◌then◌else◌, Option, Some, None, List, [], ◌∷◌, ◌++◌, refl, sym, ap, ◌∙◌, option_copied, zero, suc, ◌+◌, ◌≤◌, length, subst, arith, replicate, max, Result, Ok, Err, OnOk}
 use Rattle.std.specs.Cmp.Lexicographic.{pointwise}
 use Rattle.std.proofs.lemmas.List.{append-nil, append_assoc, length-replicate}
 use Rattle.std.proofs.lemmas.Str.{length-le-encodes}
 use Rattle.tabled_cells.specs.Placed.{free_before, times}
 use Rattle.tabled_settings.specs.declared.alignment.AlignmentHorizontal.{AlignmentHorizontal}
-use Rattle.tabled_printing.proofs.TimesLemmas.{times_spaces}
+use Rattle.tabled_printing.proofs.TimesLemmas.{times_both, times_spaces}
+use Rattle.tabled_cells.proofs.Fits.{before_fits}
 use Rattle.tabled_painting.specs.BareCells.{bare_text}
 use Rattle.tabled_border.specs.Texts.{Texts}
 use Rattle.std.specs.List.{flat_map}
@@ -193,6 +194,17 @@ some_bare side width text none =
     let more : suc before ≡ 1 + before = omega arith in
     let first : 32 ∷ ((replicate before 32 ++ text) ++ last) ≡ [] = sym (ap (λ bs. bs ++ text ++ last) (times_spaces (suc before))) ∙ ap (λ n. times n 32 ++ text ++ last) more ∙ none in
     cc
+
+-- where there is no text, all are spaces
+pub bare_spaces : (side : AlignmentHorizontal) (width : ℕ) (text : List ℕ) → text ≡ [] → times (max width 2) 32 ≡ bare_text side width text
+bare_spaces side width text none =
+    let free : ℕ = width - 2 - 0 in
+    let before : ℕ = free_before side free in
+    let fits = before_fits side free in
+    let all : max width 2 ≡ (1 + before) + (free - before + 1) = omega (arith, fits) in
+    ap (λ n. times n 32) all ∙ times_both (1 + before) (free - before + 1) 32
+    ∙ ap (λ bs. bs ++ times (free - before + 1) 32) (sym (append-nil (times (1 + before) 32)))
+    ∙ ap (bare_text side width) (sym none)
 
 -- what follows where a call has succeeded
 pub on_done : {T E P Q : Type 0} (r : Result T E) → OnOk r P → (P → Q) → OnOk r Q

@@ -7,11 +7,11 @@ use Rattle.tabled_settings.specs.Live.{Live}
 use Rattle.tabled_settings.specs.Padding.{first_padding}
 use Rattle.tabled_cells.specs.declared.placement.Placement.{Placement}
 use Rattle.tabled_cells.specs.Placed.{free_before, times}
+use Rattle.tabled_cells.specs.Placements.{placement_at}
 use Rattle.tabled_painting.specs.CellLines.{Coloring, coloring_at}
 
--- such a cell, whose text stands there
-pub record IsBareCell (side : AlignmentHorizontal) (how : Placement) : Type 0 where
-  pub stands : how.alignment_horizontal ≡ side
+-- such a cell, wherever its text stands
+pub record IsBareCell (how : Placement) : Type 0 where
   pub whole_lines : how.trim_horizontal ≡ false
   pub all_lines : how.trim_vertical ≡ false
   pub spaces : how.justification ≡ 32
@@ -24,13 +24,10 @@ pub record IsInColor (color : Option Texts) (colors : Coloring) : Type 0 where
   pub before : colors.padding.left ≡ color
   pub after : colors.padding.right ≡ color
 
--- where colors are wanted, each cell of a row has that one
-abbrev pub IsRowColor : Bool → CellSettings → Option (Live Texts) → ℕ → Option Texts → Type 0
-IsRowColor with_colors settings colors r color = with_colors ≡ true → (c : ℕ) → IsInColor color (coloring_at settings colors r c)
-
--- each cell has the colors of the first one of its row
-abbrev pub HaveRowColors : CellSettings → Option (Live Texts) → Type 0
-HaveRowColors settings colors = (r c : ℕ) → coloring_at settings colors r c ≡ coloring_at settings colors r 0
+-- the cell at a row and a column is such a one, and has that color where colors are wanted
+pub record IsBareIn (wanted : Bool) (settings : CellSettings) (colors : Option (Live Texts)) (r c : ℕ) (color : Option Texts) : Type 0 where
+  pub bare : IsBareCell (placement_at settings r c)
+  pub in_color : wanted ≡ true → IsInColor color (coloring_at settings colors r c)
 
 -- a text in such a cell of a column of that width: before it and after it a space, and of the spaces that are free as many as its side says
 abbrev pub bare_text : AlignmentHorizontal → ℕ → List ℕ → List ℕ

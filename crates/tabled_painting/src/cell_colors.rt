@@ -1,7 +1,6 @@
 //! The colors of a cell.
 
-ghost use Rattle.std.specs.Prelude.{◌≡◌, IfSome, IsTrue, option_copied};
-ghost use Rattle.tabled_painting.specs.BareCells.{HaveRowColors};
+ghost use Rattle.std.specs.Prelude.{◌≡◌, IfSome, option_copied};
 ghost use Rattle.tabled_painting.specs.CellLines.{text_color};
 
 use tabled_border::ANSIBuf;
@@ -49,13 +48,6 @@ impl<'a> CellColors<'a> {
         }
         Some(color)
     }
-}
-
-/// Whether each cell is known to have the colors of the first one of its row: since all of them are set for all cells and for rows alone.
-pub(crate) fn has_row_colors(cfg: &SpannedConfig, colors: &ColorMap) -> bool
-    ensures { IsTrue result → HaveRowColors cfg.now.settings.cells colors.now }
-{
-    colors.has_rows_alone() && cfg.has_colors_by_rows()
 }
 
 /// The color of the text of a cell, if it has one with texts.

@@ -50,19 +50,6 @@ impl<'a, O: Output> Painter<'a, O> {
         }
     }
 
-    /// What was written into.
-    pub(crate) fn into_out(self) -> O
-        ensures { result ≡ self.entry.out }
-    {
-        let Painter {
-            out,
-            color: _,
-            with_colors: _,
-            has_begun: _,
-        } = self;
-        out
-    }
-
     /// Writes the text that ends the color of what was written last.
     fn end_color(&mut self) -> Result<(), O::Error>
         ensures text { OnOk result (O.gains (suffix_of (option_copied self.old.color)) self.old.out self.new.out) }
@@ -201,6 +188,10 @@ impl<'a, O: Output> Painter<'a, O> {
     ) -> Result<(), O::Error>
         ensures { OnOk result (Paints O.gains (paint (option_copied color.entry) (bare_text alignment width text.now) ++ side_painted (option_map mark_of side.entry)) self.old self.new) }
     {
+        if text.is_empty() {
+            self.push_times(color, width.max(2), ' ')?;
+            return self.push_side(side);
+        }
         let free = width.saturating_sub(2).saturating_sub(text.len());
         let before = free_before(alignment, free);
         self.begin(color)?;

@@ -1,13 +1,11 @@
 //! A cell that is shown in its room.
 
-ghost use Rattle.std.specs.Prelude.{◌≡◌, ℕ, length, IfOk, OnOk};
+ghost use Rattle.std.specs.Prelude.{◌≡◌, ℕ, OnOk};
 ghost use Rattle.tabled_painting.specs.InColor.{Paints};
 ghost use Rattle.tabled_painting.specs.RoomLines.{begins, room_shown};
 
 use crate::cell_lines::CellLines;
 use crate::{Output, Painter};
-use std::alloc::Global;
-use tabled_border::OutOfMemory;
 use tabled_rooms::Host;
 
 /// A cell that is shown over the columns and rows of its room.
@@ -34,17 +32,6 @@ pub(crate) fn paint_room<'a, O: Output>(
     cell.paint_line(painter, line.saturating_sub(first))?;
     *room = Some(Room { first, cell });
     Ok(())
-}
-
-/// No rooms, for so many columns.
-pub(crate) fn no_rooms<'a>(alloc: Global, cols: usize) -> Result<Vec<Option<Room<'a>>>, OutOfMemory>
-    ensures { IfOk result (λ rooms. length rooms.items ≡ cols) }
-{
-    let mut rooms = Vec::with_capacity(alloc, cols)?;
-    for _ in 0..cols {
-        rooms.push(None)?;
-    }
-    Ok(rooms)
 }
 
 /// Whether a room begins in a column of a row, by its hosts, where some are kept.

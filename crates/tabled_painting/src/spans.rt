@@ -36,13 +36,11 @@ impl Spans {
             return Spans::of_rooms(lines);
         }
         let alloc = lines.frame.cfg.allocator();
-        let hosts = Vec::new(alloc);
-        let wides = Vec::new(alloc);
         Ok(Spans {
             firsts: Vec::new(alloc),
             sides: Vec::new(alloc),
-            hosts,
-            wides,
+            hosts: Vec::new(alloc),
+            wides: Vec::new(alloc),
         })
     }
 
@@ -70,13 +68,6 @@ impl Spans {
     }
 }
 
-/// 1 where a line is drawn.
-fn one_if(drawn: bool) -> usize
-    ensures { result ≡ one_if drawn }
-{
-    if drawn { 1 } else { 0 }
-}
-
 /// The sum of two numbers. Refused where no number says it.
 fn sum_of(first: usize, second: usize) -> Result<usize, OutOfMemory>
     ensures { IfOk result (λ sum. sum ≡ first + second) }
@@ -91,7 +82,7 @@ fn check_width(widths: &[usize], sides: &[bool]) -> Result<(), OutOfMemory>
 {
     let mut total = 0usize;
     for col in 0..widths.len() {
-        let line = one_if(sides[col]);
+        let line = usize::from(sides[col]);
         let wide = sum_of(line, widths[col])?;
         total = sum_of(total, wide)?;
     }

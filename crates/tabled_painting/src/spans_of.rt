@@ -23,6 +23,10 @@ impl CellSpans for SpansOf<'_> {
 
     ghost rows_at = { λ spans row col. rows_spanned spans.cfg.now.settings row col };
 
+    fn may_span(&self, row: usize, count: usize) -> bool {
+        self.cfg.has_span_in_row(row, count)
+    }
+
     fn columns(&self, row: usize, col: usize) -> usize {
         span_at(self.cfg.get_column_spans(), Position::new(row, col))
     }

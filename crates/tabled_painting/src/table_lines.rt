@@ -11,13 +11,11 @@ ghost use Rattle.tabled_painting.specs.InColor.{Paints};
 ghost use Rattle.tabled_painting.specs.Pages.{PaintsLines, line_text};
 ghost use Rattle.tabled_painting.specs.PaintedTable.{painted_marks, side_painted};
 ghost use Rattle.tabled_painting.specs.Viewed as looks;
-ghost use Rattle.tabled_painting.specs.BareCells.{HaveRowColors};
 ghost use Rattle.tabled_painting.specs.Between.{IsBetweenRows};
 ghost use Rattle.tabled_painting.specs.TextsBy.{texts_by};
 
 use crate::alike::{first_plain_line, is_plain_line};
-use crate::bare_cells::bare_side;
-use crate::cell_colors::has_row_colors;
+use crate::bare_cells::is_bare;
 use crate::cell_lines::CellLines;
 use crate::page::Page;
 use crate::room::{Room, begins_in, paint_room};
@@ -42,19 +40,13 @@ pub(crate) struct TableLines<'a, 'b> {
     pub(crate) frame: Frame<'a, 'b, FixedDimension>,
     /// The colors of cells.
     pub(crate) colors: &'a ColorMap,
-    /// Whether each cell is known to have the colors of the first one of its row.
-    has_row_colors: bool,
     /// A horizontal line between two rows as it is written, where all of them look alike but those for which something is kept.
     between: Option<String>,
-    /// How many columns of a terminal its columns take, as far as a number says it.
-    columns: usize,
-    ghost are_row_colors: { has_row_colors ≡ true → HaveRowColors frame.cfg.now.settings.cells colors.now },
     ghost is_between: { ForSome between (λ text. IsBetweenRows frame (string_bytes text)) },
 }
 
 impl<'a, 'b> TableLines<'a, 'b> {
-    ghost use Rattle.tabled_painting.specs.BareCells.{IsInColor, IsRowColor};
-    ghost use Rattle.tabled_painting.specs.CellLines.{coloring_at};
+    ghost use Rattle.tabled_painting.specs.BareCells.{IsBareIn};
     ghost use Rattle.tabled_painting.specs.Rows.{line_of};
     ghost use Rattle.tabled_painting.specs.PaintedTable.{painted_between, painted_cell, painted_if_drawn};
     ghost use Rattle.tabled_grid.specs.declared.site.Direction.TheVariants.{Vertical};
@@ -80,16 +72,12 @@ impl<'a, 'b> TableLines<'a, 'b> {
         ensures with_colors { IfOk result (λ lines. lines.frame.with_colors ≡ with_colors) }
     {
         let (config, colors) = (cfg.config(), cfg.get_colors());
-        let has_row_colors = has_row_colors(config, colors);
         let frame = Frame::new(config, sizes, shape, with_colors)?;
-        let columns = columns_of(&frame);
         let between = line_between(config.allocator(), &frame)?;
         Ok(TableLines {
             frame,
             colors,
-            has_row_colors,
             between,
-            columns,
         })
     }
 
@@ -157,39 +145,37 @@ impl<'a, 'b> TableLines<'a, 'b> {
         self.cell_of(position, size, text)
     }
 
-    /// The color in which all cells of a row of one line are painted, if it is known that there is one: none where they have no color, or
-    /// none is wanted.
-    fn row_color(&self, row: usize) -> Option<Option<&'a ANSIBuf>>
-        ensures { IfSome result (λ color. IsRowColor self.now.frame.with_colors self.now.frame.cfg.now.settings.cells self.now.colors.now row (option_copied color)) }
-    {
-        if !self.frame.with_colors {
-            return Some(None);
-        }
-        if !self.has_row_colors {
-            return None;
-        }
-        let first = Position::new(row, 0);
-        let colors = CellColors::of(self.frame.cfg, self.colors, first);
-        colors.one_color()
-    }
-
-    /// The color in which a cell is painted, if it has one alone: that of its row, where all cells of it have that one, or as it is looked up.
+    /// The color of a bare cell and of the spaces beside its text, if all of these have the same: none where they have no color, or none is
+    /// wanted. It may be known of the row.
     fn cell_color(
         &self,
         of_row: Option<Option<&'a ANSIBuf>>,
-        position: Position,
+        cell: Position,
     ) -> Option<Option<&'a ANSIBuf>>
-        requires { IfSome of_row (λ color. self.now.frame.with_colors ≡ true → IsInColor (option_copied color) (coloring_at self.now.frame.cfg.now.settings.cells self.now.colors.now position.row position.col)) }
-        ensures { IfSome result (λ color. self.now.frame.with_colors ≡ true → IsInColor (option_copied color) (coloring_at self.now.frame.cfg.now.settings.cells self.now.colors.now position.row position.col)) }
+        requires { IfSome of_row (λ color. IsBareIn self.now.frame.with_colors self.now.frame.cfg.now.settings.cells self.now.colors.now cell.row cell.col (option_copied color)) }
+        ensures { IfSome result (λ color. IsBareIn self.now.frame.with_colors self.now.frame.cfg.now.settings.cells self.now.colors.now cell.row cell.col (option_copied color)) }
     {
-        if of_row.is_some() {
+        if of_row.is_some() || !is_bare(self.frame.cfg, cell) {
             return of_row;
         }
-        let colors = CellColors::of(self.frame.cfg, self.colors, position);
-        colors.one_color()
+        if !self.frame.with_colors {
+            return Some(None);
+        }
+        CellColors::of(self.frame.cfg, self.colors, cell).one_color()
     }
 
-    /// Paints a cell of a row of one line, and then a side, if there is one. The cell may be bare, in one color.
+    /// The same of all cells of a row, if there are several, which are known to be set alike.
+    fn row_color(&self, row: usize) -> Option<Option<&'a ANSIBuf>>
+        ensures { IfSome result (λ color. (c : ℕ) → IsBareIn self.now.frame.with_colors self.now.frame.cfg.now.settings.cells self.now.colors.now row c (option_copied color)) }
+    {
+        let (_, cols) = self.frame.shape;
+        if cols > 1 && self.frame.cfg.is_row_alike(row) && self.colors.is_row_alike(row) {
+            return self.cell_color(None, Position::new(row, 0));
+        }
+        None
+    }
+
+    /// Paints a cell of a row of one line, and then a side, if there is one. It may be known of the row that its cells are bare, in one color.
     fn paint_cell<O: Output>(
         &self,
         painter: &mut Painter<'a, O>,
@@ -200,13 +186,13 @@ impl<'a, 'b> TableLines<'a, 'b> {
     ) -> Result<(), O::Error>
         requires colors { painter.old.with_colors ≡ self.now.frame.with_colors }
         requires low { slice_index self.now.frame.dims.now.heights.items position.row ≡ 1 }
-        requires bare { IfSome of_row (λ color. self.now.frame.with_colors ≡ true → IsInColor (option_copied color) (coloring_at self.now.frame.cfg.now.settings.cells self.now.colors.now position.row position.col)) }
+        requires bare { IfSome of_row (λ color. IsBareIn self.now.frame.with_colors self.now.frame.cfg.now.settings.cells self.now.colors.now position.row position.col (option_copied color)) }
         ensures { OnOk result (Paints O.gains (row_cell self.now position.row position.col text.now 0 ++ side_painted (option_map mark_of side.entry)) painter.old painter.new) }
     {
         if is_printable(text)
-            && let Some(alignment) = bare_side(self.frame.cfg, position)
             && let Some(color) = self.cell_color(of_row, position)
         {
+            let alignment = self.frame.cfg.get_alignment_horizontal(position);
             let width = self.frame.dims.get_width(position.col);
             return painter.push_bare(color, alignment, width, text, side);
         }
@@ -385,8 +371,7 @@ impl<'a, 'b> TableLines<'a, 'b> {
         for row in 0..rows {
             high = high.saturating_add(self.frame.dims.get_height(row));
         }
-        let line = self
-            .columns
+        let line = columns_of(&self.frame)
             .saturating_add(self.frame.side_bytes())
             .saturating_add(1);
         let between = match &self.between {
@@ -400,12 +385,10 @@ impl<'a, 'b> TableLines<'a, 'b> {
 
 /// How many columns of a terminal the columns of a table take. It saturates.
 fn columns_of(frame: &Frame<FixedDimension>) -> usize {
-    let (_, cols) = frame.shape;
-    let mut columns = 0usize;
-    for col in 0..cols {
-        columns = columns.saturating_add(frame.dims.get_width(col));
-    }
-    columns
+    let widths = frame.dims.widths.as_slice();
+    widths
+        .iter()
+        .fold(0usize, |sum, width| sum.saturating_add(*width))
 }
 
 /// A horizontal line between two rows as it is written, where all of them but custom ones look alike, and one is drawn.
@@ -434,5 +417,6 @@ fn line_written(
     let mut painter = Painter::new(String::new(alloc), frame.with_colors);
     frame.put_line(row, &mut painter, &mut Probes::new())?;
     painter.end_last()?;
-    Ok(painter.into_out())
+    let Painter { out, .. } = painter;
+    Ok(out)
 }

@@ -15,7 +15,7 @@ ghost use Rattle.tabled_painting.specs.TextsBy.{texts_by};
 ghost use Rattle.tabled_painting.specs.Viewed.{viewed};
 
 use crate::page::Page;
-use crate::room::{Room, no_rooms};
+use crate::room::Room;
 use crate::spanned_lines::SpannedLines;
 use crate::spans::Spans;
 use crate::table_lines::TableLines;
@@ -63,7 +63,7 @@ fn rooms_for<'a>(
         return Ok(Vec::new(alloc));
     }
     let (_, cols) = lines.frame.shape;
-    let rooms = no_rooms(alloc, cols)?;
+    let rooms = vec![in alloc; None; cols]?;
     Ok(rooms)
 }
 
@@ -161,7 +161,8 @@ impl<'a, 'b> TablePage<'a, 'b> {
         self.paint(&mut page, rows)?;
         let Page { mut painter, .. } = page;
         margin.bottom.paint_strips(&mut painter, long)?;
-        Ok(painter.into_out())
+        let Painter { out, .. } = painter;
+        Ok(out)
     }
 
     /// Paints the lines between the upper and the lower side of the margin.

@@ -22,6 +22,7 @@ use Rattle.tabled_grid.specs.declared.site.Site.{Site}
 use Rattle.tabled_grid.specs.declared.site.Site.TheVariants.{Default as the_default, Class as of_class, Line as of_line, Cell as at_spot, Offset as at_offset}
 use Rattle.tabled_grid.specs.Drawn.{draws, drawn, Drawn}
 use Rattle.tabled_grid.specs.Site.{rank, stands}
+use Rattle.tabled_grid.specs.Calls.{edge_of as spot_of}
 use Rattle.tabled_grid.specs.Value.{has_spot, sign_or, plain_value}
 use Rattle.tabled_grid.specs.State.{State, state_at, edge_place, horizontal_part, vertical_part, HasNoCells, HasNoCellsOn}
 use Rattle.tabled_grid.specs.Keys.{edge_place_cmp, spot_cmp}
@@ -31,7 +32,7 @@ use Rattle.tabled_configuration.specs.Configuration.{Configuration, all_writes, 
 use Rattle.tabled_configuration.proofs.ConfigurationLemmas.{shown_characters}
 use Rattle.tabled_printing.specs.declared.sides.Side.{Side}
 use Rattle.tabled_printing.specs.declared.sides.Sides.{Sides}
-use Rattle.tabled_printing.specs.Alike.{IsBareLine, NoneForCells, NoneForColumns, NoneOnLine, NoOffsetsAlong, NoOffsetsAt, NoOffsetsOf}
+use Rattle.tabled_printing.specs.Alike.{IsBareLine, NoneBeside, NoneForCells, NoneForColumns, NoOffsetsAlong, NoOffsetsAt, NoOffsetsOf}
 use Rattle.tabled_printing.specs.LinePieces.{pieces_of, piece_size, crossing_of, edge_of, crossing_places, piece_places}
 use Rattle.tabled_printing.specs.Picture.{Look, Shown, look, mark_at}
 use Rattle.tabled_printing.specs.Beside.{plain_mark, plain_side, mark_beside, mark_if_drawn}
@@ -70,25 +71,26 @@ module _ {T : Type 0} (state : State T) (shape : ℕ × ℕ) where
   edge_below (LineOf.Horizontal r) = sign_or (option_and_then (horizontal_part main_edges) (get state.horizontal_lines r)) (by_class (edges Horizontal (rank shape.0 r)))
   edge_below (LineOf.Vertical c) = sign_or (option_and_then (vertical_part main_edges) (get state.vertical_lines c)) (by_class (edges Vertical (rank shape.1 c)))
 
-  edge_by_line : (line : LineOf) (n : ℕ) → HasNoCellsOn line state → plain_value (state_at state) shape (edge_of line n 0) ≡ (if has_spot shape (edge_of line n 0) then edge_below line else None)
+  edge_by_line : (line : LineOf) (n : ℕ) → get state.cells (spot_of line n) ≡ None → plain_value (state_at state) shape (edge_of line n 0) ≡ (if has_spot shape (edge_of line n 0) then edge_below line else None)
   unfolding plain_value by_class edge_below
-  edge_by_line (LineOf.Horizontal r) n cells = λ i.
-      if has_spot shape (Place.Horizontal r n 0) then sign_or (option_map sign (cells (Edge Horizontal r n) (itself r) i)) (edge_below (LineOf.Horizontal r)) else None
-  edge_by_line (LineOf.Vertical c) n cells = λ i.
-      if has_spot shape (Place.Vertical n c 0) then sign_or (option_map sign (cells (Edge Vertical n c) (itself c) i)) (edge_below (LineOf.Vertical c)) else None
+  edge_by_line (LineOf.Horizontal r) n none = λ i.
+      if has_spot shape (Place.Horizontal r n 0) then sign_or (option_map sign (none i)) (edge_below (LineOf.Horizontal r)) else None
+  edge_by_line (LineOf.Vertical c) n none = λ i.
+      if has_spot shape (Place.Vertical n c 0) then sign_or (option_map sign (none i)) (edge_below (LineOf.Vertical c)) else None
 
-  -- two edges of a line
-  pub edges_same : (line : LineOf) (n m : ℕ) → HasNoCellsOn line state → n < pieces_of shape line → m < pieces_of shape line → plain_value (state_at state) shape (edge_of line n 0) ≡ plain_value (state_at state) shape (edge_of line m 0)
-  edges_same (LineOf.Horizontal r) n m cells in_n in_m =
+  -- two edges of a line for which nothing is kept
+  pub edges_same : (line : LineOf) (n m : ℕ) → get state.cells (spot_of line n) ≡ None → get state.cells (spot_of line m) ≡ None → n < pieces_of shape line → m < pieces_of shape line
+      → plain_value (state_at state) shape (edge_of line n 0) ≡ plain_value (state_at state) shape (edge_of line m 0)
+  edges_same (LineOf.Horizontal r) n m none_n none_m in_n in_m =
       let within : nat_lt n shape.1 ≡ nat_lt m shape.1 = lt-ltb n shape.1 in_n ∙ sym (lt-ltb m shape.1 in_m) in
-      edge_by_line (LineOf.Horizontal r) n cells
+      edge_by_line (LineOf.Horizontal r) n none_n
       ∙ (λ i. if nat_lt 0 shape.0 && nat_le r shape.0 && within i then edge_below (LineOf.Horizontal r) else None)
-      ∙ sym (edge_by_line (LineOf.Horizontal r) m cells)
-  edges_same (LineOf.Vertical c) n m cells in_n in_m =
+      ∙ sym (edge_by_line (LineOf.Horizontal r) m none_m)
+  edges_same (LineOf.Vertical c) n m none_n none_m in_n in_m =
       let within : nat_lt n shape.0 ≡ nat_lt m shape.0 = lt-ltb n shape.0 in_n ∙ sym (lt-ltb m shape.0 in_m) in
-      edge_by_line (LineOf.Vertical c) n cells
+      edge_by_line (LineOf.Vertical c) n none_n
       ∙ (λ i. if nat_lt 0 shape.1 && within i && nat_le c shape.1 then edge_below (LineOf.Vertical c) else None)
-      ∙ sym (edge_by_line (LineOf.Vertical c) m cells)
+      ∙ sym (edge_by_line (LineOf.Vertical c) m none_m)
 
   -- two crossings of a horizontal line, neither with the first vertical line nor with the last, where no vertical line is a custom one
   crossing_below : ℕ → Rank → Option T
@@ -212,8 +214,8 @@ module _ (cfg : Configuration) (wanted : Bool) (shape : ℕ × ℕ) where
         → plain_mark cfg wanted shape (Place.Horizontal r 0 0) ≡ mark_at (with_colors_if wanted (look (all_writes cfg) shape widths heights)) (Place.Horizontal r n k)
     edge_as_first widths heights n k in_n within =
         marks_same (Place.Horizontal r 0 0) (Place.Horizontal r n 0)
-        (edges_same cfg.characters shape (LineOf.Horizontal r) 0 n bare.cells.characters (omega (arith, in_n)) in_n)
-        (λ yes. edges_same cfg.colors shape (LineOf.Horizontal r) 0 n (bare.cells.colors yes) (omega (arith, in_n)) in_n)
+        (edges_same cfg.characters shape (LineOf.Horizontal r) 0 n (bare.cells.characters (Edge Horizontal r 0) (itself r)) (bare.cells.characters (Edge Horizontal r n) (itself r)) (omega (arith, in_n)) in_n)
+        (λ yes. edges_same cfg.colors shape (LineOf.Horizontal r) 0 n (bare.cells.colors yes (Edge Horizontal r 0) (itself r)) (bare.cells.colors yes (Edge Horizontal r n) (itself r)) (omega (arith, in_n)) in_n)
         ∙ edge_shows widths heights (LineOf.Horizontal r) n k (offsets_along cfg wanted r n bare.offsets) within
 
     pub crossing_as_second : NoneForColumns cfg wanted → (n : ℕ) → 0 < n → n < shape.1 → plain_mark cfg wanted shape (Place.Cross r 1) ≡ plain_mark cfg wanted shape (Place.Cross r n)
@@ -223,12 +225,13 @@ module _ (cfg : Configuration) (wanted : Bool) (shape : ℕ × ℕ) where
         (λ yes. crossings_same cfg.colors shape r 1 n (bare.cells.colors yes) (lines.colors yes) (omega arith) (omega (arith, some, within)) some within)
 
   -- beside each row a vertical line shows what it does beside the first one
-  pub side_as_first : (widths heights : ℕ → ℕ) (r k c : ℕ) → NoneOnLine cfg wanted (LineOf.Vertical c) → NoOffsetsAt cfg wanted Vertical r → r < shape.0 → k < heights r
+  pub side_as_first : (widths heights : ℕ → ℕ) (r k c : ℕ) → NoneBeside cfg wanted shape.0 c → NoOffsetsAt cfg wanted Vertical r → r < shape.0 → k < heights r
       → plain_mark cfg wanted shape (Place.Vertical 0 c 0) ≡ mark_at (with_colors_if wanted (look (all_writes cfg) shape widths heights)) (Place.Vertical r c k)
-  side_as_first widths heights r k c cells offsets in_r within =
+  side_as_first widths heights r k c none offsets in_r within =
+      let some : 0 < shape.0 = omega (arith, in_r) in
       marks_same (Place.Vertical 0 c 0) (Place.Vertical r c 0)
-      (edges_same cfg.characters shape (LineOf.Vertical c) 0 r cells.characters (omega (arith, in_r)) in_r)
-      (λ yes. edges_same cfg.colors shape (LineOf.Vertical c) 0 r (cells.colors yes) (omega (arith, in_r)) in_r)
+      (edges_same cfg.characters shape (LineOf.Vertical c) 0 r (none.characters 0 some) (none.characters r in_r) some in_r)
+      (λ yes. edges_same cfg.colors shape (LineOf.Vertical c) 0 r (none.colors yes 0 some) (none.colors yes r in_r) some in_r)
       ∙ edge_shows widths heights (LineOf.Vertical c) r k (offsets_beside cfg wanted r c offsets) within
 
   -- each vertical line but the first and the last is drawn, and shows beside the first row, as the second is and does
@@ -316,9 +319,9 @@ drawn_mark cfg wanted shape sides c side are within read =
 -- ---- which look alike beside all rows
 
 -- one side more
-pub alike_more : (cfg : Configuration) (wanted : Bool) (xs ys : List (Option Side)) (x : Option Side) → ys ≡ xs ++ x ∷ [] → ForSome x (IsAlikeSide cfg wanted (length xs))
-    → ((c : ℕ) → ForSome (get_or xs c None) (IsAlikeSide cfg wanted c)) → (c : ℕ) → ForSome (get_or ys c None) (IsAlikeSide cfg wanted c)
-alike_more cfg wanted xs ys x pushed is all c = subst (λ (list : List (Option Side)). ForSome (get_or list c None) (IsAlikeSide cfg wanted c)) (sym pushed) (put_last (λ n found. ForSome found (IsAlikeSide cfg wanted n)) (λ n side none. absurd cc) xs x is all c)
+pub alike_more : (cfg : Configuration) (wanted : Bool) (rows : ℕ) (xs ys : List (Option Side)) (x : Option Side) → ys ≡ xs ++ x ∷ [] → ForSome x (IsAlikeSide cfg wanted rows (length xs))
+    → ((c : ℕ) → ForSome (get_or xs c None) (IsAlikeSide cfg wanted rows c)) → (c : ℕ) → ForSome (get_or ys c None) (IsAlikeSide cfg wanted rows c)
+alike_more cfg wanted rows xs ys x pushed is all c = subst (λ (list : List (Option Side)). ForSome (get_or list c None) (IsAlikeSide cfg wanted rows c)) (sym pushed) (put_last (λ n found. ForSome found (IsAlikeSide cfg wanted rows n)) (λ n side none. absurd cc) xs x is all c)
   where
     put_last : {A : Type 0} (P : ℕ → Option A → Type 0) → ((n : ℕ) → P n None) → (xs : List (Option A)) (x : Option A) → P (length xs) x → ((c : ℕ) → P c (get_or xs c None)) → (c : ℕ) → P c (get_or (xs ++ x ∷ []) c None)
     put_last P none [] x is all zero = is
@@ -326,11 +329,11 @@ alike_more cfg wanted xs ys x pushed is all c = subst (λ (list : List (Option S
     put_last P none (y ∷ xs) x is all zero = all 0
     put_last P none (y ∷ xs) x is all (suc c) = put_last (λ n. P (suc n)) (λ n. none (suc n)) xs x is (λ n. all (suc n)) c
 
--- where nothing is kept for a single edge or crossing, nothing is for one of a line
-pub none_on : (cfg : Configuration) (wanted : Bool) (line : LineOf) → NoneForCells cfg wanted → NoneOnLine cfg wanted line
-none_on cfg wanted line none = record {
-  characters = λ spot lies. absent spot_cmp cfg.characters.cells spot none.characters;
-  colors = λ yes spot lies. absent spot_cmp cfg.colors.cells spot (none.colors yes);
+-- where nothing is kept for a single edge or crossing, nothing is for one of a vertical line
+pub none_on : (cfg : Configuration) (wanted : Bool) (rows c : ℕ) → NoneForCells cfg wanted → NoneBeside cfg wanted rows c
+none_on cfg wanted rows c none = record {
+  characters = λ r within. absent spot_cmp cfg.characters.cells (Edge Vertical r c) none.characters;
+  colors = λ yes r within. absent spot_cmp cfg.colors.cells (Edge Vertical r c) (none.colors yes);
 }
 
 -- a line that is not drawn shows nothing, and one that is drawn its mark

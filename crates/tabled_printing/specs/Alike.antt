@@ -1,11 +1,12 @@
 -- Where nothing is kept for single places, or for single lines: so lines, and the places along a line, look alike.
-use Rattle.std.specs.Prelude.{◌≡◌, ℕ, Bool, true, None}
+use Rattle.std.specs.Prelude.{◌≡◌, ◌<◌, ℕ, Bool, true, None}
 use Rattle.std.specs.FinMap.{empty, get}
 use Rattle.tabled_grid.specs.declared.keys.EdgePlace.{EdgePlace}
 use Rattle.tabled_grid.specs.declared.offset.Offset.{Offset}
 use Rattle.tabled_grid.specs.declared.place.LineOf.{LineOf}
 use Rattle.tabled_grid.specs.declared.site.Direction.{Direction}
-use Rattle.tabled_grid.specs.declared.site.Direction.TheVariants.{Horizontal}
+use Rattle.tabled_grid.specs.declared.site.Direction.TheVariants.{Horizontal, Vertical}
+use Rattle.tabled_grid.specs.declared.site.Spot.TheVariants.{Edge}
 use Rattle.tabled_grid.specs.Reading.{direction_of}
 use Rattle.tabled_grid.specs.State.{State, edge_place, offset_values, HasNoCells, HasNoCellsOn, HasNoOffsetsAt}
 use Rattle.tabled_configuration.specs.Configuration.{Configuration}
@@ -19,6 +20,14 @@ pub record NoneForCells (cfg : Configuration) (wanted : Bool) : Type 0 where
 pub record NoneOnLine (cfg : Configuration) (wanted : Bool) (line : LineOf) : Type 0 where
   pub characters : HasNoCellsOn line cfg.characters
   pub colors : wanted ≡ true → HasNoCellsOn line cfg.colors
+
+-- nor for an edge of a vertical line beside one of the first rows
+abbrev pub HasNoEdges : {T : Type 0} → ℕ → ℕ → State T → Type 0
+HasNoEdges rows c state = (r : ℕ) → r < rows → get state.cells (Edge Vertical r c) ≡ None
+
+pub record NoneBeside (cfg : Configuration) (wanted : Bool) (rows c : ℕ) : Type 0 where
+  pub characters : HasNoEdges rows c cfg.characters
+  pub colors : wanted ≡ true → HasNoEdges rows c cfg.colors
 
 -- no custom vertical line stands at an index: neither of characters nor, where colors are wanted, of colors
 pub record NoneForColumns (cfg : Configuration) (wanted : Bool) : Type 0 where

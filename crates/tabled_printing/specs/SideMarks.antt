@@ -1,11 +1,10 @@
 -- The marks of vertical lines, one by one or by rank.
 use Rattle.std.specs.Prelude.{◌≡◌, ℕ, ◌==◌, if◌then◌else◌, Bool, true, Option, None, length, slice_index_or}
-use Rattle.tabled_grid.specs.declared.place.LineOf.{LineOf}
 use Rattle.tabled_configuration.specs.Configuration.{Configuration}
 use Rattle.tabled_printing.specs.declared.sides.Side.{Side}
 use Rattle.tabled_printing.specs.declared.sides.SideMarks.{SideMarks}
 use Rattle.tabled_printing.specs.declared.sides.SideMarks.TheVariants.{ByRank, Each}
-use Rattle.tabled_printing.specs.Alike.{NoneOnLine}
+use Rattle.tabled_printing.specs.Alike.{NoneBeside}
 use Rattle.tabled_printing.specs.Marks.{mark_of}
 use Rattle.tabled_printing.specs.Picture.{Shown}
 
@@ -23,6 +22,6 @@ mark_count lines (Each marks) = length marks.items
 abbrev pub side_mark : Side → Shown
 side_mark side = mark_of side.mark
 
--- where line c is said to look alike beside all rows, nothing is kept for an edge or a crossing of it by itself
-abbrev pub IsAlikeSide : Configuration → Bool → ℕ → Side → Type 0
-IsAlikeSide cfg wanted c side = side.is_alike ≡ true → NoneOnLine cfg wanted (LineOf.Vertical c)
+-- where line c is said to look alike beside all of that many rows, nothing is kept for an edge of it by itself
+abbrev pub IsAlikeSide : Configuration → Bool → ℕ → ℕ → Side → Type 0
+IsAlikeSide cfg wanted rows c side = side.is_alike ≡ true → NoneBeside cfg wanted rows c

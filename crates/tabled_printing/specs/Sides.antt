@@ -13,4 +13,4 @@ side_at sides c = mark_kept sides.last sides.marks c
 -- that is what they show
 pub record AreSides (cfg : Configuration) (wanted : Bool) (shape : ℕ × ℕ) (sides : Sides) : Type 0 where
   pub marks : (c : ℕ) → c ≤ shape.1 → option_map side_mark (side_at sides c) ≡ plain_side cfg wanted shape c
-  pub alike : (c : ℕ) → c ≤ shape.1 → ForSome (side_at sides c) (IsAlikeSide cfg wanted c)
+  pub alike : (c : ℕ) → c ≤ shape.1 → ForSome (side_at sides c) (IsAlikeSide cfg wanted shape.0 c)

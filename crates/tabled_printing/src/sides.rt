@@ -9,7 +9,7 @@ ghost use Rattle.tabled_printing.specs.Beside.{plain_side};
 ghost use Rattle.tabled_printing.specs.SideMarks.{mark_count, side_mark, IsAlikeSide};
 
 use crate::Mark;
-use crate::alike::has_none_on;
+use crate::alike::has_none_beside;
 use crate::mark::{plain_mark, printed_as};
 use tabled_border::OutOfMemory;
 use tabled_configuration::SpannedConfig;
@@ -21,7 +21,7 @@ use tabled_kept::Probes;
 pub struct Side<'a> {
     /// What is kept for it beside the first row, without its offsets.
     pub mark: Mark<'a>,
-    /// Whether it shows that beside each row without offsets, as nothing is kept for an edge or a crossing of it by itself.
+    /// Whether it shows that beside each row without offsets, as nothing is kept for an edge of it by itself.
     pub is_alike: bool,
 }
 
@@ -130,7 +130,7 @@ pub(crate) fn kept_side<'a>(
     requires shape { is_empty shape ≡ false }
     requires col { col ≤ shape.1 }
     ensures mark { option_map side_mark result ≡ plain_side cfg.now with_colors shape col }
-    ensures alike { ForSome result (IsAlikeSide cfg.now with_colors col) }
+    ensures alike { ForSome result (IsAlikeSide cfg.now with_colors shape.0 col) }
 {
     let line = LineOf::Vertical(col);
     let probes = &mut Probes::new();
@@ -140,7 +140,7 @@ pub(crate) fn kept_side<'a>(
     let place = Place::Vertical { row: 0, col, at: 0 };
     Some(Side {
         mark: plain_mark(cfg, shape, place, with_colors, probes),
-        is_alike: has_none_on(cfg, line, with_colors, probes),
+        is_alike: has_none_beside(cfg, shape.0, col, with_colors),
     })
 }
 
@@ -152,7 +152,7 @@ fn one_by_one<'a>(
 ) -> Result<Vec<Option<Side<'a>>>, OutOfMemory>
     requires shape { is_empty shape ≡ false }
     ensures marks { IfOk result (λ sides. map (option_map side_mark) sides.items ≡ map (plain_side cfg.now with_colors shape) (below (shape.1 + 1))) }
-    ensures alike { IfOk result (λ sides. (c : ℕ) → ForSome (slice_index_or sides.items c None) (IsAlikeSide cfg.now with_colors c)) }
+    ensures alike { IfOk result (λ sides. (c : ℕ) → ForSome (slice_index_or sides.items c None) (IsAlikeSide cfg.now with_colors shape.0 c)) }
 {
     let (_, last) = shape;
     let mut sides = Vec::with_capacity(cfg.allocator(), last.saturating_add(1))?;

@@ -1,5 +1,5 @@
 -- Lists of what asks, and sizes that grow, one step more.
-use Rattle.std.proofs.Common.{◌≡◌, ℕ, ◌+◌, ◌-◌, ◌<◌, ◌≤◌, ◌==◌, Bool, true, false, Result, Ok, Err, OnOk, nat_lt, if◌then◌else◌, List, [], ◌∷◌, ◌++◌, map, fold, take, length, get_or, set, slice_index, inl, inr, refl, sym, ap, subst, ◌∙◌, arith, add-one}
+use Rattle.std.proofs.Common.{◌≡◌, ℕ, ◌+◌, ◌-◌, ◌<◌, ◌==◌, Bool, true, false, Result, Ok, Err, OnOk, nat_lt, if◌then◌else◌, List, [], ◌∷◌, ◌++◌, map, fold, take, length, get_or, set, slice_index, inl, inr, refl, sym, ap, subst, ◌∙◌, arith, add-one}
 use Rattle.std.specs.List.{flat_map, range_with_len, sum_by}
 use Rattle.std.proofs.lemmas.Bool.{cases_eq}
 use Rattle.std.proofs.lemmas.Bool.Decides.{nat_tests}

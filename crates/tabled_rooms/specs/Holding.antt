@@ -7,6 +7,10 @@ use Rattle.tabled_rooms.specs.Hosts.{Cell, Counts, shown_above, host}
 abbrev pub cell_of : Host → Cell
 cell_of kept = (kept.row, kept.col)
 
+-- a cell spans over its own column and its own row alone
+abbrev pub IsOneCell : Counts → Counts → Cell → Type 0
+IsOneCell columns rows cell = (columns cell.0 cell.1 ≡ 1) × (rows cell.0 cell.1 ≡ 1)
+
 module _ (columns rows : Counts) (shape : ℕ × ℕ) where
   -- a cell that is shown, with the row and the column at which it ends, as far as the table goes
   abbrev pub held : Cell → Host

@@ -1,6 +1,7 @@
 //! Over how many columns and rows cells span.
 
-ghost use Rattle.std.specs.Prelude.{◌≡◌, ◌≤◌, ℕ};
+ghost use Rattle.std.specs.Prelude.{◌≡◌, ◌<◌, ◌≤◌, ℕ, false};
+ghost use Rattle.tabled_rooms.specs.Holding.{IsOneCell};
 
 /// Over how many columns and rows each cell of a table spans. One is its own alone.
 pub trait CellSpans {
@@ -8,6 +9,10 @@ pub trait CellSpans {
     ghost columns_at: { Self → ℕ → ℕ → ℕ };
     /// The number of rows, by row and column.
     ghost rows_at: { Self → ℕ → ℕ → ℕ };
+
+    /// Whether one of the first `count` cells of a row may span: who knows that none does need not ask each.
+    fn may_span(&self, row: usize, count: usize) -> bool
+        ensures { result ≡ false → (col : ℕ) → col < count → IsOneCell (columns_at self.now) (rows_at self.now) (row, col) };
 
     /// Over how many columns a cell spans.
     fn columns(&self, row: usize, col: usize) -> usize

@@ -1,8 +1,8 @@
 //! The cell that is shown at each place of a row.
 
-ghost use Rattle.std.specs.Prelude.{◌≡◌, ◌<◌, ◌≤◌, ◌+◌, ◌==◌, ◌&&◌, nat_lt, min, length, replicate, Option, IfOk};
+ghost use Rattle.std.specs.Prelude.{◌≡◌, ◌<◌, ◌≤◌, ◌+◌, ◌==◌, ◌&&◌, nat_lt, min, false, length, replicate, Option, IfOk};
 ghost use Rattle.tabled_rooms.specs.Hosts.{Cell, shown_from};
-ghost use Rattle.tabled_rooms.specs.Holding.{held, Holds, AreAbove, AreHosts};
+ghost use Rattle.tabled_rooms.specs.Holding.{held, Holds, IsOneCell, AreAbove, AreHosts};
 
 use crate::CellSpans;
 use std::alloc::{AllocError, Global};
@@ -36,31 +36,38 @@ pub fn no_hosts(alloc: Global, cols: usize) -> Result<Vec<Host>, AllocError>
     vec![in alloc; NONE; cols]
 }
 
-/// Makes the hosts of the row above those of a row, in as many columns as there are hosts. Each cell asks for its spans only where it begins.
+/// Makes the hosts of the row above those of a row, in as many columns as there are hosts. A cell asks for its spans only where it begins,
+/// in a row in which one may span.
 pub fn next_hosts<S: CellSpans>(hosts: &mut [Host], spans: &S, row: usize, shape: (usize, usize))
     requires row { row < shape.0 }
     requires count { length hosts.old ≤ shape.1 }
     requires above { AreAbove (S.columns_at spans.now) (S.rows_at spans.now) shape row hosts.old }
     ensures hosts { AreHosts (S.columns_at spans.now) (S.rows_at spans.now) shape row hosts.new }
 {
+    if hosts.is_empty() {
+        return;
+    }
+    let may_span = spans.may_span(row, hosts.len());
     let mut left = NONE;
     for col in 0..hosts.len() {
         let above = hosts[col];
-        left = host_at(above, left, spans, (row, col), shape);
+        left = host_at(above, left, spans, may_span, (row, col), shape);
         hosts[col] = left;
     }
 }
 
-/// The host of a place, by the one above and the one at its left.
+/// The host of a place, by the one above and the one at its left, where it is known whether a cell of the row may span.
 fn host_at<S: CellSpans>(
     above: Host,
     left: Host,
     spans: &S,
+    may_span: bool,
     place: (usize, usize),
     shape: (usize, usize),
 ) -> Host
     requires row { place.0 < shape.0 }
     requires col { place.1 < shape.1 }
+    requires alone { may_span ≡ false → IsOneCell (S.columns_at spans.now) (S.rows_at spans.now) place }
     ensures { (up beside : Option Cell) → Holds (S.columns_at spans.now) (S.rows_at spans.now) shape up above → Holds (S.columns_at spans.now) (S.rows_at spans.now) shape beside left
         → result ≡ held (S.columns_at spans.now) (S.rows_at spans.now) shape (shown_from (S.columns_at spans.now) (S.rows_at spans.now) up beside place.0 place.1) }
 {
@@ -71,7 +78,7 @@ fn host_at<S: CellSpans>(
     if goes_on(left, row, col) {
         return left;
     }
-    begun(spans, row, col, shape.0, shape.1)
+    begun(spans, may_span, row, col, shape.0, shape.1)
 }
 
 /// Whether what is shown at the left begins in a row and reaches to a column.
@@ -82,14 +89,27 @@ fn goes_on(left: Host, row: usize, col: usize) -> bool
 }
 
 /// A cell that is shown from its own place on, in a table of so many rows and columns.
-fn begun<S: CellSpans>(spans: &S, row: usize, col: usize, rows: usize, cols: usize) -> Host
+fn begun<S: CellSpans>(
+    spans: &S,
+    may_span: bool,
+    row: usize,
+    col: usize,
+    rows: usize,
+    cols: usize,
+) -> Host
+    requires { may_span ≡ false → IsOneCell (S.columns_at spans.now) (S.rows_at spans.now) (row, col) }
     ensures { result ≡ held (S.columns_at spans.now) (S.rows_at spans.now) (rows, cols) (row, col) }
 {
+    let (down, right) = if may_span {
+        (spans.rows(row, col), spans.columns(row, col))
+    } else {
+        (1, 1)
+    };
     Host {
         row,
         col,
-        bottom: end_of(row, spans.rows(row, col), rows),
-        right: end_of(col, spans.columns(row, col), cols),
+        bottom: end_of(row, down, rows),
+        right: end_of(col, right, cols),
     }
 }
 

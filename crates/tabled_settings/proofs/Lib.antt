@@ -13,4 +13,4 @@ pub mod InOrder
 pub mod AtOnce
 pub mod Paddings
 pub mod Holes
-pub mod ByRows
+pub mod AlikeRows

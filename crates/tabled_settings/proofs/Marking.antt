@@ -6,24 +6,24 @@ use Rattle.std.proofs.lemmas.List.Folds.{list_any-append}
 use Rattle.tabled_object.specs.declared.entity.Entity.{Entity}
 use Rattle.tabled_object.specs.declared.entity.Entity.TheVariants.{Global, Column, Row, Cell}
 use Rattle.tabled_settings.specs.declared.kinds.Kinds.{Kinds}
-use Rattle.tabled_settings.specs.declared.kinds.RowRange.{RowRange}
+use Rattle.tabled_settings.specs.declared.kinds.NumberRange.{NumberRange}
 use Rattle.tabled_settings.specs.Setting.{EntityEvent, same_entity}
 use Rattle.tabled_settings.specs.Live.{without, has_event, put_each}
-use Rattle.tabled_settings.specs.Kinds.{is_between, is_marked, with_kind, with_kinds, with_row, AreMarked}
+use Rattle.tabled_settings.specs.Kinds.{is_between, is_marked, with_kind, with_kinds, with_number, AreMarked}
 use Rattle.tabled_settings.specs.Slots.{standing}
 use Rattle.tabled_settings.proofs.Placing.{none_filtered}
 
--- a row that is not in a range with another one was not in it before, and is not that row
-not_with_row : (rows : RowRange) (row which : ℕ) → is_between (with_row rows row) which ≡ false → (is_between rows which ≡ false) × ((which == row) ≡ false)
-not_with_row rows row which h = (grind (arith, nat_tests, h), grind (arith, nat_tests, h))
+-- a number that is not in a range with another one was not in it before, and is not that one
+not_with_number : (numbers : NumberRange) (n which : ℕ) → is_between (with_number numbers n) which ≡ false → (is_between numbers which ≡ false) × ((which == n) ≡ false)
+not_with_number numbers n which h = (grind (arith, nat_tests, h), grind (arith, nat_tests, h))
 
 -- what is not marked with an entity was not marked before, and is not that entity
 not_with_kind : (kinds : Kinds) (entity which : Entity) → is_marked (with_kind kinds entity) which ≡ false → (is_marked kinds which ≡ false) × (same_entity which entity ≡ false)
 not_with_kind kinds entity Global h = absurd cc
-not_with_kind kinds (Column col) (Column other) h = absurd cc
-not_with_kind kinds (Row row) (Row other) h = not_with_row kinds.rows row other h
+not_with_kind kinds (Column col) (Column other) h = not_with_number kinds.columns col other h
+not_with_kind kinds (Row row) (Row other) h = not_with_number kinds.rows row other h
 not_with_kind kinds (Cell row col) (Cell other another) h =
-    let each = not_with_row kinds.cells row other h in
+    let each = not_with_number kinds.cells row other h in
     (each.0, ap (λ same. same && (another == col)) each.1)
 not_with_kind kinds entity which h = (h, refl)
 

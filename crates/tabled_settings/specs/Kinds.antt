@@ -4,28 +4,31 @@ use Rattle.tabled_object.specs.declared.entity.Entity.{Entity}
 use Rattle.tabled_object.specs.declared.entity.Entity.TheVariants.{Global, Column, Row, Cell}
 use Rattle.tabled_object.specs.declared.position.Position.{Position}
 use Rattle.tabled_settings.specs.declared.kinds.Kinds.{Kinds}
-use Rattle.tabled_settings.specs.declared.kinds.RowRange.{RowRange}
+use Rattle.tabled_settings.specs.declared.kinds.NumberRange.{NumberRange}
 use Rattle.tabled_settings.specs.Setting.{EntityEvent}
 use Rattle.tabled_settings.specs.Live.{has_event}
 
--- no rows; whether a row is between the first and the last; and the range that takes a row in
-abbrev pub no_rows : RowRange
-no_rows = record { first = 2 ^ 64 - 1; last = 0 }
+-- no numbers; whether there are some; whether a number is between the first and the last; and the range that takes a number in
+abbrev pub no_numbers : NumberRange
+no_numbers = record { first = 2 ^ 64 - 1; last = 0 }
 
-abbrev pub is_between : RowRange → ℕ → Bool
-is_between rows row = nat_le rows.first row && nat_le row rows.last
+abbrev pub has_some : NumberRange → Bool
+has_some numbers = nat_le numbers.first numbers.last
 
-abbrev pub with_row : RowRange → ℕ → RowRange
-with_row rows row = record { first = min rows.first row; last = max rows.last row }
+abbrev pub is_between : NumberRange → ℕ → Bool
+is_between numbers n = nat_le numbers.first n && nat_le n numbers.last
+
+abbrev pub with_number : NumberRange → ℕ → NumberRange
+with_number numbers n = record { first = min numbers.first n; last = max numbers.last n }
 
 -- none of them
 abbrev pub no_kinds : Kinds
-no_kinds = record { rows = no_rows; columns = false; cells = no_rows; last_column = 0 }
+no_kinds = record { rows = no_numbers; columns = no_numbers; cells = no_numbers; last_column = 0 }
 
 -- whether an entity is marked; that of all cells always is
 abbrev pub is_marked : Kinds → Entity → Bool
 is_marked kinds Global = true
-is_marked kinds (Column col) = kinds.columns
+is_marked kinds (Column col) = is_between kinds.columns col
 is_marked kinds (Row row) = is_between kinds.rows row
 is_marked kinds (Cell row col) = is_between kinds.cells row
 
@@ -33,12 +36,16 @@ is_marked kinds (Cell row col) = is_between kinds.cells row
 abbrev pub may_cover : Kinds → Position → Bool
 may_cover kinds cell = is_marked kinds (Column cell.col) || (is_marked kinds (Row cell.row) || is_marked kinds (Cell cell.row cell.col))
 
+-- whether one is that covers some of the cells of a row and not all
+abbrev pub may_vary : Kinds → ℕ → Bool
+may_vary kinds row = has_some kinds.columns || is_between kinds.cells row
+
 -- an entity too
 abbrev pub with_kind : Kinds → Entity → Kinds
 with_kind kinds Global = kinds
-with_kind kinds (Column col) = record kinds { columns = true }
-with_kind kinds (Row row) = record kinds { rows = with_row kinds.rows row }
-with_kind kinds (Cell row col) = record kinds { cells = with_row kinds.cells row; last_column = max kinds.last_column col }
+with_kind kinds (Column col) = record kinds { columns = with_number kinds.columns col }
+with_kind kinds (Row row) = record kinds { rows = with_number kinds.rows row }
+with_kind kinds (Cell row col) = record kinds { cells = with_number kinds.cells row; last_column = max kinds.last_column col }
 
 -- the entities of these events too
 abbrev pub with_kinds : {T : Type 0} → Kinds → List (EntityEvent T) → Kinds

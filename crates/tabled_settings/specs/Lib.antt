@@ -6,4 +6,4 @@ pub mod CellSettings
 pub mod Slots
 pub mod Same
 pub mod SameLaws
-pub mod ByRows
+pub mod AlikeRows

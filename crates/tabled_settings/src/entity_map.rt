@@ -37,7 +37,7 @@ impl<T> Model for EntityMap<T> {
 
 impl<T> EntityMap<T> {
     ghost use Rattle.tabled_settings.specs.Setting.{write_of, removal_of, is_global};
-    ghost use Rattle.tabled_settings.specs.ByRows.{are_of_rows};
+    ghost use Rattle.tabled_settings.specs.AlikeRows.{IsRowAlike};
     ghost use Rattle.tabled_settings.specs.Live.{at_first, after, value_at};
 
     /// A map in which every cell has the default.
@@ -112,12 +112,13 @@ impl<T> EntityMap<T> {
         self.since.is_empty()
     }
 
-    /// Whether no entity but `Global` and rows had an event since the last one of `Global`, so that the value of a cell does not depend on
-    /// its column.
-    pub fn has_rows_alone(&self) -> bool
-        ensures { result ≡ are_of_rows self.now.since }
+    /// Whether each cell of a row is known to have the same value, whatever its column: where no entity but `Global` had an event since the
+    /// last one of `Global`, or none but `Global` and rows, and cells of other rows. It takes as long for a large map as for a small one.
+    pub fn is_row_alike(&self, row: usize) -> bool
+        ensures alike { IsTrue result → IsRowAlike self.now row }
+        ensures none { self.now.since ≡ [] → IsTrue result }
     {
-        self.since.has_rows_alone()
+        self.since.is_row_alike(row)
     }
 
     /// Writes or removes the value of all cells.

@@ -4,7 +4,7 @@ ghost use Rattle.std.specs.Prelude.{◌≡◌, ◌↔◌, ◌++◌, ◌∷◌, [
 ghost use Rattle.std.specs.List.{last_or};
 ghost use Rattle.std.specs.Cmp.Lexicographic.{pointwise};
 ghost use Rattle.tabled_settings.specs.Setting.{covering};
-ghost use Rattle.tabled_settings.specs.ByRows.{are_of_rows};
+ghost use Rattle.tabled_settings.specs.AlikeRows.{CoverAlike};
 ghost use Rattle.tabled_settings.specs.Live.{without, has_event};
 ghost use Rattle.tabled_settings.specs.Same.{same_event};
 
@@ -114,11 +114,12 @@ impl<T> LastEvents<T> {
         slots::value_at(slots, place)
     }
 
-    /// Whether each of them is an event of a row.
-    pub(crate) fn has_rows_alone(&self) -> bool
-        ensures { result ≡ are_of_rows self.now }
+    /// Whether the same events are known to cover each cell of a row; where there is none, they do.
+    pub(crate) fn is_row_alike(&self, row: usize) -> bool
+        ensures alike { IsTrue result → CoverAlike self.now row }
+        ensures none { self.now ≡ [] → IsTrue result }
     {
-        slots::are_of_rows(&self.slots)
+        self.is_empty() || !self.kinds.may_vary(row)
     }
 
     /// Whether both have the same events in the same order.

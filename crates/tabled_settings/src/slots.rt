@@ -6,7 +6,6 @@ ghost use Rattle.std.specs.Cmp.Lexicographic.{pointwise};
 ghost use Rattle.tabled_object.specs.declared.entity.Entity.{Entity as Which};
 ghost use Rattle.tabled_settings.specs.Setting.{same_entity};
 ghost use Rattle.tabled_settings.specs.Slots.{standing, passes, place, entity_cmp, IsOnce, HasPlaces, HasFewHoles, IsPlaced, likely_place, emptied, all_emptied, event_at, later_of};
-ghost use Rattle.tabled_settings.specs.ByRows.{are_of_rows};
 ghost use Rattle.tabled_settings.specs.Kinds.{AreMarked};
 ghost use Rattle.tabled_settings.specs.Same.{same_event};
 
@@ -81,7 +80,8 @@ pub(crate) fn number<T>(slots: &[Slot<T>], places: &mut BTreeMap<Entity, usize>)
 }
 
 /// Where the event of an entity stands. It is not looked for where its kind has none, and searched for only where it is not at
-/// its likely place.
+/// its likely place. In line, where the kind is known.
+#[inline(always)]
 pub(crate) fn place_of<T>(
     slots: &[Slot<T>],
     places: &BTreeMap<Entity, usize>,
@@ -100,7 +100,7 @@ pub(crate) fn place_of<T>(
     if stands_at(slots, likely, entity) {
         return likely;
     }
-    let guess = kinds.likely_place_of_cell(entity);
+    let guess = kinds.guess(entity);
     if stands_at(slots, guess, entity) {
         return guess;
     }
@@ -153,24 +153,6 @@ pub(crate) fn value_at<T>(slots: &[Slot<T>], place: Option<usize>) -> Option<&Op
         Some(None) => None,
         None => None,
     }
-}
-
-/// Whether a slot is a hole, or has an event of a row.
-fn is_of_row<T>(slot: &Slot<T>) -> bool
-    ensures { result ≡ are_of_rows (standing (slot.now ∷ [])) }
-{
-    match slot {
-        Some((Entity::Row(_), _)) => true,
-        Some(_) => false,
-        None => true,
-    }
-}
-
-/// Whether each event that stands in the slots is one of a row.
-pub(crate) fn are_of_rows<T>(slots: &[Slot<T>]) -> bool
-    ensures { result ≡ are_of_rows (standing slots.now) }
-{
-    slots.iter().all(|slot| is_of_row(slot))
 }
 
 /// The first event that stands in the slots, and the slots after it.

@@ -1,12 +1,13 @@
 //! What is asked of edges as wholes and of all cells, besides single places.
 
 ghost use Rattle.std.specs.Prelude.{◌≡◌, ◌↔◌, ◌||◌, not, IsTrue, is_some};
+ghost use Rattle.tabled_settings.specs.CellSettings.{first_settings};
 ghost use Rattle.tabled_settings.specs.Live.{value_at};
 ghost use Rattle.tabled_settings.specs.Padding as padding;
 ghost use Rattle.std.specs.FinMap as map;
 ghost use Rattle.tabled_grid.specs.Value.{plain_value};
 ghost use Rattle.tabled_grid.specs.State.{state_at};
-ghost use Rattle.tabled_configuration.specs.ByRows.{AreColoredByRows};
+ghost use Rattle.tabled_configuration.specs.AlikeRows.{AreCellsAlike};
 ghost use Rattle.tabled_configuration.specs.Configuration.{has_no_padding, is_sized_by_texts};
 
 use super::SpannedConfig;
@@ -22,12 +23,19 @@ impl SpannedConfig {
         self.characters.plain_at(place, shape).copied()
     }
 
-    /// Whether colors beside texts are set for all cells and for rows alone.
-    pub fn has_colors_by_rows(&self) -> bool
-        ensures { IsTrue result ↔ AreColoredByRows self.now.settings.cells }
+    /// Whether each cell of a row is known to have the same padding, justification and trims, whatever its column. It takes as long where
+    /// much is set as where little is.
+    pub fn is_row_alike(&self, row: usize) -> bool
+        ensures alike { IsTrue result → AreCellsAlike self.now.settings.cells row }
+        ensures none { self.now.settings.cells ≡ first_settings → IsTrue result }
     {
         let cells = &self.settings.cells;
-        cells.justification_color.has_rows_alone() && cells.padding_color.has_rows_alone()
+        cells.padding.is_row_alike(row)
+            && cells.padding_color.is_row_alike(row)
+            && cells.justification.is_row_alike(row)
+            && cells.justification_color.is_row_alike(row)
+            && cells.trim_horizontal.is_row_alike(row)
+            && cells.trim_vertical.is_row_alike(row)
     }
 
     /// Whether a cell has the padding of one where none was set: one column of spaces at its left and at its right, and no line above or

@@ -3,10 +3,10 @@
 //! A span is kept for the position that is named, whether or not that lies inside the table. Padded cells are not printed
 //! where any cell spans; tables of texts are.
 
-ghost use Rattle.std.specs.Prelude.{◌≡◌, ◌<◌, not, flat_map, IsOk, OnOk, OnErr};
+ghost use Rattle.std.specs.Prelude.{◌≡◌, ◌<◌, ◌||◌, not, flat_map, IsOk, OnOk, OnErr};
 ghost use Rattle.tabled_grid.specs.Table.{table};
 ghost use Rattle.tabled_layout.specs.Spans.{position_cmp};
-ghost use Rattle.tabled_layout.specs.Covering.{covered_by_column_span, covered_by_row_span, covered_by_both_spans};
+ghost use Rattle.tabled_layout.specs.Covering.{covered_by_column_span, covered_by_row_span, covered_by_both_spans, has_span};
 ghost use Rattle.tabled_configuration.specs.Configuration.{Changes, by_column_span, by_row_span, has_no_spans};
 
 use super::SpannedConfig;
@@ -99,6 +99,14 @@ impl SpannedConfig {
         self.settings
             .column_spans
             .cover_with(&self.settings.row_spans, position)
+    }
+
+    /// Whether one of the first `count` cells of a row spans several columns or several rows.
+    pub fn has_span_in_row(&self, row: usize, count: usize) -> bool
+        ensures { result ≡ (has_span self.now.settings.column_spans row count || has_span self.now.settings.row_spans row count) }
+    {
+        self.settings.column_spans.has_some(row, count)
+            || self.settings.row_spans.has_some(row, count)
     }
 
     /// Whether any cell spans several columns or several rows.

@@ -11,5 +11,5 @@ abbrev pub invariant-loop-col : goal.invariant-loop-col
 invariant-loop-col l = record {
   counted : length l.sides.items ≡ l.col;
   marks : map (option_map side_mark) l.sides.items ≡ map (plain_side l.cfg l.with_colors l.shape) (below l.col);
-  alike : (c : ℕ) → ForSome (slice_index_or l.sides.items c None) (IsAlikeSide l.cfg l.with_colors c);
+  alike : (c : ℕ) → ForSome (slice_index_or l.sides.items c None) (IsAlikeSide l.cfg l.with_colors l.shape.0 c);
 }

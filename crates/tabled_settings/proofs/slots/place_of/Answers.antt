@@ -13,7 +13,7 @@ pub returns-then-stands_at : goal.returns-then-stands_at
 returns-then-stands_at g c = sym (place-found entities_told c.args.entity c.args.slots.now c.likely_place-likely.result c.requires.once (sym c.stands_at.ensures ∙ c.if-stands_at.true))
 
 pub returns-then-stands_at-2 : goal.returns-then-stands_at-2
-returns-then-stands_at-2 g c = sym (place-found entities_told c.args.entity c.args.slots.now c.likely_place_of_cell-guess.result c.requires.once (sym c.stands_at-2.ensures ∙ c.if-stands_at-2.true))
+returns-then-stands_at-2 g c = sym (place-found entities_told c.args.entity c.args.slots.now c.guess-guess.result c.requires.once (sym c.stands_at-2.ensures ∙ c.if-stands_at-2.true))
 
 pub returns : goal.returns
 returns g c =

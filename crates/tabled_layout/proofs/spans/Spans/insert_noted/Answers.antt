@@ -1,9 +1,4 @@
-use Rattle.std.proofs.Common.{arith, ◌≡◌, ◌<◌, ◌≤◌, ℕ, nat_lt, Result, Ok, Err, OnOk, OnErr, List, [], ◌∷◌, ◌++◌, sym, ap, ◌∙◌}
-use Rattle.std.specs.FinMap as finmap
-use Rattle.std.proofs.lemmas.Bool.Decides.{nat_tests}
-use Rattle.tabled_layout.specs.Spans.{after_span}
-use Rattle.tabled_layout.specs.TakenBack.{put_back, taken_back}
-use Rattle.tabled_layout.proofs.TakenBackLemmas.{taken_back-last, noted}
+use Rattle.tabled_layout.proofs.TakenBackLemmas.{noted}
 use Rattle.tabled_layout.proofs.spans.Spans.insert_noted.Goals as goal
 
 pub returns-clause-back : goal.returns-clause-back

@@ -11,10 +11,10 @@ none_set false e = sym e
 pub returns : goal.returns
 returns c =
     let one = one_each c.args.lines.now.frame.cfg.now.settings (none_set _ (sym c.has_spans.ensures ∙ c.if-has_spans.false)) in
-    let hosts = c.new-hosts.ensures.items in
+    let hosts = c.new-3.ensures.items in
     let none = ap length hosts in
     record {
       keeps = record { none = λ e. record { columns = one.0; rows = one.1 }; some = λ some. absurd (omega (arith, some, none)); each = λ some. absurd (omega (arith, some, none)) };
       hosts = hosts ∙ ap (λ n. replicate n nobody) (sym none);
-      wides = ap length c.new-wides.ensures.items ∙ sym none;
+      wides = ap length c.new-4.ensures.items ∙ sym none;
     }

@@ -7,7 +7,7 @@ use Rattle.tabled_painting.specs.Painted.{Painted}
 use Rattle.tabled_painting.specs.PaintedTable.{painted_side}
 use Rattle.tabled_painting.specs.Rows.{row_cell}
 use Rattle.tabled_painting.specs.Viewed.{viewed}
-use Rattle.tabled_painting.proofs.BareLemmas.{color_of_cell}
+use Rattle.tabled_painting.proofs.BareLemmas.{bare_of_row}
 use Rattle.tabled_painting.proofs.FrameLemmas.{cell_then_side, shown_at, side_is}
 use Rattle.tabled_painting.proofs.table_lines.TableLines.paint_low.Goals as goal
 
@@ -20,7 +20,7 @@ paint_cell-requires-clause-colors g c = c.loop-col.invariant.same_colors ∙ c.r
 pub paint_cell-requires-clause-bare : goal.paint_cell-requires-clause-bare
 paint_cell-requires-clause-bare g c =
     let lines = c.args.self.now in
-    color_of_cell lines.frame.with_colors lines.frame.cfg.now.settings.cells lines.colors.now c.args.row c.new-position.result.row c.new-position.result.col c.row_color-of_row.result
+    bare_of_row lines.frame.with_colors lines.frame.cfg.now.settings.cells lines.colors.now c.args.row c.new-position.result.row c.new-position.result.col c.row_color-of_row.result
     c.new-position.ensures.row c.row_color-of_row.ensures
 
 pub loop-col-preserved : goal.loop-col-preserved

@@ -1,10 +1,9 @@
--- None is wanted, or that of the first cell of the row.
-use Rattle.tabled_painting.specs.CellLines.{coloring_of}
-use Rattle.tabled_painting.proofs.BareLemmas.{color_of_row}
+-- That of the first cell of the row.
+use Rattle.tabled_painting.proofs.BareLemmas.{bare_row}
 use Rattle.tabled_painting.proofs.table_lines.TableLines.row_color.Goals as goal
 
-pub returns : goal.returns
-returns c =
+pub returns-then-is_row_alike-2 : goal.returns-then-is_row_alike-2
+returns-then-is_row_alike-2 c =
     let lines = c.args.self.now in
-    color_of_row lines.frame.with_colors lines.frame.cfg.now.settings.cells lines.colors.now c.new-first.result.row c.new-first.result.col c.args.row (coloring_of c.of-colors.result) c.one_color.result
-    (lines.are_row_colors c.if-not-self-2.false) c.new-first.ensures.row c.new-first.ensures.col c.of-colors.ensures c.one_color.ensures
+    bare_row lines.frame.with_colors lines.frame.cfg.now.settings.cells lines.colors.now c.new.result.row c.new.result.col c.args.row c.cell_color.result
+    (c.is_row_alike.ensures.alike c.if-is_row_alike.true) (c.is_row_alike-then-is_row_alike.ensures.alike c.if-is_row_alike-2.true) c.new.ensures.row c.new.ensures.col c.cell_color.ensures

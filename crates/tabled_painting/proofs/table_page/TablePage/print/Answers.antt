@@ -26,7 +26,6 @@ returns g c =
     let is = in_its_margin (viewed frame) page.margin frame.cfg.now.settings.margin lines page.high page.long page.is_margin frame.has_places page.longs
     (page.highs lines (lines_count (viewed frame) (columns_of page.lines) (rows_of page.lines) (room_cells page.lines table) frame.has_places)) in
     let start = c.new-painter.ensures in
-    subst (λ out. gains (text_of_page page table) out c.into_out.result) start.out
-    (subst (λ new. gains (text_of_page page table) c.new-painter.result.out new) (sym c.into_out.ensures)
+    subst (λ out. gains (text_of_page page table) out c.paint_strips-2.new.painter.out) start.out
     (subst (λ bytes. gains bytes c.new-painter.result.out c.paint_strips-2.new.painter.out)
-    ((λ i. joined (start.with_colors i) (start.begun i) (is i)) ∙ joined_first frame.with_colors _) whole.text))
+    ((λ i. joined (start.with_colors i) (start.begun i) (is i)) ∙ joined_first frame.with_colors _) whole.text)

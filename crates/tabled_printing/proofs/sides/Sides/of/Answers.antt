@@ -2,7 +2,6 @@
 use Rattle.std.proofs.Common.{◌+◌, length, option_map, ap, sym, ◌∙◌}
 use Rattle.std.proofs.lemmas.List.{length-map}
 use Rattle.std.proofs.lemmas.List.FromFn.{length-map-range_with_len}
-use Rattle.tabled_grid.specs.declared.place.LineOf.{LineOf}
 use Rattle.tabled_printing.specs.Beside.{plain_side}
 use Rattle.tabled_printing.specs.SideMarks.{side_mark}
 use Rattle.tabled_printing.proofs.AlikeLemmas.{listed_sides, none_on, ranked_sides}
@@ -13,7 +12,7 @@ returns-then-by_rank-clause-sides c = record {
   marks = λ col within.
       ranked_sides c.args.cfg.now c.args.with_colors c.args.shape c.kept_side-first.result c.kept_side-inner.result c.kept_side-end.result col (c.requires.cells c.if-by_rank.true) (c.requires.columns c.if-by_rank.true)
       c.kept_side-first.ensures.mark c.kept_side-inner.ensures.mark c.kept_side-end.ensures.mark within;
-  alike = λ col within side read alike. none_on c.args.cfg.now c.args.with_colors (LineOf.Vertical col) (c.requires.cells c.if-by_rank.true);
+  alike = λ col within side read alike. none_on c.args.cfg.now c.args.with_colors c.args.shape.0 col (c.requires.cells c.if-by_rank.true);
 }
 
 pub invariant_of-result-2 : goal.invariant_of-result-2
