@@ -13,6 +13,10 @@ impl CellSpans for First {
 
     ghost rows_at = { λ spans row col. 1 };
 
+    fn may_span(&self, row: usize, _count: usize) -> bool {
+        row == 0
+    }
+
     fn columns(&self, row: usize, col: usize) -> usize {
         if (row, col) == (0, 0) { 2 } else { 1 }
     }

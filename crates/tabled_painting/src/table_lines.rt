@@ -31,6 +31,9 @@ use tabled_printing::{Frame, Mark};
 use tabled_rooms::Host;
 use tabled_width::is_printable;
 
+/// How many bytes a character takes of those that lines are mostly drawn with.
+const MOST_BYTES: usize = 3;
+
 /// From how many rows on it pays to keep what stands between them.
 const MANY_ROWS: usize = 3;
 
@@ -146,7 +149,8 @@ impl<'a, 'b> TableLines<'a, 'b> {
     }
 
     /// The color of a bare cell and of the spaces beside its text, if all of these have the same: none where they have no color, or none is
-    /// wanted. It may be known of the row.
+    /// wanted. It may be known of the row: then no more is asked, for which this is in line.
+    #[inline(always)]
     fn cell_color(
         &self,
         of_row: Option<Option<&'a ANSIBuf>>,
@@ -414,7 +418,9 @@ fn line_written(
     requires { row ≤ frame.now.shape.0 }
     ensures { IfOk result (λ text. string_bytes text ≡ line_text frame.now.with_colors (painted_marks (marks_along (looks.viewed frame.now) (Line.Horizontal row)))) }
 {
-    let mut painter = Painter::new(String::new(alloc), frame.with_colors);
+    let room = columns_of(frame).saturating_mul(MOST_BYTES);
+    let text = String::with_capacity(alloc, room.saturating_add(frame.side_bytes()))?;
+    let mut painter = Painter::new(text, frame.with_colors);
     frame.put_line(row, &mut painter, &mut Probes::new())?;
     painter.end_last()?;
     let Painter { out, .. } = painter;
