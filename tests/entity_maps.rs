@@ -37,6 +37,22 @@ fn removal_shows_the_default(alloc: Global) -> Result<bool, OutOfMemory> {
     Ok(value(&map, 1, 1) == '.' && value(&map, 1, 0) == 'r')
 }
 
+/// Whether a row is known to be alike beside events of rows and of cells of other rows, and is not beside one of a cell of it or of a column.
+fn rows_are_told_alike(alloc: Global) -> Result<bool, OutOfMemory> {
+    let mut map = EntityMap::new(alloc, '.');
+    map.insert(Entity::Row(1), 'r')?;
+    map.insert(Entity::Cell(3, 0), 'x')?;
+    let beside_cells = map.is_row_alike(0) && map.is_row_alike(1) && !map.is_row_alike(3);
+    map.insert(Entity::Column(2), 'c')?;
+    Ok(beside_cells && !map.is_row_alike(1))
+}
+
+#[test]
+fn a_row_is_alike_where_no_cell_of_it_and_no_column_is_set(rt: HostRuntime) -> Result<(), Fail> {
+    assert!(rt; rows_are_told_alike(rt.alloc())?);
+    Ok(())
+}
+
 #[test]
 fn the_last_event_of_a_cell_shows(rt: HostRuntime) -> Result<(), Fail> {
     assert!(rt; later_one_shows(rt.alloc())?);
