@@ -4,5 +4,4 @@ pub mod Boxes
 pub mod Fills
 pub mod Showing
 pub mod Fits
-pub mod Unset
 pub mod Printing

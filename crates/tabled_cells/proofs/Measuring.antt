@@ -1,7 +1,7 @@
 -- What is measured of lines.
 use Rattle.std.proofs.Common.{◌≡◌, ◌≢◌, ℕ, ◌-◌, Bool, true, false, if◌then◌else◌, List, map, refl, ap}
 use Rattle.tabled_settings.specs.declared.alignment.AlignmentHorizontal.{AlignmentHorizontal}
-use Rattle.tabled_settings.specs.declared.alignment.AlignmentHorizontal.TheVariants.{Left, Center, Right}
+use Rattle.tabled_settings.specs.declared.alignment.AlignmentHorizontal.TheVariants.{Left}
 use Rattle.tabled_printing.specs.Texts.{width_of_text}
 use Rattle.tabled_cells.specs.declared.filling.LineParts.{LineParts}
 use Rattle.tabled_cells.specs.declared.placement.Placement.{Placement}
@@ -11,10 +11,8 @@ use Rattle.tabled_cells.specs.Placed.{greatest, free_before, fill_of, line_parts
 before_same : (side : AlignmentHorizontal) (each : Bool) (room own widest all : ℕ) → (each ≡ false → side ≢ Left → widest ≡ all)
     → free_before side (room - (if each then own else widest)) ≡ free_before side (room - (if each then own else all))
 before_same Left each room own widest all is = refl
-before_same Center true room own widest all is = refl
-before_same Center false room own widest all is = ap (λ n. free_before Center (room - n)) (is refl (λ left. cc))
-before_same Right true room own widest all is = refl
-before_same Right false room own widest all is = ap (λ n. room - n) (is refl (λ left. cc))
+before_same _ true room own widest all is = refl
+before_same side false room own widest all is = ap (λ n. free_before side (room - n)) (is refl (λ left. cc))
 
 pub parts_same : (how : Placement) (width widest : ℕ) (lines : List (List ℕ)) (line : List ℕ)
     → (how.line_alignment ≡ false → how.alignment_horizontal ≢ Left → widest ≡ greatest (map width_of_text lines))

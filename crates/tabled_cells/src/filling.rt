@@ -56,6 +56,7 @@ fn fill_of(character: char, line: &str) -> char
 }
 
 /// How a line in a column is filled, where something as wide as `aligned` is aligned.
+#[tactic(auto, unfolding(crate::specs::Placed::line_parts))]
 pub fn line_parts(how: &Placement, width: usize, aligned: usize, line: &str) -> LineParts
     ensures { result ≡ parts.line_parts how.now width aligned line.now }
 {

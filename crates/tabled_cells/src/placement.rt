@@ -31,6 +31,7 @@ impl Placement {
     ghost use Rattle.tabled_cells.specs.Placements.{placement_at};
 
     /// How the text of a cell stands in it, by what is set for the cell.
+    #[tactic(auto, unfolding(crate::specs::Placements::placement_at))]
     pub fn of(cfg: &SpannedConfig, position: Position) -> Self
         ensures { result ≡ placement_at cfg.now.settings.cells position.row position.col }
     {

@@ -45,6 +45,7 @@ impl<'a> ShownLines<'a> {
     }
 
     /// The lines of a text that are shown, before they are measured.
+    #[tactic(auto, using(crate::proofs::Trimming::shown_trimmed, crate::proofs::Trimming::shown_whole))]
     fn placed(how: &Placement, text: &'a str) -> Self
         ensures { shown result ≡ lines_shown how.now text.now }
     {
@@ -59,6 +60,7 @@ impl<'a> ShownLines<'a> {
     }
 
     /// So many of the first lines of a text.
+    #[tactic(auto, unfolding(crate::specs::Shown::shown))]
     fn of_first(trims: bool, text: &'a str, count: usize) -> Self
         requires { count ≤ length (pieces text.now) }
         ensures { shown result ≡ first_lines trims count (pieces text.now) }
@@ -74,6 +76,7 @@ impl<'a> ShownLines<'a> {
     }
 
     /// The same lines, with the widest known.
+    #[tactic(auto, unfolding(crate::specs::Shown::shown))]
     fn measured(self) -> Self
         ensures lines { shown result ≡ shown self.entry }
         ensures widest { result.widest ≡ greatest (map width_of_text (shown self.entry)) }
@@ -90,6 +93,7 @@ impl<'a> ShownLines<'a> {
     }
 
     /// How many lines there are.
+    #[tactic(auto, unfolding(crate::specs::Shown::shown))]
     pub fn len(&self) -> usize
         ensures { result ≡ length (shown self.now) }
     {
@@ -109,6 +113,7 @@ impl<'a> ShownLines<'a> {
     }
 
     /// Line `n`, counted from 0, if there is one. Lines that are asked for in turn cost no more than their own length.
+    #[tactic(auto, using(crate::proofs::Showing::shown_at, crate::proofs::Showing::line_found, crate::proofs::Showing::left_found), unfolding(crate::specs::Shown::shown))]
     pub fn line(&mut self, n: usize) -> Option<&'a str>
         ensures there { MatchOption result (length (shown self.old) ≤ n) (λ line. n < length (shown self.old)) }
         ensures is { IfSome result (λ line. line.now ≡ slice_index_or (shown self.old) n []) }

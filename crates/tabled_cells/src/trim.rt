@@ -54,6 +54,7 @@ fn cut(text: &str) -> Option<(&str, &str)>
 }
 
 /// Line `n` of what is left of a text, counted from 0, if there is one, and what is left below it.
+#[tactic(auto, using(crate::proofs::Trimming::left_below, crate::proofs::Trimming::last_within))]
 pub(crate) fn line_at(text: Option<&str>, n: usize) -> Option<(&str, Option<&str>)>
     ensures { MatchOption result (length (pieces_left text.entry) ≤ n) (λ found. drop n (pieces_left text.entry) ≡ found.0.now ∷ pieces_left found.1) }
 {
@@ -96,6 +97,7 @@ pub(crate) fn from_first(text: &str) -> Option<&str>
 }
 
 /// How many lines a text has up to the last one that is not blank.
+#[tactic(auto, using(crate::proofs::Trimming::left_below, crate::proofs::Trimming::taken_more, crate::proofs::Trimming::all_taken, crate::proofs::Trimming::last_kept))]
 pub(crate) fn count_to_last(text: &str) -> usize
     ensures lines { take result (pieces text.now) ≡ without_last shown.is_blank (pieces text.now) }
     ensures within { result ≤ length (pieces text.now) }

@@ -9,7 +9,7 @@ use Rattle.tabled_grid.specs.declared.place.LineOf.{LineOf}
 use Rattle.tabled_object.specs.Entities.{below}
 use Rattle.tabled_printing.specs.Along.{is_empty, crossing_at, along_line}
 use Rattle.tabled_printing.specs.Picture.{Look, mark_at, marks_along, line_if_drawn, row_lines, text_lines}
-use Rattle.tabled_printing.specs.TextOrder.{of_line, of_row, line_there, text_order, line_text, place_in}
+use Rattle.tabled_claims.specs.TextOrder.{of_line, of_row, line_there, text_order, line_text, place_in}
 use Rattle.tabled_printing.specs.Texts.{Table}
 
 -- a function over steps in a row

@@ -17,3 +17,6 @@ pub mod Stops
 pub mod CleanLimits
 pub mod ReadTexts
 pub mod CleanViews
+pub mod PlainEven
+pub mod Unset
+pub mod StretchLemmas

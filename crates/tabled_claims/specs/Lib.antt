@@ -1,2 +1,5 @@
 pub mod Characters
 pub mod Clean
+pub mod NarrowParts
+pub mod TextOrder
+pub mod Stretches

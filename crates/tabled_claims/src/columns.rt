@@ -11,7 +11,7 @@ ghost use Rattle.tabled_object.specs.declared.entity.Entity.{Entity};
 ghost use Rattle.tabled_configuration.specs.Configuration.{ConfigEvent, characters_of};
 ghost use Rattle.tabled_configuration.specs.Options.{entity_bordered, entity_unbordered, table_bordered, table_unbordered};
 ghost use Rattle.tabled_printing.specs.Columns.{HasNarrowBorders, WritesNarrow, draws_plainly, is_narrow};
-ghost use Rattle.tabled_printing.specs.NarrowParts.{is_narrow_border, is_narrow_horizontal, is_narrow_if_given, is_narrow_record, is_narrow_vertical};
+ghost use Rattle.tabled_claims.specs.NarrowParts.{is_narrow_border, is_narrow_horizontal, is_narrow_if_given, is_narrow_record, is_narrow_vertical};
 ghost use Rattle.tabled_printing.specs.Picture.{Look, look};
 ghost use Rattle.tabled_printing.specs.Texts.{width_of_text};
 ghost use Rattle.tabled_color.specs.Shade.{Shade};

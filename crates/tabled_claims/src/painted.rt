@@ -4,7 +4,7 @@ ghost use Rattle.std.specs.Prelude.{◌≡◌};
 ghost use Rattle.std.specs.List.{flat_map};
 ghost use Rattle.tabled_painting.specs.InColor.{in_color};
 ghost use Rattle.tabled_painting.specs.Painted.{Painted, plain};
-ghost use Rattle.tabled_painting.specs.Stretches.{stretches, between_its_texts};
+ghost use Rattle.tabled_claims.specs.Stretches.{stretches, between_its_texts};
 
 /// A line in color is its stretches of one color, each between the two texts of its color: so each color begins and ends within the
 /// line, and nothing is written where there is none.

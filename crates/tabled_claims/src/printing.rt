@@ -15,7 +15,7 @@ ghost use Rattle.tabled_printing.specs.Marks.{mark_of, marks_of, run_marks};
 ghost use Rattle.tabled_printing.specs.Picture.{Look, look, text_marked, text_shown, mark_at, marks_along, marks, line_if_drawn, text_lines, printed};
 ghost use Rattle.tabled_printing.specs.Refusal.{first_refusal, table_faults};
 ghost use Rattle.tabled_printing.specs.Sides.{side_at};
-ghost use Rattle.tabled_printing.specs.TextOrder.{text_order, line_text, place_in};
+ghost use Rattle.tabled_claims.specs.TextOrder.{text_order, line_text, place_in};
 ghost use Rattle.tabled_printing.specs.Texts.{Table, pieces, texts, width_of_text};
 ghost use Rattle.tabled_printing.specs.Viewed.{frame_look, with_colors_if};
 

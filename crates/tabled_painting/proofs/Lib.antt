@@ -4,7 +4,6 @@ pub mod FrameLemmas
 pub mod PageLemmas
 pub mod MarginLemmas
 pub mod Plain
-pub mod StretchLemmas
 pub mod AlikeLemmas
 pub mod BareLemmas
 pub mod MarginWidths

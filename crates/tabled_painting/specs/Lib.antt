@@ -8,7 +8,6 @@ pub mod Between
 pub mod Put
 pub mod Viewed
 pub mod Rows
-pub mod Stretches
 pub mod BareCells
 pub mod Outputs
 pub mod Printable

@@ -1,13 +1,15 @@
 -- The first of all faults, found in a walk over what is tested.
-use Rattle.std.proofs.Common.{◌≡◌, ℕ, ◌+◌, ◌<◌, ◌≤◌, Bool, true, false, Option, None, is_some, List, [], ◌∷◌, ◌++◌, length, get_or, drop, map, refl, sym, ap, ◌∙◌, ◌==◌, eq-eqb, slice_get}
+use Rattle.std.proofs.Common.{◌≡◌, ℕ, ◌+◌, ◌<◌, Bool, true, false, Option, None, is_some, List, [], ◌∷◌, ◌++◌, length, get_or, drop, map, refl, sym, ap, ◌∙◌, ◌==◌, arith, eq-eqb, slice_get}
 use Rattle.std.specs.List.{All, flat_map, enumerate_from}
 use Rattle.std.proofs.lemmas.Bool.{eqb-true}
+use Rattle.std.proofs.lemmas.Bool.Decides.{nat_tests}
 use Rattle.std.proofs.lemmas.List.Elements.{All-nil, All-cons}
-use Rattle.std.proofs.lemmas.List.{drop_more, drop_all, get_or-map, length-map}
+use Rattle.std.proofs.lemmas.List.FromFn.{length-enumerate_from, get_or-enumerate_from}
+use Rattle.std.proofs.lemmas.List.{drop_more, get_or-map, length-map}
 use Rattle.tabled_printing.specs.declared.print_error.PrintError.{PrintError}
 use Rattle.tabled_printing.specs.Texts.{Table}
 use Rattle.tabled_configuration.specs.Configuration.{Configuration}
-use Rattle.tabled_printing.specs.Refusal.{unless, cell_faults, row_faults, table_faults, span_faults, first_refusal}
+use Rattle.tabled_printing.specs.Refusal.{unless, row_faults, table_faults, span_faults, first_refusal}
 
 -- the first element of a list that begins with others
 first_here : {E : Type 0} (xs ys : List E) (r : Option E) → r ≡ slice_get xs 0 → is_some r ≡ true → r ≡ slice_get (xs ++ ys) 0
@@ -32,21 +34,11 @@ module _ {A X E : Type 0} (f : ℕ × X → List E) (g : A → X) (things : List
 
   -- the thing at the place has the fault
   pub first_from_here : (thing : A) (x : X) (r : Option E) → i < length things → thing ≡ get_or things i thing → x ≡ g thing → r ≡ slice_get (f (i, x)) 0 → is_some r ≡ true → r ≡ first_from f g things i
-  first_from_here thing x r within read same e some =
-      first_here (f (i, g thing)) (flat_map f (enumerate_from (i + 1) (drop (i + 1) (map g things)))) r (e ∙ ap (λ y. slice_get (f (i, y)) 0) same) some
-      ∙ ap (λ xs. slice_get (flat_map f (enumerate_from i xs)) 0) (sym (apart thing within read))
+  first_from_here thing x r within read same e some = rw (apart thing within read, ← same) (first_here (f (i, x)) _ r e some)
 
   -- it has none
   pub first_from_later : (thing : A) (x : X) (r : Option E) → i < length things → thing ≡ get_or things i thing → x ≡ g thing → r ≡ slice_get (f (i, x)) 0 → is_some r ≡ false → first_from f g things i ≡ first_from f g things (i + 1)
-  first_from_later thing x r within read same e none =
-      ap (λ xs. slice_get (flat_map f (enumerate_from i xs)) 0) (apart thing within read)
-      ∙ first_later (f (i, g thing)) (flat_map f (enumerate_from (i + 1) (drop (i + 1) (map g things)))) r (e ∙ ap (λ y. slice_get (f (i, y)) 0) same) none
-
-  -- nothing stands there
-  pub first_from_none : length things ≤ i → first_from f g things i ≡ None
-  first_from_none past =
-      let outside : length (map g things) ≤ i = rw length-map past in
-      ap (λ xs. slice_get (flat_map f (enumerate_from i xs)) 0) (drop_all i (map g things) outside)
+  first_from_later thing x r within read same e none = rw (apart thing within read, ← same) (first_later (f (i, x)) _ r e none)
 
 -- where there are as many things as there ought to be, the first fault is that of the things
 pub first_after_count : {A X : Type 0} (f : ℕ × X → List PrintError) (g : A → X) (things : List A) (count : ℕ) (fault : PrintError) → length things ≡ count → first_from f g things 0 ≡ slice_get (unless (length (map g things) == count) fault ++ flat_map f (enumerate_from 0 (map g things))) 0
@@ -77,23 +69,22 @@ no_faults cfg widths heights shape cells e =
 
 -- one with no fault has as many rows as it ought to
 pub right_rows : (widths heights : ℕ → ℕ) (shape : ℕ × ℕ) (cells : Table) → table_faults widths heights shape cells ≡ [] → length cells ≡ shape.0
-right_rows widths heights shape cells e =
-    eqb-true (length cells) shape.0
-    (no_fault (length cells == shape.0) PrintError.RowCount
-    (none_front (unless (length cells == shape.0) PrintError.RowCount) (flat_map (row_faults widths heights shape.1) (enumerate_from 0 cells)) e))
+right_rows widths heights shape cells e = grind (arith, nat_tests)
+
+none_each : {X E : Type 0} (f : X → List E) (xs : List X) → flat_map f xs ≡ [] → All (λ x. f x ≡ []) xs
+none_each f [] e = All-nil (λ x. f x ≡ [])
+none_each f (x ∷ xs) e = All-cons (λ x. f x ≡ []) x xs (none_front (f x) (flat_map f xs) e) (none_each f xs (none_rest (f x) (flat_map f xs) e))
+
+-- where none of many things has a fault, the one at a place has none
+pub none_at : {X E : Type 0} (f : ℕ × X → List E) (xs : List X) → flat_map f (enumerate_from 0 xs) ≡ [] → (k : ℕ) (d : X) → k < length xs → f (k, get_or xs k d) ≡ []
+none_at f xs e k d within =
+    let start : k ≡ 0 + k = omega arith in
+    let long = length-enumerate_from 0 xs in
+    ap (λ m. f (m, get_or xs k d)) start ∙ ap f (sym (get_or-enumerate_from 0 xs k (0, d) within)) ∙ none_each f (enumerate_from 0 xs) e k (0, d) (omega (arith, long))
 
 -- and each row has as many cells
-right_cells : (widths heights : ℕ → ℕ) (cols n : ℕ) (cells : Table) → flat_map (row_faults widths heights cols) (enumerate_from n cells) ≡ [] → All (λ row. length row ≡ cols) cells
-right_cells widths heights cols n [] e = All-nil (λ row. length row ≡ cols)
-right_cells widths heights cols n (row ∷ rows) e =
-    All-cons (λ cells. length cells ≡ cols) row rows
-    (eqb-true (length row) cols
-    (no_fault (length row == cols) (PrintError.ColumnCount n)
-    (none_front (unless (length row == cols) (PrintError.ColumnCount n)) (flat_map (cell_faults widths heights n) (enumerate_from 0 row))
-    (none_front (row_faults widths heights cols (n, row)) (flat_map (row_faults widths heights cols) (enumerate_from (n + 1) rows)) e))))
-    (right_cells widths heights cols (n + 1) rows (none_rest (row_faults widths heights cols (n, row)) (flat_map (row_faults widths heights cols) (enumerate_from (n + 1) rows)) e))
-
 pub right_columns : (widths heights : ℕ → ℕ) (shape : ℕ × ℕ) (cells : Table) → table_faults widths heights shape cells ≡ [] → All (λ row. length row ≡ shape.1) cells
-right_columns widths heights shape cells e =
-    right_cells widths heights shape.1 0 cells
-    (none_rest (unless (length cells == shape.0) PrintError.RowCount) (flat_map (row_faults widths heights shape.1) (enumerate_from 0 cells)) e)
+right_columns widths heights shape cells e k d within =
+    let of_rows = none_rest (unless (length cells == shape.0) PrintError.RowCount) (flat_map (row_faults widths heights shape.1) (enumerate_from 0 cells)) e in
+    eqb-true (length (get_or cells k d)) shape.1
+    (no_fault (length (get_or cells k d) == shape.1) (PrintError.ColumnCount k) (none_front _ _ (none_at (row_faults widths heights shape.1) cells of_rows k d within)))

@@ -13,4 +13,3 @@ pub mod Straight
 pub mod Ranges
 pub mod PieceTexts
 pub mod NarrowLemmas
-pub mod PlainEven

@@ -1,10 +1,12 @@
 -- The places of a line, piece by piece.
-use Rattle.std.proofs.Common.{◌≡◌, ℕ, ◌+◌, ◌-◌, ◌≤◌, ◌<◌, Bool, true, false, not, ◌||◌, ◌&&◌, cond, nat_le, nat_lt, if◌then◌else◌, List, [], ◌++◌, length, map, zero, suc, add-one, refl, ap, sym, subst, ◌∙◌, arith, length-append}
+use Rattle.std.proofs.Common.{◌≡◌, ℕ, ◌+◌, ◌≤◌, ◌<◌, Bool, true, false, not, ◌||◌, ◌&&◌, cond, nat_le, nat_lt, if◌then◌else◌, List, [], ◌++◌, length, get_or, take, map, refl, ap, sym, ◌∙◌, arith, length-append}
 use Rattle.std.proofs.lemmas.Bool.Decides.{nat_tests}
-use Rattle.std.proofs.lemmas.Bool.{and_parts, leb-true, leb-false, le-leb, le-ltb, lt-ltb}
-use Rattle.std.proofs.lemmas.List.{map-append, length-map}
-use Rattle.std.proofs.lemmas.List.FromFn.{length-map-range_with_len}
-use Rattle.tabled_grid.specs.declared.place.Place.{Place}
+use Rattle.std.specs.List.{flat_map}
+use Rattle.std.proofs.lemmas.Bool.{le-leb}
+use Rattle.std.proofs.lemmas.List.{map-append, map-id, length-map}
+use Rattle.std.proofs.lemmas.List.Folds.{length-flat_map-take}
+use Rattle.std.proofs.lemmas.List.FromFn.{get_or-range_with_len, length-range_with_len, length-map-range_with_len, take-map-range_with_len}
+use Rattle.tabled_object.specs.Entities.{below}
 use Rattle.tabled_grid.specs.declared.place.LineOf.{LineOf}
 use Rattle.tabled_configuration.proofs.Below.{flat_map_below}
 use Rattle.tabled_configuration.specs.Configuration.{ConfigEvent}
@@ -12,21 +14,14 @@ use Rattle.tabled_printing.specs.Along.{is_empty, along}
 use Rattle.tabled_printing.specs.Picture.{Look, look, edge_size, mark_at, marks_along}
 use Rattle.tabled_printing.specs.LinePieces.{has_line, pieces_of, piece_size, crossed, crossed_after, crossing_of, edge_of, crossing_places, edge_places, piece_places, places_before, all_places, lines_met}
 
-not_true : (b : Bool) → not b ≡ true → b ≡ false
-not_true true h = sym h
-not_true false h = refl
+not_past : (empty : Bool) (number last : ℕ) → not empty && nat_le number last ≡ true → empty || nat_lt last number ≡ false
+not_past empty number last there = grind (arith, nat_tests)
 
 -- the pieces of a line that is there are its places
 pub along_pieces : (view : Look) (line : LineOf) → has_line view.shape line ≡ true → along view.horizontal view.vertical view.shape view.widths view.heights line ≡ all_places view line
 unfolding all_places places_before
-along_pieces view (LineOf.Horizontal r) there =
-    let parts = and_parts (not (is_empty view.shape)) (nat_le r view.shape.0) there in
-    let places : List Place = all_places view (LineOf.Horizontal r) in
-    ap (λ b. cond (b || nat_lt view.shape.0 r) [] places) (not_true (is_empty view.shape) parts.0) ∙ ap (λ b. cond b [] places) (le-ltb view.shape.0 r (leb-true r view.shape.0 parts.1))
-along_pieces view (LineOf.Vertical c) there =
-    let parts = and_parts (not (is_empty view.shape)) (nat_le c view.shape.1) there in
-    let places : List Place = all_places view (LineOf.Vertical c) in
-    ap (λ b. cond (b || nat_lt view.shape.1 c) [] places) (not_true (is_empty view.shape) parts.0) ∙ ap (λ b. cond b [] places) (le-ltb view.shape.1 c (leb-true c view.shape.1 parts.1))
+along_pieces view (LineOf.Horizontal r) there = ap (λ b. cond b [] (all_places view (LineOf.Horizontal r))) (not_past (is_empty view.shape) r view.shape.0 there)
+along_pieces view (LineOf.Vertical c) there = ap (λ b. cond b [] (all_places view (LineOf.Vertical c))) (not_past (is_empty view.shape) c view.shape.1 there)
 
 -- a horizontal line is there where the table has places and the line is not past the last one
 pub horizontal_there : (shape : ℕ × ℕ) (r : ℕ) → is_empty shape ≡ false → r ≤ shape.0 → has_line shape (LineOf.Horizontal r) ≡ true
@@ -38,17 +33,12 @@ vertical_there shape any = ap (λ empty. not empty && nat_le 0 shape.1) any ∙ 
 
 -- a line that is there has a piece
 pub pieces_there : (shape : ℕ × ℕ) (line : LineOf) → has_line shape line ≡ true → 0 < pieces_of shape line
-pieces_there shape (LineOf.Horizontal r) there =
-    let parts = and_parts (not (is_empty shape)) (nat_le r shape.0) there in
-    let any : is_empty shape ≡ false = not_true (is_empty shape) parts.0 in grind (arith, nat_tests)
-pieces_there shape (LineOf.Vertical c) there =
-    let parts = and_parts (not (is_empty shape)) (nat_le c shape.1) there in
-    let any : is_empty shape ≡ false = not_true (is_empty shape) parts.0 in grind (arith, nat_tests)
+pieces_there shape (LineOf.Horizontal r) there = grind (arith, nat_tests)
+pieces_there shape (LineOf.Vertical c) there = grind (arith, nat_tests)
 
 -- a line that is not there has none
 past_last : (empty : Bool) (number last : ℕ) → not empty && nat_le number last ≡ false → empty || nat_lt last number ≡ true
-past_last true number last h = refl
-past_last false number last h = lt-ltb last number (leb-false number last h)
+past_last empty number last absent = grind (arith, nat_tests)
 
 pub no_places : (view : Look) (line : LineOf) → has_line view.shape line ≡ false → along view.horizontal view.vertical view.shape view.widths view.heights line ≡ []
 unfolding all_places places_before
@@ -82,30 +72,19 @@ module _ (view : Look) (line : LineOf) where
   pub before_more_count : (n : ℕ) → length (places_before view line (n + 1)) ≡ length (places_before view line n) + length (piece_places view line n)
   before_more_count n = ap length (before_more n) ∙ length-append (places_before view line n) (piece_places view line n)
 
-  -- the places before a piece, and its own, are no more than all
-  before_grows : (n k : ℕ) → length (places_before view line n) ≤ length (places_before view line (n + k))
-  before_grows n zero =
-      let same : n ≡ n + 0 = omega arith in
-      subst (λ m. length (places_before view line n) ≤ length (places_before view line m)) same (omega arith)
-  before_grows n (suc k) =
-      let one = before_more_count (n + k) in
-      let so_far = before_grows n k in
-      let same : n + k + 1 ≡ n + suc k = omega (arith, add-one k) in
-      subst (λ m. length (places_before view line n) ≤ length (places_before view line m)) same (omega (arith, one, so_far))
-
-  pub before_fits : (n count : ℕ) → n ≤ count → length (places_before view line n) ≤ length (places_before view line count)
-  before_fits n count h = subst (λ m. length (places_before view line n) ≤ length (places_before view line m)) (omega arith) (before_grows n (count - n))
-
   pub all_count : length (all_places view line) ≡ length (places_before view line (pieces_of view.shape line)) + length (crossing_places view line (pieces_of view.shape line))
   unfolding all_places
   all_count = length-append (places_before view line (pieces_of view.shape line)) (crossing_places view line (pieces_of view.shape line))
 
+  -- the places before a piece, and its own, are no more than all
   pub piece_fits : (n : ℕ) → n < pieces_of view.shape line → length (places_before view line n) + length (piece_places view line n) ≤ length (all_places view line)
+  unfolding places_before
   piece_fits n h =
-      let more = before_more_count n in
-      let fits = before_fits (n + 1) (pieces_of view.shape line) (omega arith) in
-      let all = all_count in
-      omega (arith, more, fits, all)
+      let count : ℕ = pieces_of view.shape line in
+      let front : take n (below count) ≡ below n = sym (ap (take n) (map-id (below count))) ∙ take-map-range_with_len (λ k. k) 0 count n (omega arith) ∙ map-id (below n) in
+      let here : get_or (below count) n 0 ≡ n = get_or-range_with_len 0 count n 0 h ∙ omega arith in
+      let most = length-flat_map-take (piece_places view line) (below count) n 0 (omega (arith, length-range_with_len 0 count)) in
+      omega (arith, most, ap (λ ns. length (flat_map (piece_places view line) ns)) front, ap (λ m. length (piece_places view line m)) here, all_count)
 
   -- the marks of no piece, of one more, and of all
   pub no_marks_before : map (mark_at view) (places_before view line 0) ≡ []

@@ -1,9 +1,10 @@
 -- Texts that are taken apart piece by piece.
-use Rattle.std.proofs.Common.{◌≡◌, ℕ, ◌+◌, ◌<◌, ◌≤◌, ◌⊎◌, ◌≢◌, inl, inr, Bool, true, false, if◌then◌else◌, nat_lt, ltb, eqb, List, [], ◌∷◌, length, zero, suc, get_or, slice_index_or, set, refl, sym, ap, ◌∙◌, ◌==◌, arith, add-one, add-zero, Result, Ok, Err, OnOk}
+use Rattle.std.proofs.Common.{◌≡◌, ℕ, ◌+◌, ◌<◌, ◌≤◌, Bool, true, false, if◌then◌else◌, nat_lt, ltb, List, [], ◌∷◌, length, zero, suc, get_or, slice_index_or, set, refl, sym, ap, ◌∙◌, ◌==◌, arith, add-one, add-zero, Result, Ok, Err, OnOk}
 use Rattle.std.specs.List.{position_or_len}
-use Rattle.std.proofs.lemmas.Bool.{ltb-true, ltb-false, lt-ltb, le-ltb}
-use Rattle.std.proofs.lemmas.Bool.Decides.{eqb_tells}
-use Rattle.std.proofs.lemmas.List.{map-set, get_or-map, get_or-set_same, get_or-set_other, get_or_past, take_all, drop_all, length-map}
+use Rattle.std.proofs.lemmas.Bool.{ltb-true, ltb-false, le-ltb}
+use Rattle.std.proofs.lemmas.Bool.Decides.{nat_tests}
+use Rattle.std.proofs.lemmas.Grind.{common_steps}
+use Rattle.std.proofs.lemmas.List.{map-set, get_or-map, get_or_past, take_all, drop_all, length-map}
 use Rattle.std.proofs.lemmas.List.Splits.{slice_split_none, slice_split_first}
 use Rattle.std.proofs.lemmas.List.Sums.{fails_before_first}
 use denote.Ref.{Bor}
@@ -56,29 +57,7 @@ module _ (n : ℕ) (old : List (List ℕ)) (rests : List (Bor (List ℕ))) (d : 
 
   -- one more text has lost its first piece
   pub cut_more : (r : Bor (List ℕ)) → CutBelow n old (lent rests) → n < length rests → r.now ≡ after_first_piece (get_or rests n d).now → CutBelow (n + 1) old (lent (set rests n r))
-  cut_more r cut within is c =
-      ap (λ texts. get_or texts c []) (map-set (λ text. text.now) rests n r) ∙ at_place (eqb_tells c n)
-    where
-      elsewhere : (b : Bool) → ltb c n ≡ b → c ≢ n → ltb c n ≡ ltb c (n + 1)
-      elsewhere true e other = e ∙ sym (lt-ltb c (n + 1) (let h = ltb-true c n e in omega arith))
-      elsewhere false e other = e ∙ sym (le-ltb c (n + 1) (let h = ltb-false c n e in omega arith))
-
-      at_place : ((eqb c n ≡ true) × (c ≡ n)) ⊎ ((eqb c n ≡ false) × (c ≢ n)) → get_or (set (lent rests) n r.now) c [] ≡ cut_if (nat_lt c (n + 1)) (get_or old c [])
-      at_place (inl same) =
-          ap (λ m. get_or (set (lent rests) n r.now) m []) same.1 ∙ get_or-set_same (lent rests) n r.now [] (rw length-map within)
-          ∙ is ∙ ap after_first_piece (not_cut cut within ∙ ap (λ m. get_or old m []) (sym same.1))
-          ∙ ap (λ b. cut_if b (get_or old c [])) (sym (lt-ltb c (n + 1) (omega arith)))
-      at_place (inr other) = get_or-set_other (lent rests) n c r.now [] other.1 ∙ cut c ∙ ap (λ b. cut_if b (get_or old c [])) (elsewhere _ refl other.1)
-
--- where all have, so has the text at any place
-pub all_cut : (n : ℕ) (old new : List (List ℕ)) → length old ≤ n → CutBelow n old new → (c : ℕ) → get_or new c [] ≡ after_first_piece (get_or old c [])
-all_cut n old new all cut c = cut c ∙ chosen _ refl
-  where
-    chosen : (b : Bool) → ltb c n ≡ b → cut_if (ltb c n) (get_or old c []) ≡ after_first_piece (get_or old c [])
-    chosen true e = ap (λ b. cut_if b (get_or old c [])) e
-    chosen false e =
-        let none : get_or old c [] ≡ [] = get_or_past old c [] (let h = ltb-false c n e in omega arith) in
-        ap (λ b. cut_if b (get_or old c [])) e ∙ none ∙ ap after_first_piece (sym none)
+  cut_more r cut within is c = let here = cut c in let kept = not_cut cut within in let long = length-map rests (λ text. text.now) in let mapped = map-set (λ text. text.now) rests n r in grind (arith, common_steps, nat_tests)
 
 pub on_ok : {T E P : Type 0} (r : Result T E) → P → OnOk r P
 on_ok (Ok x) p = p

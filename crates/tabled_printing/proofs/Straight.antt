@@ -1,18 +1,18 @@
 -- The lines of a table's text are as wide as the table, and its vertical lines stand straight.
-use Rattle.std.proofs.Common.{◌≡◌, ℕ, ◌+◌, ◌-◌, ◌<◌, ◌≤◌, zero, suc, Bool, true, false, if◌then◌else◌, ◌||◌, nat_lt, List, [], ◌∷◌, ◌++◌, map, length, Option, encode_utf8, encode_utf8_all, refl, sym, ap, subst, ◌∙◌, arith, append-nil, append_assoc, length-append}
-use Rattle.std.specs.List.{list_all, sum_by, All, AllZip, flat_map, range_with_len}
+use Rattle.std.proofs.Common.{◌≡◌, ℕ, ◌+◌, ◌-◌, ◌<◌, ◌≤◌, zero, suc, Bool, true, false, if◌then◌else◌, ◌||◌, nat_lt, List, [], ◌∷◌, ◌++◌, map, length, encode_utf8, encode_utf8_all, refl, sym, ap, subst, ◌∙◌, arith, append-nil, append_assoc, length-append}
+use Rattle.std.specs.List.{sum_by, All, AllZip, flat_map, range_with_len}
 use Rattle.std.proofs.lemmas.Bool.{and_from, le-ltb}
 use Rattle.std.proofs.lemmas.List.{map-append, length-map}
-use Rattle.std.proofs.lemmas.List.Elements.{All-nil, All-cons, All-append}
+use Rattle.std.proofs.lemmas.List.Elements.{All-nil, All-cons}
 use Rattle.std.proofs.lemmas.List.Concat.{flat_map-append}
 use Rattle.std.proofs.lemmas.List.FromFn.{length-range_with_len}
-use Rattle.std.proofs.lemmas.Str.{encodes-append}
 use Rattle.tabled_object.specs.Entities.{below}
 use Rattle.tabled_grid.specs.declared.place.Place.{Place}
 use Rattle.tabled_grid.specs.declared.place.LineOf.{LineOf}
 use Rattle.tabled_printing.specs.Texts.{width_of_text}
 use Rattle.tabled_printing.specs.Along.{is_empty, along, along_line, crossing_at}
 use Rattle.tabled_printing.specs.Picture.{Look, character, text_shown, text_marked, mark_at, marks_along, line_of_pieces, line_if_drawn}
+use Rattle.tabled_printing.specs.Sinks.{text_of_both}
 use Rattle.tabled_printing.specs.Columns.{is_narrow, HasNarrowBorders, line_width, columns_before, table_width, StandsAt, StandsStraight}
 use Rattle.tabled_printing.proofs.Tiles.{Tile, Tile-nil, Tile-append, Tile-narrow, Tile-same, Tile-flat}
 
@@ -51,21 +51,10 @@ AllZip-if : {A B : Type 0} (R : A → B → Type 0) (b : Bool) (x : A) (y : B) �
 AllZip-if R true x y is = (is, tt)
 AllZip-if R false x y is = tt
 
-All-flat : {A : Type 0} (P : A → Type 0) (f : ℕ → List A) (start count : ℕ) → ((n : ℕ) → start ≤ n → n < start + count → All P (f n)) → All P (flat_map f (range_with_len start count))
-All-flat P f start zero each = All-nil P
-All-flat P f start (suc count) each =
-    All-append P (f start) (flat_map f (range_with_len (start + 1) count)) (each start (omega arith) (omega arith))
-    (All-flat P f (start + 1) count (λ n least most. each n (omega arith) (omega arith)))
-
-All-mapped : {A : Type 0} (P : A → Type 0) (f : ℕ → A) (start count : ℕ) → ((n : ℕ) → start ≤ n → n < start + count → P (f n)) → All P (map f (range_with_len start count))
-All-mapped P f start zero each = All-nil P
-All-mapped P f start (suc count) each =
-    All-cons P (f start) (map f (range_with_len (start + 1) count)) (each start (omega arith) (omega arith))
-    (All-mapped P f (start + 1) count (λ n least most. each n (omega arith) (omega arith)))
-
-All-if : {A : Type 0} (P : A → Type 0) (b : Bool) (x : A) → P x → All P (if b then x ∷ [] else [])
-All-if P true x is = All-cons P x [] is (All-nil P)
-All-if P false x is = All-nil P
+-- what is so of each element that is paired with itself is so of each
+All-zipped : {A : Type 0} (P : A → Type 0) (xs : List A) → AllZip (λ x y. P x) xs xs → All P xs
+All-zipped P [] all = All-nil P
+All-zipped P (x ∷ xs) all = All-cons P x xs all.0 (All-zipped P xs all.1)
 
 flat_some : {A : Type 0} (f : ℕ → List A) (count : ℕ) → 0 < count → length (f 0) ≤ length (flat_map f (below count))
 flat_some f zero some = absurd (omega (arith, some))
@@ -73,14 +62,11 @@ flat_some f (suc count) some = let long = length-append (f 0) (flat_map f (range
 
 -- ---- a line of text: what the vertical lines show, and what stands between them
 
-one_narrow : (m : ℕ) → is_narrow m ≡ true → list_all is_narrow (m ∷ []) ≡ true
-one_narrow m h = and_from _ _ h refl
-
 mark_tile : (m : ℕ) → is_narrow m ≡ true → Tile 1 (encode_utf8 m)
-mark_tile m h = subst (Tile 1) (append-nil (encode_utf8 m)) (Tile-narrow (m ∷ []) (one_narrow m h))
+mark_tile m h = subst (Tile 1) (append-nil (encode_utf8 m)) (Tile-narrow (m ∷ []) (and_from _ _ h refl))
 
 side_tile : (b : Bool) (m : ℕ) → is_narrow m ≡ true → Tile (if b then 1 else 0) (if b then encode_utf8_all (m ∷ []) else [])
-side_tile true m h = Tile-narrow (m ∷ []) (one_narrow m h)
+side_tile true m h = Tile-narrow (m ∷ []) (and_from _ _ h refl)
 side_tile false m h = Tile-nil
 
 -- a line is cut in three, of which none joins another: the columns before a place, the character there, and the rest
@@ -188,9 +174,9 @@ abbrev pub lines_around : Look → (ℕ → ℕ → ℕ → List ℕ) → List (
 lines_around view piece =
     flat_map (λ r. line_if_drawn view r ++ map (λ k. line_of_pieces view r k (λ c. piece r c k)) (below (view.heights r))) (below view.shape.0) ++ line_if_drawn view view.shape.0
 
-side_same : (b : Bool) (shown : Option ℕ) → text_shown (if b then shown ∷ [] else []) ≡ (if b then encode_utf8_all (character shown ∷ []) else [])
-side_same true shown = refl
-side_same false shown = refl
+at_if : {A B : Type 0} (f : A → B) (b : Bool) (x y : A) → f (if b then x else y) ≡ (if b then f x else f y)
+at_if f true x y = refl
+at_if f false x y = refl
 
 module _ (view : Look) (narrow : HasNarrowBorders view) where
   -- what vertical line c shows beside line k of row r
@@ -199,33 +185,26 @@ module _ (view : Look) (narrow : HasNarrowBorders view) where
 
   row_same : (r k : ℕ) (piece : ℕ → List ℕ) → line_of_pieces view r k piece ≡ whole_line view (beside r k) piece (λ c. narrow (Place.Vertical r c k))
   row_same r k piece =
-      λ i. flat_map (λ c. side_same (view.vertical c) (view.shown (Place.Vertical r c k)) i ++ piece c) (below view.shape.1)
-      ++ side_same (view.vertical view.shape.1) (view.shown (Place.Vertical r view.shape.1 k)) i
+      λ i. flat_map (λ c. at_if text_shown (view.vertical c) (view.shown (Place.Vertical r c k) ∷ []) [] i ++ piece c) (below view.shape.1)
+      ++ at_if text_shown (view.vertical view.shape.1) (view.shown (Place.Vertical r view.shape.1 k) ∷ []) [] i
 
   -- ---- horizontal lines
 
   abbrev text_at : List Place → List ℕ
-  text_at places = encode_utf8_all (map (λ place. character (view.shown place)) places)
-
-  marks_shown : (places : List Place) → map character (map (λ mark. mark.0) (map (mark_at view) places)) ≡ map (λ place. character (view.shown place)) places
-  marks_shown [] = refl
-  marks_shown (place ∷ places) = ap (λ l. character (view.shown place) ∷ l) (marks_shown places)
+  text_at places = text_marked (map (mark_at view) places)
 
   text_both : (xs ys : List Place) → text_at (xs ++ ys) ≡ text_at xs ++ text_at ys
-  text_both xs ys =
-      ap encode_utf8_all (map-append (λ place. character (view.shown place)) xs ys)
-      ∙ encodes-append (map (λ place. character (view.shown place)) xs) (map (λ place. character (view.shown place)) ys)
+  text_both xs ys = ap text_marked (map-append (mark_at view) xs ys) ∙ text_of_both (map (mark_at view) xs) (map (mark_at view) ys)
 
   text_flat : (f : ℕ → List Place) (ns : List ℕ) → text_at (flat_map f ns) ≡ flat_map (λ n. text_at (f n)) ns
   text_flat f [] = refl
   text_flat f (n ∷ ns) = text_both (f n) (flat_map f ns) ∙ ap (λ rest. text_at (f n) ++ rest) (text_flat f ns)
 
-  all_narrow : (places : List Place) → list_all is_narrow (map (λ place. character (view.shown place)) places) ≡ true
-  all_narrow [] = refl
-  all_narrow (place ∷ places) = and_from _ _ (narrow place) (all_narrow places)
-
   places_tile : (places : List Place) → Tile (length places) (text_at places)
-  places_tile places = Tile-same _ _ _ (length-map places (λ place. character (view.shown place))) (Tile-narrow (map (λ place. character (view.shown place)) places) (all_narrow places))
+  places_tile [] = Tile-nil
+  places_tile (place ∷ places) =
+      Tile-same (1 + length places) (suc (length places)) _ (omega arith)
+      (Tile-append 1 (length places) _ (text_at places) (mark_tile (character (view.shown place)) (narrow place)) (places_tile places))
 
   -- what stands over column c on horizontal line r, and what vertical line c shows there
   abbrev over : ℕ → ℕ → List ℕ
@@ -239,27 +218,20 @@ module _ (view : Look) (narrow : HasNarrowBorders view) where
       Tile-same _ _ _ (length-map (below (view.widths c)) (λ k. Place.Horizontal r c k) ∙ length-range_with_len 0 (view.widths c))
       (places_tile (map (λ k. Place.Horizontal r c k) (below (view.widths c))))
 
-  cross_same : (r c : ℕ) (b : Bool) → text_at (if b then Place.Cross r c ∷ [] else []) ≡ (if b then encode_utf8_all (character (view.shown (Place.Cross r c)) ∷ []) else [])
-  cross_same r c true = refl
-  cross_same r c false = refl
+  abbrev part : ℕ → ℕ → List Place
+  part r c = crossing_at view.vertical (λ n. Place.Cross r n) c ++ map (λ k. Place.Horizontal r c k) (below (view.widths c))
 
-  part_same : (r c : ℕ) → text_at (crossing_at view.vertical (λ n. Place.Cross r n) c ++ map (λ k. Place.Horizontal r c k) (below (view.widths c)))
-      ≡ with_side view (crossed r) (over r) (λ n. narrow (Place.Cross r n)) c
+  part_same : (r c : ℕ) → text_at (part r c) ≡ with_side view (crossed r) (over r) (λ n. narrow (Place.Cross r n)) c
   part_same r c =
-      text_both (crossing_at view.vertical (λ n. Place.Cross r n) c) (map (λ k. Place.Horizontal r c k) (below (view.widths c)))
-      ∙ ap (λ bs. bs ++ over r c) (cross_same r c (view.vertical c))
+      rw (text_both (crossing_at view.vertical (λ n. Place.Cross r n) c) (map (λ k. Place.Horizontal r c k) (below (view.widths c)))) (ap (λ bs. bs ++ over r c) (at_if text_at (view.vertical c) (Place.Cross r c ∷ []) []))
 
   abbrev places_of : ℕ → List Place
-  places_of r = along_line view.vertical view.widths view.shape.1 (λ c. Place.Cross r c) (λ c k. Place.Horizontal r c k)
+  places_of r = flat_map (part r) (below view.shape.1) ++ crossing_at view.vertical (λ n. Place.Cross r n) view.shape.1
 
   across_same : (r : ℕ) → text_at (places_of r) ≡ whole_line view (crossed r) (over r) (λ n. narrow (Place.Cross r n))
   across_same r =
-      text_both (flat_map (λ c. crossing_at view.vertical (λ n. Place.Cross r n) c ++ map (λ k. Place.Horizontal r c k) (below (view.widths c))) (below view.shape.1))
-      (crossing_at view.vertical (λ n. Place.Cross r n) view.shape.1)
-      ∙ ap (λ bs. bs ++ text_at (crossing_at view.vertical (λ n. Place.Cross r n) view.shape.1))
-      (text_flat (λ c. crossing_at view.vertical (λ n. Place.Cross r n) c ++ map (λ k. Place.Horizontal r c k) (below (view.widths c))) (below view.shape.1)
-      ∙ (λ i. flat_map (λ c. part_same r c i) (below view.shape.1)))
-      ∙ ap (λ bs. flat_map (with_side view (crossed r) (over r) (λ n. narrow (Place.Cross r n))) (below view.shape.1) ++ bs) (cross_same r view.shape.1 (view.vertical view.shape.1))
+      rw (text_both (flat_map (part r) (below view.shape.1)) (crossing_at view.vertical (λ n. Place.Cross r n) view.shape.1), text_flat (part r) (below view.shape.1))
+      (λ i. flat_map (λ c. part_same r c i) (below view.shape.1) ++ at_if text_at (view.vertical view.shape.1) (Place.Cross r view.shape.1 ∷ []) [] i)
 
   module _ (some : is_empty view.shape ≡ false) where
     not_past : (n count : ℕ) → n ≤ count → (is_empty view.shape || nat_lt count n) ≡ false
@@ -269,8 +241,7 @@ module _ (view : Look) (narrow : HasNarrowBorders view) where
     along_is r within = ap (λ b. if b then [] else places_of r) (not_past r view.shape.0 within)
 
     marked_is : (r : ℕ) → r ≤ view.shape.0 → text_marked (marks_along view (LineOf.Horizontal r)) ≡ whole_line view (crossed r) (over r) (λ n. narrow (Place.Cross r n))
-    marked_is r within =
-        ap (λ places. text_marked (map (mark_at view) places)) (along_is r within) ∙ ap encode_utf8_all (marks_shown (places_of r)) ∙ across_same r
+    marked_is r within = ap text_at (along_is r within) ∙ across_same r
 
     across_tile : (r : ℕ) → r ≤ view.shape.0 → Tile (table_width view) (text_marked (marks_along view (LineOf.Horizontal r)))
     across_tile r within = subst (Tile (table_width view)) (sym (marked_is r within)) (line_tile view (crossed r) (over r) (λ n. narrow (Place.Cross r n)) (λ c inside. over_tile r c))
@@ -306,26 +277,28 @@ module _ (view : Look) (narrow : HasNarrowBorders view) where
             subst (Cut (columns_before view c) (character (view.shown (Place.Vertical r c k)))) (sym (row_same r k (λ n. piece r n k)))
             (line_cut view (beside r k) (λ n. piece r n k) (λ n. narrow (Place.Vertical r n k)) (λ n least. each r n k within least high) c inside drawn)
 
-        abbrev block : ℕ → List (List ℕ)
-        block r = line_if_drawn view r ++ map (line_at r) (below (view.heights r))
-
-        if_drawn_tiles : (r : ℕ) → r ≤ view.shape.0 → All (Tile (table_width view)) (line_if_drawn view r)
-        if_drawn_tiles r within = All-if (Tile (table_width view)) (view.horizontal r) (text_marked (marks_along view (LineOf.Horizontal r))) (across_tile r within)
-
-        block_tiles : (r : ℕ) → r < view.shape.0 → All (Tile (table_width view)) (block r)
-        block_tiles r within =
-            All-append (Tile (table_width view)) (line_if_drawn view r) (map (line_at r) (below (view.heights r))) (if_drawn_tiles r (omega arith))
-            (All-mapped (Tile (table_width view)) (line_at r) 0 (view.heights r) (λ k least most. row_tile r k within (omega arith)))
+        -- what is so of each line beside something is so of all lines beside all of it
+        lines_zip : {A : Type 0} (R : A → List ℕ → Type 0) (across : ℕ → A) (down : ℕ → ℕ → A) → ((r : ℕ) → r ≤ view.shape.0 → R (across r) (text_marked (marks_along view (LineOf.Horizontal r))))
+            → ((r k : ℕ) → r < view.shape.0 → k < view.heights r → R (down r k) (line_at r k))
+            → AllZip R
+            (flat_map (λ r. (if view.horizontal r then across r ∷ [] else []) ++ map (down r) (below (view.heights r))) (below view.shape.0) ++ (if view.horizontal view.shape.0 then across view.shape.0 ∷ [] else []))
+            (lines_around view piece)
+        lines_zip R across down lines rows =
+            AllZip-append R _ _ _ _
+            (AllZip-flat R _ _ 0 view.shape.0 (λ r least most.
+            AllZip-append R _ _ _ _ (AllZip-if R (view.horizontal r) _ _ (lines r (omega arith))) (AllZip-map R (down r) (line_at r) 0 (view.heights r) (λ k low high. rows r k (omega arith) (omega arith)))))
+            (AllZip-if R (view.horizontal view.shape.0) _ _ (lines view.shape.0 (omega arith)))
 
         -- each line is as wide as the table
         pub lines_tiles : All (Tile (table_width view)) (lines_around view piece)
         lines_tiles =
-            All-append (Tile (table_width view)) (flat_map block (below view.shape.0)) (line_if_drawn view view.shape.0)
-            (All-flat (Tile (table_width view)) block 0 view.shape.0 (λ r least most. block_tiles r (omega arith))) (if_drawn_tiles view.shape.0 (omega arith))
+            All-zipped (Tile (table_width view)) (lines_around view piece)
+            (lines_zip (λ line other. Tile (table_width view) line) (λ r. text_marked (marks_along view (LineOf.Horizontal r))) line_at across_tile row_tile)
 
         -- of a table with places whose first row is not without lines there are some
         pub lines_some : 0 < view.shape.0 → 0 < view.heights 0 → 0 < length (lines_around view piece)
         lines_some rows high =
+            let block : ℕ → List (List ℕ) = λ r. line_if_drawn view r ++ map (line_at r) (below (view.heights r)) in
             let long = length-append (flat_map block (below view.shape.0)) (line_if_drawn view view.shape.0) in
             let first = flat_some block view.shape.0 rows in
             let own = length-append (line_if_drawn view 0) (map (line_at 0) (below (view.heights 0))) in
@@ -337,27 +310,14 @@ module _ (view : Look) (narrow : HasNarrowBorders view) where
           abbrev Here : Place → List ℕ → Type 0
           Here place line = Cut (columns_before view c) (character (view.shown place)) line
 
-          abbrev down : ℕ → List Place
-          down r = crossing_at view.horizontal (λ n. Place.Cross n c) r ++ map (λ k. Place.Vertical r c k) (below (view.heights r))
-
           along_down : along view.horizontal view.vertical view.shape view.widths view.heights (LineOf.Vertical c)
-              ≡ flat_map down (below view.shape.0) ++ crossing_at view.horizontal (λ n. Place.Cross n c) view.shape.0
-          along_down = ap (λ b. if b then [] else flat_map down (below view.shape.0) ++ crossing_at view.horizontal (λ n. Place.Cross n c) view.shape.0) (not_past c view.shape.1 inside)
-
-          cross_here : (r : ℕ) → r ≤ view.shape.0 → AllZip Here (crossing_at view.horizontal (λ n. Place.Cross n c) r) (line_if_drawn view r)
-          cross_here r within = AllZip-if Here (view.horizontal r) (Place.Cross r c) (text_marked (marks_along view (LineOf.Horizontal r))) (across_cut r c within inside drawn)
-
-          block_here : (r : ℕ) → r < view.shape.0 → AllZip Here (down r) (block r)
-          block_here r within =
-              AllZip-append Here (crossing_at view.horizontal (λ n. Place.Cross n c) r) (line_if_drawn view r) (map (λ k. Place.Vertical r c k) (below (view.heights r))) (map (line_at r) (below (view.heights r)))
-              (cross_here r (omega arith))
-              (AllZip-map Here (λ k. Place.Vertical r c k) (line_at r) 0 (view.heights r) (λ k least most. row_cut r k c within (omega arith) inside drawn))
+              ≡ along_line view.horizontal view.heights view.shape.0 (λ r. Place.Cross r c) (λ r k. Place.Vertical r c k)
+          along_down = ap (λ b. if b then [] else along_line view.horizontal view.heights view.shape.0 (λ r. Place.Cross r c) (λ r k. Place.Vertical r c k)) (not_past c view.shape.1 inside)
 
           pub lines_cut : AllZip Here (along view.horizontal view.vertical view.shape view.widths view.heights (LineOf.Vertical c)) (lines_around view piece)
           lines_cut =
               subst (λ places. AllZip Here places (lines_around view piece)) (sym along_down)
-              (AllZip-append Here (flat_map down (below view.shape.0)) (flat_map block (below view.shape.0)) (crossing_at view.horizontal (λ n. Place.Cross n c) view.shape.0) (line_if_drawn view view.shape.0)
-              (AllZip-flat Here down block 0 view.shape.0 (λ r least most. block_here r (omega arith))) (cross_here view.shape.0 (omega arith)))
+              (lines_zip Here (λ r. Place.Cross r c) (λ r k. Place.Vertical r c k) (λ r within. across_cut r c within inside drawn) (λ r k within high. row_cut r k c within high inside drawn))
 
           pub lines_straight : StandsStraight view c (lines_around view piece)
           lines_straight =

@@ -1,5 +1,5 @@
 -- The bytes of a text, written part by part.
-use Rattle.std.proofs.Common.{◌≡◌, ℕ, ◌+◌, ◌-◌, ◌<◌, ◌≤◌, Bool, true, false, List, [], ◌∷◌, ◌++◌, length, take, map, refl, sym, ap, subst, ◌∙◌, arith, lit<, if◌then◌else◌, get_or, encode_utf8, encode_utf8_all, Result, Ok, Err, IsErr, MatchResult, is_err, rules, String, string_len, Vec, string_bytes}
+use Rattle.std.proofs.Common.{◌≡◌, ℕ, ◌+◌, ◌-◌, ◌<◌, ◌≤◌, Bool, true, false, List, [], ◌∷◌, ◌++◌, length, take, map, refl, sym, ap, subst, ◌∙◌, arith, lit<, if◌then◌else◌, get_or, encode_utf8, encode_utf8_all, Result, Ok, Err, MatchResult, is_err, rules, String, string_len, Vec, string_bytes}
 use Rattle.std.specs.List.{flat_map, join_with_byte}
 use Rattle.std.proofs.lemmas.List.{append-nil, append_assoc, take_at, take_all, length-append, take-take, get_or-map, get_or_at}
 use Rattle.std.proofs.lemmas.List.Concat.{flat_map-append}
@@ -8,6 +8,7 @@ use Rattle.std.proofs.lemmas.Str.{encode_ascii, IsCharBoundary-from_take, IsUtf8
 use Rattle.std.specs.Str.{IsUtf8}
 use Rattle.std.specs.String.Boundary.{IsSplitPoint}
 use Rattle.tabled_printing.specs.Texts.{texts}
+use Rattle.tabled_printing.proofs.TimesLemmas.{string_len-is}
 use Rattle.tabled_object.specs.Entities.{below}
 pub use Rattle.tabled_configuration.proofs.Below.{below_push, flat_map_below}
 
@@ -23,32 +24,18 @@ line_fed middle end e = e ∙ ap (λ bs. middle ++ bs) (encode_ascii 10 (lit< tt
 abbrev pub ended : List ℕ → List ℕ
 ended line = line ++ 10 ∷ []
 
-pub line_drawn : (b : Bool) (line start middle end : List ℕ) → b ≡ true → middle ≡ start ++ line → end ≡ middle ++ 10 ∷ [] → end ≡ start ++ flat_map ended (if b then line ∷ [] else [])
-line_drawn b line start middle end is p q =
-    q ∙ ap (λ bs. bs ++ 10 ∷ []) p ∙ append_assoc start line (10 ∷ [])
-    ∙ ap (λ bs. start ++ bs) (sym (append-nil (ended line)))
-    ∙ ap (λ c. start ++ flat_map ended (if c then line ∷ [] else [])) (sym is)
-
-pub line_not_drawn : (b : Bool) (line start : List ℕ) → b ≡ false → start ≡ start ++ flat_map ended (if b then line ∷ [] else [])
-line_not_drawn b line start is = sym (append-nil start) ∙ ap (λ c. start ++ flat_map ended (if c then line ∷ [] else [])) (sym is)
-
 -- one more side and piece of a line of text
 pub piece_more : (f : ℕ → List ℕ) (n : ℕ) (side piece : List ℕ) → f n ≡ side ++ piece → flat_map f (below (n + 1)) ≡ flat_map f (below n) ++ (side ++ piece)
 piece_more f n side piece e = flat_map_below f n ∙ ap (λ bs. flat_map f (below n) ++ bs) e
 
 -- one more line of a row
 pub ended_more : (line : ℕ → List ℕ) (n : ℕ) → flat_map ended (map line (below (n + 1))) ≡ flat_map ended (map line (below n)) ++ (line n ++ 10 ∷ [])
-ended_more line n =
-    ap (flat_map ended) (map-range_with_len_more line 0 n n (omega arith))
-    ∙ flat_map-append ended (map line (below n)) (line n ∷ [])
-    ∙ ap (λ bs. flat_map ended (map line (below n)) ++ bs) (append-nil (ended (line n)))
+ended_more line n = rw (map-range_with_len_more line 0 n n (omega arith), flat_map-append ended (map line (below n)) (line n ∷ []), append-nil (ended (line n)))
 
 -- the lines of one more row
 pub rows_more : (line lines : ℕ → List (List ℕ)) (n : ℕ) → flat_map ended (flat_map (λ r. line r ++ lines r) (below (n + 1))) ≡ flat_map ended (flat_map (λ r. line r ++ lines r) (below n)) ++ (flat_map ended (line n) ++ flat_map ended (lines n))
 rows_more line lines n =
-    ap (flat_map ended) (flat_map_below (λ r. line r ++ lines r) n)
-    ∙ flat_map-append ended (flat_map (λ r. line r ++ lines r) (below n)) (line n ++ lines n)
-    ∙ ap (λ bs. flat_map ended (flat_map (λ r. line r ++ lines r) (below n)) ++ bs) (flat_map-append ended (line n) (lines n))
+    rw (flat_map_below (λ r. line r ++ lines r) n, flat_map-append ended (flat_map (λ r. line r ++ lines r) (below n)) (line n ++ lines n), flat_map-append ended (line n) (lines n))
 
 -- the last line
 pub rows_closed : (e : Bool) (step : ℕ → List (List ℕ)) (close : List (List ℕ)) (n count : ℕ) → e ≡ false → n ≡ count → flat_map ended (if e then [] else flat_map step (below count) ++ close) ≡ flat_map ended (flat_map step (below n)) ++ flat_map ended close
@@ -71,27 +58,19 @@ kept_after start more middle end e h =
 pub kept_all : (start end : List ℕ) → end ≡ start → take (length start) end ≡ start
 kept_all start end e = ap (take (length start)) e ∙ take_all (length start) start (omega arith)
 
-pub starts_as_before : (start more end : List ℕ) → end ≡ start ++ more → take (length start) end ≡ start
-starts_as_before start more end e = ap (take (length start)) e ∙ take_at start more (length start) refl
-
 -- parts that were written in turn are one part
 pub written_both : (start first second third x y z w : List ℕ) → first ≡ start ++ x → second ≡ first ++ y → third ≡ second ++ z → w ≡ x ++ (y ++ z) → third ≡ start ++ w
-written_both start first second third x y z w p q r e =
-    r ∙ ap (λ bs. bs ++ z) (q ∙ ap (λ bs. bs ++ y) p)
-    ∙ append_assoc (start ++ x) y z ∙ append_assoc start x (y ++ z) ∙ ap (λ bs. start ++ bs) (sym e)
+written_both start first second third x y z w p q r e = rw (r, q, p, e) (simp append_assoc)
 
 pub appends_last : {T E : Type 0} (r : Result T E) (old middle new x y w : List ℕ) → middle ≡ old ++ x → w ≡ x ++ y
     → MatchResult r (λ _. new ≡ middle ++ y) (λ _. take (length middle) new ≡ middle) → MatchResult r (λ _. new ≡ old ++ w) (λ _. take (length old) new ≡ old)
-appends_last (Ok t) old middle new x y w p e h = h ∙ ap (λ bs. bs ++ y) p ∙ append_assoc old x y ∙ ap (λ bs. old ++ bs) (sym e)
+appends_last (Ok t) old middle new x y w p e h = rw (h, p, e) (append_assoc old x y)
 appends_last (Err t) old middle new x y w p e h = kept_after old x middle new p h
 
 -- lines that each end in a line feed are the joined lines and one line feed
 ended_joined : (line : List ℕ) (lines : List (List ℕ)) → flat_map ended (line ∷ lines) ≡ join_with_byte 10 (line ∷ lines) ++ 10 ∷ []
 ended_joined line [] = append-nil (ended line)
-ended_joined line (next ∷ more) =
-    ap (λ bs. ended line ++ bs) (ended_joined next more)
-    ∙ append_assoc line (10 ∷ []) (join_with_byte 10 (next ∷ more) ++ 10 ∷ [])
-    ∙ sym (append_assoc line (10 ∷ join_with_byte 10 (next ∷ more)) (10 ∷ []))
+ended_joined line (next ∷ more) = rw (ended_joined next more) (simp append_assoc)
 
 -- a text that such lines lengthened ends in a line feed, and without it the lines are joined
 pub ends_joined : (start end : List ℕ) (lines : List (List ℕ)) → end ≡ start ++ flat_map ended lines → length start < length end → end ≡ (start ++ join_with_byte 10 lines) ++ 10 ∷ []
@@ -111,22 +90,10 @@ cut_at_start old new n same kept within =
     (subst IsUtf8 (sym (ap (λ k. take k (string_bytes new)) same ∙ kept)) (IsUtf8-string_bytes old)) in
     (boundary.0, λ _ inside large. boundary.1 inside large)
 
--- a refusal
-pub refused : {T E : Type 0} (r : Result T E) (old new bytes : List ℕ) → IsErr r → take (length old) new ≡ old → MatchResult r (λ _. new ≡ old ++ bytes) (λ _. take (length old) new ≡ old)
-refused (Ok x) old new bytes is kept = absurd cc
-refused (Err y) old new bytes is kept = kept
-
--- what a call that appends has done, by what it returns
-pub appended : {T E : Type 0} (r : Result T E) (old new bytes : List ℕ) → is_err r ≡ false → MatchResult r (λ _. new ≡ old ++ bytes) (λ _. take (length old) new ≡ old) → new ≡ old ++ bytes
-appended (Ok x) old new bytes e p = p
-appended (Err y) old new bytes e p = absurd cc
-
-pub not_appended : {T E : Type 0} (r : Result T E) (old new bytes : List ℕ) → is_err r ≡ true → MatchResult r (λ _. new ≡ old ++ bytes) (λ _. take (length old) new ≡ old) → take (length old) new ≡ old
-not_appended (Ok x) old new bytes e p = absurd cc
-not_appended (Err y) old new bytes e p = p
-
-pub string_len-is : {Z : Type 0} (text : String Z) → string_len text ≡ length (string_bytes text)
-string_len-is text = search rules
+-- what a call has done, by what it returns
+pub by_result : {T E : Type 0} (r : Result T E) (old new bytes : List ℕ) → MatchResult r (λ _. new ≡ old ++ bytes) (λ _. take (length old) new ≡ old) → (is_err r ≡ false → new ≡ old ++ bytes) × (is_err r ≡ true → take (length old) new ≡ old)
+by_result (Ok x) old new bytes done = (λ e. done, λ e. absurd cc)
+by_result (Err y) old new bytes done = (λ e. absurd cc, λ e. done)
 
 -- lines after a beginning lose the last line feed, if there are some
 pub feed_off : {Z : Type 0} (old new : String Z) (before : List ℕ) (lines : List (List ℕ)) (start length_now : ℕ) → length_now ≡ string_len old → length before ≡ start → string_bytes old ≡ before ++ flat_map ended lines → start < length_now
@@ -144,4 +111,4 @@ pub no_feed : {Z : Type 0} (text : String Z) (before : List ℕ) (lines : List (
 no_feed text before lines start length_now measured began are none = none_joined before (string_bytes text) lines are (let counted = string_len-is text in omega (arith, counted, measured, began, none))
 
 -- what writes a text in parts
-pub ruleset writing = (append_assoc, append-nil, kept_after, kept_all, shown_one)
+pub ruleset writing = (append_assoc, append-nil, kept_after, kept_all, shown_one, encode_ascii)

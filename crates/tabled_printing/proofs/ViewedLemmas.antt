@@ -1,8 +1,8 @@
 -- How a table looks with its colors, or without them: the same characters.
-use Rattle.std.proofs.Common.{◌≡◌, Bool, if◌then◌else◌, None, List, [], ◌∷◌, ◌++◌, map, length, get_or, refl, ap, ◌∙◌}
+use Rattle.std.proofs.Common.{◌≡◌, Bool, if◌then◌else◌, None, [], ◌∷◌, ◌++◌, map, length, get_or, sym, ap, ◌∙◌}
 use Rattle.std.specs.List.{flat_map}
 use Rattle.std.proofs.lemmas.List.{length-map}
-use Rattle.tabled_grid.specs.declared.place.Place.{Place}
+use Rattle.std.proofs.lemmas.Simd.{map-map}
 use Rattle.tabled_grid.specs.declared.place.LineOf.{LineOf}
 use Rattle.tabled_object.specs.Entities.{below}
 use Rattle.tabled_printing.specs.Along.{is_empty, along}
@@ -16,22 +16,14 @@ kept_if wanted mark = (mark.0, if wanted then mark.1 else None)
 
 module _ (wanted : Bool) (view : Look) where
   pub kept_marks : (line : LineOf) → marks_along (with_colors_if wanted view) line ≡ map (kept_if wanted) (marks_along view line)
-  kept_marks line = kept (along view.horizontal view.vertical view.shape view.widths view.heights line)
-    where
-      kept : (places : List Place) → map (mark_at (with_colors_if wanted view)) places ≡ map (kept_if wanted) (map (mark_at view) places)
-      kept [] = refl
-      kept (place ∷ places) = ap (λ rest. mark_at (with_colors_if wanted view) place ∷ rest) (kept places)
+  kept_marks line = sym (map-map (kept_if wanted) (mark_at view) (along view.horizontal view.vertical view.shape view.widths view.heights line))
 
   -- as many, and the same characters
   pub kept_count : (line : LineOf) → length (marks_along (with_colors_if wanted view) line) ≡ length (marks_along view line)
   kept_count line = ap length (kept_marks line) ∙ length-map (marks_along view line) (kept_if wanted)
 
   pub kept_text : (line : LineOf) → text_marked (marks_along (with_colors_if wanted view) line) ≡ text_marked (marks_along view line)
-  kept_text line = ap text_marked (kept_marks line) ∙ ap text_shown (dropped (marks_along view line))
-    where
-      dropped : (marks : List Shown) → map (λ mark. mark.0) (map (kept_if wanted) marks) ≡ map (λ mark. mark.0) marks
-      dropped [] = refl
-      dropped (mark ∷ marks) = ap (λ rest. mark.0 ∷ rest) (dropped marks)
+  kept_text line = ap text_marked (kept_marks line) ∙ ap text_shown (map-map (λ mark. mark.0) (kept_if wanted) (marks_along view line))
 
   -- so the same lines of text
   pub kept_lines : (cells : Table) → text_lines (with_colors_if wanted view) cells ≡ text_lines view cells

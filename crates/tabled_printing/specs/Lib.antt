@@ -10,8 +10,6 @@ pub mod Beside
 pub mod SideMarks
 pub mod Sides
 pub mod Viewed
-pub mod TextOrder
 pub mod Refusal
 pub mod Headline
 pub mod Columns
-pub mod NarrowParts

@@ -25,6 +25,7 @@ fn is_ambiguous(character: char) -> bool
 /// Whether a character is surely narrow: a printable one of ASCII, one that draws boxes or blocks (U+2500 to U+259F), or one that
 /// takes one column, and two in an East Asian context, such as `·` or `•`. Each of these takes one column and joins nothing that
 /// stands before it, so a border of them keeps the text of a table a rectangle.
+#[tactic(auto, using(crate::proofs::Ranges::soon_narrow))]
 pub fn draws_plainly(character: char) -> bool
     ensures test { result ≡ draws_plainly character }
     ensures narrow { IsTrue result → is_narrow character ≡ true }

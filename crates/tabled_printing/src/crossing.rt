@@ -31,6 +31,7 @@ const PLUS: &str = "+-----------------------------------------------------------
 const BAR: &str = "|----------------------------------------------------------------";
 
 /// A text of a character and then `LINES` lines: of those that the lines of tables mostly cross in.
+#[tactic(auto, using(crate::proofs::Tiles::bytes_3))]
 fn lines_after(character: char) -> Option<&'static str>
     ensures { IfSome result (λ piece. piece.now ≡ encode_utf8 character ++ times 64 9472) }
 {
@@ -87,6 +88,7 @@ fn push_parts(
 /// Writes a character, and then another the given number of times: at once, where that can be. Where memory is refused some of it may have
 /// been written.
 #[inline(always)]
+#[tactic(auto, using(crate::proofs::TimesLemmas::start_of, crate::proofs::TimesLemmas::start_split))]
 pub fn push_after(
     text: &mut String,
     character: char,

@@ -87,6 +87,7 @@ impl<'a, 'b, D: Dimension> Frame<'a, 'b, D> {
     }
 
     /// Whether a horizontal line is drawn.
+    #[tactic(auto, using(crate::proofs::LookLemmas::kept_drawn))]
     pub fn draws(&self, row: usize) -> bool
         ensures { result ≡ (frame_look D.width_of D.height_of self.now).horizontal row }
     {
@@ -114,6 +115,7 @@ impl<'a, 'b, D: Dimension> Frame<'a, 'b, D> {
 
     /// What a vertical line shows at line `at` of the text of a row, if the line is drawn, where it is known whether the row has offsets.
     #[inline(always)]
+    #[tactic(auto, using(crate::proofs::AlikeLemmas::side_drawn, crate::proofs::AlikeLemmas::drawn_mark, crate::proofs::AlikeLemmas::side_as_first))]
     pub fn side(&self, row: usize, col: usize, at: usize, has_offsets: bool) -> Option<Mark<'a>>
         requires row { row < self.now.shape.0 }
         requires col { col ≤ self.now.shape.1 }

@@ -44,6 +44,7 @@ fn whole_texts(alloc: Global, cells: &[String]) -> Result<Vec<&str>, OutOfMemory
 }
 
 /// Writes a horizontal line and a line feed, if the line is drawn.
+#[tactic(auto, using(crate::proofs::TextLemmas::writing))]
 fn push_line<D: Dimension>(
     text: &mut String,
     frame: &Frame<D>,
@@ -171,6 +172,7 @@ fn push_lines<D: Dimension>(
 
 /// Writes a table after the text that `out` has: `shape` is the number of its rows and of its columns.
 /// Its lines are joined by single line feeds. Where it is refused `out` is as before.
+#[tactic(auto, using(crate::proofs::FaultLemmas::no_faults, crate::proofs::FaultLemmas::right_columns))]
 pub fn print_plain<D: Dimension>(
     out: &mut String,
     cfg: &SpannedConfig,

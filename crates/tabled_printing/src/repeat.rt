@@ -21,6 +21,7 @@ const DOUBLE_LINES: &str = "═════════════════�
 const FEW: usize = 16;
 
 /// A text of one character alone, 64 times: of those that tables are mostly drawn with.
+#[tactic(auto, using(crate::proofs::Tiles::bytes_3))]
 pub fn piece_of(character: char) -> Option<&'static str>
     ensures { IfSome result (λ piece. piece.now ≡ times 64 character) }
 {
@@ -34,6 +35,7 @@ pub fn piece_of(character: char) -> Option<&'static str>
 }
 
 /// Writes the given number of characters of a text that has this character alone.
+#[tactic(auto, using(crate::proofs::TimesLemmas::part_of, crate::proofs::TimesLemmas::bytes_of_each, crate::proofs::TimesLemmas::part_split))]
 fn push_part(
     text: &mut String,
     piece: &str,
@@ -71,6 +73,7 @@ fn push_pieces(
 }
 
 /// Writes a character the given number of times, each by itself.
+#[tactic(auto, using(crate::proofs::TimesLemmas::one_more))]
 fn push_each(text: &mut String, count: usize, character: char) -> Result<(), AllocError>
     ensures ok { OnOk result (string_bytes text.new ≡ string_bytes text.old ++ times count character) }
     ensures err { OnErr result ((some : ℕ) × (string_bytes text.new ≡ string_bytes text.old ++ times some character)) }
@@ -91,6 +94,7 @@ fn first_ones(character: char, count: usize) -> usize
 }
 
 /// Writes a character the given number of times: the first ones, and then copies of what was written.
+#[tactic(auto, using(crate::proofs::TimesLemmas::copies))]
 fn push_copies(text: &mut String, count: usize, character: char) -> Result<(), AllocError>
     ensures ok { OnOk result (string_bytes text.new ≡ string_bytes text.old ++ times count character) }
     ensures err { OnErr result ((some : ℕ) × (string_bytes text.new ≡ string_bytes text.old ++ times some character)) }

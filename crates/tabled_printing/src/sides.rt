@@ -48,6 +48,7 @@ impl<'a> Sides<'a> {
     ghost use Rattle.tabled_printing.specs.Sides.{AreSides, side_at};
 
     /// What is kept for each line without its offsets, beside the first row of a table.
+    #[tactic(auto, using(crate::proofs::AlikeLemmas::listed_sides))]
     pub(crate) fn of(
         cfg: &'a SpannedConfig,
         shape: (usize, usize),
@@ -121,6 +122,7 @@ fn bytes_of_each(sides: &[Option<Side>]) -> usize {
 }
 
 /// What a line shows beside the first row without its offsets, and whether beside each other one too, if the line is drawn.
+#[tactic(auto, using(crate::proofs::LookLemmas::kept_drawn))]
 pub(crate) fn kept_side<'a>(
     cfg: &'a SpannedConfig,
     shape: (usize, usize),

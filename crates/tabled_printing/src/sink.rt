@@ -50,11 +50,13 @@ impl<'a> Sink<'a> for String {
 
     ghost leaves = { gains.text_kept };
 
+    #[tactic(auto, using(crate::proofs::MarkLemmas::run_text))]
     fn put(&mut self, run: Run<'a>) -> Result<(), AllocError> {
         push_times(self, run.count, printed_as(run.mark.shown))?;
         Ok(())
     }
 
+    #[tactic(auto, using(crate::proofs::MarkLemmas::run_text))]
     fn put_after(&mut self, mark: Mark<'a>, run: Run<'a>) -> Result<(), AllocError> {
         let (crossing, edge) = (printed_as(mark.shown), printed_as(run.mark.shown));
         push_after(self, crossing, run.count, edge)?;
@@ -128,6 +130,7 @@ impl<'a> Sink<'a> for usize {
 
     ghost leaves = { gains.anything };
 
+    #[tactic(auto, using(crate::proofs::MarkLemmas::run_count))]
     fn put(&mut self, run: Run<'a>) -> Result<(), OutOfMemory> {
         let Some(sum) = self.checked_add(run.count) else {
             return Err(OutOfMemory);

@@ -54,6 +54,7 @@ impl<'a, D: Dimension, M: Meter> Walk<'a, '_, '_, D, M> {
 
     /// Whether a place of an edge may show something else than its edge: where an offset is kept on the line, if it is a horizontal one, or
     /// on some vertical line. At most two readings.
+    #[tactic(auto, using(crate::proofs::AlikeLemmas::absent))]
     pub(crate) fn has_offsets(&self, probes: &mut M) -> bool
         ensures offsets { IsFalse result → NoOffsetsAlong self.now.cfg.now self.now.with_colors self.now.line }
         ensures probes { IsRaised 2 (M.made probes.old) (M.made probes.new) }
@@ -137,6 +138,7 @@ impl<'a, D: Dimension, M: Meter> Walk<'a, '_, '_, D, M> {
     }
 
     /// Puts the marks of an edge, which is looked up if it has places.
+    #[tactic(auto, using(crate::proofs::LineLemmas::edge_count))]
     fn put_edge<S: Sink<'a>>(
         &self,
         sink: &mut S,
@@ -180,6 +182,7 @@ impl<'a, D: Dimension, M: Meter> Walk<'a, '_, '_, D, M> {
     }
 
     /// Puts the marks of the line, run by run.
+    #[tactic(auto, using(crate::proofs::LineLemmas::marks_closed, crate::proofs::LineLemmas::before_more_count, crate::proofs::LineLemmas::piece_fits, crate::proofs::LineLemmas::all_count, crate::proofs::LineLemmas::pieces_there))]
     pub(crate) fn put_all<S: Sink<'a>>(&self, sink: &mut S, probes: &mut M) -> Result<(), S::Error>
         ensures put { let view = walk_look D.width_of D.height_of self.now in
             Put S.puts S.leaves result (map (mark_at view) (all_places view self.now.line)) sink.old sink.new }

@@ -3,7 +3,7 @@ use Rattle.std.proofs.Common.{◌∙◌}
 use Rattle.tabled_settings.specs.CellSettings.{first_settings}
 use Rattle.tabled_cells.specs.Placements.{placement_at}
 use Rattle.tabled_cells.specs.Trimmed.{lines_shown}
-use Rattle.tabled_cells.proofs.Unset.{unset_at}
+use Rattle.tabled_claims.proofs.Unset.{unset_at}
 use Rattle.tabled_painting.proofs.Plain.{plain_cell}
 use Rattle.tabled_claims.proofs.cells.nothing_set_stands_left_and_top.Goals as goal
 

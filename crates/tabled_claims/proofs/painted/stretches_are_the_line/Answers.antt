@@ -1,4 +1,4 @@
-use Rattle.tabled_painting.proofs.StretchLemmas.{plain_by_stretches}
+use Rattle.tabled_claims.proofs.StretchLemmas.{plain_by_stretches}
 use Rattle.tabled_claims.proofs.painted.stretches_are_the_line.Goals as goal
 
 pub returns : goal.returns

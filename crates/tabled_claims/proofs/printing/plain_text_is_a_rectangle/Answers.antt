@@ -1,6 +1,6 @@
 use Rattle.tabled_printing.specs.Picture.{look}
 use Rattle.tabled_printing.proofs.NarrowLemmas.{borders_narrow}
-use Rattle.tabled_printing.proofs.PlainEven.{plain_even, plain_straight, plain_cut}
+use Rattle.tabled_claims.proofs.PlainEven.{plain_even, plain_straight, plain_cut}
 use Rattle.tabled_claims.proofs.printing.plain_text_is_a_rectangle.Goals as goal
 
 pub returns-clause-rectangle : goal.returns-clause-rectangle

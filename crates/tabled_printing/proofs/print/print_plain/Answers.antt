@@ -1,32 +1,18 @@
 -- Each list of events that the configuration shows gives one look, and with it one text.
-use Rattle.std.proofs.Common.{ℕ, List, ◌++◌, map, ap, sym, ◌∙◌, string_bytes, arith}
+use Rattle.std.proofs.Common.{ℕ, List, ◌++◌, ap, sym, ◌∙◌, string_bytes, arith}
 use Rattle.std.specs.List.{flat_map, join_with_byte}
-use Rattle.std.proofs.lemmas.List.{length-map}
 use Rattle.tabled_configuration.specs.Configuration.{all_writes}
 use Rattle.tabled_printing.specs.Picture.{look, text_lines}
 use Rattle.tabled_printing.specs.Texts.{texts}
-use Rattle.tabled_printing.proofs.FaultLemmas.{no_faults, right_rows, right_columns}
 use Rattle.tabled_printing.proofs.LookLemmas.{own_look}
-use Rattle.tabled_printing.proofs.TextLemmas.{ended, cut_at_start, appended, not_appended, string_len-is}
+use Rattle.tabled_printing.proofs.TextLemmas.{ended, by_result, cut_at_start}
+use Rattle.tabled_printing.proofs.TimesLemmas.{string_len-is}
 use Rattle.tabled_printing.proofs.print.print_plain.Goals as goal
-
-pub push_lines-requires-clause-rows : goal.push_lines-requires-clause-rows
-push_lines-requires-clause-rows g c =
-    let widths = g.D.Dimension.width_of c.args.dims.now in
-    let heights = g.D.Dimension.height_of c.args.dims.now in
-    sym (length-map c.args.cells.now (λ row. map string_bytes row.items))
-    ∙ right_rows widths heights c.args.shape (texts c.args.cells.now) (no_faults c.args.cfg.now widths heights c.args.shape (texts c.args.cells.now) (sym c.first_refusal.ensures ∙ c.in_default.is))
-
-pub push_lines-requires-clause-cols : goal.push_lines-requires-clause-cols
-push_lines-requires-clause-cols g c =
-    let widths = g.D.Dimension.width_of c.args.dims.now in
-    let heights = g.D.Dimension.height_of c.args.dims.now in
-    right_columns widths heights c.args.shape (texts c.args.cells.now) (no_faults c.args.cfg.now widths heights c.args.shape (texts c.args.cells.now) (sym c.first_refusal.ensures ∙ c.in_default.is))
 
 pub truncate-requires : goal.truncate-requires
 truncate-requires g c within =
     cut_at_start c.args.out.now c.push_lines.new.text c.len-start.result (c.len-start.ensures ∙ string_len-is c.args.out.now)
-    (not_appended c.push_lines.result _ _ _ (sym c.is_err.ensures.value ∙ c.if-is_err.true) c.push_lines.ensures)
+    ((by_result c.push_lines.result (string_bytes c.args.out.now) (string_bytes c.push_lines.new.text) _ c.push_lines.ensures).1 (sym c.is_err.ensures.value ∙ c.if-is_err.true))
     (let l = string_len-is c.push_lines.new.text in omega (arith, l))
 
 pub returns-clause-text : goal.returns-clause-text
@@ -35,5 +21,5 @@ returns-clause-text g c es shows =
     let heights : ℕ → ℕ = g.D.Dimension.height_of c.args.dims.now in
     let lines : List (List ℕ) = text_lines (look (all_writes c.args.cfg.now) c.args.shape widths heights) (texts c.args.cells.now) in
     c.join_lines.ensures (string_bytes c.args.out.now) lines (sym (c.len-start.ensures ∙ string_len-is c.args.out.now))
-    (appended c.push_lines.result (string_bytes c.args.out.now) (string_bytes c.push_lines.new.text) (flat_map ended lines) (sym c.is_err.ensures.value ∙ c.if-is_err.false) c.push_lines.ensures)
+    ((by_result c.push_lines.result (string_bytes c.args.out.now) (string_bytes c.push_lines.new.text) (flat_map ended lines) c.push_lines.ensures).0 (sym c.is_err.ensures.value ∙ c.if-is_err.false))
     ∙ ap (λ view. string_bytes c.args.out.now ++ join_with_byte 10 (text_lines view (texts c.args.cells.now))) (own_look c.args.cfg.now es c.args.shape widths heights shows)

@@ -1,16 +1,17 @@
 -- The lines of the frame, which are the same with colors or without them.
 use Rattle.std.proofs.Common.{refl, subst, ◌∙◌, false, string_bytes}
 use Rattle.std.specs.List.{flat_map}
+use Rattle.std.proofs.lemmas.Result.{MatchResult-from_err}
 use Rattle.tabled_configuration.specs.Configuration.{all_writes}
 use Rattle.tabled_printing.specs.Picture.{look, text_lines}
 use Rattle.tabled_printing.specs.Texts.{Appends, texts}
 use Rattle.tabled_printing.specs.Viewed.{with_colors_if}
-use Rattle.tabled_printing.proofs.TextLemmas.{ended, refused, kept_all}
+use Rattle.tabled_printing.proofs.TextLemmas.{ended, kept_all}
 use Rattle.tabled_printing.proofs.ViewedLemmas.{kept_lines}
 use Rattle.tabled_printing.proofs.print.push_lines.Goals as goal
 
 pub returns-in_err-frame : goal.returns-in_err-frame
-returns-in_err-frame g c = refused c.from_residual.result (string_bytes c.args.text.now) (string_bytes c.args.text.now) _ c.from_residual.ensures.0 (kept_all (string_bytes c.args.text.now) (string_bytes c.args.text.now) refl)
+returns-in_err-frame g c = MatchResult-from_err c.from_residual.result _ _ c.from_residual.ensures.0 (λ _. kept_all (string_bytes c.args.text.now) (string_bytes c.args.text.now) refl)
 
 pub returns : goal.returns
 returns g c =

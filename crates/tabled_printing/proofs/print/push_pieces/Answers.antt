@@ -1,13 +1,10 @@
 -- A side and a piece are one more step along the line, and one more text has lost its piece.
-use Rattle.std.proofs.Common.{ℕ, ◌<◌, ◌≤◌, List, [], ◌++◌, length, ap, sym, ◌∙◌, slice_index_or, string_bytes, arith}
-use Rattle.std.specs.List.{flat_map}
-use Rattle.std.proofs.lemmas.List.{append_assoc, length-map}
-use Rattle.tabled_object.specs.Entities.{below}
+use Rattle.std.proofs.Common.{ℕ, ◌<◌, List, [], ◌++◌, length, ap, sym, ◌∙◌, slice_index_or, arith}
 use Rattle.tabled_printing.specs.Pieces.{lent, first_piece}
 use Rattle.tabled_printing.specs.Picture.{text_shown, side_shown}
 use Rattle.tabled_printing.specs.Viewed.{frame_look}
-use Rattle.tabled_printing.proofs.PieceLemmas.{not_cut, cut_more, all_cut, on_ok}
-use Rattle.tabled_printing.proofs.TextLemmas.{piece_more, written_both, starts_as_before, refused}
+use Rattle.tabled_printing.proofs.PieceLemmas.{not_cut, cut_more}
+use Rattle.tabled_printing.proofs.TextLemmas.{piece_more, written_both}
 use Rattle.tabled_printing.proofs.print.push_pieces.Goals as goal
 
 pub loop-col-preserved : goal.loop-col-preserved
@@ -21,16 +18,3 @@ loop-col-preserved g c =
           (ap (λ bs. side c.loop-col.col ++ bs) (ap first_piece (sym (not_cut c.loop-col.col (lent c.args.rests.now) c.loop-col.rests _ c.loop-col.invariant.cut_below within)) ∙ sym c.cut.ensures.piece)));
       cut_below = cut_more c.loop-col.col (lent c.args.rests.now) c.loop-col.rests _ c.cut.result.1 c.loop-col.invariant.cut_below within c.cut.ensures.rest;
     }
-
-pub returns-clause-rests : goal.returns-clause-rests
-returns-clause-rests g c =
-    let all : length (lent c.args.rests.now) ≤ c.loop-col.col = omega (arith, length-map c.args.rests.now (λ text. text.now), c.requires.rests, c.loop-col-test.false) in
-    on_ok c.push_side-2.result (all_cut c.loop-col.col (lent c.args.rests.now) (lent c.loop-col.rests) all c.loop-col.invariant.cut_below)
-
-pub returns-in_err-push_str-clause-written : goal.returns-in_err-push_str-clause-written
-returns-in_err-push_str-clause-written g c =
-    let side : ℕ → List ℕ = λ n. text_shown (side_shown (frame_look g.D.Dimension.width_of g.D.Dimension.height_of c.args.frame.now) c.args.row c.args.at n) in
-    let before : List ℕ = flat_map (λ n. side n ++ first_piece (slice_index_or (lent c.args.rests.now) n [])) (below c.loop-col.col) in
-    refused c.from_residual-in_err-push_str.result (string_bytes c.args.text.now) (string_bytes c.push_str.new.self) _ c.from_residual-in_err-push_str.ensures.0
-    (starts_as_before (string_bytes c.args.text.now) (before ++ side c.loop-col.col) (string_bytes c.push_str.new.self)
-    (c.in_err-push_str.ensures.bytes ∙ c.in_ok-push_side.ensures ∙ ap (λ bs. bs ++ side c.loop-col.col) c.loop-col.invariant.written ∙ append_assoc (string_bytes c.args.text.now) before (side c.loop-col.col)))

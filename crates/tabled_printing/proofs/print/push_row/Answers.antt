@@ -9,9 +9,6 @@ use Rattle.tabled_printing.proofs.PieceLemmas.{rests_more, line_of_rests}
 use Rattle.tabled_printing.proofs.TextLemmas.{line_fed, ended_more, written_both}
 use Rattle.tabled_printing.proofs.print.push_row.Goals as goal
 
-pub push_pieces-requires-clause-rests : goal.push_pieces-requires-clause-rests
-push_pieces-requires-clause-rests g c = ap length c.deref_mut.ensures.value ∙ c.loop-at.invariant.counted ∙ c.requires.cells
-
 pub loop-at-preserved : goal.loop-at-preserved
 loop-at-preserved g c =
     let view : Look = frame_look g.D.Dimension.width_of g.D.Dimension.height_of c.args.frame.now in

@@ -4,7 +4,7 @@ use Rattle.std.proofs.lemmas.List.{length-map}
 use Rattle.std.proofs.lemmas.List.FromFn.{length-map-range_with_len}
 use Rattle.tabled_printing.specs.Beside.{plain_side}
 use Rattle.tabled_printing.specs.SideMarks.{side_mark}
-use Rattle.tabled_printing.proofs.AlikeLemmas.{listed_sides, none_on, ranked_sides}
+use Rattle.tabled_printing.proofs.AlikeLemmas.{none_on, ranked_sides}
 use Rattle.tabled_printing.proofs.sides.Sides.of.Goals as goal
 
 pub returns-then-by_rank-clause-sides : goal.returns-then-by_rank-clause-sides
@@ -20,10 +20,4 @@ invariant_of-result-2 c = record {
   counted =
       sym (length-map c.in_ok-marks.marks.items (option_map side_mark)) ∙ ap length c.in_ok-marks.ensures.marks
       ∙ length-map-range_with_len (plain_side c.args.cfg.now c.args.with_colors c.args.shape) 0 (c.args.shape.1 + 1);
-}
-
-pub returns-clause-sides : goal.returns-clause-sides
-returns-clause-sides c = record {
-  marks = λ col within. listed_sides c.args.cfg.now c.args.with_colors c.args.shape c.in_ok-marks.marks.items col c.in_ok-marks.ensures.marks within;
-  alike = λ col within. c.in_ok-marks.ensures.alike col;
 }

@@ -1,8 +1,7 @@
 -- A line is drawn where the configuration says so.
-use Rattle.std.proofs.Common.{◌∙◌, arith}
+use Rattle.std.proofs.Common.{◌∙◌}
 use Rattle.tabled_grid.specs.Drawn.{drawn}
 use Rattle.tabled_configuration.specs.Configuration.{all_writes, characters_of}
-use Rattle.tabled_printing.proofs.LineLemmas.{pieces_there}
 use Rattle.tabled_printing.proofs.LookLemmas.{own_drawn}
 use Rattle.tabled_printing.proofs.walk.Walk.is_crossed.Goals as goal
 
@@ -11,9 +10,3 @@ returns-clause-value g c =
     let cfg = c.args.self.now.cfg.now in
     own_drawn cfg c.pieces_of-count.result c.crossing_line.result c.draws.result c.draws.ensures.drawn
     ∙ (λ i. drawn (characters_of (all_writes cfg)) (c.pieces_of-count.ensures i) (c.crossing_line.ensures i))
-
-pub returns-clause-probes : goal.returns-clause-probes
-returns-clause-probes g c =
-    let there = pieces_there c.args.self.now.shape c.args.self.now.line c.args.self.now.is_there in
-    let counted = c.pieces_of-count.ensures in
-    c.draws.ensures.of_several (omega (arith, there, counted))

@@ -1,6 +1,7 @@
 -- A cell for which nothing is set: its text stands at the left and at the top.
-use Rattle.std.proofs.Common.{◌≡◌, ℕ, ◌-◌, Bool, true, false, if◌then◌else◌, List, [], ◌∷◌, ◌++◌, map, length, get_or, ltb, nat_lt, replicate, refl, ap, ◌∙◌, arith}
-use Rattle.std.proofs.lemmas.Bool.{le-ltb}
+use Rattle.std.proofs.Common.{◌≡◌, ℕ, ◌-◌, Bool, if◌then◌else◌, List, [], ◌∷◌, ◌++◌, length, get_or, ltb, nat_lt, replicate, refl, ap, ◌∙◌, arith}
+use Rattle.std.proofs.lemmas.Bool.{cond_both, le-ltb}
+use Rattle.std.proofs.lemmas.List.{map-id}
 use Rattle.tabled_settings.specs.CellSettings.{first_settings}
 use Rattle.tabled_settings.specs.Padding.{first_padding}
 use Rattle.tabled_printing.specs.Texts.{pieces, width_of_text}
@@ -11,28 +12,20 @@ use Rattle.tabled_cells.specs.Placed.{filled, line_parts, aligned_width}
 use Rattle.tabled_cells.proofs.Fits.{empty_line, placed_line, placed_at}
 use Rattle.tabled_printing.proofs.TimesLemmas.{times_spaces}
 
-same_each : {A : Type 0} (xs : List A) → map (λ x. x) xs ≡ xs
-same_each [] = refl
-same_each (x ∷ xs) = ap (λ rest. x ∷ rest) (same_each xs)
-
-either_same : (b : Bool) (n : ℕ) → (if b then n else n) ≡ n
-either_same true n = refl
-either_same false n = refl
-
 -- a line
 unset_line : (row col width aligned : ℕ) (line : List ℕ) → placed_line (placement_at first_settings row col) width aligned line ≡ 32 ∷ line ++ replicate (width - 2 - width_of_text line) 32 ++ 32 ∷ []
 unfolding placed_line line_parts placement_at
 unset_line row col width aligned line =
     let after : ℕ = width - 1 - 1 - 0 - width_of_text line in
     let same : after ≡ width - 2 - width_of_text line = omega arith in
-    ap (λ character. filled first_padding character 0 after line) (either_same _ 32)
+    ap (λ character. filled first_padding character 0 after line) (cond_both _ 32 32 (λ n. n ≡ 32) (λ _. refl) (λ _. refl))
     ∙ (λ i. times_spaces 1 i ++ [] ++ line ++ times_spaces after i ++ times_spaces 1 i)
     ∙ ap (λ n. 32 ∷ line ++ replicate n 32 ++ 32 ∷ []) same
 
 -- all lines that are shown
 unset_shown : (row col : ℕ) (text : List ℕ) → lines_shown (placement_at first_settings row col) text ≡ pieces text
 unfolding lines_shown placement_at
-unset_shown row col text = same_each (pieces text)
+unset_shown row col text = map-id (pieces text)
 
 -- line n of such a cell
 abbrev pub at_left_and_top : ℕ → List (List ℕ) → ℕ → List ℕ

@@ -7,7 +7,7 @@ use Rattle.std.proofs.lemmas.List.{append-nil, append_assoc}
 use Rattle.tabled_border.specs.Texts.{Texts}
 use Rattle.tabled_painting.specs.Painted.{Painted, plain}
 use Rattle.tabled_painting.specs.InColor.{same_color, prefix_of, suffix_of, between, colored, last_color, in_color}
-use Rattle.tabled_painting.specs.Stretches.{Stretch, after_byte, stretches, between_its_texts}
+use Rattle.tabled_claims.specs.Stretches.{Stretch, after_byte, stretches, between_its_texts}
 
 -- ---- equal colors
 
