@@ -1,13 +1,13 @@
 -- Horizontal lines that look alike, since nothing is kept for one of them alone.
-use Rattle.std.proofs.Common.{◌≡◌, ℕ, ◌-◌, ◌≤◌, ◌<◌, Bool, true, false, ◌&&◌, ◌||◌, is_some, nat_le, nat_lt, if◌then◌else◌, Option, Some, None, option_map, option_and_then, List, [], ◌∷◌, ◌++◌, map, refl, sym, ap, subst, unwrap_or, ◌∙◌, arith}
+use Rattle.std.proofs.Common.{◌≡◌, ℕ, ◌≤◌, ◌<◌, Bool, true, false, ◌&&◌, ◌||◌, is_some, nat_le, nat_lt, if◌then◌else◌, Option, Some, None, option_map, option_and_then, List, [], ◌∷◌, ◌++◌, map, refl, sym, ap, subst, unwrap_or, ◌∙◌, arith}
 use Rattle.std.specs.Prelude.{slice_index}
 use Rattle.std.specs.List.{flat_map}
 use Rattle.std.specs.FinMap.{get}
 use Rattle.std.proofs.lemmas.Bool.{le-leb}
 use Rattle.std.proofs.lemmas.List.{map-append}
+use Rattle.std.proofs.lemmas.Simd.{map-map}
 use Rattle.tabled_grid.specs.declared.place.Place.{Place}
 use Rattle.tabled_grid.specs.declared.place.LineOf.{LineOf}
-use Rattle.tabled_grid.specs.declared.offset.Offset.{Offset}
 use Rattle.tabled_grid.specs.declared.event.Written.TheVariants.{Sign as sign}
 use Rattle.tabled_grid.specs.declared.site.Direction.TheVariants.{Horizontal}
 use Rattle.tabled_grid.specs.declared.site.Spot.TheVariants.{Edge, Crossing}
@@ -16,8 +16,8 @@ use Rattle.tabled_grid.specs.declared.site.Class.TheVariants.{Edges as edges, Cr
 use Rattle.tabled_grid.specs.declared.site.Part.TheVariants.{Edges as main_edges, Crossings as meeting}
 use Rattle.tabled_grid.specs.declared.site.Site.TheVariants.{Default as the_default, Class as of_class}
 use Rattle.tabled_grid.specs.Site.{rank}
-use Rattle.tabled_grid.specs.Value.{inside, sign_or, value}
-use Rattle.tabled_grid.specs.State.{State, state_at, horizontal_part, vertical_part, HasNoCellsOn, HasNoOffsetsAt}
+use Rattle.tabled_grid.specs.Value.{sign_or, plain_value}
+use Rattle.tabled_grid.specs.State.{State, state_at, horizontal_part, vertical_part, HasNoCellsOn}
 use Rattle.tabled_object.specs.declared.dimension.FixedDimension.{FixedDimension}
 use Rattle.tabled_object.specs.Entities.{below}
 use Rattle.tabled_configuration.specs.Configuration.{Configuration, all_writes}
@@ -25,17 +25,18 @@ use Rattle.tabled_printing.specs.declared.frame.Frame.{Frame}
 use Rattle.tabled_printing.specs.Along.{is_empty}
 use Rattle.tabled_printing.specs.Alike.{IsBareLine}
 use Rattle.tabled_printing.specs.LinePieces.{edge_of, crossing_places, edge_places, piece_places, places_before, all_places}
-use Rattle.tabled_printing.specs.Picture.{Look, look, edge_size, mark_at, marks_along}
+use Rattle.tabled_printing.specs.Beside.{plain_mark}
+use Rattle.tabled_printing.specs.Picture.{Look, look, mark_at, marks_along}
 use Rattle.tabled_printing.specs.Viewed.{with_colors_if}
-use Rattle.tabled_printing.proofs.AlikeLemmas.{between, if_same, itself}
-use Rattle.tabled_printing.proofs.LookLemmas.{own_shown, own_color}
-use Rattle.tabled_printing.proofs.LineLemmas.{along_pieces, horizontal_there}
+use Rattle.tabled_printing.proofs.AlikeLemmas.{between, crossing_shows, edge_shows, if_same, itself}
+use Rattle.tabled_printing.proofs.LineLemmas.{along_pieces, horizontal_there, piece_marks}
 use Rattle.tabled_printing.proofs.MarkLemmas.{mark_by}
-use Rattle.tabled_rooms.proofs.SizeLemmas.{flat_map_same}
+use Rattle.tabled_rooms.proofs.SizeLemmas.{flat_map_same, map_same}
 use Rattle.tabled_painting.specs.Between.{IsPlainLine, IsBetweenRows}
 use Rattle.tabled_painting.specs.Pages.{line_text}
 use Rattle.tabled_painting.specs.PaintedTable.{painted_marks}
 use Rattle.tabled_painting.specs.Viewed.{viewed}
+use Rattle.tabled_painting.proofs.Plain.{map_flat}
 
 -- a line that is no custom one, neither of characters nor of colors
 nothing : {A : Type 0} (o : Option A) → is_some o ≡ false → o ≡ None
@@ -52,118 +53,74 @@ plain_line cfg wanted r custom is not_custom bare =
     let both = or_false (is_some (get cfg.characters.horizontal_lines r)) (is_some (get cfg.colors.horizontal_lines r)) (sym is ∙ not_custom) in
     record { no_characters = nothing (get cfg.characters.horizontal_lines r) both.0; no_colors = nothing (get cfg.colors.horizontal_lines r) both.1; bare = bare }
 
--- ---- what a store has for a place, where it has nothing for single ones
+-- ---- what a store has for a place of two horizontal lines of one rank, where it has nothing for either of them alone
 
-module _ {T : Type 0} (state : State T) (shape : ℕ × ℕ) where
-  by_class : Class → Option T
+module _ {T : Type 0} (state : State T) (shape : ℕ × ℕ) (r s : ℕ) (in_r : r ≤ shape.0) (in_s : s ≤ shape.0) (ranked : rank shape.0 r ≡ rank shape.0 s) (cells_r : HasNoCellsOn (LineOf.Horizontal r) state) (cells_s : HasNoCellsOn (LineOf.Horizontal s) state)
+    (line_r : get state.horizontal_lines r ≡ None) (line_s : get state.horizontal_lines s ≡ None) where
+  abbrev by_class : Class → Option T
   by_class class = sign_or (state_at state (of_class class)) (sign_or (state_at state the_default) None)
 
-  edge_by_class : (r c k size : ℕ) → HasNoCellsOn (LineOf.Horizontal r) state → HasNoOffsetsAt Horizontal r state → get state.horizontal_lines r ≡ None
-      → value (state_at state) shape size (Place.Horizontal r c k) ≡ (if inside shape size (Place.Horizontal r c k) then by_class (edges Horizontal (rank shape.0 r)) else None)
-  unfolding value by_class
-  edge_by_class r c k size cells offsets line = λ i.
-      if inside shape size (Place.Horizontal r c k) then
-      sign_or (option_map sign (offsets c (Offset.Start k) i))
-      (sign_or (option_map sign (offsets c (Offset.End (size - 1 - k)) i))
-      (sign_or (option_map sign (cells (Edge Horizontal r c) (itself r) i))
-      (sign_or (option_and_then (horizontal_part main_edges) (line i))
-      (by_class (edges Horizontal (rank shape.0 r))))))
+  within : nat_le r shape.0 ≡ nat_le s shape.0
+  within = le-leb r shape.0 in_r ∙ sym (le-leb s shape.0 in_s)
+
+  edges_alike : (c : ℕ) → plain_value (state_at state) shape (Place.Horizontal r c 0) ≡ plain_value (state_at state) shape (Place.Horizontal s c 0)
+  unfolding plain_value
+  edges_alike c = λ i.
+      if nat_lt 0 shape.0 && within i && nat_lt c shape.1 then
+      sign_or (option_map sign ((cells_r (Edge Horizontal r c) (itself r) ∙ sym (cells_s (Edge Horizontal s c) (itself s))) i))
+      (sign_or (option_and_then (horizontal_part main_edges) ((line_r ∙ sym line_s) i)) (by_class (edges Horizontal (ranked i))))
       else None
 
-  crossing_by_class : (r c : ℕ) → HasNoCellsOn (LineOf.Horizontal r) state → get state.horizontal_lines r ≡ None
-      → value (state_at state) shape 0 (Place.Cross r c) ≡ (if inside shape 0 (Place.Cross r c) then sign_or (option_and_then (vertical_part (meeting (rank shape.0 r))) (get state.vertical_lines c)) (by_class (crossings (rank shape.0 r) (rank shape.1 c))) else None)
-  unfolding value by_class
-  crossing_by_class r c cells line = λ i.
-      if inside shape 0 (Place.Cross r c) then
-      sign_or (option_map sign (cells (Crossing r c) (itself r) i))
-      (sign_or (option_and_then (horizontal_part (meeting (rank shape.1 c))) (line i))
-      (sign_or (option_and_then (vertical_part (meeting (rank shape.0 r))) (get state.vertical_lines c))
-      (by_class (crossings (rank shape.0 r) (rank shape.1 c)))))
+  crossings_alike : (c : ℕ) → plain_value (state_at state) shape (Place.Cross r c) ≡ plain_value (state_at state) shape (Place.Cross s c)
+  unfolding plain_value
+  crossings_alike c = λ i.
+      if nat_lt 0 shape.0 && nat_lt 0 shape.1 && within i && nat_le c shape.1 then
+      sign_or (option_map sign ((cells_r (Crossing r c) (itself r) ∙ sym (cells_s (Crossing s c) (itself s))) i))
+      (sign_or (option_and_then (horizontal_part (meeting (rank shape.1 c))) ((line_r ∙ sym line_s) i))
+      (sign_or (option_and_then (vertical_part (meeting (ranked i))) (get state.vertical_lines c)) (by_class (crossings (ranked i) (rank shape.1 c)))))
       else None
-
-  -- of two horizontal lines of one rank
-  module _ (r s : ℕ) (in_r : r ≤ shape.0) (in_s : s ≤ shape.0) (ranked : rank shape.0 r ≡ rank shape.0 s) (cells_r : HasNoCellsOn (LineOf.Horizontal r) state) (cells_s : HasNoCellsOn (LineOf.Horizontal s) state) (line_r : get state.horizontal_lines r ≡ None) (line_s : get state.horizontal_lines s ≡ None) where
-    within : nat_le r shape.0 ≡ nat_le s shape.0
-    within = le-leb r shape.0 in_r ∙ sym (le-leb s shape.0 in_s)
-
-    pub edges_alike : (c k size : ℕ) → HasNoOffsetsAt Horizontal r state → HasNoOffsetsAt Horizontal s state → value (state_at state) shape size (Place.Horizontal r c k) ≡ value (state_at state) shape size (Place.Horizontal s c k)
-    edges_alike c k size offsets_r offsets_s =
-        edge_by_class r c k size cells_r offsets_r line_r
-        ∙ (λ i. if (nat_lt 0 shape.0 && within i && nat_lt c shape.1) && nat_lt k size then by_class (edges Horizontal (ranked i)) else None)
-        ∙ sym (edge_by_class s c k size cells_s offsets_s line_s)
-
-    pub crossings_alike : (c : ℕ) → value (state_at state) shape 0 (Place.Cross r c) ≡ value (state_at state) shape 0 (Place.Cross s c)
-    crossings_alike c =
-        crossing_by_class r c cells_r line_r
-        ∙ (λ i. if nat_lt 0 shape.0 && nat_lt 0 shape.1 && within i && nat_le c shape.1 then sign_or (option_and_then (vertical_part (meeting (ranked i))) (get state.vertical_lines c)) (by_class (crossings (ranked i) (rank shape.1 c))) else None)
-        ∙ sym (crossing_by_class s c cells_s line_s)
 
 -- ---- how a table looks, with colors or without them
 
 module _ (cfg : Configuration) (wanted : Bool) (shape : ℕ × ℕ) (widths heights : ℕ → ℕ) where
-  abbrev whole : Look
-  whole = look (all_writes cfg) shape widths heights
-
   abbrev view : Look
-  view = with_colors_if wanted whole
+  view = with_colors_if wanted (look (all_writes cfg) shape widths heights)
 
-  shown_by : (place : Place) → whole.shown place ≡ value (state_at cfg.characters) shape (edge_size widths heights place) place
-  shown_by place = sym (own_shown cfg shape widths heights place (edge_size widths heights place) (value (state_at cfg.characters) shape (edge_size widths heights place) place) refl refl)
-
-  colored_by : (place : Place) → whole.color place ≡ value (state_at cfg.colors) shape (edge_size widths heights place) place
-  colored_by place = sym (own_color cfg shape widths heights place (edge_size widths heights place) (value (state_at cfg.colors) shape (edge_size widths heights place) place) refl refl)
+  -- each place of an edge of such a line shows what is kept for the edge
+  edge_kept : (r c k : ℕ) → IsPlainLine cfg wanted r → k < widths c → plain_mark cfg wanted shape (Place.Horizontal r c 0) ≡ mark_at view (Place.Horizontal r c k)
+  edge_kept r c k plain inside =
+      edge_shows cfg wanted shape widths heights (LineOf.Horizontal r) c k (plain.bare.offsets.characters c) (λ yes. plain.bare.offsets.colors yes c) inside
 
   -- two horizontal lines of one rank
   module _ (r s : ℕ) (in_r : r ≤ shape.0) (in_s : s ≤ shape.0) (ranked : rank shape.0 r ≡ rank shape.0 s) (plain_r : IsPlainLine cfg wanted r) (plain_s : IsPlainLine cfg wanted s) where
-    edge_mark : (c k : ℕ) → mark_at view (Place.Horizontal r c k) ≡ mark_at view (Place.Horizontal s c k)
-    edge_mark c k =
-        mark_by _ _ _ _
-        (shown_by (Place.Horizontal r c k)
-        ∙ edges_alike cfg.characters shape r s in_r in_s ranked plain_r.bare.cells.characters plain_s.bare.cells.characters plain_r.no_characters plain_s.no_characters c k (widths c) plain_r.bare.offsets.characters plain_s.bare.offsets.characters
-        ∙ sym (shown_by (Place.Horizontal s c k)))
-        (if_same wanted _ _ (λ yes.
-        colored_by (Place.Horizontal r c k)
-        ∙ edges_alike cfg.colors shape r s in_r in_s ranked (plain_r.bare.cells.colors yes) (plain_s.bare.cells.colors yes) plain_r.no_colors plain_s.no_colors c k (widths c) (plain_r.bare.offsets.colors yes) (plain_s.bare.offsets.colors yes)
-        ∙ sym (colored_by (Place.Horizontal s c k))))
+    edge_mark : (c k : ℕ) → k < widths c → mark_at view (Place.Horizontal r c k) ≡ mark_at view (Place.Horizontal s c k)
+    edge_mark c k inside =
+        sym (edge_kept r c k plain_r inside)
+        ∙ mark_by _ _ _ _
+        (edges_alike cfg.characters shape r s in_r in_s ranked plain_r.bare.cells.characters plain_s.bare.cells.characters plain_r.no_characters plain_s.no_characters c)
+        (if_same wanted _ _ (λ yes. edges_alike cfg.colors shape r s in_r in_s ranked (plain_r.bare.cells.colors yes) (plain_s.bare.cells.colors yes) plain_r.no_colors plain_s.no_colors c))
+        ∙ edge_kept s c k plain_s inside
 
     crossing_mark : (c : ℕ) → mark_at view (Place.Cross r c) ≡ mark_at view (Place.Cross s c)
     crossing_mark c =
-        mark_by _ _ _ _
-        (shown_by (Place.Cross r c)
-        ∙ crossings_alike cfg.characters shape r s in_r in_s ranked plain_r.bare.cells.characters plain_s.bare.cells.characters plain_r.no_characters plain_s.no_characters c
-        ∙ sym (shown_by (Place.Cross s c)))
-        (if_same wanted _ _ (λ yes.
-        colored_by (Place.Cross r c)
-        ∙ crossings_alike cfg.colors shape r s in_r in_s ranked (plain_r.bare.cells.colors yes) (plain_s.bare.cells.colors yes) plain_r.no_colors plain_s.no_colors c
-        ∙ sym (colored_by (Place.Cross s c))))
+        sym (crossing_shows cfg wanted shape widths heights (LineOf.Horizontal r) c)
+        ∙ mark_by _ _ _ _
+        (crossings_alike cfg.characters shape r s in_r in_s ranked plain_r.bare.cells.characters plain_s.bare.cells.characters plain_r.no_characters plain_s.no_characters c)
+        (if_same wanted _ _ (λ yes. crossings_alike cfg.colors shape r s in_r in_s ranked (plain_r.bare.cells.colors yes) (plain_s.bare.cells.colors yes) plain_r.no_colors plain_s.no_colors c))
+        ∙ crossing_shows cfg wanted shape widths heights (LineOf.Horizontal s) c
 
     crossing_part : (b : Bool) (c : ℕ) → map (mark_at view) (if b then Place.Cross r c ∷ [] else []) ≡ map (mark_at view) (if b then Place.Cross s c ∷ [] else [])
     crossing_part true c = ap (λ mark. mark ∷ []) (crossing_mark c)
     crossing_part false c = refl
 
-    map_same : {A : Type 0} (f g : ℕ → A) (xs : List ℕ) → ((k : ℕ) → f k ≡ g k) → map f xs ≡ map g xs
-    map_same f g [] same = refl
-    map_same f g (x ∷ xs) same = λ i. same x i ∷ map_same f g xs same i
-
-    mapped_twice : {A B C : Type 0} (f : B → C) (g : A → B) (xs : List A) → map f (map g xs) ≡ map (λ x. f (g x)) xs
-    mapped_twice f g [] = refl
-    mapped_twice f g (x ∷ xs) = ap (λ rest. f (g x) ∷ rest) (mapped_twice f g xs)
-
-    map_flat : {X A B : Type 0} (g : A → B) (f : X → List A) (xs : List X) → map g (flat_map f xs) ≡ flat_map (λ x. map g (f x)) xs
-    map_flat g f [] = refl
-    map_flat g f (x ∷ xs) = map-append g (f x) (flat_map f xs) ∙ ap (λ rest. map g (f x) ++ rest) (map_flat g f xs)
-
     edge_part : (c : ℕ) → map (mark_at view) (edge_places view (LineOf.Horizontal r) c) ≡ map (mark_at view) (edge_places view (LineOf.Horizontal s) c)
     edge_part c =
-        mapped_twice (mark_at view) (edge_of (LineOf.Horizontal r) c) (below (widths c))
-        ∙ map_same (λ k. mark_at view (Place.Horizontal r c k)) (λ k. mark_at view (Place.Horizontal s c k)) (below (widths c)) (edge_mark c)
-        ∙ sym (mapped_twice (mark_at view) (edge_of (LineOf.Horizontal s) c) (below (widths c)))
+        map-map (mark_at view) (edge_of (LineOf.Horizontal r) c) (below (widths c))
+        ∙ map_same (λ k. mark_at view (Place.Horizontal r c k)) (λ k. mark_at view (Place.Horizontal s c k)) (widths c) (edge_mark c)
+        ∙ sym (map-map (mark_at view) (edge_of (LineOf.Horizontal s) c) (below (widths c)))
 
     piece_part : (c : ℕ) → map (mark_at view) (piece_places view (LineOf.Horizontal r) c) ≡ map (mark_at view) (piece_places view (LineOf.Horizontal s) c)
-    piece_part c =
-        map-append (mark_at view) (crossing_places view (LineOf.Horizontal r) c) (edge_places view (LineOf.Horizontal r) c)
-        ∙ (λ i. crossing_part (view.vertical c) c i ++ edge_part c i)
-        ∙ sym (map-append (mark_at view) (crossing_places view (LineOf.Horizontal s) c) (edge_places view (LineOf.Horizontal s) c))
+    piece_part c = piece_marks view (LineOf.Horizontal r) c ∙ (λ i. crossing_part (view.vertical c) c i ++ edge_part c i) ∙ sym (piece_marks view (LineOf.Horizontal s) c)
 
     pieces_alike : map (mark_at view) (all_places view (LineOf.Horizontal r)) ≡ map (mark_at view) (all_places view (LineOf.Horizontal s))
     unfolding all_places places_before

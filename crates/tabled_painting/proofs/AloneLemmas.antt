@@ -82,10 +82,6 @@ one_each settings none =
 -- ---- what is kept of spans
 
 module _ (lines : TableLines) (firsts : List ℕ) (sides : List Bool) where
-  pub few_spans : (count : ℕ) → KeepsSpans lines firsts sides count → count ≤ lines.frame.shape.1
-  few_spans zero keeps = omega arith
-  few_spans (suc n) keeps = omega (arith, keeps.each (omega arith))
-
   module _ (r : ℕ) (kept : List Host) (keeps : KeepsSpans lines firsts sides (length kept)) (are : AreHosts (columns_of lines) (rows_of lines) lines.frame.shape r kept) (within : r < lines.frame.shape.0) where
     unset : length kept ≡ 0 → RowAlone (columns_of lines) (rows_of lines) lines.frame.shape r
     unset none = let one = keeps.none none in alone_unset (columns_of lines) (rows_of lines) lines.frame.shape r one.columns one.rows within

@@ -2,8 +2,8 @@
 use Rattle.std.proofs.Common.{◌≡◌, ◌≢◌, ℕ, ◌+◌, ◌<◌, ◌≤◌, Bool, true, false, if◌then◌else◌, Option, Some, None, List, [], ◌∷◌, ◌++◌, map, length, get_or, refl, sym, ap, subst, ◌∙◌, arith, encode_utf8, Vec, option_copied}
 use Rattle.std.specs.List.{flat_map}
 use Rattle.std.proofs.lemmas.Bool.Decides.{nat_tests}
-use Rattle.std.proofs.lemmas.List.{append-nil, append_assoc, map-append, length-map, get_or-map}
-use Rattle.std.proofs.lemmas.List.FromFn.{map-range_with_len_more, length-map-range_with_len}
+use Rattle.std.proofs.lemmas.List.{append-nil, append_assoc, map-append, get_or-map}
+use Rattle.std.proofs.lemmas.List.FromFn.{map-range_with_len_more, length-range_with_len}
 use Rattle.tabled_object.specs.Entities.{below}
 use Rattle.tabled_configuration.proofs.Below.{flat_map_below}
 use Rattle.tabled_printing.specs.Along.{is_empty}
@@ -21,6 +21,11 @@ use Rattle.tabled_painting.specs.PaintedTable.{painted_mark, painted_marks, side
 use Rattle.tabled_painting.specs.TextsBy.{texts_by}
 use Rattle.tabled_painting.proofs.PainterLemmas.{paints_both}
 
+-- what holds of two choices by one test
+pub by_test : {A B : Type 0} (R : A → B → Type 0) (b : Bool) (x z : A) (y w : B) → (b ≡ true → R x y) → (b ≡ false → R z w) → R (if b then x else z) (if b then y else w)
+by_test R true x z y w first second = first refl
+by_test R false x z y w first second = second refl
+
 -- a run is its character, the given number of times
 same_marks : {X : Type 0} (mark : Shown) (xs : List X) → painted_marks (map (λ _. mark) xs) ≡ paint mark.1 (times (length xs) (character mark.0))
 same_marks mark [] = refl
@@ -29,13 +34,10 @@ same_marks mark (x ∷ xs) =
     ∙ ap (λ bs. paint mark.1 bs ++ paint mark.1 (times (length xs) (character mark.0))) (append-nil (encode_utf8 (character mark.0)))
     ∙ sym (map-append (λ byte. (byte, mark.1)) (encode_utf8 (character mark.0)) (times (length xs) (character mark.0)))
 
-count_below : (n : ℕ) → length (below n) ≡ n
-count_below n = sym (length-map (below n) (λ k. k)) ∙ length-map-range_with_len (λ k. k) 0 n
-
 pub run_painted : (run : Run) (code : ℕ) → code ≡ character (mark_of run.mark).0 → paint (mark_of run.mark).1 (times run.count code) ≡ painted_marks (run_marks run)
 run_painted run code is =
     ap (λ n. paint (mark_of run.mark).1 (times run.count n)) is
-    ∙ ap (λ n. paint (mark_of run.mark).1 (times n (character (mark_of run.mark).0))) (sym (count_below run.count))
+    ∙ ap (λ n. paint (mark_of run.mark).1 (times n (character (mark_of run.mark).0))) (sym (length-range_with_len 0 run.count))
     ∙ sym (same_marks (mark_of run.mark) (below run.count))
 
 -- the character of a mark and then those of a run, each in its color, or where nothing has one

@@ -2,6 +2,7 @@
 use Rattle.std.proofs.Common.{◌≡◌, ℕ, ◌+◌, ◌-◌, ◌<◌, Bool, true, false, nat_lt, if◌then◌else◌, None, List, [], ◌∷◌, ◌++◌, map, length, get_or, drop, replicate, refl, sym, ap, ◌∙◌, encode_utf8}
 use Rattle.std.specs.List.{flat_map}
 use Rattle.std.proofs.lemmas.List.{append-nil, map-append, length-map}
+use Rattle.std.proofs.lemmas.Simd.{map-map}
 use Rattle.tabled_object.specs.Entities.{below}
 use Rattle.tabled_grid.specs.declared.place.Place.{Place}
 use Rattle.tabled_grid.specs.declared.place.LineOf.{LineOf}
@@ -65,15 +66,11 @@ module _ (view : Look) where
   pub plain_if_drawn : (r : ℕ) → map plain (painted_if_drawn view r) ≡ line_if_drawn view r
   plain_if_drawn r = plain_line (view.horizontal r) _ _ (plain_marks (marks_along view (LineOf.Horizontal r)))
 
-  mapped_twice : {A B C : Type 0} (f : B → C) (g : A → B) (xs : List A) → map f (map g xs) ≡ map (λ x. f (g x)) xs
-  mapped_twice f g [] = refl
-  mapped_twice f g (x ∷ xs) = ap (λ rest. f (g x) ∷ rest) (mapped_twice f g xs)
-
   -- around what stands in the cells
   plain_row : (cells : Cells) (r : ℕ) (piece : ℕ → ℕ → List ℕ) → ((c k : ℕ) → c < view.shape.1 → k < view.heights r → plain (cells r c k) ≡ piece c k)
       → map plain (painted_row view cells r) ≡ map (λ k. line_of_pieces view r k (λ c. piece c k)) (below (view.heights r))
   plain_row cells r piece shows =
-      mapped_twice plain (λ k. painted_between view r k (λ c. cells r c k)) (below (view.heights r))
+      map-map plain (λ k. painted_between view r k (λ c. cells r c k)) (below (view.heights r))
       ∙ map_same (λ k. plain (painted_between view r k (λ c. cells r c k))) (λ k. line_of_pieces view r k (λ c. piece c k)) (view.heights r)
       (λ k within. plain_between r k (λ c. cells r c k) (λ c. piece c k) (λ c inside. shows c k inside within))
 

@@ -28,6 +28,7 @@ use Rattle.tabled_painting.specs.PaintedSpans.{painted_crossing, painted_edge, l
 use Rattle.tabled_painting.specs.Widths.{text_width}
 use Rattle.tabled_painting.proofs.Even.{even_with_margin}
 use Rattle.tabled_painting.proofs.Plain.{plain_both, plain_flat, plain_marks, plain_side}
+use Rattle.tabled_painting.proofs.FrameLemmas.{by_test}
 
 -- ---- lists
 
@@ -110,15 +111,10 @@ module _ (view : Look) (narrow : HasNarrowBorders view) where
 
       piece_tiled : (r k c : ℕ) → r < view.shape.0 → c < view.shape.1
           → Tiled (if (at r c).1 == c then one_if (view.vertical c) + room r c else 0) (spanned_piece view columns rows cells r k c)
-      piece_tiled r k c within inside = by ((at r c).1 == c) refl
-        where
-          by : (own : Bool) → ((at r c).1 == c) ≡ own
-              → Tiled (if own then one_if (view.vertical c) + room r c else 0) (if own then painted_side view r k c ++ room_line view columns rows cells (at r c) (lines_above view columns rows r + k) else [])
-          by true e =
-              let there : (at r c).1 ≡ c = grind (arith, nat_tests) in
-              tiled_both (one_if (view.vertical c)) (room r c) (painted_side view r k c) (room_line view columns rows cells (at r c) (lines_above view columns rows r + k)) (side_tiled r k c)
-              (room_tiled r c (lines_above view columns rows r + k) within inside there)
-          by false e = Tile-nil
+      piece_tiled r k c within inside =
+          by_test Tiled ((at r c).1 == c) _ 0 _ []
+          (λ e. let there : (at r c).1 ≡ c = grind (arith, nat_tests) in
+          tiled_both (one_if (view.vertical c)) (room r c) (painted_side view r k c) _ (side_tiled r k c) (room_tiled r c (lines_above view columns rows r + k) within inside there)) (λ e. Tile-nil)
 
       between_tiled : (r k : ℕ) → r < view.shape.0 → Tiled (table_width view) (spanned_between view columns rows cells r k)
       between_tiled r k within =

@@ -33,6 +33,7 @@ use Rattle.tabled_painting.specs.Painted.{Painted}
 use Rattle.tabled_painting.specs.PaintedTable.{Cells, painted_cell, painted_mark, painted_marks, painted_side}
 use Rattle.tabled_painting.specs.PaintedSpans.{painted_crossing, painted_edge, lines_above, room_line, room_wide, spanned_piece, crossed_piece, spanned_across, spanned_cells}
 use Rattle.tabled_painting.specs.RoomLines.{room_shown, begun_piece, crossed_by, IsRoomAt, AreRooms, AreOpen, AreBegun, AreSpans, ShowTheSame}
+use Rattle.tabled_painting.proofs.FrameLemmas.{by_test}
 
 -- ---- a piece as it is painted
 
@@ -107,23 +108,16 @@ module _ (view : Look) (columns rows : Counts) (cells : Cells) (shape : ℕ × �
 
   pub piece_is : (k : ℕ) → line ≡ lines_above view columns rows r + k → ((cell.1 == c) ≡ true → IsRoomAt view columns rows cells r c room)
       → begun_piece view r k line c (kept.col == c) room ≡ spanned_piece view columns rows cells r k c
-  piece_is k there own = ap (λ (h : Host). if h.col == c then painted_side view r k c ++ room_shown room line else []) is ∙ by_case (cell.1 == c) refl
-    where
-      by_case : (b : Bool) → (cell.1 == c) ≡ b
-          → (if b then painted_side view r k c ++ room_shown room line else []) ≡ (if b then painted_side view r k c ++ room_line view columns rows cells cell (lines_above view columns rows r + k) else [])
-      by_case true e = ap (λ l. painted_side view r k c ++ l) (own e line ∙ ap (room_line view columns rows cells cell) there)
-      by_case false e = refl
+  piece_is k there own =
+      ap (λ (h : Host). if h.col == c then painted_side view r k c ++ room_shown room line else []) is
+      ∙ by_test ◌≡◌ (cell.1 == c) _ _ _ _ (λ e. ap (λ l. painted_side view r k c ++ l) (own e line ∙ ap (room_line view columns rows cells cell) there)) (λ e. refl)
 
   pub crossed_is : line ≡ lines_above view columns rows r - 1 → ((cell.0 == r) ≡ false → (cell.1 == c) ≡ true → IsRoomAt view columns rows cells r c room)
       → crossed_by view r line c kept room ≡ crossed_piece view columns rows cells r c
-  crossed_is there own = ap (λ (h : Host). crossed_choice view r line c room (h.row == r) (h.col == c)) is ∙ by_case (cell.0 == r) (cell.1 == c) refl refl
-    where
-      by_case : (b d : Bool) → (cell.0 == r) ≡ b → (cell.1 == c) ≡ d
-          → crossed_choice view r line c room b d
-          ≡ (if b then painted_crossing view r c ++ painted_edge view r c else if d then painted_crossing view r c ++ room_line view columns rows cells cell (lines_above view columns rows r - 1) else [])
-      by_case true d e f = refl
-      by_case false true e f = ap (λ l. painted_crossing view r c ++ l) (own e f line ∙ ap (room_line view columns rows cells cell) there)
-      by_case false false e f = refl
+  crossed_is there own =
+      ap (λ (h : Host). crossed_choice view r line c room (h.row == r) (h.col == c)) is
+      ∙ by_test ◌≡◌ (cell.0 == r) _ _ _ _ (λ e. refl)
+      (λ e. by_test ◌≡◌ (cell.1 == c) _ _ _ _ (λ f. ap (λ l. painted_crossing view r c ++ l) (own e f line ∙ ap (room_line view columns rows cells cell) there)) (λ f. refl))
 
 -- ---- a line over which nothing reaches is that of a table without spans
 
@@ -230,11 +224,6 @@ pub wide_within : (lines : TableLines) (firsts : List ℕ) (sides : List Bool) �
     → min (room_width (viewed lines.frame).widths (λ c. slice_index_or sides c false) hosts lines.frame.shape.1 first) most ≡ room_width (viewed lines.frame).widths (λ c. slice_index_or sides c false) hosts lines.frame.shape.1 first
 wide_within lines firsts sides are hosts first =
     omega (arith, room_within (viewed lines.frame).widths (λ c. slice_index_or sides c false) hosts lines.frame.shape.1 first, are.wide_within)
-
--- ---- a room that is put into its column
-
-pub put_there : (rooms : List (Option Room)) (col : ℕ) (room none : Option Room) → col < length rooms → slice_index_or (set rooms col room) col none ≡ room
-put_there rooms col room none within = get_or-set_same rooms col room none within
 
 -- ---- how wide a room is, by the hosts of its first row
 

@@ -2,6 +2,7 @@
 use Rattle.std.proofs.Common.{◌≡◌, ℕ, ◌+◌, ◌-◌, ◌==◌, Bool, true, false, if◌then◌else◌, List, [], ◌∷◌, ◌++◌, map, length, refl, sym, ap, ◌∙◌}
 use Rattle.std.specs.List.{flat_map, join_with_byte}
 use Rattle.std.proofs.lemmas.List.{map-append}
+use Rattle.std.proofs.lemmas.Simd.{map-map}
 use Rattle.tabled_object.specs.Entities.{below}
 use Rattle.tabled_grid.specs.declared.place.Place.{Place}
 use Rattle.tabled_grid.specs.declared.place.LineOf.{LineOf}
@@ -17,25 +18,22 @@ use Rattle.tabled_painting.specs.Pages.{text_of_lines}
 use Rattle.tabled_painting.specs.PaintedTable.{Cells, painted_mark, painted_marks, painted_side, painted_if_drawn}
 use Rattle.tabled_painting.specs.PaintedSpans.{painted_crossing, painted_edge, lines_above, room_line, spanned_piece, spanned_between, crossed_piece, spanned_across, spanned_if_drawn, spanned_row, spanned_lines, spanned_table}
 use Rattle.tabled_painting.proofs.PainterLemmas.{plain_paint}
-use Rattle.tabled_painting.proofs.Plain.{plain_both, plain_side, margin_same, text_without_colors}
+use Rattle.tabled_painting.proofs.Plain.{map_flat, plain_both, plain_flat, plain_side, margin_same, text_without_colors}
+use Rattle.tabled_painting.proofs.FrameLemmas.{by_test}
 
 -- ---- lists of lines with the same characters
 
 if_same : (b : Bool) (x y : Painted) → plain x ≡ plain y → map plain (if b then x ∷ [] else []) ≡ map plain (if b then y ∷ [] else [])
-if_same true x y is = ap (λ line. line ∷ []) is
-if_same false x y is = refl
+if_same b x y is = by_test (λ p q. map plain p ≡ map plain q) b (x ∷ []) [] (y ∷ []) [] (λ e. ap (λ line. line ∷ []) is) (λ e. refl)
 
 maps_same : (f g : ℕ → Painted) (ks : List ℕ) → ((k : ℕ) → plain (f k) ≡ plain (g k)) → map plain (map f ks) ≡ map plain (map g ks)
-maps_same f g [] same = refl
-maps_same f g (k ∷ ks) same = λ i. same k i ∷ maps_same f g ks same i
+maps_same f g ks same = map-map plain f ks ∙ (λ i. map (λ k. same k i) ks) ∙ sym (map-map plain g ks)
 
 flats_same : (f g : ℕ → List Painted) (ns : List ℕ) → ((n : ℕ) → map plain (f n) ≡ map plain (g n)) → map plain (flat_map f ns) ≡ map plain (flat_map g ns)
-flats_same f g [] same = refl
-flats_same f g (n ∷ ns) same = map-append plain (f n) (flat_map f ns) ∙ (λ i. same n i ++ flats_same f g ns same i) ∙ sym (map-append plain (g n) (flat_map g ns))
+flats_same f g ns same = map_flat plain f ns ∙ (λ i. flat_map (λ n. same n i) ns) ∙ sym (map_flat plain g ns)
 
 flat_same : (f g : ℕ → Painted) (ns : List ℕ) → ((n : ℕ) → plain (f n) ≡ plain (g n)) → plain (flat_map f ns) ≡ plain (flat_map g ns)
-flat_same f g [] same = refl
-flat_same f g (n ∷ ns) same = plain_both (f n) (flat_map f ns) ∙ (λ i. same n i ++ flat_same f g ns same i) ∙ sym (plain_both (g n) (flat_map g ns))
+flat_same f g ns same = plain_flat f ns ∙ (λ i. flat_map (λ n. same n i) ns) ∙ sym (plain_flat g ns)
 
 both_same : (xs ys others more : Painted) → plain xs ≡ plain others → plain ys ≡ plain more → plain (xs ++ ys) ≡ plain (others ++ more)
 both_same xs ys others more first second = plain_both xs ys ∙ (λ i. first i ++ second i) ∙ sym (plain_both others more)
@@ -66,13 +64,9 @@ module _ (wanted : Bool) (view : Look) (columns rows : Counts) (cells others : C
   room_same cell n = same cell.0 cell.1 (n - lines_above view columns rows cell.0)
 
   piece_same : (r k c : ℕ) → plain (spanned_piece kept columns rows cells r k c) ≡ plain (spanned_piece view columns rows others r k c)
-  piece_same r k c = by_case ((host columns rows r c).1 == c)
-    where
-      by_case : (b : Bool) → plain (if b then painted_side kept r k c ++ room_line kept columns rows cells (host columns rows r c) (lines_above view columns rows r + k) else [])
-          ≡ plain (if b then painted_side view r k c ++ room_line view columns rows others (host columns rows r c) (lines_above view columns rows r + k) else [])
-      by_case true = both_same (painted_side kept r k c) (room_line kept columns rows cells (host columns rows r c) (lines_above view columns rows r + k))
-          (painted_side view r k c) (room_line view columns rows others (host columns rows r c) (lines_above view columns rows r + k)) (side_same r k c) (room_same (host columns rows r c) (lines_above view columns rows r + k))
-      by_case false = refl
+  piece_same r k c =
+      by_test (λ p q. plain p ≡ plain q) ((host columns rows r c).1 == c) _ [] _ []
+      (λ e. both_same (painted_side kept r k c) _ (painted_side view r k c) _ (side_same r k c) (room_same (host columns rows r c) (lines_above view columns rows r + k))) (λ e. refl)
 
   between_same : (r k : ℕ) → plain (spanned_between kept columns rows cells r k) ≡ plain (spanned_between view columns rows others r k)
   between_same r k =
@@ -81,15 +75,11 @@ module _ (wanted : Bool) (view : Look) (columns rows : Counts) (cells others : C
       (flat_same (spanned_piece kept columns rows cells r k) (spanned_piece view columns rows others r k) (below view.shape.1) (piece_same r k)) (side_same r k view.shape.1)
 
   crossed_same : (r c : ℕ) → plain (crossed_piece kept columns rows cells r c) ≡ plain (crossed_piece view columns rows others r c)
-  crossed_same r c = by_case ((host columns rows r c).0 == r) ((host columns rows r c).1 == c)
-    where
-      by_case : (own first : Bool)
-          → plain (if own then painted_crossing kept r c ++ painted_edge kept r c else if first then painted_crossing kept r c ++ room_line kept columns rows cells (host columns rows r c) (lines_above view columns rows r - 1) else [])
-          ≡ plain (if own then painted_crossing view r c ++ painted_edge view r c else if first then painted_crossing view r c ++ room_line view columns rows others (host columns rows r c) (lines_above view columns rows r - 1) else [])
-      by_case true first = both_same (painted_crossing kept r c) (painted_edge kept r c) (painted_crossing view r c) (painted_edge view r c) (crossing_same r c) (edge_same r c)
-      by_case false true = both_same (painted_crossing kept r c) (room_line kept columns rows cells (host columns rows r c) (lines_above view columns rows r - 1))
-          (painted_crossing view r c) (room_line view columns rows others (host columns rows r c) (lines_above view columns rows r - 1)) (crossing_same r c) (room_same (host columns rows r c) (lines_above view columns rows r - 1))
-      by_case false false = refl
+  crossed_same r c =
+      by_test (λ p q. plain p ≡ plain q) ((host columns rows r c).0 == r) _ _ _ _
+      (λ e. both_same (painted_crossing kept r c) (painted_edge kept r c) (painted_crossing view r c) (painted_edge view r c) (crossing_same r c) (edge_same r c))
+      (λ e. by_test (λ p q. plain p ≡ plain q) ((host columns rows r c).1 == c) _ [] _ []
+      (λ f. both_same (painted_crossing kept r c) _ (painted_crossing view r c) _ (crossing_same r c) (room_same (host columns rows r c) (lines_above view columns rows r - 1))) (λ f. refl))
 
   across_same : (r : ℕ) → plain (spanned_across kept columns rows cells r) ≡ plain (spanned_across view columns rows others r)
   across_same r =

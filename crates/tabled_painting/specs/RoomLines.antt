@@ -1,5 +1,8 @@
 -- The rooms of cells as the code keeps them. Private functions alone cite this.
 use Rattle.std.specs.Prelude.{◌≡◌, ℕ, ◌+◌, ◌-◌, ◌<◌, ◌≤◌, ◌==◌, min, Bool, true, false, if◌then◌else◌, Option, Some, None, List, [], ◌++◌, length, map, replicate, slice_index, slice_index_or}
+use Rattle.tabled_grid.specs.declared.place.LineOf.{LineOf}
+use Rattle.tabled_grid.specs.declared.site.Direction.{Direction}
+use Rattle.tabled_grid.specs.declared.site.Direction.TheVariants.{Horizontal, Vertical}
 use Rattle.tabled_printing.specs.Picture.{Look}
 use Rattle.tabled_printing.specs.Texts.{Table}
 use Rattle.tabled_rooms.specs.Hosts.{Counts, host}
@@ -16,6 +19,11 @@ use Rattle.tabled_painting.specs.PaintedTable.{Cells, painted_side}
 use Rattle.tabled_painting.specs.PaintedSpans.{columns_spanned, rows_spanned, painted_crossing, painted_edge, room_line, spanned_cells}
 use Rattle.tabled_painting.specs.Rows.{line_of, row_cell}
 use Rattle.tabled_painting.specs.Viewed.{viewed}
+
+-- the line of a direction and a number
+abbrev pub line_in : Direction → ℕ → LineOf
+line_in Horizontal n = LineOf.Horizontal n
+line_in Vertical n = LineOf.Vertical n
 
 -- what a room shows in a line of the table, where these are counted from the first line of text of row 0
 abbrev pub room_shown : Option Room → ℕ → Painted

@@ -1,34 +1,39 @@
 //! Which lines of a table are drawn.
 
-ghost use Rattle.std.specs.Prelude.{◌≡◌, ◌+◌, map, IfOk};
-ghost use Rattle.tabled_object.specs.Entities.{below};
+ghost use Rattle.std.specs.Prelude.{◌≡◌, ◌+◌, ℕ, false, length, slice_index_or, IfOk};
 ghost use Rattle.tabled_configuration.specs.Configuration.{all_writes, characters_of};
 ghost use Rattle.tabled_grid.specs.Drawn.{drawn};
-ghost use Rattle.tabled_grid.specs.declared.place.LineOf.{LineOf as Line};
+ghost use Rattle.tabled_painting.specs.RoomLines.{line_in};
 
 use tabled_border::OutOfMemory;
 use tabled_configuration::SpannedConfig;
+use tabled_grid::{Direction, LineOf};
+use tabled_kept::Probes;
 
-/// Which horizontal lines of a table of so many rows are drawn, the last one with them.
-pub(crate) fn lines_drawn(cfg: &SpannedConfig, rows: usize) -> Result<Vec<bool>, OutOfMemory>
-    ensures { IfOk result (λ lines. lines.items ≡ map (λ n. drawn (characters_of (all_writes cfg.now)) rows (Line.Horizontal n)) (below (rows + 1))) }
+/// The line of a direction and a number.
+fn line_in(direction: Direction, number: usize) -> LineOf
+    ensures { result ≡ line_in direction number }
 {
-    let mut lines = Vec::with_capacity(cfg.allocator(), rows.saturating_add(1))?;
-    for row in 0..rows {
-        lines.push(cfg.has_horizontal(row, rows))?;
+    match direction {
+        Direction::Horizontal => LineOf::Horizontal(number),
+        Direction::Vertical => LineOf::Vertical(number),
     }
-    lines.push(cfg.has_horizontal(rows, rows))?;
-    Ok(lines)
 }
 
-/// Which vertical lines of one of so many columns.
-pub(crate) fn sides_drawn(cfg: &SpannedConfig, cols: usize) -> Result<Vec<bool>, OutOfMemory>
-    ensures { IfOk result (λ sides. sides.items ≡ map (λ n. drawn (characters_of (all_writes cfg.now)) cols (Line.Vertical n)) (below (cols + 1))) }
+/// Which lines of a direction are drawn, the last one with them, in a table of so many rows or columns.
+pub(crate) fn lines_drawn(
+    cfg: &SpannedConfig,
+    direction: Direction,
+    count: usize,
+) -> Result<Vec<bool>, OutOfMemory>
+    ensures count { IfOk result (λ lines. length lines.items ≡ count + 1) }
+    ensures drawn { IfOk result (λ lines. (n : ℕ) → slice_index_or lines.items n false ≡ drawn (characters_of (all_writes cfg.now)) count (line_in direction n)) }
 {
-    let mut sides = Vec::with_capacity(cfg.allocator(), cols.saturating_add(1))?;
-    for col in 0..cols {
-        sides.push(cfg.has_vertical(col, cols))?;
+    let probes = &mut Probes::new();
+    let mut lines = Vec::with_capacity(cfg.allocator(), count.saturating_add(1))?;
+    for number in 0..count {
+        lines.push(cfg.draws(line_in(direction, number), count, probes))?;
     }
-    sides.push(cfg.has_vertical(cols, cols))?;
-    Ok(sides)
+    lines.push(cfg.draws(line_in(direction, count), count, probes))?;
+    Ok(lines)
 }

@@ -1,6 +1,6 @@
 //! Writes painted lines.
 
-ghost use Rattle.std.specs.Prelude.{◌≡◌, ◌++◌, ◌∷◌, [], true, false, None, OnOk, option_copied, option_map};
+ghost use Rattle.std.specs.Prelude.{◌≡◌, ◌++◌, ◌∷◌, true, false, None, OnOk, option_copied, option_map};
 ghost use Rattle.tabled_printing.specs.Marks.{mark_of, run_marks};
 ghost use Rattle.tabled_printing.specs.Sinks.{anything};
 ghost use Rattle.tabled_cells.specs.Placed.{times};

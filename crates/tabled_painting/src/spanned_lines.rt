@@ -1,11 +1,9 @@
 //! The lines of a table, row by row, and of the rooms of cells that span several columns or rows.
 
-ghost use Rattle.std.specs.Prelude.{◌≡◌, ◌≤◌, ◌<◌, ◌+◌, ◌-◌, ◌++◌, ◌==◌, ◌&&◌, ℕ, [], true, false, None, IsTrue, OnOk, length, map, option_copied, slice_index, slice_index_or};
+ghost use Rattle.std.specs.Prelude.{◌≡◌, ◌≤◌, ◌<◌, ◌+◌, ◌-◌, ◌++◌, ◌==◌, ◌&&◌, ℕ, [], true, false, None, IsTrue, OnOk, length, map, option_copied, slice_index_or};
 ghost use Rattle.std.specs.List.{All, flat_map};
 ghost use Rattle.std.specs.declared.option.Option.{Option as Maybe};
 ghost use Rattle.tabled_object.specs.Entities.{below};
-ghost use Rattle.tabled_grid.specs.declared.site.Direction.TheVariants.{Vertical};
-ghost use Rattle.tabled_printing.specs.Alike.{NoOffsetsAt};
 ghost use Rattle.tabled_printing.specs.Texts.{Table};
 ghost use Rattle.tabled_rooms.specs.Rooms.{first_line, room_height};
 ghost use Rattle.tabled_painting.specs.InColor.{Paints};
@@ -40,8 +38,8 @@ impl<'a, 'b, 'c> SpannedLines<'a, 'b, 'c> {
     ghost use Rattle.tabled_rooms.specs.Holding.{AreAbove, AreHosts};
     ghost use Rattle.tabled_painting.specs.declared.room.Room.{Room as Begun};
     ghost use Rattle.tabled_painting.specs.PaintedTable.{Cells, painted_cell};
-    ghost use Rattle.tabled_painting.specs.PaintedSpans.{painted_crossing, painted_edge, spanned_across, spanned_between, spanned_if_drawn, spanned_lines, spanned_row};
-    ghost use Rattle.tabled_painting.specs.RoomLines.{AreOpen, AreRooms, begun_piece, columns_of, crossed_by, room_cells, rows_of};
+    ghost use Rattle.tabled_painting.specs.PaintedSpans.{spanned_across, spanned_if_drawn, spanned_lines, spanned_row};
+    ghost use Rattle.tabled_painting.specs.RoomLines.{AreOpen, AreRooms, columns_of, crossed_by, room_cells, rows_of};
 
     /// How high the room of a cell is.
     fn height_of(&self, host: Host) -> usize

@@ -7,10 +7,11 @@ ghost use Rattle.tabled_grid.specs.declared.place.LineOf.{LineOf as Line};
 ghost use Rattle.tabled_rooms.specs.Sizes.{spanned_heights, spanned_widths};
 ghost use Rattle.tabled_painting.specs.PaintedSpans.{columns_spanned, rows_spanned};
 
-use crate::drawn::{lines_drawn, sides_drawn};
+use crate::drawn::lines_drawn;
 use crate::spans_of::SpansOf;
 use tabled_border::OutOfMemory;
 use tabled_configuration::SpannedConfig;
+use tabled_grid::Direction;
 use tabled_object::FixedDimension;
 use tabled_rooms::{CellSizes, spanned_sizes};
 
@@ -30,8 +31,8 @@ pub fn sizes_of_spanned<M: CellSizes>(
     ensures rows { IfOk result (λ sizes. length sizes.heights.items ≡ shape.0) }
 {
     let (rows, cols) = shape;
-    let sides = sides_drawn(cfg, cols)?;
-    let lines = lines_drawn(cfg, rows)?;
+    let sides = lines_drawn(cfg, Direction::Vertical, cols)?;
+    let lines = lines_drawn(cfg, Direction::Horizontal, rows)?;
     let spans = SpansOf { cfg };
     let (widths, heights) = spanned_sizes(cfg.allocator(), &spans, cells, shape, &sides, &lines)?;
     Ok(FixedDimension::new(widths, heights))

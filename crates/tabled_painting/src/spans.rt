@@ -6,9 +6,10 @@ ghost use Rattle.tabled_rooms.specs.Rooms.{one_if};
 ghost use Rattle.tabled_painting.specs.Pages.{most};
 ghost use Rattle.tabled_painting.specs.RoomLines.{IsSpansOf};
 
-use crate::drawn::{lines_drawn, sides_drawn};
+use crate::drawn::lines_drawn;
 use crate::table_lines::TableLines;
 use tabled_border::OutOfMemory;
+use tabled_grid::Direction;
 use tabled_rooms::{Host, first_lines, no_hosts};
 
 /// Where rooms stand in a table, and a place for what is shown in a row of it: nothing, where no cell spans.
@@ -53,9 +54,9 @@ impl Spans {
         let frame = &lines.frame;
         let alloc = frame.cfg.allocator();
         let (rows, cols) = frame.shape;
-        let drawn = lines_drawn(frame.cfg, rows)?;
+        let drawn = lines_drawn(frame.cfg, Direction::Horizontal, rows)?;
         let firsts = first_lines(alloc, frame.dims.heights.as_slice(), &drawn)?;
-        let sides = sides_drawn(frame.cfg, cols)?;
+        let sides = lines_drawn(frame.cfg, Direction::Vertical, cols)?;
         check_width(frame.dims.widths.as_slice(), &sides)?;
         let hosts = no_hosts(alloc, cols)?;
         let wides = vec![in alloc; 0usize; cols]?;

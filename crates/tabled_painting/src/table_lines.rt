@@ -1,8 +1,7 @@
 //! The lines of a table: its horizontal lines, and its rows, cell by cell.
 
-ghost use Rattle.std.specs.Prelude.{◌≡◌, ◌++◌, ◌<◌, ◌≤◌, ℕ, [], true, false, None, OnOk, IfOk, IfSome, IsSome, IsTrue, length, map, option_copied, option_map, string_bytes, slice_index, slice_index_or};
+ghost use Rattle.std.specs.Prelude.{◌≡◌, ◌++◌, ◌<◌, ◌≤◌, ℕ, [], true, false, None, OnOk, IfOk, IfSome, IsTrue, length, map, option_copied, option_map, string_bytes, slice_index, slice_index_or};
 ghost use Rattle.std.specs.Option.{ForSome};
-ghost use Rattle.std.specs.List.{All};
 ghost use Rattle.tabled_printing.specs.Along.{is_empty};
 ghost use Rattle.tabled_printing.specs.Marks.{mark_of};
 ghost use Rattle.tabled_printing.specs.Picture.{marks_along};
@@ -12,7 +11,6 @@ ghost use Rattle.tabled_painting.specs.Pages.{PaintsLines, line_text};
 ghost use Rattle.tabled_painting.specs.PaintedTable.{painted_marks, side_painted};
 ghost use Rattle.tabled_painting.specs.Viewed as looks;
 ghost use Rattle.tabled_painting.specs.Between.{IsBetweenRows};
-ghost use Rattle.tabled_painting.specs.TextsBy.{texts_by};
 
 use crate::alike::{first_plain_line, is_plain_line};
 use crate::bare_cells::is_bare;
@@ -50,12 +48,11 @@ pub(crate) struct TableLines<'a, 'b> {
 
 impl<'a, 'b> TableLines<'a, 'b> {
     ghost use Rattle.tabled_painting.specs.BareCells.{IsBareIn};
-    ghost use Rattle.tabled_painting.specs.Rows.{line_of};
     ghost use Rattle.tabled_painting.specs.PaintedTable.{painted_between, painted_cell, painted_if_drawn};
     ghost use Rattle.tabled_grid.specs.declared.site.Direction.TheVariants.{Vertical};
     ghost use Rattle.tabled_printing.specs.Alike.{NoOffsetsAt};
     ghost use Rattle.tabled_painting.specs.RoomLines.{AreRowCells, ShowTheSame, begun_piece, room_shown, rooms_between, rooms_row};
-    ghost use Rattle.tabled_painting.specs.Rows.{row_cell, row_painted};
+    ghost use Rattle.tabled_painting.specs.Rows.{line_of, row_cell, row_painted};
     ghost use Rattle.tabled_painting.specs.Viewed.{viewed};
     ghost use Rattle.tabled_painting.specs.declared.room.Room.{Room as Begun};
     ghost use Rattle.std.specs.declared.option.Option.{Option as Maybe};

@@ -1,23 +1,16 @@
--- A line more.
-use Rattle.std.proofs.Common.{◌≡◌, Bool, ℕ, map, ap, ◌∙◌, arith}
-use Rattle.tabled_object.specs.Entities.{below}
-use Rattle.tabled_grid.specs.Drawn.{drawn}
-use Rattle.tabled_grid.specs.declared.place.LineOf.{LineOf}
-use Rattle.tabled_configuration.specs.Configuration.{all_writes, characters_of}
-use Rattle.tabled_printing.proofs.LookLemmas.{own_drawn}
-use Rattle.tabled_painting.proofs.DrawnLemmas.{answer_more}
+-- A line more, up to the last one.
+use Rattle.std.proofs.Common.{◌≡◌, arith}
+use Rattle.tabled_painting.proofs.DrawnLemmas.{answer_more, answers_are}
 use Rattle.tabled_painting.proofs.drawn.lines_drawn.Goals as goal
 
-pub loop-row-preserved : goal.loop-row-preserved
-loop-row-preserved c =
-    let cfg = c.args.cfg.now in
-    answer_more (λ n. drawn (characters_of (all_writes cfg)) c.args.rows (LineOf.Horizontal n)) c.loop-row.row c.loop-row.lines.items _ c.has_horizontal.result c.loop-row.invariant
-    (own_drawn cfg c.args.rows (LineOf.Horizontal c.loop-row.row) c.has_horizontal.result c.has_horizontal.ensures) c.in_ok-push.ensures.items
+pub loop-number-preserved : goal.loop-number-preserved
+loop-number-preserved c =
+    answer_more c.args.cfg.now c.args.direction c.args.count c.loop-number.number c.loop-number.lines.items _ c.line_in.result c.draws.result
+    c.loop-number.invariant c.line_in.ensures c.draws.ensures.drawn c.in_ok-push.ensures.items
 
 pub returns : goal.returns
 returns c =
-    let cfg = c.args.cfg.now in
-    let line : ℕ → Bool = λ n. drawn (characters_of (all_writes cfg)) c.args.rows (LineOf.Horizontal n) in
-    let all : c.loop-row.row ≡ c.args.rows = omega (arith, c.loop-row-test.false, c.loop-row.auto.row-end) in
-    answer_more line c.args.rows c.loop-row.lines.items _ c.has_horizontal-2.result (c.loop-row.invariant ∙ ap (λ n. map line (below n)) all)
-    (own_drawn cfg c.args.rows (LineOf.Horizontal c.args.rows) c.has_horizontal-2.result c.has_horizontal-2.ensures) c.in_ok-push-2.ensures.items
+    let all : c.loop-number.number ≡ c.args.count = omega (arith, c.loop-number-test.false, c.loop-number.auto.number-end) in
+    let both = answers_are c.args.cfg.now c.args.direction c.args.count c.loop-number.number c.loop-number.lines.items _ c.line_in-2.result c.draws-2.result all
+    c.loop-number.invariant c.line_in-2.ensures c.draws-2.ensures.drawn c.in_ok-push-2.ensures.items in
+    record { count = both.0; drawn = both.1 }

@@ -1,7 +1,7 @@
 -- By where line n stands.
-use Rattle.std.proofs.Common.{ap, ◌∙◌}
+use Rattle.std.proofs.Common.{◌∙◌}
 use Rattle.tabled_cells.specs.Shown.{shown}
-use Rattle.tabled_painting.specs.CellLines.{cell_line, coloring_of}
+use Rattle.tabled_painting.specs.CellLines.{coloring_of}
 use Rattle.tabled_painting.proofs.CellLemmas.{aligned_line, same_line, upper_line, lower_line, text_line}
 use Rattle.tabled_painting.proofs.cell_lines.CellLines.paint_line.Goals as goal
 
@@ -27,11 +27,3 @@ returns-clause-painted g c =
     c.lines_above-above.ensures c.len.ensures c.in-Some.line.now c.aligned-aligned.result c.if-n-above.false c.in-Some.ensures.there c.in-Some.ensures.is
     (aligned_line cell.how (coloring_of cell.colors) cell.width c.line.new.self.widest c.aligned-aligned.result (shown cell.lines) c.in-Some.line.now (λ together apart. c.in-Some.ensures.widest ∙ cell.widest together apart) c.aligned-aligned.ensures))
     c.paint_text.ensures
-
-pub returns-in_default-clause-same : goal.returns-in_default-clause-same
-returns-in_default-clause-same g c at =
-    let cell = c.args.self.now in ap (λ lines. cell_line cell.how (coloring_of cell.colors) cell.width cell.height lines at) c.in_default.ensures.same
-
-pub returns-clause-same : goal.returns-clause-same
-returns-clause-same g c at =
-    let cell = c.args.self.now in ap (λ lines. cell_line cell.how (coloring_of cell.colors) cell.width cell.height lines at) c.in-Some.ensures.same

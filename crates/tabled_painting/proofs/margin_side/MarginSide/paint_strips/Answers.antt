@@ -1,10 +1,7 @@
 -- One line more.
 use Rattle.tabled_painting.proofs.PainterLemmas.{begins_all, line_whole}
-use Rattle.tabled_painting.proofs.PageLemmas.{none_whole, strip_more}
+use Rattle.tabled_painting.proofs.PageLemmas.{strip_more}
 use Rattle.tabled_painting.proofs.margin_side.MarginSide.paint_strips.Goals as goal
-
-pub loop-init : goal.loop-init
-loop-init g c = none_whole g.O.Output.gains g.met.O.Output.gains_none c.args.painter.now c.requires
 
 pub loop-preserved : goal.loop-preserved
 loop-preserved g c =

@@ -2,7 +2,7 @@
 use Rattle.std.proofs.Common.{ap, sym, subst, ◌∙◌}
 use Rattle.tabled_painting.specs.Pages.{BeginsLine}
 use Rattle.tabled_painting.specs.Margin.{side_of, side_at}
-use Rattle.tabled_painting.proofs.PainterLemmas.{begins_all, on_done, paints_none}
+use Rattle.tabled_painting.proofs.PainterLemmas.{begins_all, paints_none}
 use Rattle.tabled_painting.proofs.MarginLemmas.{nothing_at}
 use Rattle.tabled_painting.proofs.page.Page.begin_line.Goals as goal
 
@@ -13,8 +13,3 @@ returns-then-self-eq0-clause-begun g c =
     subst (λ line. BeginsLine gains line page.painter c.begin_line.new.self) (sym (ap (side_at (side_of page.left) page.high page.number) c.if-self-eq0.true ∙ nothing_at (side_of page.left) page.high page.number))
     (begins_all gains g.met.O.Output.gains_both _ page.painter c.begin_line.new.self _ c.requires.ended c.in_ok-begin_line.ensures.text c.in_ok-begin_line.ensures.begun c.begin_line.ensures.color c.begin_line.ensures.same_colors
     (paints_none gains g.met.O.Output.gains_none c.begin_line.new.self))
-
-pub returns-clause-begun : goal.returns-clause-begun
-returns-clause-begun g c =
-    on_done c.paint_at.result c.paint_at.ensures
-    (λ painted. begins_all g.O.Output.gains g.met.O.Output.gains_both _ c.args.self.now.painter c.begin_line.new.self _ c.requires.ended c.in_ok-begin_line.ensures.text c.in_ok-begin_line.ensures.begun c.begin_line.ensures.color c.begin_line.ensures.same_colors painted)

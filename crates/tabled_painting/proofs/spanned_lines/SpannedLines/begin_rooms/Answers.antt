@@ -1,5 +1,5 @@
 -- A column more: a room begins there, or none does.
-use Rattle.std.proofs.Common.{◌≡◌, ℕ, Bool, min, ◌==◌, ◌&&◌, ◌<◌, false, [], length, slice_index_or, refl, sym, ap, ◌∙◌, arith}
+use Rattle.std.proofs.Common.{◌≡◌, ℕ, Bool, min, ◌==◌, ◌&&◌, ◌<◌, false, [], length, slice_index_or, sym, ap, ◌∙◌, arith}
 use Rattle.std.specs.Prelude.{slice_index}
 use Rattle.tabled_rooms.specs.Hosts.{host}
 use Rattle.tabled_rooms.specs.Holding.{held}
@@ -12,16 +12,8 @@ use Rattle.tabled_rooms.specs.Holding.{cell_of}
 use Rattle.tabled_rooms.specs.Rooms.{room_width}
 use Rattle.tabled_painting.specs.Viewed.{viewed}
 use Rattle.tabled_painting.proofs.FrameLemmas.{shown_at}
-use Rattle.tabled_painting.proofs.SpannedLemmas.{begun_all, begun_more, begun_none, room_is, wide_is, wide_within}
+use Rattle.tabled_painting.proofs.SpannedLemmas.{begun_more, room_is, wide_is, wide_within}
 use Rattle.tabled_painting.proofs.spanned_lines.SpannedLines.begin_rooms.Goals as goal
-
-pub loop-col-init : goal.loop-col-init
-loop-col-init g c =
-    let lines = c.args.self.now.lines.now in
-    record {
-      count = refl;
-      begun = λ table there opened. begun_none (viewed lines.frame) (columns_of lines) (rows_of lines) (room_cells lines table) c.args.row c.args.rooms.now opened;
-    }
 
 pub begin_room-requires-clause-row : goal.begin_room-requires-clause-row
 begin_room-requires-clause-row g c =
@@ -31,13 +23,6 @@ begin_room-requires-clause-row g c =
     let least = begins_by (columns_of lines) (rows_of lines) c.args.row n in
     let is = ap (λ (h : Host). h.row) (c.requires.are n nobody inside) in
     omega (arith, is, least, c.requires.row)
-
-pub begin_room-requires-clause-bottom : goal.begin_room-requires-clause-bottom
-begin_room-requires-clause-bottom g c =
-    let n = c.loop-col.col in
-    let inside : n < length c.args.hosts.now = omega (arith, c.requires.hosts, c.requires.texts, c.loop-col-test.true) in
-    let is = ap (λ (h : Host). h.bottom) (c.requires.are n nobody inside) in
-    omega (arith, is)
 
 pub loop-col-preserved : goal.loop-col-preserved
 loop-col-preserved g c =
@@ -73,9 +58,3 @@ loop-col-preserved g c =
           (λ k room apart. c.begin_room.ensures.others k room ((λ i. ((is i).row == r) && ((is i).col == n) && (k == n)) ∙ apart))
           (c.loop-col.invariant.begun table there opened);
     }
-
-pub returns-clause-rooms : goal.returns-clause-rooms
-returns-clause-rooms g c = λ table there opened.
-    let lines = c.args.self.now.lines.now in
-    begun_all (viewed lines.frame) (columns_of lines) (rows_of lines) (room_cells lines table) c.args.row c.loop-col.col c.loop-col.rooms
-    (omega (arith, c.requires.rooms, c.requires.texts, c.loop-col-test.false, c.loop-col.invariant.count)) (c.loop-col.invariant.begun table there opened)

@@ -9,12 +9,9 @@ use Rattle.tabled_painting.specs.Painted.{Painted}
 use Rattle.tabled_painting.specs.PaintedSpans.{crossed_piece, lines_above, painted_crossing}
 use Rattle.tabled_painting.specs.RoomLines.{IsRoomAt, columns_of, rows_of, nobody}
 use Rattle.tabled_painting.specs.Viewed.{viewed}
-use Rattle.tabled_painting.proofs.PainterLemmas.{parts_more, paints_both, paints_none}
-use Rattle.tabled_painting.proofs.SpannedLemmas.{crossed_is, same_put, same_rooms, same_then, shown_in}
+use Rattle.tabled_painting.proofs.PainterLemmas.{parts_more, paints_both}
+use Rattle.tabled_painting.proofs.SpannedLemmas.{crossed_is, same_put, same_then, shown_in}
 use Rattle.tabled_painting.proofs.spanned_lines.SpannedLines.paint_across.Goals as goal
-
-pub loop-col-init : goal.loop-col-init
-loop-col-init g c = record { same = same_rooms c.args.rooms.now; painted = λ cells are. paints_none g.O.Output.gains g.met.O.Output.gains_none c.args.painter.now }
 
 pub loop-col-preserved : goal.loop-col-preserved
 loop-col-preserved g c =

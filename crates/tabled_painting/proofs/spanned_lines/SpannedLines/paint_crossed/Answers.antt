@@ -1,19 +1,8 @@
 -- The crossing and the edge, a room that reaches over the line, or nothing more of one.
 use Rattle.tabled_painting.specs.Viewed.{viewed}
-use Rattle.tabled_painting.proofs.PainterLemmas.{paints_both, paints_none, paints_same}
-use Rattle.tabled_painting.proofs.SpannedLemmas.{crossed_own, crossed_room, crossed_not}
+use Rattle.tabled_painting.proofs.PainterLemmas.{paints_both, paints_same}
+use Rattle.tabled_painting.proofs.SpannedLemmas.{crossed_room}
 use Rattle.tabled_painting.proofs.spanned_lines.SpannedLines.paint_crossed.Goals as goal
-
-pub returns-then-host-row-clause-painted : goal.returns-then-host-row-clause-painted
-returns-then-host-row-clause-painted g c =
-    paints_same g.O.Output.gains _ _ _ _
-    (crossed_own (viewed c.args.self.now.lines.now.frame) c.args.place.0 c.args.line c.args.place.1 c.args.host c.args.room.now c.if-host-row.true) c.in_ok-put_line_piece.ensures.put
-
-pub returns-then-host-col-clause-painted : goal.returns-then-host-col-clause-painted
-returns-then-host-col-clause-painted g c =
-    paints_same g.O.Output.gains _ _ _ _
-    (crossed_not (viewed c.args.self.now.lines.now.frame) c.args.place.0 c.args.line c.args.place.1 c.args.host c.args.room.now c.if-host-row.false c.if-host-col.true)
-    (paints_none g.O.Output.gains g.met.O.Output.gains_none c.args.painter.now)
 
 pub returns-clause-painted : goal.returns-clause-painted
 returns-clause-painted g c =

@@ -1,10 +1,7 @@
 -- A row more: the line above it and its own lines.
-use Rattle.std.proofs.Common.{◌≡◌, ◌++◌, [], length, refl, ap, sym, subst, ◌∙◌, arith, map}
-use Rattle.std.specs.List.{flat_map}
+use Rattle.std.proofs.Common.{[], length, refl, ap, sym, ◌∙◌, arith, map}
 use Rattle.std.proofs.lemmas.List.{length-map}
-use Rattle.tabled_object.specs.Entities.{below}
 use Rattle.tabled_rooms.proofs.HostLemmas.{hosts_above}
-use Rattle.tabled_painting.specs.Pages.{PaintsLines}
 use Rattle.tabled_painting.specs.PaintedSpans.{spanned_if_drawn, spanned_row}
 use Rattle.tabled_painting.specs.RoomLines.{columns_of, room_cells, rows_of}
 use Rattle.tabled_painting.specs.TextsBy.{texts_by}
@@ -69,11 +66,3 @@ loop-row-preserved g c =
           row_more g.O.Output.gains g.met.O.Output.gains_both (spanned_if_drawn view (columns_of lines) (rows_of lines) cells) (spanned_row view (columns_of lines) (rows_of lines) cells) r _ _ _ _ _ refl
           c.loop-row.invariant.painted lines_above own;
     }
-
-pub returns-clause-painted : goal.returns-clause-painted
-returns-clause-painted g c =
-    let lines = c.args.self.now.lines.now in
-    let view = viewed lines.frame in
-    let cells = room_cells lines (texts_by g.T.AsStr.text c.args.rows.now) in
-    let all : c.loop-row.row ≡ view.shape.0 = (let rows_are = c.requires.rows in omega (arith, c.loop-row-test.false, c.loop-row.auto.row-end, rows_are)) in
-    subst (λ n. PaintsLines g.O.Output.gains (flat_map (λ r. spanned_if_drawn view (columns_of lines) (rows_of lines) cells r ++ spanned_row view (columns_of lines) (rows_of lines) cells r) (below n)) c.args.page.now c.loop-row.page) all c.loop-row.invariant.painted

@@ -27,30 +27,6 @@ returns-then-all_stand_alone-clause-opened g c = λ table there opened more.
     nothing_open (columns_of lines) (rows_of lines) lines.frame.shape c.args.row alone (λ a b. omega arith) (λ a b. omega arith)
     (viewed lines.frame) (room_cells lines table) c.paint_row.new.rooms (let few = few_rooms lines (length c.args.hosts.now) (length c.args.rooms.now) c.requires.rooms in omega (arith, few, c.in_ok-paint_row.ensures.count)) more
 
-pub paint_row-requires-clause-rooms : goal.paint_row-requires-clause-rooms
-paint_row-requires-clause-rooms g c = c.requires.rooms.each
-
-pub paint_row-requires-clause-low : goal.paint_row-requires-clause-low
-paint_row-requires-clause-low g c = λ none. c.requires.rooms.low none c.args.row c.requires.row
-
-pub begin_rooms-requires-clause-rooms : goal.begin_rooms-requires-clause-rooms
-begin_rooms-requires-clause-rooms g c =
-    all_rooms c.args.self.now.lines.now (length c.args.hosts.now) (length c.args.rooms.now) c.requires.rooms (c.all_stand_alone.ensures.some c.if-all_stand_alone.false)
-
-pub paint_rooms-requires-clause-rooms : goal.paint_rooms-requires-clause-rooms
-paint_rooms-requires-clause-rooms g c =
-    c.begin_rooms.ensures.rooms_count
-    ∙ all_rooms c.args.self.now.lines.now (length c.args.hosts.now) (length c.args.rooms.now) c.requires.rooms (c.all_stand_alone.ensures.some c.if-all_stand_alone.false)
-
-pub begin_rooms-requires-clause-spans : goal.begin_rooms-requires-clause-spans
-begin_rooms-requires-clause-spans g c = c.requires.keeps.some (c.all_stand_alone.ensures.some c.if-all_stand_alone.false)
-
-pub begin_rooms-requires-clause-hosts : goal.begin_rooms-requires-clause-hosts
-begin_rooms-requires-clause-hosts g c = c.requires.keeps.each (c.all_stand_alone.ensures.some c.if-all_stand_alone.false)
-
-pub begin_rooms-requires-clause-wides : goal.begin_rooms-requires-clause-wides
-begin_rooms-requires-clause-wides g c = c.requires.wides ∙ begin_rooms-requires-clause-hosts g c
-
 pub returns-clause-painted : goal.returns-clause-painted
 returns-clause-painted g c = λ table there opened.
     let spanned = c.args.self.now in

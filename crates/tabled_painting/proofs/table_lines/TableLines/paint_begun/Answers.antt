@@ -4,14 +4,8 @@ use Rattle.tabled_painting.specs.InColor.{Paints}
 use Rattle.tabled_painting.specs.RoomLines.{begun_piece}
 use Rattle.tabled_painting.specs.Viewed.{viewed}
 use Rattle.tabled_painting.proofs.FrameLemmas.{side_is}
-use Rattle.tabled_painting.proofs.PainterLemmas.{paints_both, paints_none, paints_same}
+use Rattle.tabled_painting.proofs.PainterLemmas.{paints_both, paints_same}
 use Rattle.tabled_painting.proofs.table_lines.TableLines.paint_begun.Goals as goal
-
-pub returns-then-not-begins-clause-painted : goal.returns-then-not-begins-clause-painted
-returns-then-not-begins-clause-painted g c =
-    paints_same g.O.Output.gains _ _ _ _
-    (ap (λ begins. begun_piece (viewed c.args.self.now.frame) c.args.place.0 c.args.place.1 c.args.line c.args.place.2 begins c.args.room.now) (sym c.if-not-begins.true))
-    (paints_none g.O.Output.gains g.met.O.Output.gains_none c.args.painter.now)
 
 pub returns-clause-painted : goal.returns-clause-painted
 returns-clause-painted g c =

@@ -9,13 +9,10 @@ use Rattle.tabled_painting.specs.PaintedTable.{painted_side}
 use Rattle.tabled_painting.specs.RoomLines.{begins, begun_piece}
 use Rattle.tabled_painting.specs.Viewed.{viewed}
 use Rattle.tabled_painting.proofs.FrameLemmas.{side_is}
-use Rattle.tabled_painting.proofs.PainterLemmas.{parts_more, paints_both, paints_none}
+use Rattle.tabled_painting.proofs.PainterLemmas.{parts_more, paints_both}
 use Rattle.tabled_painting.proofs.RowLemmas.{piece_same}
-use Rattle.tabled_painting.proofs.SpannedLemmas.{same_put, same_rooms, same_then, shown_in}
+use Rattle.tabled_painting.proofs.SpannedLemmas.{same_put, same_then, shown_in}
 use Rattle.tabled_painting.proofs.table_lines.TableLines.paint_between.Goals as goal
-
-pub loop-col-init : goal.loop-col-init
-loop-col-init g c = record { same = same_rooms c.args.rooms.now; painted = λ none. paints_none g.O.Output.gains g.met.O.Output.gains_none c.args.painter.now }
 
 pub loop-col-preserved : goal.loop-col-preserved
 loop-col-preserved g c =

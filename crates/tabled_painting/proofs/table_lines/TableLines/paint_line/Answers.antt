@@ -1,12 +1,8 @@
 -- The line is drawn where the frame says so.
 use Rattle.std.proofs.Common.{refl, sym, ◌∙◌}
 use Rattle.tabled_painting.specs.Viewed.{viewed}
-use Rattle.tabled_painting.proofs.PageLemmas.{line_painted, line_drawn, line_not_drawn}
+use Rattle.tabled_painting.proofs.PageLemmas.{line_painted, line_drawn}
 use Rattle.tabled_painting.proofs.table_lines.TableLines.paint_line.Goals as goal
-
-pub returns-then-not-draws : goal.returns-then-not-draws
-returns-then-not-draws g c =
-    line_not_drawn g.O.Output.gains g.met.O.Output.gains_none ((viewed c.args.self.now.frame).horizontal c.args.row) _ c.args.page.now (sym c.draws.ensures ∙ c.if-not-draws.true) c.requires.ended
 
 pub returns-2 : goal.returns-2
 returns-2 g c =

@@ -7,21 +7,8 @@ use Rattle.tabled_painting.specs.Painted.{Painted}
 use Rattle.tabled_painting.specs.PaintedTable.{painted_side}
 use Rattle.tabled_painting.specs.Rows.{row_cell}
 use Rattle.tabled_painting.specs.Viewed.{viewed}
-use Rattle.tabled_painting.proofs.BareLemmas.{bare_of_row}
 use Rattle.tabled_painting.proofs.FrameLemmas.{cell_then_side, shown_at, side_is}
 use Rattle.tabled_painting.proofs.table_lines.TableLines.paint_low.Goals as goal
-
-pub loop-col-init : goal.loop-col-init
-loop-col-init g c = subst (λ line. Paints g.O.Output.gains line c.args.painter.now c.push_side.new.self) (side_is (viewed c.args.self.now.frame) c.args.row 0 0 _ c.side.ensures) c.in_ok-push_side.ensures
-
-pub paint_cell-requires-clause-colors : goal.paint_cell-requires-clause-colors
-paint_cell-requires-clause-colors g c = c.loop-col.invariant.same_colors ∙ c.requires.colors
-
-pub paint_cell-requires-clause-bare : goal.paint_cell-requires-clause-bare
-paint_cell-requires-clause-bare g c =
-    let lines = c.args.self.now in
-    bare_of_row lines.frame.with_colors lines.frame.cfg.now.settings.cells lines.colors.now c.args.row c.new-position.result.row c.new-position.result.col c.row_color-of_row.result
-    c.new-position.ensures.row c.row_color-of_row.ensures
 
 pub loop-col-preserved : goal.loop-col-preserved
 loop-col-preserved g c =

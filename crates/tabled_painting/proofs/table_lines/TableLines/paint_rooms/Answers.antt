@@ -4,17 +4,10 @@ use Rattle.tabled_object.specs.Entities.{below}
 use Rattle.tabled_painting.specs.Pages.{PaintsLines, most}
 use Rattle.tabled_painting.specs.RoomLines.{rooms_between}
 use Rattle.tabled_painting.specs.Viewed.{viewed}
-use Rattle.tabled_painting.proofs.PageLemmas.{line_painted, line_more, no_lines}
+use Rattle.tabled_painting.proofs.PageLemmas.{line_painted, line_more}
 use Rattle.tabled_painting.proofs.RowLemmas.{between_same}
-use Rattle.tabled_painting.proofs.SpannedLemmas.{same_rooms, same_then}
+use Rattle.tabled_painting.proofs.SpannedLemmas.{same_then}
 use Rattle.tabled_painting.proofs.table_lines.TableLines.paint_rooms.Goals as goal
-
-pub loop-at-init : goal.loop-at-init
-loop-at-init g c = record {
-  same = same_rooms c.args.rooms.now;
-  ended = c.requires.ended;
-  painted = λ none. no_lines g.O.Output.gains g.met.O.Output.gains_none c.args.page.now c.requires.ended;
-}
 
 pub loop-at-preserved : goal.loop-at-preserved
 loop-at-preserved g c =

@@ -1,5 +1,5 @@
 -- The line of a row that has one, or its cells.
-use Rattle.std.proofs.Common.{◌≡◌, ◌≢◌, ◌<◌, ◌≤◌, ℕ, zero, suc, List, None, length, map, refl, sym, subst, ◌∙◌, arith}
+use Rattle.std.proofs.Common.{◌≡◌, ◌≢◌, ◌<◌, ◌≤◌, ℕ, zero, suc, List, None, map, refl, sym, subst, ◌∙◌, arith}
 use Rattle.std.specs.Prelude.{slice_index}
 use Rattle.std.proofs.lemmas.List.{length-map}
 use Rattle.tabled_painting.specs.Pages.{PaintsLines, most}
@@ -12,18 +12,6 @@ use Rattle.tabled_painting.proofs.table_lines.TableLines.paint_row.Goals as goal
 all_rooms : (count cols high : ℕ) → (0 < count → count ≡ cols) → (count ≡ 0 → high ≡ 1) → high ≢ 1 → count ≡ cols
 all_rooms zero cols high each low more = absurd (more (low refl))
 all_rooms (suc n) cols high each low more = each (omega arith)
-
-pub begin_cells-requires : goal.begin_cells-requires
-begin_cells-requires g c =
-    all_rooms (length c.args.rooms.now) c.args.self.now.frame.shape.1 _ c.requires.rooms c.requires.low (λ one. c.if-height-eq1.false (c.get_height-height.ensures ∙ one)) ∙ sym c.requires.texts
-
-pub paint_rooms-requires-clause-rooms : goal.paint_rooms-requires-clause-rooms
-paint_rooms-requires-clause-rooms g c =
-    c.begin_cells.ensures.count
-    ∙ all_rooms (length c.args.rooms.now) c.args.self.now.frame.shape.1 _ c.requires.rooms c.requires.low (λ one. c.if-height-eq1.false (c.get_height-height.ensures ∙ one))
-
-pub paint_low-requires-clause-colors : goal.paint_low-requires-clause-colors
-paint_low-requires-clause-colors g c = c.in_ok-begin_line.ensures.begun.same_colors ∙ c.requires.colors
 
 pub returns-then-height-eq1-clause-painted : goal.returns-then-height-eq1-clause-painted
 returns-then-height-eq1-clause-painted g c =

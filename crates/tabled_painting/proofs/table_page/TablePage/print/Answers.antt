@@ -1,5 +1,5 @@
 -- The lines above, the table between its sides, and the lines below.
-use Rattle.std.proofs.Common.{◌++◌, List, replicate, sym, subst, ◌∙◌}
+use Rattle.std.proofs.Common.{◌++◌, List, replicate, subst, ◌∙◌}
 use Rattle.tabled_painting.specs.Margin.{side_of, strip}
 use Rattle.tabled_painting.specs.Painted.{Painted}
 use Rattle.tabled_painting.specs.Pages.{counted_sides, joined}
