@@ -1,14 +1,15 @@
 -- Rows of other texts, as many in each.
-use Rattle.std.proofs.Common.{◌≡◌, ◌==◌, ℕ, ◌+◌, ◌<◌, ◌≤◌, get_or, ⊎_elim, subst, arith, Option, Some, None, List, [], ◌∷◌, map, length, if◌then◌else◌, refl, sym, ap, ◌∙◌}
+use Rattle.std.proofs.Common.{◌≡◌, ℕ, ◌<◌, ◌≤◌, get_or, ⊎_elim, subst, arith, None, List, [], ◌∷◌, map, length, refl, sym, ap, ◌∙◌}
 use Rattle.std.proofs.lemmas.Bool.{cases_lt}
 use Rattle.std.proofs.lemmas.List.{length-map, get_or-map, get_or_past}
+use Rattle.std.proofs.lemmas.List.Elements.{All-from_get_or}
 use Rattle.std.proofs.lemmas.List.FromFn.{get_or-map-range_with_len, length-range_with_len, fill_by_all}
 use Rattle.tabled_object.specs.Entities.{below}
-use Rattle.tabled_object.specs.declared.records.Shape.{Shape}
 use Rattle.tabled_printing.specs.Texts.{Table}
 use Rattle.tabled_text.specs.Changed.{row_changed, cells_changed}
-use Rattle.tabled_text.specs.Sizes.{column_count, first_unequal, unequal_row}
-use Rattle.tabled_text.specs.TextTable.{shape_of}
+use Rattle.tabled_text.specs.Sizes.{column_count, unequal_row}
+use Rattle.tabled_text.proofs.EqualRows.{HasCells, each-count, even-by}
+use Rattle.tabled_text.proofs.Widths.{maps-by}
 
 -- ---- places of what is changed
 
@@ -62,47 +63,20 @@ module _ (P : List ℕ → Type 0) (nothing : P []) where
 
 pub counts_stay : (change : ℕ → ℕ → List ℕ → List ℕ) (table : Table) → map length (cells_changed change table) ≡ map length table
 counts_stay change table =
-    let row_count : ℕ → ℕ = λ row. length (get_or table row []) in
-    fill_by_all row_count (map length (cells_changed change table)) (length table) 0 (length-map (cells_changed change table) length ∙ length_cells change table)
-    (λ row inside.
-    let within : row < length table = omega (arith, inside, length-map (cells_changed change table) length, length_cells change table) in
-    get_or-map length (cells_changed change table) row [] 0 (omega (arith, within, length_cells change table))
-    ∙ ap length (cells_at change table row within) ∙ length_row (change row) (get_or table row []))
-    ∙ sym (fill_by_all row_count (map length table) (length table) 0 (length-map table length)
-    (λ row inside. get_or-map length table row [] 0 (omega (arith, inside, length-map table length))))
+    maps-by length length 0 (cells_changed change table) table [] [] (length_cells change table)
+    (λ row inside. ap length (cells_at change table row inside) ∙ length_row (change row) (get_or table row []))
 
--- the first number of a list, 0 of none
-first_count : List ℕ → ℕ
-first_count [] = 0
-first_count (n ∷ ns) = n
-
-columns_by : (table : Table) → column_count table ≡ first_count (map length table)
-unfolding first_count
+columns_by : (table : Table) → column_count table ≡ get_or (map length table) 0 0
 columns_by [] = refl
 columns_by (row ∷ rows) = refl
 
-unequal_by : ℕ → ℕ → List ℕ → Option ℕ
-unequal_by columns row [] = None
-unequal_by columns row (n ∷ ns) = if n == columns then unequal_by columns (row + 1) ns else Some row
-
-unequal_is : (columns row : ℕ) (table : Table) → first_unequal columns row table ≡ unequal_by columns row (map length table)
-unfolding unequal_by
-unequal_is columns row [] = refl
-unequal_is columns row (cells ∷ rows) = ap (λ o. if length cells == columns then o else Some row) (unequal_is columns (row + 1) rows)
-
 module _ (old new : Table) (same : map length new ≡ map length old) where
   pub same_columns : column_count new ≡ column_count old
-  same_columns = columns_by new ∙ ap first_count same ∙ sym (columns_by old)
-
-  pub same_rows : length new ≡ length old
-  same_rows = sym (length-map new length) ∙ ap length same ∙ length-map old length
+  same_columns = columns_by new ∙ ap (λ counts. get_or counts 0 0) same ∙ sym (columns_by old)
 
   pub same_unequal : unequal_row old ≡ None → unequal_row new ≡ None
   same_unequal none =
-      unequal_is (column_count new) 0 new ∙ (λ i. unequal_by (same_columns i) 0 (same i)) ∙ sym (unequal_is (column_count old) 0 old) ∙ none
-
-  pub same_shape : (shape : Shape) → shape ≡ shape_of old → shape ≡ shape_of new
-  same_shape shape is =
-      let rows = sym same_rows in
-      let cols = sym same_columns in
-      is ∙ (λ i. record { rows = rows i; cols = cols i })
+      even-by (column_count old) new (All-from_get_or (HasCells (column_count old)) new [] (λ row within.
+      let rows : length new ≡ length old = sym (length-map new length) ∙ ap length same ∙ length-map old length in
+      let there : row < length old = omega (arith, within, rows) in
+      sym (get_or-map length new row [] 0 within) ∙ ap (λ counts. get_or counts row 0) same ∙ get_or-map length old row [] 0 there ∙ each-count old none row there))

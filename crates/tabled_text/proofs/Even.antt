@@ -45,6 +45,10 @@ utf8_cells (row ∷ rows) (suc r) c = utf8_cells rows r c
 
 -- ---- the text
 
+-- a table with places has rows and columns
+pub some_places : (n m : ℕ) → (eqb n 0 || eqb m 0) ≡ false → (0 < n) × (0 < m)
+some_places n m e = (grind (arith, nat_tests), grind (arith, nat_tests))
+
 module _ (es : List ConfigEvent) (table : Table) (equal : (r : ℕ) → r < length table → length (get_or table r []) ≡ column_count table) (utf8 : (r c : ℕ) → IsUtf8 (cell (get_or table r []) c))
     (all : list_all is_narrow_write (characters_of es) ≡ true) (none : leaves_sizes es ≡ true) where
   abbrev view : Look
@@ -72,13 +76,10 @@ module _ (es : List ConfigEvent) (table : Table) (equal : (r : ℕ) → r < leng
   -- the first row of a table with places has a line
   first_high : is_empty view.shape ≡ false → 0 < slice_index (row_heights table) 0
   first_high some =
-      let counts = not_zero (length table) (column_count table) some in
+      let counts = some_places (length table) (column_count table) some in
       let room = row_room table 0 0 counts.0 (let long = equal 0 counts.0 in omega (arith, long, counts.1)) in
       let asked = length-slice_split (λ byte. byte == 10) (cell (get_or table 0 []) 0) in
       omega (arith, room, asked)
-    where
-      not_zero : (n m : ℕ) → (eqb n 0 || eqb m 0) ≡ false → (0 < n) × (0 < m)
-      not_zero n m e = (grind (arith, nat_tests), grind (arith, nat_tests))
 
   text_is : text_of es table ≡ plain_text (painted_table view (margin_set es) cells)
   unfolding painted_alone

@@ -1,5 +1,5 @@
 -- What a table takes besides its texts, by what its configuration keeps.
-use Rattle.std.proofs.Common.{◌≡◌, ℕ, ◌+◌, ◌-◌, ◌<◌, min, max, true, false, if◌then◌else◌, get_or, List, [], ◌∷◌, map, length, take, sym, ap, subst, ◌∙◌, arith}
+use Rattle.std.proofs.Common.{◌≡◌, ℕ, ◌+◌, ◌-◌, ◌<◌, min, true, false, if◌then◌else◌, get_or, List, [], ◌∷◌, map, length, take, sym, ap, ◌∙◌, arith}
 use Rattle.std.proofs.lemmas.List.{map-append, take_more}
 use Rattle.std.specs.List.{sum_by}
 use Rattle.std.proofs.lemmas.Bool.Decides.{nat_tests}
@@ -13,7 +13,6 @@ use Rattle.tabled_settings.specs.Live.{value_at}
 use Rattle.tabled_settings.specs.Padding.{keeps_first_padding}
 use Rattle.tabled_settings.proofs.Paddings.{no_padding_at}
 use Rattle.tabled_rooms.proofs.CellRooms.{greatest_at, greatest_within}
-use Rattle.tabled_rooms.proofs.SizeLemmas.{greatest_more}
 use Rattle.tabled_configuration.specs.Configuration.{Configuration, ConfigEvent, Shows, all_writes, characters_of}
 use Rattle.tabled_printing.specs.Along.{is_empty}
 use Rattle.tabled_printing.specs.Picture.{Look, look}
@@ -22,13 +21,10 @@ use Rattle.tabled_printing.proofs.LookLemmas.{own_look}
 use Rattle.tabled_painting.specs.Widths.{text_width}
 use Rattle.tabled_printing.specs.Columns.{line_width}
 use Rattle.tabled_text.specs.Cells.{cells_set, margin_set}
-use Rattle.tabled_width.specs.declared.limit.Overflow.{Overflow}
-use Rattle.tabled_width.specs.Shares.{used, IsCap, shared}
+use Rattle.tabled_width.specs.Shares.{used}
 use Rattle.tabled_width.proofs.Sharing.{used-append}
-use Rattle.tabled_text.specs.Changed.{cells_changed, texts_of_columns}
-use Rattle.tabled_text.specs.Fitted.{IsFitted, frame_width, padding_across, texts_asked}
-use Rattle.tabled_text.specs.Sizes.{greatest, column_count}
-use Rattle.tabled_text.proofs.ShareSums.{sum_more}
+use Rattle.tabled_text.specs.Fitted.{frame_width, padding_across}
+use Rattle.tabled_text.specs.Sizes.{column_count}
 
 pub not_empty : (table : Table) → 0 < column_count table → is_empty (length table, column_count table) ≡ false
 not_empty [] some = absurd (omega (arith, some))
@@ -61,12 +57,6 @@ frame_none es table none =
     ap (λ b. if b then 0 else (margin_set es).size.left.size
     + (sum_by (λ col. line_width bare col + bare.widths col) (below (column_count table)) + line_width bare (column_count table)) + (margin_set es).size.right.size) none
 
-pub left_without_rows : (es : List ConfigEvent) (table : Table) (total : ℕ) → length table ≡ 0 → total ≡ total - frame_width es table
-left_without_rows es table total none = let nothing = frame_none es table (grind (arith, nat_tests, none)) in omega (arith, nothing)
-
-pub left_without_columns : (es : List ConfigEvent) (table : Table) (total : ℕ) → column_count table ≡ 0 → total ≡ total - frame_width es table
-left_without_columns es table total none = let nothing = frame_none es table (grind (arith, nat_tests, none)) in omega (arith, nothing)
-
 -- ---- the padding of a column
 
 -- where no padding is set it has two spaces
@@ -80,42 +70,11 @@ across_unset settings rows col none some =
     let first = each 0 in
     omega (arith, least, most, first)
 
--- what is left beside that of one row more
-pub across_more : (across : ℕ → ℕ) (room left next row between : ℕ) → left ≡ room - greatest (map across (below row)) → between ≡ room - across row → next ≡ min left between
-    → next ≡ room - greatest (map across (below (row + 1)))
-across_more across room left next row between so_far one is =
-    let all : greatest (map across (below (row + 1))) ≡ max (greatest (map across (below row))) (across row) = greatest_more across row in
-    omega (arith, so_far, one, is, all)
-
-pub across_all : (settings : CellSettings) (rows col room left row : ℕ) → row ≡ rows
-    → left ≡ room - greatest (map (λ row. (value_at settings.padding (position row col)).left.size + (value_at settings.padding (position row col)).right.size) (below row))
-    → left ≡ room - padding_across settings rows col
-unfolding padding_across
-across_all settings rows col room left row all is =
-    is ∙ ap (λ n. room - greatest (map (λ row. (value_at settings.padding (position row col)).left.size + (value_at settings.padding (position row col)).right.size) (below n))) all
-
--- a table that was changed by shares of what its columns ask for
-pub fitted_by : (how : Overflow) (least room left : ℕ) (before after : Table) (asked widths : List ℕ) (cap : ℕ) → asked ≡ texts_asked before → room ≡ left → IsCap least room asked cap
-    → widths ≡ shared cap (room - used cap asked) asked → after ≡ cells_changed (texts_of_columns how widths) before → IsFitted how least left before after
-fitted_by how least room left before after asked widths cap asked_is room_is is given changed = record {
-  cap = cap;
-  is_cap = subst (λ r. IsCap least r (texts_asked before) cap) room_is (subst (λ a. IsCap least room a cap) asked_is is);
-  texts = changed ∙ ap (λ w. cells_changed (texts_of_columns how w) before) (given ∙ (λ i. shared cap (room_is i - used cap (asked_is i)) (asked_is i)));
-}
-
--- what the least shares of one column more take, as far as it can be counted
-pub least_more : (least : ℕ) (widths : List ℕ) (i taken next : ℕ) → taken ≡ min (used least (map (λ width. width - 2) (take i widths))) 18446744073709551615 → i < length widths
-    → next ≡ min (taken + min least (get_or widths i 0 - 2)) 18446744073709551615 → next ≡ min (used least (map (λ width. width - 2) (take (i + 1) widths))) 18446744073709551615
-least_more least widths i taken next so_far inside one =
+-- what the least share of one column more takes
+pub used_more : (least : ℕ) (widths : List ℕ) (i : ℕ) → i < length widths
+    → used least (map (λ width. width - 2) (take (i + 1) widths)) ≡ used least (map (λ width. width - 2) (take i widths)) + min least (get_or widths i 0 - 2)
+used_more least widths i inside =
     let asked : ℕ → ℕ = λ width. width - 2 in
-    let more : used least (map asked (take (i + 1) widths)) ≡ used least (map asked (take i widths)) + used least (asked (get_or widths i 0) ∷ []) =
-    ap (λ ws. used least (map asked ws)) (take_more widths i 0 inside) ∙ ap (used least) (map-append asked (take i widths) (get_or widths i 0 ∷ []))
+    let more = ap (λ ws. used least (map asked ws)) (take_more widths i 0 inside) ∙ ap (used least) (map-append asked (take i widths) (get_or widths i 0 ∷ []))
     ∙ used-append least (map asked (take i widths)) (asked (get_or widths i 0) ∷ []) in
-    omega (arith, so_far, one, more)
-
--- what is left after one more
-pub left_after : (taken : ℕ → ℕ) (room left next col : ℕ) → left ≡ room - sum_by taken (below col) → next ≡ left - taken col → next ≡ room - sum_by taken (below (col + 1))
-left_after taken room left next col so_far one =
-    let more = sum_more taken 0 col in
-    let place : taken (0 + col) ≡ taken col = ap taken (omega arith) in
-    omega (arith, so_far, one, more, place)
+    omega (arith, more)

@@ -1,6 +1,7 @@
 pub mod Measuring
 pub mod CellLemmas
 pub mod EqualRows
+pub mod Widths
 pub mod Even
 pub mod SpannedEven
 pub mod ChangedLemmas

@@ -12,8 +12,8 @@ panel-length : (text : List ℕ) (table : Table) → length (panel text table) �
 panel-length text table = let rest = length-replicate {A = List ℕ} (panel_columns table - 1) [] in omega (arith, rest)
 
 -- it goes in where there are no rows, or these have cells
-pub panel-in : (text : List ℕ) (table : Table) → (length table ≡ 0) ⊎ (0 < column_count table) → goes_in (panel text table) table ≡ true
-panel-in text table either = let long = panel-length text table in elim either [
+pub panel_in : (text : List ℕ) (table : Table) → (length table ≡ 0) ⊎ (0 < column_count table) → goes_in (panel text table) table ≡ true
+panel_in text table either = let long = panel-length text table in elim either [
   | inl none ↦ grind (arith, nat_tests)
   | inr some ↦ grind (arith, nat_tests)
 ]

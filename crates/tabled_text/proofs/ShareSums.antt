@@ -1,25 +1,13 @@
 -- How wide columns are together, and how wide they are within their shares.
-use Rattle.std.proofs.Common.{◌≡◌, ℕ, ◌+◌, ◌<◌, ◌≤◌, zero, suc, get_or, sum, List, [], ◌∷◌, length, ap, ◌∙◌, arith}
+use Rattle.std.proofs.Common.{◌≡◌, ℕ, ◌+◌, ◌<◌, ◌≤◌, suc, get_or, sum, List, [], ◌∷◌, length, ap, arith}
 use Rattle.std.specs.List.{sum_by, range_with_len}
+use Rattle.std.proofs.lemmas.List.{map-id}
 use Rattle.std.proofs.lemmas.List.Sums.{sum_by-cons}
+use Rattle.std.proofs.lemmas.List.FromFn.{sum_by-map-range_with_len_more}
 
 -- one column more
-sum_next : (f : ℕ → ℕ) (start count : ℕ) → sum_by f (range_with_len start (suc count)) ≡ sum_by f (range_with_len start count) + f (start + count)
-sum_next f start zero =
-    let one = sum_by-cons f start [] in
-    let place : f (start + 0) ≡ f start = ap f (omega arith) in
-    omega (arith, one, place)
-sum_next f start (suc count) =
-    let more = sum_next f (start + 1) count in
-    let first = sum_by-cons f start (range_with_len (start + 1) (suc count)) in
-    let same = sum_by-cons f start (range_with_len (start + 1) count) in
-    let place : f (start + 1 + count) ≡ f (start + suc count) = ap f (omega arith) in
-    omega (arith, more, first, same, place)
-
-pub sum_more : (f : ℕ → ℕ) (start count : ℕ) → sum_by f (range_with_len start (count + 1)) ≡ sum_by f (range_with_len start count) + f (start + count)
-sum_more f start count =
-    let next : count + 1 ≡ suc count = omega arith in
-    ap (λ n. sum_by f (range_with_len start n)) next ∙ sum_next f start count
+pub sum_more : (f : ℕ → ℕ) (count : ℕ) → sum_by f (range_with_len 0 (count + 1)) ≡ sum_by f (range_with_len 0 count) + f count
+sum_more f count = simp map-id at (sum_by-map-range_with_len_more f (λ (n : ℕ). n) 0 count count (omega arith))
 
 -- what is at most so much greater each, is so much greater together at most
 pub sum_bound : (f g : ℕ → ℕ) (start : ℕ) (extra : List ℕ) → ((i : ℕ) → i < length extra → g (start + i) ≤ f (start + i) + get_or extra i 0)

@@ -1,5 +1,5 @@
 -- The lines of a table's text are as wide as each other, also where cells span and where padding is set.
-use Rattle.std.proofs.Common.{◌≡◌, ◌==◌, ℕ, ◌+◌, ◌<◌, ◌≤◌, true, false, Bool, ◌||◌, eqb, inl, inr, ⊎_elim, if◌then◌else◌, List, [], length, get_or, refl, sym, ap, subst, ◌∙◌, arith}
+use Rattle.std.proofs.Common.{◌≡◌, ◌==◌, ℕ, ◌+◌, ◌<◌, ◌≤◌, true, false, Bool, inl, inr, ⊎_elim, if◌then◌else◌, List, [], length, get_or, refl, sym, ap, subst, ◌∙◌, arith}
 use Rattle.std.specs.Prelude.{slice_index}
 use Rattle.std.specs.Str.{IsUtf8}
 use Rattle.std.specs.List.{list_all, sum_by}
@@ -40,7 +40,7 @@ use Rattle.tabled_text.specs.Sizes.{cell, column_count, padded_width, width_with
 use Rattle.tabled_text.specs.Changed.{CellsArePrintable}
 use Rattle.tabled_text.specs.Cells.{settings_set, cells_set, margin_set, cell_colors, leaves_sizes, sets_no_padding, sets_no_spans, KeepsApart, StandApart, StartsWithSpace}
 use Rattle.tabled_text.specs.TextTable.{look_of, look_with_spans, look_printed, text_of, widths_with_spans, heights_with_spans}
-use Rattle.tabled_text.proofs.Even.{text_even}
+use Rattle.tabled_text.proofs.Even.{some_places, text_even}
 use Rattle.tabled_text.proofs.SpanLemmas.{text_spanned}
 
 -- texts of printable ASCII stand apart by themselves
@@ -109,16 +109,10 @@ module _ (es : List ConfigEvent) (table : Table) (utf8 : (r c : ℕ) → IsUtf8 
       (λ printable. printable_tile how wide high text n (narrow_padding settings.cells r c) printable.1 (utf8 r c) printable.0 room)
       (apart r c))
 
-  some_places : is_empty view.shape ≡ false → (0 < length table) × (0 < column_count table)
-  some_places some = by (length table) (column_count table) some
-    where
-      by : (n m : ℕ) → (eqb n 0 || eqb m 0) ≡ false → (0 < n) × (0 < m)
-      by n m e = (grind (arith, nat_tests), grind (arith, nat_tests))
-
   lines_some : is_empty view.shape ≡ false → 0 < sum_by (λ r. one_if (view.horizontal r) + view.heights r) (below view.shape.0)
   unfolding heights_with_spans
   lines_some some =
-      let counts = some_places some in
+      let counts = some_places (length table) (column_count table) some in
       let asked = length-slice_split (λ byte. byte == 10) (cell (get_or table 0 []) 0) in
       some_line columns rows some_columns some_rows (length table, column_count table) (height_with_padding settings.cells table) (λ n. drawn (characters_of es) (length table) (LineOf.Horizontal n)) counts.0 counts.1
       (omega (arith, asked))

@@ -1,11 +1,11 @@
 -- A character many times, as it is written to a stream.
-use Rattle.std.proofs.Common.{◌≡◌, ℕ, zero, suc, ◌+◌, ◌-◌, ◌*◌, ◌≤◌, Option, Some, None, List, ◌++◌, length, length-append, encode_utf8, sym, ap, subst, ◌∙◌, arith}
+use Rattle.std.proofs.Common.{◌≡◌, ℕ, zero, suc, ◌+◌, ◌*◌, ◌≤◌, Option, Some, None, List, ◌++◌, length, length-append, encode_utf8, sym, ap, subst, ◌∙◌, arith}
 use Rattle.std.specs.Io.KnownBytes.{Appends, Keeps}
 use Rattle.std.proofs.lemmas.Str.{len_utf8_bounds, length-encode}
 use Rattle.tabled_printing.specs.Texts.{times}
 use Rattle.tabled_printing.proofs.TimesLemmas.{times_both}
 use Rattle.tabled_text.specs.declared.stream.Stream.{Stream}
-use Rattle.tabled_text.specs.Streams.{KeepsStream, StreamGains, held, stream_none, stream_both}
+use Rattle.tabled_text.specs.Streams.{KeepsStream, StreamGains, held, stream_both}
 
 -- what was gained before all that waits is written, is gained
 then_stays : (a b c : Option (List ℕ)) (bytes : List ℕ) → Appends a b bytes → Keeps b c → Appends a c bytes
@@ -31,13 +31,8 @@ pub times_fit : (count character : ℕ) → length (times count character) ≤ 4
 times_fit zero character = omega arith
 times_fit (suc count) character = omega (arith, length-append (encode_utf8 character) (times count character), encode_fits character, times_fit count character)
 
--- none is written yet, and more are written after some
+-- more are written after some
 module _ {W : Type 0} (contents : W → Option (List ℕ)) where
-  pub none_gained : (count character : ℕ) (stream : Stream W) → StreamGains contents (times (count - count) character) stream stream
-  none_gained count character stream =
-      let none : 0 ≡ count - count = omega arith in
-      subst (λ n. StreamGains contents (times n character) stream stream) none (stream_none contents stream)
-
   pub more_gained : (some more all character : ℕ) (bytes : List ℕ) (old between new : Stream W) → some + more ≡ all → bytes ≡ times more character
       → StreamGains contents (times some character) old between → StreamGains contents bytes between new → StreamGains contents (times all character) old new
   more_gained some more all character bytes old between new whole is p q =

@@ -1,15 +1,14 @@
 -- A table whose columns share a room is no wider than it may be.
-use Rattle.std.proofs.Common.{◌≡◌, ⊎_elim, ℕ, ◌+◌, ◌-◌, ◌<◌, ◌≤◌, zero, suc, max, fold, nat_le, sum, true, false, Bool, if◌then◌else◌, get_or, unwrap_or, Ordering, ◌==◌, Some, None, List, [], ◌∷◌, map, length, refl, sym, ap, subst, ◌∙◌, arith}
+use Rattle.std.proofs.Common.{◌≡◌, ⊎_elim, ℕ, ◌+◌, ◌-◌, ◌<◌, ◌≤◌, zero, suc, max, nat_le, sum, true, false, Bool, if◌then◌else◌, get_or, unwrap_or, Ordering, ◌==◌, Some, None, List, [], ◌∷◌, map, length, refl, sym, ap, subst, ◌∙◌, arith}
 use Rattle.std.specs.Prelude.{slice_index, slice_get}
 use Rattle.std.specs.Str.{IsUtf8}
-use Rattle.std.specs.List.{All, sum_by}
+use Rattle.std.specs.List.{sum_by}
 use Rattle.std.proofs.lemmas.Bool.{cases_lt, le-leb, eqb-true}
 use Rattle.std.specs.Cmp.{first_so, second_so}
 use Rattle.std.specs.FinMap.{FinMap, len, get, get-empty, empty_of_len}
 use Rattle.std.proofs.lemmas.Bool.Decides.{nat_tests}
 use Rattle.std.proofs.lemmas.Option.{slice_get-get_or}
 use Rattle.std.proofs.lemmas.List.{length-map, get_or-map, get_or_default}
-use Rattle.std.proofs.lemmas.List.FromFn.{get_or-map-range_with_len, length-range_with_len}
 use Rattle.tabled_object.specs.Entities.{below, position}
 use Rattle.tabled_grid.specs.Drawn.{drawn}
 use Rattle.tabled_grid.specs.declared.place.LineOf.{LineOf}
@@ -34,25 +33,15 @@ use Rattle.tabled_painting.specs.PaintedSpans.{columns_spanned, rows_spanned}
 use Rattle.tabled_text.specs.Cells.{settings_set, cells_set, margin_set, leaves_sizes, sets_no_spans, sets_no_padding}
 use Rattle.tabled_text.specs.Changed.{CellsArePrintable, texts_of_columns, within}
 use Rattle.tabled_text.specs.Fitted.{IsFitted, CanShare, frame_width, least_width, padding_across, shares, texts_asked}
-use Rattle.tabled_text.specs.Sizes.{cell, column_count, column_width, column_widths, row_heights, greatest, unequal_row, width_asked, padded_width, width_with_padding}
+use Rattle.tabled_text.specs.Sizes.{cell, column_count, column_widths, row_heights, unequal_row, width_asked, padded_width, width_with_padding}
 use Rattle.tabled_text.specs.TextTable.{look_of, look_with_spans, look_printed, widths_with_spans, heights_with_spans}
 use Rattle.tabled_text.proofs.ChangedLemmas.{cells_at, counts_stay, length_cells, place_at, same_columns}
 use Rattle.tabled_text.proofs.EqualRows.{all_equal}
-use Rattle.tabled_text.proofs.Measuring.{column_room}
+use Rattle.tabled_text.proofs.Measuring.{column_room, greatest_most}
 use Rattle.tabled_cells.proofs.Fits.{greatest_bound}
 use Rattle.tabled_text.proofs.Frames.{across_unset}
 use Rattle.tabled_text.proofs.ShareSums.{sum_bound}
-
--- ---- the greatest number is no greater than all are
-
-fold_most : {X : Type 0} (f : X → ℕ) (bound first : ℕ) (xs : List X) → first ≤ bound → All (λ x. f x ≤ bound) xs → fold max first (map f xs) ≤ bound
-fold_most f bound first [] least each = least
-fold_most f bound first (x ∷ xs) least each =
-    let here = each 0 x (omega arith) in
-    fold_most f bound (max first (f x)) xs (omega (arith, least, here)) (λ k d inside. each (suc k) d (omega (arith, inside)))
-
-greatest_most : {X : Type 0} (f : X → ℕ) (bound : ℕ) (xs : List X) → All (λ x. f x ≤ bound) xs → greatest (map f xs) ≤ bound
-greatest_most f bound xs each = fold_most f bound 0 xs (omega arith) each
+use Rattle.tabled_text.proofs.Widths.{count_widths, width-at}
 
 -- ---- columns within their shares
 
@@ -97,14 +86,10 @@ module _ (how : Overflow) (least : ℕ) (before after : Table) (room : ℕ) (som
   share col = get_or (shares fitted.cap room before) col 0
 
   counted : length (shares fitted.cap room before) ≡ column_count before
-  unfolding column_widths
-  counted = length_shared fitted.cap _ (texts_asked before) ∙ length-map (column_widths before) (λ width. width - 2) ∙ length-map (below (column_count before)) (column_width before) ∙ length-range_with_len 0 (column_count before)
+  counted = length_shared fitted.cap _ (texts_asked before) ∙ length-map (column_widths before) (λ width. width - 2) ∙ count_widths before
 
   asked_at : (col : ℕ) → col < column_count before → get_or (texts_asked before) col 0 ≡ slice_index (column_widths before) col - 2
-  unfolding column_widths
-  asked_at col inside =
-      get_or-map (λ width. width - 2) (column_widths before) col 0 0
-      (omega (arith, inside, length-map (below (column_count before)) (column_width before), length-range_with_len 0 (column_count before)))
+  asked_at col inside = get_or-map (λ width. width - 2) (column_widths before) col 0 0 (omega (arith, inside, count_widths before))
 
   -- a text that is kept within its share fits
   text_fits : (row col : ℕ) → row < length before → col < column_count before → LinesFit (share col) (limited how (share col) (cell (get_or before row []) col))
@@ -140,10 +125,8 @@ module _ (how : Overflow) (least : ℕ) (before after : Table) (room : ℕ) (som
   columns_stay = same_columns before after (ap (map length) fitted.texts ∙ counts_stay (texts_of_columns how (shares fitted.cap room before)) before)
 
   pub column_within : (col : ℕ) → col < column_count before → slice_index (column_widths after) col ≤ share col + 2
-  unfolding column_widths
   column_within col inside =
-      let here : slice_index (column_widths after) col ≡ column_width after col =
-      get_or-map-range_with_len (column_width after) 0 (column_count after) col col 0 (omega (arith, inside, columns_stay)) (omega arith) in
+      let here = width-at after col (omega (arith, inside, columns_stay)) in
       let most = greatest_most (λ row. width_asked (cell row col)) (share col + 2) after (λ row d row_inside.
       let within : row < length before = omega (arith, row_inside, rows_stay) in
       subst (λ cells. width_asked (cell cells col) ≤ share col + 2) (get_or_default after row [] d row_inside) (cell_within row col within inside)) in

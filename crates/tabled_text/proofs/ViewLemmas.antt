@@ -1,24 +1,20 @@
 -- The text of a table that is lent to be printed is that after the events that its configuration shows.
-use Rattle.std.proofs.Common.{◌≡◌, ◌<◌, ℕ, true, false, Bool, List, [], length, get_or, slice_index, refl, sym, ap, ◌∙◌, arith}
-use Rattle.std.specs.List.{All, join_with_byte}
-use Rattle.std.proofs.lemmas.List.{get_or_default}
+use Rattle.std.proofs.Common.{◌≡◌, ℕ, true, false, Bool, List, [], slice_index, refl, ap, ◌∙◌}
+use Rattle.std.specs.List.{join_with_byte}
 use Rattle.tabled_object.specs.declared.dimension.FixedDimension.{FixedDimension}
-use Rattle.tabled_object.specs.declared.records.Shape.{Shape}
 use Rattle.tabled_rooms.specs.Hosts.{Counts}
 use Rattle.tabled_configuration.specs.Configuration as borders
 use Rattle.tabled_configuration.specs.Configuration.{ConfigEvent, all_writes, is_sized_by_texts}
 use Rattle.tabled_configuration.specs.Colored.{Shows}
 use Rattle.tabled_printing.specs.Along.{is_empty}
 use Rattle.tabled_printing.specs.Picture.{Look, look}
-use Rattle.tabled_printing.specs.Texts.{Table}
 use Rattle.tabled_painting.specs.Pages.{text_of_lines}
 use Rattle.tabled_painting.specs.PaintedSpans.{columns_spanned, painted_by, rows_spanned, spanned_cells, spanned_lines, spanned_table}
 use Rattle.tabled_painting.specs.PaintedTable.{colored_text, plain_text}
 use Rattle.tabled_painting.proofs.MarginLemmas.{no_places}
 use Rattle.tabled_painting.proofs.Plain.{text_with_colors, text_without_colors}
-use Rattle.tabled_text.specs.Sizes.{column_count}
 use Rattle.tabled_text.specs.TableViews.{AreSizes, IsTable, heights_viewed, text_viewed, texts_viewed, widths_viewed}
-use Rattle.tabled_text.specs.TextTable.{AreRead, Drawing, heights_read, painted, shape_of, text_of, widths_read}
+use Rattle.tabled_text.specs.TextTable.{AreRead, Drawing, heights_read, painted, text_of, widths_read}
 use Rattle.tabled_text.specs.declared.table_view.TableView.{TableView}
 use Rattle.tabled_text.proofs.SpanLemmas.{is_colored_text, is_plain_text}
 
@@ -55,9 +51,3 @@ module _ {T : Type 0} (bytes : T → List ℕ) (view : TableView T) where
     colored_text_viewed shows =
         ap (join_with_byte 10) (text_with_colors (painted_by view.config.now view.shape (widths_viewed bytes view) (heights_viewed bytes view) (texts_viewed bytes view)))
         ∙ ap colored_text (is_colored_text view.config.now (texts_viewed bytes view) view.shape (widths_viewed bytes view) (heights_viewed bytes view) is.shape refl refl es shows)
-
--- the rows of a table that is kept have as many cells as it has columns
-pub rows_equal : (table items : Table) (shape : Shape) → items ≡ table → shape ≡ shape_of table → ((r : ℕ) → r < length table → length (get_or table r []) ≡ column_count table) → All (λ row. length row ≡ shape.cols) items
-rows_equal table items shape same shaped equal k d within =
-    let inside : k < length table = (let e = ap length same in omega (arith, within, e)) in
-    ap (λ rows. length (get_or rows k d)) same ∙ ap length (get_or_default table k d [] inside) ∙ equal k inside ∙ sym (ap (λ s. s.cols) shaped)

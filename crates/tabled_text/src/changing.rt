@@ -118,19 +118,20 @@ impl Change for LimitedColumns<'_, '_> {
 
 /// Whether nothing in the cells of a row steers a terminal.
 fn is_clean_row(cells: &[String]) -> bool
-    ensures { result ≡ list_all is_clean (map string_bytes cells.now) }
+    ensures { result ≡ list_all (λ text. is_clean (string_bytes text)) cells.now }
 {
     cells.iter().all(|text| is_clean(text.as_str()))
 }
 
 /// Whether nothing in the cells of rows steers a terminal.
 pub(crate) fn are_clean(rows: &[Vec<String>]) -> bool
-    ensures { result ≡ list_all (list_all is_clean) (texts rows.now) }
+    ensures { result ≡ list_all (λ row. list_all (λ text. is_clean (string_bytes text)) row.items) rows.now }
 {
     rows.iter().all(|cells| is_clean_row(cells))
 }
 
 /// The cells of a row, each changed.
+#[tactic(auto, unfolding(crate::specs::Changed::row_changed))]
 fn changed_row<C: Change>(
     alloc: Global,
     change: &C,
@@ -147,6 +148,7 @@ fn changed_row<C: Change>(
 }
 
 /// The cells of rows, each changed.
+#[tactic(auto, unfolding(crate::specs::Changed::cells_changed))]
 pub(crate) fn changed_rows<C: Change>(
     alloc: Global,
     change: &C,

@@ -11,12 +11,12 @@ ghost use Rattle.tabled_width.specs.Shares.{used};
 ghost use Rattle.tabled_text.specs.Fitted.{frame_width, padding_across};
 ghost use Rattle.tabled_text.specs.TextTable.{shape_of};
 
-use std::alloc::Global;
-use tabled_border::OutOfMemory;
+use std::alloc::{AllocError, Global};
 use tabled_configuration::SpannedConfig;
 use tabled_object::{Position, Shape};
 
 /// How many columns a vertical line takes: one, if it is drawn.
+
 fn line_width(cfg: &SpannedConfig, line: usize, cols: usize) -> usize
     ensures { result ≡ (if drawn (characters_of (all_writes cfg.now)) cols (Line.Vertical line) then 1 else 0) }
 {
@@ -24,6 +24,7 @@ fn line_width(cfg: &SpannedConfig, line: usize, cols: usize) -> usize
 }
 
 /// What is left of a room beside the padding of a column, in a table of so many rows, where there are some.
+#[tactic(auto, using(tabled_rooms::proofs::SizeLemmas::greatest_more), unfolding(crate::specs::Fitted::padding_across))]
 fn beside_padding(cfg: &SpannedConfig, rows: usize, col: usize, room: usize) -> usize
     requires { 0 < rows }
     ensures { result ≡ room - padding_across cfg.now.settings.cells rows col }
@@ -33,7 +34,7 @@ fn beside_padding(cfg: &SpannedConfig, rows: usize, col: usize, room: usize) -> 
     }
     let mut left = room;
     for row in 0..rows {
-        let padding = cfg.get_padding(Position::new(row, col));
+        let padding = cfg.get_padding(Position { row, col });
         let between = room
             .saturating_sub(padding.left.size)
             .saturating_sub(padding.right.size);
@@ -43,6 +44,7 @@ fn beside_padding(cfg: &SpannedConfig, rows: usize, col: usize, room: usize) -> 
 }
 
 /// What is left of a room where each column takes its padding, and that of the line before it.
+#[tactic(auto, using(crate::proofs::ShareSums::sum_more))]
 fn beside_columns(cfg: &SpannedConfig, rows: usize, cols: usize, room: usize) -> usize
     requires { 0 < rows }
     ensures { result ≡ room - sum_by (λ col. (if drawn (characters_of (all_writes cfg.now)) cols (Line.Vertical col) then 1 else 0) + padding_across cfg.now.settings.cells rows col) (below cols) }
@@ -83,6 +85,7 @@ pub(crate) fn frame_width(cfg: &SpannedConfig, shape: Shape) -> usize
 
 /// How many columns the texts of columns of these widths take where each gets what it asks for up to the least share, as far as they can be
 /// counted.
+#[tactic(auto, using(crate::proofs::Frames::used_more))]
 pub(crate) fn least_for_texts(widths: &[usize], least: usize) -> usize
     ensures { result ≡ min (used least (map (λ width. width - 2) widths.now)) usize.MAX }
 {
@@ -94,12 +97,11 @@ pub(crate) fn least_for_texts(widths: &[usize], least: usize) -> usize
 }
 
 /// How many columns the texts of columns of these widths ask for.
-pub(crate) fn texts_asked(alloc: Global, widths: &[usize]) -> Result<Vec<usize>, OutOfMemory>
+pub(crate) fn texts_asked(alloc: Global, widths: &[usize]) -> Result<Vec<usize>, AllocError>
     ensures { IfOk result (λ asked. asked.items ≡ map (λ width. width - 2) widths.now) }
 {
-    let mut asked = Vec::with_capacity(alloc, widths.len())?;
-    for width in widths {
-        asked.push(width.saturating_sub(2))?;
-    }
-    Ok(asked)
+    widths
+        .iter()
+        .map(|width| width.saturating_sub(2))
+        .collect(alloc)
 }

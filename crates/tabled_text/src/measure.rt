@@ -16,7 +16,7 @@ ghost use Rattle.tabled_text.specs.Sizes.{cell, greatest, column_count, column_w
 use std::alloc::{AllocError, Global};
 use std::convert::AsStr;
 use tabled_border::OutOfMemory;
-use tabled_numbers::column_count;
+use tabled_numbers::{column_count, text_of};
 use tabled_object::FixedDimension;
 use tabled_settings::{Indent, Sides};
 use tabled_width::{is_printable, width_of};
@@ -57,7 +57,7 @@ struct CellSize {
 
 /// Measures a text: one of printable characters by its length. Refused where no number says how wide it is.
 #[inline(always)]
-#[tactic(auto, unfolding(crate::specs::Sizes::width_asked))]
+#[tactic(auto, using(crate::proofs::Measuring::printable_columns), unfolding(crate::specs::Sizes::width_asked))]
 fn measure(text: &str) -> Result<CellSize, OutOfMemory>
     ensures width { IfOk result (λ found. found.width ≡ width_asked text.now) }
     ensures printable { IfOk result (λ found. found.is_printable ≡ true → list_all is_printable text.now ≡ true) }
@@ -75,6 +75,7 @@ fn measure(text: &str) -> Result<CellSize, OutOfMemory>
 }
 
 /// How many terminal columns a text takes: one of printable characters as many as it is long.
+#[tactic(auto, using(crate::proofs::Measuring::printable_columns))]
 fn columns_of(text: &str) -> usize
     ensures { result ≡ greatest (map width_of_text (pieces text.now)) }
 {
@@ -107,14 +108,7 @@ fn measure_at<T: AsStr>(row: &[T], col: usize) -> Result<CellSize, OutOfMemory>
     ensures printable { IfOk result (λ found. found.is_printable ≡ true → list_all is_printable (cell (map T.text row.now) col) ≡ true) }
     ensures utf8 { IsUtf8 (cell (map T.text row.now) col) }
 {
-    if col < row.len() {
-        measure(row[col].as_str())
-    } else {
-        Ok(CellSize {
-            width: 2,
-            is_printable: false,
-        })
-    }
+    measure(text_of(row, col))
 }
 
 /// Makes each column wide enough for a row's cell in it. Returns whether all the row's texts are known to be printable.
@@ -178,14 +172,12 @@ fn widths_of_columns(
     alloc: Global,
     widths: &[usize],
     count: usize,
-) -> Result<Vec<usize>, OutOfMemory>
+) -> Result<Vec<usize>, AllocError>
     ensures { IfOk result (λ copies. copies.items ≡ map (slice_index widths.now) (below count)) }
 {
-    let mut copies = Vec::with_capacity(alloc, count)?;
-    for col in 0..count {
-        copies.push(widths.get(col).copied().unwrap_or(0))?;
-    }
-    Ok(copies)
+    (0..count)
+        .map(|col| widths.get(col).copied().unwrap_or(0))
+        .collect(alloc)
 }
 
 /// How wide columns are with a row more, and how high that is.
@@ -250,15 +242,15 @@ pub(crate) fn heights_with(
     alloc: Global,
     heights: &[usize],
     column: &[String],
-) -> Result<Vec<usize>, OutOfMemory>
+) -> Result<Vec<usize>, AllocError>
     ensures { IfOk result (λ higher. higher.items ≡ heights_with heights.now (map string_bytes column.now)) }
 {
-    let mut higher = Vec::with_capacity(alloc, column.len())?;
-    for (row, text) in column.iter().enumerate() {
-        let before = heights.get(row).copied().unwrap_or(0);
-        higher.push(before.max(height_asked(text.as_str())))?;
-    }
-    Ok(higher)
+    (0..column.len())
+        .map(|row| {
+            let before = heights.get(row).copied().unwrap_or(0);
+            before.max(height_asked(text_of(column, row)))
+        })
+        .collect(alloc)
 }
 
 /// Measures how high rows are.

@@ -1,6 +1,6 @@
 //! Columns of numbers.
 
-ghost use Rattle.std.specs.Prelude.{◌≡◌, ◌++◌, ◌∷◌, [], ℕ, drop, filter, if◌then◌else◌, map, IfOk, OnOk, OnErr};
+ghost use Rattle.std.specs.Prelude.{◌≡◌, drop, filter, map, IfOk, OnOk, OnErr};
 ghost use Rattle.tabled_object.specs.Entities.{below};
 ghost use Rattle.tabled_configuration.specs.Configuration.{Changes};
 ghost use Rattle.tabled_numbers.specs.Columns.{is_numeric};
@@ -16,20 +16,11 @@ use tabled_object::Entity;
 use tabled_settings::AlignmentHorizontal;
 
 /// The rows below the first ones.
+#[tactic(auto, using(crate::proofs::NumericLemmas::below_headings))]
 fn below_headings<T: AsStr>(rows: &[Vec<T>], headings: usize) -> &[Vec<T>]
     ensures { texts_by T.text result.now ≡ drop headings (texts_by T.text rows.now) }
 {
     &rows[headings.min(rows.len())..]
-}
-
-/// Puts a column behind others, if it is wanted.
-fn push_if(columns: &mut Vec<usize>, col: usize, is_wanted: bool) -> Result<(), AllocError>
-    ensures { OnOk result (columns.new.items ≡ columns.old.items ++ (if is_wanted then col ∷ [] else [])) }
-{
-    if is_wanted {
-        columns.push(col)?;
-    }
-    Ok(())
 }
 
 /// The columns of numbers below the first rows, which are headings, of as many columns as are asked for.
@@ -38,15 +29,13 @@ pub(crate) fn numeric_columns<T: AsStr>(
     rows: &[Vec<T>],
     headings: usize,
     count: usize,
-) -> Result<Vec<usize>, OutOfMemory>
+) -> Result<Vec<usize>, AllocError>
     ensures { IfOk result (λ columns. columns.items ≡ filter (is_numeric (drop headings (texts_by T.text rows.now))) (below count)) }
 {
     let rows = below_headings(rows, headings);
-    let mut columns = Vec::new(alloc);
-    for col in 0..count {
-        push_if(&mut columns, col, is_numeric(rows, col))?;
-    }
-    Ok(columns)
+    (0..count)
+        .filter(|col| is_numeric(rows, *col))
+        .collect(alloc)
 }
 
 /// Where the texts of columns are to stand: at the right.

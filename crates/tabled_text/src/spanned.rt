@@ -24,6 +24,7 @@ pub(crate) struct TextSizes<'a, T: AsStr> {
 
 impl<T: AsStr> TextSizes<'_, T> {
     /// Whether a column of that width has room for each text in it with a column for a space on each side.
+    #[tactic(auto, using(crate::proofs::Measuring::asks_within))]
     fn is_wide_enough(&self, col: usize, width: usize) -> bool
         ensures { IsTrue result → (row : ℕ) → width_asked (cell (slice_index_or (texts_by T.text self.now.rows.now) row []) col) ≤ width }
     {
@@ -34,6 +35,7 @@ impl<T: AsStr> TextSizes<'_, T> {
     }
 
     /// How many lines the text of a cell asks for: one, where its row is one line high.
+    #[tactic(auto, using(crate::proofs::Measuring::one_line))]
     fn lines_asked(&self, row: usize, col: usize) -> usize
         ensures { result ≡ height_asked (cell (slice_index_or (texts_by T.text self.now.rows.now) row []) col) }
     {
@@ -53,12 +55,12 @@ impl<T: AsStr> CellSizes for TextSizes<'_, T> {
     ghost height_at = { λ sizes row col. height_with_padding sizes.cfg.now.settings.cells (texts_by T.text sizes.rows.now) row col };
 
     fn width(&self, row: usize, col: usize) -> Result<usize, AllocError> {
-        let padding = self.cfg.get_padding(Position::new(row, col));
+        let padding = self.cfg.get_padding(Position { row, col });
         padded_width(padding, text_at(self.rows, row, col))
     }
 
     fn wider(&self, row: usize, col: usize, width: usize) -> Result<usize, AllocError> {
-        let padding = self.cfg.get_padding(Position::new(row, col));
+        let padding = self.cfg.get_padding(Position { row, col });
         let (left, right) = (padding.left.size, padding.right.size);
         if left <= 1 && right <= 1 && self.is_wide_enough(col, width) {
             return Ok(width);
@@ -68,7 +70,7 @@ impl<T: AsStr> CellSizes for TextSizes<'_, T> {
     }
 
     fn height(&self, row: usize, col: usize) -> Result<usize, AllocError> {
-        let padding = self.cfg.get_padding(Position::new(row, col));
+        let padding = self.cfg.get_padding(Position { row, col });
         with_sides(
             self.lines_asked(row, col),
             padding.top.size,

@@ -154,12 +154,10 @@ impl<W: io::Write> Stream<'_, W> {
     fn push_many(&mut self, count: usize, character: char)
         ensures { StreamGains W.contents (times count character) self.old self.new }
     {
-        let mut left = count;
-        while left > FEW {
+        for _ in 0..count / FEW {
             self.push_few(FEW, character);
-            left -= FEW;
         }
-        self.push_few(left, character);
+        self.push_few(count % FEW, character);
     }
 
     /// Writes a character the given number of times, as pieces of a text that has it alone.
@@ -167,12 +165,10 @@ impl<W: io::Write> Stream<'_, W> {
         requires { piece.now ≡ times 64 character }
         ensures { StreamGains W.contents (times count character) self.old self.new }
     {
-        let mut left = count;
-        while left > PIECE {
+        for _ in 0..count / PIECE {
             self.push_part(piece);
-            left -= PIECE;
         }
-        self.push_part(part_of(piece, left, character));
+        self.push_part(part_of(piece, count % PIECE, character));
     }
 
     /// Writes a character the given number of times: up to twice by itself.

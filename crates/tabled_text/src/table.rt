@@ -41,7 +41,6 @@ use tabled_object::{FixedDimension, Object, Shape};
 #[derive(Debug)]
 pub struct Table<T: AsStr + Drop> {
     pub(crate) cells: Vec<Vec<T>>,
-    pub(crate) shape: Shape,
     pub(crate) sizes: FixedDimension,
     pub(crate) config: Box<ColoredConfig>,
 }
@@ -51,7 +50,6 @@ impl<T: AsStr + Drop> Drop for Table<T> {
     fn drop(self) {
         let Table {
             cells,
-            shape: _,
             sizes,
             config,
         } = self;
@@ -66,7 +64,7 @@ impl<T: AsStr + Drop> Model for Table<T> {
     ghost use Rattle.tabled_painting.specs.TextsBy.{texts_by};
     ghost use Rattle.tabled_text.specs.Cells.{AreUtf8};
     ghost use Rattle.tabled_text.specs.Sizes.{column_widths, row_heights, unequal_row};
-    ghost use Rattle.tabled_text.specs.TextTable.{Drawing, drawing_code, shape_of};
+    ghost use Rattle.tabled_text.specs.TextTable.{Drawing, drawing_code};
 
     ghost Value = { Drawing };
 
@@ -76,7 +74,6 @@ impl<T: AsStr + Drop> Model for Table<T> {
 
     ghost invariant = { λ table.
         (unequal_row (texts_by T.text table.cells.items) ≡ None)
-        × (table.shape ≡ shape_of (texts_by T.text table.cells.items))
         × (table.sizes.widths.items ≡ column_widths (texts_by T.text table.cells.items))
         × (table.sizes.heights.items ≡ row_heights (texts_by T.text table.cells.items))
         × AreUtf8 (texts_by T.text table.cells.items) };
@@ -123,13 +120,8 @@ impl<T: AsStr + Drop> Table<T> {
         ensures config { IfOk result (λ table. Shows [] table.config) }
     {
         let sizes = sizes_of(alloc, &rows)?;
-        let shape = Shape {
-            rows: rows.len(),
-            cols: column_count(&rows),
-        };
         Ok(Table {
             cells: rows,
-            shape,
             sizes,
             config: unset_config(alloc)?,
         })
@@ -195,9 +187,10 @@ impl<T: AsStr + Drop> Table<T> {
         ensures sizes { self.new.sizes ≡ self.old.sizes }
         ensures err { OnErr result (self.new ≡ self.old) }
     {
+        let mut shape = self.shape();
         match self.view().other_sizes()? {
-            Some(mut sizes) => option.change(&mut self.shape, &mut *self.config, &mut sizes),
-            None => option.change(&mut self.shape, &mut *self.config, &mut self.sizes),
+            Some(mut sizes) => option.change(&mut shape, &mut *self.config, &mut sizes),
+            None => option.change(&mut shape, &mut *self.config, &mut self.sizes),
         }
     }
 
@@ -215,7 +208,8 @@ impl<T: AsStr + Drop> Table<T> {
         ensures sizes { self.new.sizes ≡ self.old.sizes }
     {
         let alloc = self.config().config().allocator();
-        modify(alloc, &mut self.shape, &mut *self.config, object, option)
+        let mut shape = self.shape();
+        modify(alloc, &mut shape, &mut *self.config, object, option)
     }
 
     /// The configuration that options change.
@@ -237,7 +231,10 @@ impl<T: AsStr + Drop> Table<T> {
     pub fn shape(&self) -> Shape
         ensures { result ≡ shape_of self.now.texts }
     {
-        self.shape
+        Shape {
+            rows: self.cells.len(),
+            cols: self.sizes.widths.len(),
+        }
     }
 
     /// How wide the columns are and how high the rows, with the spaces around cells, where no cell spans and no padding is set.
@@ -262,7 +259,6 @@ impl<T: AsStr + Drop> Table<T> {
     {
         let Table {
             cells,
-            shape: _,
             sizes,
             config,
         } = self;
@@ -277,8 +273,8 @@ impl<T: AsStr + Drop> Table<T> {
     pub fn least_width(&self, least: usize) -> usize
         ensures { (es : List ConfigEvent) → borders.Shows es self.now.config.spanned → result ≡ min (least_width (max least 1) es self.now.texts) usize.MAX }
     {
-        let frame = frame_width(self.config().config(), self.shape);
-        frame.saturating_add(least_for_texts(&self.sizes.widths, least.max(1)))
+        let frame = frame_width(self.config().config(), self.shape());
+        frame.saturating_add(least_for_texts(&self.sizes().widths, least.max(1)))
     }
 }
 

@@ -1,15 +1,12 @@
 //! A table as it is lent to be printed piece by piece.
 
-ghost use Rattle.std.specs.Prelude.{◌≡◌, ◌⊎◌, ◌++◌, List, None, true, false, length, string_bytes, unwrap_or, IfErr, IfOk, OnOk};
+ghost use Rattle.std.specs.Prelude.{◌≡◌, ◌⊎◌, ◌++◌, None, true, false, length, string_bytes, unwrap_or, IfErr, IfOk, OnOk};
 ghost use Rattle.std.specs.Io.KnownBytes.{Appends};
-ghost use Rattle.tabled_painting.specs.PaintedTable.{colored_text};
 ghost use Rattle.tabled_painting.specs.TablePages.{text_of_page};
 ghost use Rattle.tabled_printing.specs.Along.{is_empty};
-ghost use Rattle.tabled_configuration.specs.Colored.{Shows};
-ghost use Rattle.tabled_configuration.specs.Configuration as borders;
-ghost use Rattle.tabled_configuration.specs.Configuration.{ConfigEvent, all_writes, is_sized_by_texts};
+ghost use Rattle.tabled_configuration.specs.Configuration.{all_writes, is_sized_by_texts};
 ghost use Rattle.tabled_text.specs.TableViews.{AreSizes, IsTable, text_viewed, texts_viewed};
-ghost use Rattle.tabled_text.specs.TextTable.{heights_with_spans, painted, text_of, widths_with_spans};
+ghost use Rattle.tabled_text.specs.TextTable.{heights_with_spans, widths_with_spans};
 ghost use Rattle.tabled_text.specs.declared.table_error.TableError.{TableError as Refusal};
 
 use crate::TableError;
@@ -94,8 +91,7 @@ impl<'a, T: AsStr> TableView<'a, T> {
     /// Its text, in color or without colors.
     pub(crate) fn text(&self, with_colors: bool) -> Result<String, OutOfMemory>
         requires { IsTable T.text self.now }
-        ensures plain { with_colors ≡ false → (es : List ConfigEvent) → borders.Shows es self.now.config.now.spanned → IfOk result (λ text. string_bytes text ≡ text_of es (texts_viewed T.text self.now)) }
-        ensures colored { with_colors ≡ true → (es : List ConfigEvent) → Shows es self.now.config.now → IfOk result (λ text. string_bytes text ≡ colored_text (painted es (texts_viewed T.text self.now))) }
+        ensures { IfOk result (λ text. string_bytes text ≡ text_viewed T.text self.now with_colors) }
     {
         let alloc = self.config.config().allocator();
         if self.has_no_places() {
@@ -117,10 +113,7 @@ impl<'a, T: AsStr> TableView<'a, T> {
         out: &mut W,
     ) -> Result<(), TableError>
         requires { IsTable T.text self.now }
-        ensures plain { with_colors ≡ false → (es : List ConfigEvent) → borders.Shows es self.now.config.now.spanned
-            → OnOk result (Appends (W.contents out.old) (W.contents out.new) (before.now ++ text_of es (texts_viewed T.text self.now) ++ after.now)) }
-        ensures colored { with_colors ≡ true → (es : List ConfigEvent) → Shows es self.now.config.now
-            → OnOk result (Appends (W.contents out.old) (W.contents out.new) (before.now ++ colored_text (painted es (texts_viewed T.text self.now)) ++ after.now)) }
+        ensures text { OnOk result (Appends (W.contents out.old) (W.contents out.new) (before.now ++ text_viewed T.text self.now with_colors ++ after.now)) }
         ensures refusal { IfErr result (λ e. (e ≡ Refusal.OutOfMemory) ⊎ (e ≡ Refusal.Write)) }
         ensures unwritten { IfErr result (λ e. (e ≡ Refusal.Write) ⊎ (out.new ≡ out.old)) }
     {

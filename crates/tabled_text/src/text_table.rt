@@ -11,12 +11,9 @@ mod panels;
 mod rows;
 mod texts;
 
-use crate::measure::sizes_of;
 use crate::{Table, TableError};
 use std::alloc::{AllocError, Global};
 use std::convert::AsStr;
-use std::mem;
-use tabled_border::OutOfMemory;
 
 /// A table of texts of its own: its cells, rows and columns can be edited, and its texts fitted.
 ///
@@ -29,9 +26,8 @@ use tabled_border::OutOfMemory;
 pub type TextTable = Table<String>;
 
 impl TextTable {
-    ghost use Rattle.std.specs.Prelude.{◌≡◌, ◌⊎◌, [], Err, map, length, IfOk, OnOk, OnErr, MatchOption, IsOkUnless};
+    ghost use Rattle.std.specs.Prelude.{◌≡◌, ◌⊎◌, [], Err, IfOk, MatchOption, IsOkUnless};
     ghost use Rattle.tabled_configuration.specs.Colored.{Shows};
-    ghost use Rattle.tabled_printing.specs.Texts.{texts};
     ghost use Rattle.tabled_text.specs.Refusal.{unequal};
     ghost use Rattle.tabled_text.specs.Sizes.{unequal_row};
     ghost use Rattle.tabled_text.specs.TextTable.{lent_rows};
@@ -53,20 +49,6 @@ impl TextTable {
         let rows = copied(alloc, rows)?;
         let table = TextTable::from_rows(alloc, rows)?;
         Ok(table)
-    }
-
-    /// Puts other texts in the place of the table's, as many in each row, and measures them. Where memory is refused nothing changes.
-    fn set_cells(&mut self, cells: Vec<Vec<String>>) -> Result<(), OutOfMemory>
-        requires { map length (texts cells.items) ≡ map length self.old.texts }
-        ensures texts { OnOk result (self.new.texts ≡ texts cells.items) }
-        ensures config { self.new.config ≡ self.old.config }
-        ensures err { OnErr result (self.new ≡ self.old) }
-    {
-        let alloc = self.config().config().allocator();
-        let sizes = sizes_of(alloc, &cells)?;
-        drop(mem::replace(&mut self.cells, cells));
-        drop(mem::replace(&mut self.sizes, sizes));
-        Ok(())
     }
 }
 

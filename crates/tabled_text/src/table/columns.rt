@@ -27,7 +27,7 @@ impl<T: AsStr + Drop> Table<T> {
         ensures err { OnErr result (self.new ≡ self.old) }
     {
         let alloc = self.config().config().allocator();
-        let columns = numeric_columns(alloc, &self.cells, headings, self.shape.cols)?;
+        let columns = numeric_columns(alloc, self.texts(), headings, self.shape().cols)?;
         set_at_right(self.config.config_mut(), &columns)
     }
 }

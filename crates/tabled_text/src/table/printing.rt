@@ -6,6 +6,7 @@ use crate::table_view::TableView;
 use std::convert::AsStr;
 use std::{fmt, io};
 use tabled_border::OutOfMemory;
+use tabled_object::Shape;
 
 impl<T: AsStr + Drop> Table<T> {
     ghost use Rattle.std.specs.Prelude.{◌≡◌, ◌≤◌, ◌⊎◌, ◌++◌, ℕ, List, true, false, None, IfErr, IfOk, OnErr, OnOk, slice_index_or, string_bytes, []};
@@ -133,7 +134,7 @@ impl<T: AsStr + Drop> Table<T> {
     }
 
     /// The table as it is lent to be printed.
-    pub(super) fn view(&self) -> TableView<'_, T>
+    pub(crate) fn view(&self) -> TableView<'_, T>
         ensures table { IsTable T.text result }
         ensures config { result.config.now ≡ self.now.config }
         ensures texts { texts_viewed T.text result ≡ self.now.texts }
@@ -141,9 +142,10 @@ impl<T: AsStr + Drop> Table<T> {
         ensures equal { unequal_row self.now.texts ≡ None }
         ensures utf8 { (r c : ℕ) → IsUtf8 (cell (slice_index_or self.now.texts r []) c) }
     {
+        let Shape { rows, cols } = self.shape();
         TableView {
-            rows: &self.cells,
-            shape: (self.shape.rows, self.shape.cols),
+            rows: self.texts(),
+            shape: (rows, cols),
             sizes: &self.sizes,
             config: self.config(),
         }

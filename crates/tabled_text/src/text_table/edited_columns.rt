@@ -1,6 +1,6 @@
 //! Columns that are put into a table, and taken out.
 
-ghost use Rattle.std.specs.Prelude.{◌≡◌, ◌<◌, ◌≤◌, true, false, Err, min, length, map, option_map, string_bytes, IfOk, OnOk, OnErr, IsOkUnless};
+ghost use Rattle.std.specs.Prelude.{◌≡◌, ◌<◌, true, false, Err, min, length, map, option_map, string_bytes, IfOk, OnOk, OnErr, IsOkUnless};
 ghost use Rattle.tabled_text.specs.EditedColumns.{column_at, column_goes_in, with_column, without_column};
 ghost use Rattle.tabled_text.specs.Sizes.{cell, column_count};
 ghost use Rattle.tabled_text.specs.declared.table_error.TableError.{TableError as Refusal};
@@ -31,7 +31,7 @@ impl TextTable {
         ensures fits { column_goes_in (map string_bytes column.items) self.old.texts ≡ true → IsOkUnless result Refusal.OutOfMemory }
         ensures unequal { column_goes_in (map string_bytes column.items) self.old.texts ≡ false → result ≡ Err (Refusal.UnequalColumn (column_count self.old.texts) (length column.items) (length self.old.texts)) }
     {
-        let last = self.shape.cols;
+        let last = self.shape().cols;
         self.insert_column(last, column)
     }
 
@@ -51,43 +51,36 @@ impl TextTable {
         ensures fits { column_goes_in (map string_bytes column.items) self.old.texts ≡ true → IsOkUnless result Refusal.OutOfMemory }
         ensures unequal { column_goes_in (map string_bytes column.items) self.old.texts ≡ false → result ≡ Err (Refusal.UnequalColumn (min index (column_count self.old.texts)) (length column.items) (length self.old.texts)) }
     {
-        let Shape { rows, cols } = self.shape;
-        let at = index.min(cols);
+        let Shape { rows, cols } = self.shape();
         if rows != 0 && column.len() != rows {
             return Err(TableError::UnequalColumn {
-                column: at,
+                column: index.min(cols),
                 cells: column.len(),
                 rows,
             });
         }
-        if column.is_empty() {
-            return Ok(());
-        }
-        self.put_column(at, column)?;
+        self.put_column(index, column)?;
         Ok(())
     }
 
     /// Puts a column that goes in at an index.
-    fn put_column(&mut self, at: usize, column: Vec<String>) -> Result<(), OutOfMemory>
-        requires at { at ≤ column_count self.old.texts }
-        requires some { 0 < length column.items }
-        requires fits { column_goes_in (map string_bytes column.items) self.old.texts ≡ true }
-        ensures texts { OnOk result (self.new.texts ≡ with_column at (map string_bytes column.items) self.old.texts) }
+    fn put_column(&mut self, index: usize, column: Vec<String>) -> Result<(), OutOfMemory>
+        requires { column_goes_in (map string_bytes column.items) self.old.texts ≡ true }
+        ensures texts { OnOk result (self.new.texts ≡ with_column index (map string_bytes column.items) self.old.texts) }
         ensures config { self.new.config ≡ self.old.config }
         ensures err { OnErr result (self.new.texts ≡ self.old.texts) }
     {
+        if column.is_empty() {
+            return Ok(());
+        }
         let alloc = self.config().config().allocator();
-        let rows = column.len();
+        let at = index.min(self.sizes.widths.len());
         let width = width_of_texts(&column)?;
         let heights = heights_with(alloc, &self.sizes.heights, &column)?;
         self.sizes.widths.reserve(1)?;
-        put_into(alloc, &mut self.cells, at, column)?;
+        put_into(alloc, &mut self.cells, index, column)?;
         let _ = self.sizes.widths.insert(at, width);
         drop(mem::replace(&mut self.sizes.heights, heights));
-        self.shape = Shape {
-            rows,
-            cols: self.sizes.widths.len(),
-        };
         Ok(())
     }
 
@@ -101,13 +94,15 @@ impl TextTable {
     ///  age
     ///  30
     /// ```
+    #[tactic(auto, using(crate::proofs::ColumnLemmas::without_past, crate::proofs::ColumnLemmas::column_past))]
     pub fn remove_column(&mut self, index: usize) -> Result<Option<Vec<String>>, OutOfMemory>
         ensures texts { OnOk result (self.new.texts ≡ without_column index self.old.texts) }
         ensures column { IfOk result (λ column. option_map (λ cells. map string_bytes cells.items) column ≡ column_at index self.old.texts) }
         ensures config { self.new.config ≡ self.old.config }
         ensures err { OnErr result (self.new.texts ≡ self.old.texts) }
     {
-        if index >= self.shape.cols {
+        let (_, cols) = self.view().shape;
+        if index >= cols {
             return Ok(None);
         }
         let column = self.take_out(index)?;
@@ -126,10 +121,6 @@ impl TextTable {
         let column = take_column(alloc, &mut self.cells, index)?;
         measure_heights(&mut self.sizes.heights, &self.cells);
         let _ = self.sizes.widths.remove(index);
-        self.shape = Shape {
-            rows: self.shape.rows,
-            cols: self.sizes.widths.len(),
-        };
         Ok(column)
     }
 }

@@ -13,9 +13,11 @@ ghost use Rattle.tabled_text.specs.TextTable.{look_printed};
 
 use super::TextTable;
 use crate::changing::{
-    Cleaning, ExpandedTabs, LimitedCells, LimitedColumns, are_clean, changed_rows,
+    Change, Cleaning, ExpandedTabs, LimitedCells, LimitedColumns, are_clean, changed_rows,
 };
 use crate::fitting::{room_for_texts, texts_asked};
+use crate::measure::sizes_of;
+use std::mem;
 use tabled_border::OutOfMemory;
 use tabled_object::{Object, Shape, listed_entities};
 use tabled_width::{Overflow, TextLimit, shares_of};
@@ -36,12 +38,10 @@ impl TextTable {
         ensures config { self.new.config ≡ self.old.config }
         ensures err { OnErr result (self.new ≡ self.old) }
     {
-        if are_clean(&self.cells) {
+        if are_clean(self.view().rows) {
             return Ok(());
         }
-        let alloc = self.config().config().allocator();
-        let cells = changed_rows(alloc, &Cleaning, &self.cells)?;
-        self.set_cells(cells)
+        self.change_texts(&Cleaning)
     }
 
     /// Puts spaces in the place of each tab of the texts: as many as there are columns of the terminal up to the next stop of its line,
@@ -60,9 +60,7 @@ impl TextTable {
         ensures config { self.new.config ≡ self.old.config }
         ensures err { OnErr result (self.new ≡ self.old) }
     {
-        let alloc = self.config().config().allocator();
-        let cells = changed_rows(alloc, &ExpandedTabs { every }, &self.cells)?;
-        self.set_cells(cells)
+        self.change_texts(&ExpandedTabs { every })
     }
 
     /// Keeps the texts of the cells of an object within a number of columns or lines. The columns and rows are measured again, so an
@@ -84,13 +82,11 @@ impl TextTable {
         ensures err { OnErr result (self.new ≡ self.old) }
     {
         let alloc = self.config().config().allocator();
-        let entities = listed_entities(alloc, &self.shape, &object)?;
-        let change = LimitedCells {
+        let entities = listed_entities(alloc, &self.shape(), &object)?;
+        self.change_texts(&LimitedCells {
             entities: &entities,
             limit: &limit,
-        };
-        let cells = changed_rows(alloc, &change, &self.cells)?;
-        self.set_cells(cells)
+        })
     }
 
     /// Keeps the texts of the cells so narrow that each line of the table takes no more than `total` columns of the terminal, with the
@@ -145,14 +141,26 @@ impl TextTable {
     {
         let config = self.config().config();
         let alloc = config.allocator();
-        let room = room_for_texts(config, self.shape, total);
+        let room = room_for_texts(config, self.shape(), total);
         let asked = texts_asked(alloc, &self.sizes.widths)?;
         let widths = shares_of(alloc, &asked, room, least.max(1))?;
-        let change = LimitedColumns {
+        self.change_texts(&LimitedColumns {
             widths: &widths,
             how,
-        };
-        let cells = changed_rows(alloc, &change, &self.cells)?;
-        self.set_cells(cells)
+        })
+    }
+
+    /// Changes each text, and measures them again. Where memory is refused nothing changes.
+    fn change_texts<C: Change>(&mut self, change: &C) -> Result<(), OutOfMemory>
+        ensures texts { OnOk result (self.new.texts ≡ cells_changed (C.change change.now) self.old.texts) }
+        ensures config { self.new.config ≡ self.old.config }
+        ensures err { OnErr result (self.new ≡ self.old) }
+    {
+        let alloc = self.config().config().allocator();
+        let cells = changed_rows(alloc, change, self.texts())?;
+        let sizes = sizes_of(alloc, &cells)?;
+        drop(mem::replace(&mut self.cells, cells));
+        drop(mem::replace(&mut self.sizes, sizes));
+        Ok(())
     }
 }

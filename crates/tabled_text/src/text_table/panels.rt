@@ -65,7 +65,7 @@ impl TextTable {
         ensures fits { goes_in (panel text.now self.old.texts) self.old.texts ≡ true → IsOkUnless result Refusal.OutOfMemory }
         ensures unequal { goes_in (panel text.now self.old.texts) self.old.texts ≡ false → result ≡ Err (Refusal.UnequalRows (length self.old.texts) 1 0) }
     {
-        let last = self.shape.rows;
+        let last = self.shape().rows;
         self.insert_panel(last, text)
     }
 
@@ -78,7 +78,7 @@ impl TextTable {
         ensures fits { goes_in (panel text.now self.old.texts) self.old.texts ≡ true → IsOkUnless result Refusal.OutOfMemory }
         ensures unequal { goes_in (panel text.now self.old.texts) self.old.texts ≡ false → result ≡ Err (Refusal.UnequalRows index 1 0) }
     {
-        let Shape { rows, cols } = self.shape;
+        let Shape { rows, cols } = self.shape();
         if rows != 0 && cols == 0 {
             return Err(TableError::UnequalRows {
                 row: index,
@@ -99,10 +99,10 @@ impl TextTable {
         ensures { IfOk result (λ config. IsSpannedBy row (length self.now.texts + 1, panel_columns self.now.texts) self.now.config config) }
     {
         let alloc = self.config().config().allocator();
-        let rows = self.shape.rows.checked_add(1).ok_or(OutOfMemory)?;
-        let cols = self.shape.cols.max(1);
+        let Shape { rows, cols } = self.shape();
+        let rows = rows.checked_add(1).ok_or(OutOfMemory)?;
         let mut config: ColoredConfig = self.config().keep(alloc)?;
-        set_spanned(&mut config, row, rows, cols)?;
+        set_spanned(&mut config, row, rows, cols.max(1))?;
         Ok(config)
     }
 }

@@ -11,7 +11,6 @@ use crate::TableError;
 use crate::measure::{sizes_of, sizes_with};
 use std::mem;
 use tabled_border::OutOfMemory;
-use tabled_numbers::column_count;
 use tabled_object::Shape;
 
 impl TextTable {
@@ -32,7 +31,7 @@ impl TextTable {
         ensures fits { goes_in (map string_bytes row.items) self.old.texts ≡ true → IsOkUnless result Refusal.OutOfMemory }
         ensures unequal { goes_in (map string_bytes row.items) self.old.texts ≡ false → result ≡ Err (Refusal.UnequalRows (length self.old.texts) (length row.items) (column_count self.old.texts)) }
     {
-        let last = self.shape.rows;
+        let last = self.shape().rows;
         self.insert_row(last, row)
     }
 
@@ -45,7 +44,7 @@ impl TextTable {
         ensures fits { goes_in (map string_bytes row.items) self.old.texts ≡ true → IsOkUnless result Refusal.OutOfMemory }
         ensures unequal { goes_in (map string_bytes row.items) self.old.texts ≡ false → result ≡ Err (Refusal.UnequalRows (min index (length self.old.texts)) (length row.items) (column_count self.old.texts)) }
     {
-        let Shape { rows, cols } = self.shape;
+        let Shape { rows, cols } = self.shape();
         let at = index.min(rows);
         if rows != 0 && row.len() != cols {
             return Err(TableError::UnequalRows {
@@ -67,16 +66,11 @@ impl TextTable {
         ensures err { OnErr result (self.new.texts ≡ self.old.texts) }
     {
         let alloc = self.config().config().allocator();
-        let cols = row.len();
         let (widths, height) = sizes_with(alloc, &self.sizes.widths, &row)?;
         self.cells.reserve(1)?;
         self.sizes.heights.insert(at, height)?;
         let _ = self.cells.insert(at, row);
         drop(mem::replace(&mut self.sizes.widths, widths));
-        self.shape = Shape {
-            rows: self.cells.len(),
-            cols,
-        };
         Ok(())
     }
 
@@ -97,10 +91,6 @@ impl TextTable {
         match sizes_of(alloc, &self.cells) {
             Ok(sizes) => {
                 drop(mem::replace(&mut self.sizes, sizes));
-                self.shape = Shape {
-                    rows: self.cells.len(),
-                    cols: column_count(&self.cells),
-                };
                 Ok(Some(row))
             }
             Err(_) => {

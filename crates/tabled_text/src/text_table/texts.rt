@@ -20,6 +20,7 @@ impl TextTable {
     ///  name         age
     ///  Christopher  30
     /// ```
+    #[tactic(auto, using(crate::proofs::TextLemmas::text_past, crate::proofs::TextLemmas::none_past, crate::proofs::TextLemmas::text_there))]
     pub fn set_text(
         &mut self,
         position: Position,
@@ -31,7 +32,8 @@ impl TextTable {
         ensures err { OnErr result (self.new.texts ≡ self.old.texts) }
     {
         let Position { row, col } = position;
-        if row >= self.shape.rows || col >= self.shape.cols {
+        let (rows, cols) = self.view().shape;
+        if row >= rows || col >= cols {
             return Ok(None);
         }
         let alloc = self.config().config().allocator();

@@ -3,7 +3,7 @@ use Rattle.std.proofs.Common.{◌≡◌, ◌+◌, ◌-◌, ◌<◌, ℕ, ap, sym
 use Rattle.std.specs.List.{sum_by}
 use Rattle.std.proofs.lemmas.Bool.Decides.{nat_tests}
 use Rattle.tabled_object.specs.Entities.{below}
-use Rattle.tabled_text.proofs.Frames.{line_kept, frame_kept, left_without_columns, left_without_rows}
+use Rattle.tabled_text.proofs.Frames.{line_kept, frame_kept, frame_none}
 use Rattle.tabled_text.specs.Fitted.{frame_width, padding_across}
 use Rattle.tabled_text.specs.Sizes.{column_count}
 use Rattle.tabled_text.proofs.fitting.room_for_texts.Goals as goal
@@ -11,12 +11,12 @@ use Rattle.tabled_text.proofs.fitting.room_for_texts.Goals as goal
 pub returns-then-rows-eq0 : goal.returns-then-rows-eq0
 returns-then-rows-eq0 c es table shows is =
     let rows = ap (λ shape. shape.rows) is in
-    left_without_rows es table c.args.total (grind (arith, nat_tests, rows, c.if-rows-eq0.true))
+    let nothing = frame_none es table (grind (arith, nat_tests, rows, c.if-rows-eq0.true)) in omega (arith, nothing)
 
 pub returns-then-cols-eq0 : goal.returns-then-cols-eq0
 returns-then-cols-eq0 c es table shows is =
     let cols = ap (λ shape. shape.cols) is in
-    left_without_columns es table c.args.total (grind (arith, nat_tests, cols, c.if-cols-eq0.true))
+    let nothing = frame_none es table (grind (arith, nat_tests, cols, c.if-cols-eq0.true)) in omega (arith, nothing)
 
 pub returns : goal.returns
 returns c es table shows is =

@@ -4,4 +4,4 @@ use Rattle.tabled_text.specs.TextTable.{lent_rows, lent_texts}
 use Rattle.tabled_text.proofs.lent_table.held.Given as goal
 
 abbrev pub invariant-loop-row : goal.invariant-loop-row
-invariant-loop-row l = lent_texts l.found.items ≡ take l.row-index (lent_rows l.rows)
+invariant-loop-row l = lent_texts l.found.items ≡ lent_rows (take l.row-index l.rows)

@@ -1,8 +1,8 @@
 -- Printable texts make a row of one line.
-use Rattle.std.proofs.Common.{◌<◌, map, length, arith}
+use Rattle.std.proofs.Common.{◌<◌, [], ap, ◌∙◌, map, length, arith}
 use Rattle.std.proofs.lemmas.Bool.Decides.{nat_tests}
-use Rattle.std.proofs.lemmas.List.{length-map}
-use Rattle.tabled_text.specs.Sizes.{cell}
+use Rattle.std.proofs.lemmas.List.{length-map, get_or_default}
+use Rattle.tabled_text.specs.Sizes.{cell, height_asked}
 use Rattle.tabled_text.proofs.Measuring.{one_high, printable_line}
 use Rattle.tabled_text.proofs.measure.height_of.Goals as goal
 
@@ -11,4 +11,4 @@ returns-then-not-is_empty g c =
     let row = c.args.row.now in
     let counted = length-map row g.T.AsStr.text in
     let some : 0 < length row = grind (arith, nat_tests, c.is_empty.ensures, c.if-not-is_empty.true) in
-    one_high (map g.T.AsStr.text row) (omega (arith, counted, some)) (λ col _. printable_line (cell (map g.T.AsStr.text row) col) (c.requires c.if-are_printable.true col))
+    one_high (map g.T.AsStr.text row) (omega (arith, counted, some)) (λ col none inside. ap height_asked (get_or_default (map g.T.AsStr.text row) col none [] inside) ∙ printable_line (cell (map g.T.AsStr.text row) col) (c.requires c.if-are_printable.true col))

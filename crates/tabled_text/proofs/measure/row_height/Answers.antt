@@ -5,7 +5,8 @@ use Rattle.std.proofs.lemmas.Iterator.Adapters.{option_map_id}
 use Rattle.std.proofs.lemmas.Iterator.Consumers.{max_from_yields_List}
 use Rattle.tabled_text.specs.Sizes.{height_asked, row_height}
 use Rattle.tabled_cells.specs.Placed.{greatest}
-use Rattle.tabled_text.proofs.Measuring.{greatest_found, mapped_twice}
+use Rattle.tabled_text.proofs.Measuring.{greatest_found}
+use Rattle.tabled_text.proofs.Widths.{mapped_twice}
 use Rattle.tabled_text.proofs.measure.row_height.Goals as goal
 
 pub returns : goal.returns

@@ -2,7 +2,7 @@
 use Rattle.std.proofs.Common.{rules, map}
 use Rattle.std.specs.Str.{IsUtf8}
 use Rattle.tabled_text.specs.Sizes.{cell}
-use Rattle.tabled_text.proofs.Measuring.{below_more}
+use borrow.Author.Count.{below_more}
 use Rattle.tabled_text.proofs.measure.widen.Goals as goal
 
 pub loop-col-preserved : goal.loop-col-preserved

@@ -5,4 +5,4 @@ use Rattle.tabled_text.specs.Sizes.{width_asked}
 use Rattle.tabled_text.proofs.measure.width_of_texts.Given as goal
 
 abbrev pub invariant-loop-text : goal.invariant-loop-text
-invariant-loop-text l = l.width ≡ greatest (map width_asked (take l.text-index (map string_bytes l.column)))
+invariant-loop-text l = l.width ≡ greatest (map width_asked (map string_bytes (take l.text-index l.column)))

@@ -1,23 +1,17 @@
 -- A few characters more, and finally those that are left.
-use Rattle.std.proofs.Common.{◌-◌, refl, arith}
-use Rattle.tabled_text.proofs.StreamLemmas.{none_gained, more_gained}
+use Rattle.std.proofs.Common.{◌*◌, ◌+◌, ◌%◌, refl, arith}
+use Rattle.tabled_text.specs.Streams.{stream_none}
+use Rattle.tabled_text.proofs.StreamLemmas.{more_gained}
 use Rattle.tabled_text.proofs.stream.Stream.push_many.Goals as goal
 
-pub loop-left-init : goal.loop-left-init
-loop-left-init g c = record { gained = none_gained g.W.Write.contents c.args.count c.args.character c.args.self.now; within = omega arith }
+pub loop-init : goal.loop-init
+loop-init g c = stream_none g.W.Write.contents c.args.self.now
 
-pub loop-left-preserved : goal.loop-left-preserved
-loop-left-preserved g c =
-    let all = c.loop-left.invariant in
-    let left = c.loop-left.left in
-    record {
-      gained = more_gained g.W.Write.contents (c.args.count - left) 16 (c.args.count - (left - 16)) c.args.character _ c.args.self.now c.loop-left.self c.push_few.new.self
-          (omega (arith, all.within, c.loop-left-test.true)) refl all.gained c.push_few.ensures;
-      within = omega (arith, all.within);
-    }
+pub loop-preserved : goal.loop-preserved
+loop-preserved g c =
+    let n = c.loop.counter in
+    more_gained g.W.Write.contents (16 * n) 16 (16 * (n + 1)) c.args.character _ c.args.self.now c.loop.self c.push_few.new.self (omega arith) refl c.loop.invariant c.push_few.ensures
 
 pub returns : goal.returns
 returns g c =
-    let all = c.loop-left.invariant in
-    let left = c.loop-left.left in
-    more_gained g.W.Write.contents (c.args.count - left) left c.args.count c.args.character _ c.args.self.now c.loop-left.self c.push_few-2.new.self (omega (arith, all.within)) refl all.gained c.push_few-2.ensures
+    more_gained g.W.Write.contents (16 * c.loop.counter) (c.args.count % 16) c.args.count c.args.character _ c.args.self.now c.loop.self c.push_few-2.new.self (omega arith) refl c.loop.invariant c.push_few-2.ensures

@@ -1,29 +1,23 @@
 -- A piece more, and finally those that are left.
-use Rattle.std.proofs.Common.{◌-◌, length, ap, arith}
-use Rattle.tabled_text.proofs.StreamLemmas.{times_fit, none_gained, more_gained}
+use Rattle.std.proofs.Common.{◌*◌, ◌+◌, ◌%◌, length, ap, arith}
+use Rattle.tabled_text.specs.Streams.{stream_none}
+use Rattle.tabled_text.proofs.StreamLemmas.{times_fit, more_gained}
 use Rattle.tabled_text.proofs.stream.Stream.push_pieces.Goals as goal
 
 pub push_part-requires : goal.push_part-requires
 push_part-requires g c = omega (arith, ap length c.requires, times_fit 64 c.args.character)
 
 pub push_part-requires-2 : goal.push_part-requires-2
-push_part-requires-2 g c = omega (arith, ap length c.part_of.ensures, times_fit c.loop-left.left c.args.character, c.loop-left-test.false)
+push_part-requires-2 g c = omega (arith, ap length c.part_of.ensures, times_fit (c.args.count % 64) c.args.character)
 
-pub loop-left-init : goal.loop-left-init
-loop-left-init g c = record { gained = none_gained g.W.Write.contents c.args.count c.args.character c.args.self.now; within = omega arith }
+pub loop-init : goal.loop-init
+loop-init g c = stream_none g.W.Write.contents c.args.self.now
 
-pub loop-left-preserved : goal.loop-left-preserved
-loop-left-preserved g c =
-    let all = c.loop-left.invariant in
-    let left = c.loop-left.left in
-    record {
-      gained = more_gained g.W.Write.contents (c.args.count - left) 64 (c.args.count - (left - 64)) c.args.character c.args.piece.now c.args.self.now c.loop-left.self c.push_part.new.self
-          (omega (arith, all.within, c.loop-left-test.true)) c.requires all.gained c.push_part.ensures;
-      within = omega (arith, all.within);
-    }
+pub loop-preserved : goal.loop-preserved
+loop-preserved g c =
+    let n = c.loop.counter in
+    more_gained g.W.Write.contents (64 * n) 64 (64 * (n + 1)) c.args.character c.args.piece.now c.args.self.now c.loop.self c.push_part.new.self (omega arith) c.requires c.loop.invariant c.push_part.ensures
 
 pub returns : goal.returns
 returns g c =
-    let all = c.loop-left.invariant in
-    let left = c.loop-left.left in
-    more_gained g.W.Write.contents (c.args.count - left) left c.args.count c.args.character c.part_of.result.now c.args.self.now c.loop-left.self c.push_part-2.new.self (omega (arith, all.within)) c.part_of.ensures all.gained c.push_part-2.ensures
+    more_gained g.W.Write.contents (64 * c.loop.counter) (c.args.count % 64) c.args.count c.args.character c.part_of.result.now c.args.self.now c.loop.self c.push_part-2.new.self (omega arith) c.part_of.ensures c.loop.invariant c.push_part-2.ensures

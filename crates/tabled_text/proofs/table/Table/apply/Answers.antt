@@ -19,8 +19,8 @@ returns-in-Some-clause-config g c =
       sizes,
       are_read g.T.AsStr.text view drawing sizes sized is.config is.texts
           (λ e. absurd (let no : None ≡ Some sizes = sym (c.in_ok-sizes.ensures.none (ap (λ cfg. is_sized_by_texts cfg.spanned) is.config ∙ e)) ∙ c.in-Some.is in cc)),
-      changes_read (g.P.TableOption.makes c.args.option) c.self.inside.shape (shape_of drawing.texts) sizes sizes c.deref_mut.result.now drawing.config c.change.new.cfg
-          (c.self.invariant.1 ∙ ap (λ (drawing : Drawing). shape_of drawing.texts) c.self.view_is) refl
+      changes_read (g.P.TableOption.makes c.args.option) c.shape-shape.result (shape_of drawing.texts) sizes sizes c.deref_mut.result.now drawing.config c.change.new.cfg
+          c.shape-shape.ensures refl
           (c.deref_mut.ensures.value ∙ ap (λ (drawing : Drawing). drawing.config) c.self.view_is) changes,
     )) c.change.ensures.ok
 
@@ -33,7 +33,7 @@ returns-in-None-clause-config g c =
     on_ok c.change-in-None.result (λ changes. (
       drawing.sizes,
       are_read g.T.AsStr.text view drawing drawing.sizes sized is.config is.texts (λ e. refl),
-      changes_read (g.P.TableOption.makes c.args.option) c.self.inside.shape (shape_of drawing.texts) c.self.inside.sizes drawing.sizes c.deref_mut-in-None.result.now drawing.config c.change-in-None.new.cfg
-          (c.self.invariant.1 ∙ ap (λ (drawing : Drawing). shape_of drawing.texts) c.self.view_is) (ap (λ (drawing : Drawing). drawing.sizes) c.self.view_is)
+      changes_read (g.P.TableOption.makes c.args.option) c.shape-shape.result (shape_of drawing.texts) c.self.inside.sizes drawing.sizes c.deref_mut-in-None.result.now drawing.config c.change-in-None.new.cfg
+          c.shape-shape.ensures (ap (λ (drawing : Drawing). drawing.sizes) c.self.view_is)
           (c.deref_mut-in-None.ensures.value ∙ ap (λ (drawing : Drawing). drawing.config) c.self.view_is) changes,
     )) c.change-in-None.ensures.ok

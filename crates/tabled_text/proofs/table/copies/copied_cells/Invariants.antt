@@ -5,4 +5,4 @@ use Rattle.tabled_painting.specs.TextsBy.{texts_by}
 use Rattle.tabled_text.proofs.table.copies.copied_cells.Given as goal
 
 abbrev pub invariant-loop-row : goal.invariant-loop-row
-invariant-loop-row g l = texts l.copies.items ≡ take l.row-index (texts_by g.T.AsStr.text l.rows)
+invariant-loop-row g l = texts l.copies.items ≡ texts_by g.T.AsStr.text (take l.row-index l.rows)
