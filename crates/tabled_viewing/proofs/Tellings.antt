@@ -1,5 +1,5 @@
 -- What is said item by item: one item more, and all of them.
-use Rattle.std.proofs.Common.{◌≡◌, ℕ, ◌+◌, ◌<◌, ◌≤◌, ◌==◌, suc, map, drop, List, [], ◌∷◌, ◌++◌, take, length, get_or, flat_map, fold, refl, sym, ap, ◌∙◌, append-nil, arith}
+use Rattle.std.proofs.Common.{◌≡◌, ℕ, ◌+◌, ◌<◌, ◌≤◌, ◌==◌, suc, drop, List, [], ◌∷◌, ◌++◌, take, length, get_or, flat_map, fold, refl, sym, ap, ◌∙◌, append-nil, arith}
 use Rattle.std.proofs.Math.Seq.{take-suc}
 use Rattle.std.specs.List.{common_prefix_len}
 use Rattle.std.proofs.lemmas.List.{drop_all}

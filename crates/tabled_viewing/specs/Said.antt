@@ -1,5 +1,5 @@
 -- What the program says of a refusal, in one line.
-use Rattle.std.specs.Prelude.{ℕ, ◌+◌, ◌-◌, ◌^◌, min, Bool, ◌==◌, nat_lt, if◌then◌else◌, List, [], ◌∷◌, ◌++◌, map, codes, decimal, fold, slice_index_or}
+use Rattle.std.specs.Prelude.{ℕ, ◌+◌, ◌-◌, ◌^◌, min, Bool, ◌==◌, nat_lt, if◌then◌else◌, List, [], ◌∷◌, ◌++◌, codes, decimal, fold, slice_index_or}
 use Rattle.std.specs.List.{common_prefix_len}
 use Rattle.tabled_clean.specs.Line.{cleaned_line}
 use Rattle.tabled_input.specs.declared.error.InputError.{InputError}
