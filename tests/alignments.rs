@@ -2,8 +2,9 @@
 
 use std::test::Fail;
 use tabled_config::SpannedConfig;
-use tabled_grid::{AlignmentHorizontal, AlignmentVertical, Entity, Position};
-use tabled_options::Alignment;
+use tabled_formatting::Alignment;
+use tabled_grid::{Entity, Position};
+use tabled_settings::{AlignmentHorizontal, AlignmentVertical};
 
 #[test]
 fn horizontal_alignments_come_first(rt: HostRuntime) {

@@ -3,8 +3,8 @@
 use std::alloc::Global;
 use std::test::Fail;
 use tabled_config::{CompactConfig, CompactMultilineConfig, TableOption};
+use tabled_formatting::{Alignment, AlignmentStrategy, MarginColor, PaddingColor};
 use tabled_grid::{ANSIStr, Borders, FixedDimension, OutOfMemory, Shape};
-use tabled_options::{Alignment, AlignmentStrategy, MarginColor, PaddingColor};
 use tabled_settings::{AlignmentHorizontal, AlignmentVertical, Sides};
 use tabled_style::Style;
 

@@ -2,7 +2,7 @@
 
 use std::alloc::Global;
 use std::test::Fail;
-use tabled_csv::{CsvError, csv, separated};
+use tabled_input::{CsvError, csv, separated};
 
 /// The cells between bars, and the rows between slashes.
 fn written(alloc: Global, rows: &[Vec<String>]) -> Result<String, Fail> {

@@ -5,8 +5,8 @@ use crate::common::tables::Table;
 use std::alloc::Global;
 use std::test::Fail;
 use tabled_color::Color;
+use tabled_formatting::{Alignment, AlignmentStrategy, Justification, PaddingColor, TrimStrategy};
 use tabled_grid::{Entity, Keep, OutOfMemory, Position};
-use tabled_options::{Alignment, AlignmentStrategy, Justification, PaddingColor, TrimStrategy};
 use tabled_settings::{AlignmentHorizontal, AlignmentVertical, Sides};
 
 const RED: &str = "\u{1b}[31m";

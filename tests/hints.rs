@@ -6,12 +6,13 @@ use tabled_color::{BorderColor, Color};
 use tabled_config::{
     CellOption, ColoredConfig, CompactConfig, CompactMultilineConfig, TableOption,
 };
+use tabled_formatting::{
+    Alignment, AlignmentStrategy, Justification, Margin, MarginColor, Padding, PaddingColor, Shadow,
+    TrimStrategy,
+};
 use tabled_grid::{ANSIStr, Borders, Entity, FixedDimension, Offset, OutOfMemory, Rows, Shape};
 use tabled_object::FirstRow;
-use tabled_options::{
-    Alignment, AlignmentStrategy, BorderCorrection, Colorization, Highlight, Justification,
-    LineChar, LineText, Margin, MarginColor, Padding, PaddingColor, Shadow, Span, TrimStrategy,
-};
+use tabled_options::{BorderCorrection, Colorization, Highlight, LineChar, LineText, Span};
 use tabled_style::{Border, EmptyBorder, ReadyStyle, Style};
 use tabled_theme::Theme;
 

@@ -7,9 +7,9 @@ use tabled_color::Color;
 use tabled_config::{
     ColorMap, ColoredConfig, CompactConfig, CompactMultilineConfig, SpannedConfig, TableOption,
 };
+use tabled_formatting::{MarginColor, PaddingColor};
 use tabled_grid::{Borders, Entity, HorizontalLine, Offset, Position, VerticalLine};
 use tabled_layout::{Indent, Margin, Spans, TableSettings};
-use tabled_options::{MarginColor, PaddingColor};
 use tabled_settings::{AlignmentHorizontal, AlignmentVertical, CellSettings, Sides};
 use tabled_style::Style;
 

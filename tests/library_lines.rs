@@ -4,8 +4,9 @@ use crate::common::printing::texts;
 use std::alloc::Global;
 use std::test::Fail;
 use tabled_config::{ColoredConfig, PrintError, SpannedConfig, TableOption, modify, print_plain};
+use tabled_formatting::Alignment;
 use tabled_grid::{FixedDimension, Offset, OutOfMemory, Rows, Shape};
-use tabled_options::{Alignment, LineChar, LineText};
+use tabled_options::{LineChar, LineText};
 use tabled_style::Style;
 
 /// A configuration with a title in the top line and a mark on another.

@@ -2,8 +2,9 @@
 
 use crate::common::tables::Table;
 use std::test::Fail;
+use tabled_formatting::Alignment;
 use tabled_grid::{Place, Rows};
-use tabled_options::{Alignment, LineText};
+use tabled_options::LineText;
 use tabled_style::Style;
 
 #[test]

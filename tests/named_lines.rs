@@ -4,8 +4,9 @@ use crate::common::tables::Table;
 use std::alloc::Global;
 use std::test::Fail;
 use tabled_config::{ColoredConfig, TableOption};
+use tabled_formatting::Alignment;
 use tabled_grid::{Columns, FixedDimension, OutOfMemory, Rows, Shape};
-use tabled_options::{Alignment, LineText};
+use tabled_options::LineText;
 use tabled_style::Style;
 
 /// A table of two rows and two columns in a full frame.

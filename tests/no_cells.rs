@@ -5,14 +5,15 @@ use std::alloc::Global;
 use std::test::Fail;
 use tabled_color::{BorderColor, Color};
 use tabled_config::{CellOption, ColoredConfig, TableOption};
+use tabled_formatting::{
+    Alignment, AlignmentStrategy, Justification, Margin, MarginColor, Padding, PaddingColor, Shadow,
+    TrimStrategy,
+};
 use tabled_grid::{
     Borders, Cell, Columns, Combine, FixedDimension, Object, Offset, OutOfMemory, Place, Position,
     Rows, Segment, Shape,
 };
-use tabled_options::{
-    Alignment, AlignmentStrategy, BorderCorrection, Colorization, Highlight, Justification,
-    LineChar, LineText, Margin, MarginColor, Padding, PaddingColor, Shadow, Span, TrimStrategy,
-};
+use tabled_options::{BorderCorrection, Colorization, Highlight, LineChar, LineText, Span};
 use tabled_style::{Border, EmptyBorder, HorizontalLine, ReadyStyle, Style, VerticalLine};
 use tabled_theme::Theme;
 

@@ -10,8 +10,9 @@ use std::alloc::Global;
 use std::test::Fail;
 use tabled::{TableError, TextTable};
 use tabled_config::{ColoredConfig, PrintError, TableOption};
+use tabled_formatting::Alignment;
 use tabled_grid::{Columns, FixedDimension, Offset, OutOfMemory, Rows, Shape};
-use tabled_options::{Alignment, Highlight, LineChar, LineText};
+use tabled_options::{Highlight, LineChar, LineText};
 use tabled_style::{Border, Style};
 use tabled_theme::Theme;
 

@@ -5,13 +5,12 @@ use std::alloc::Global;
 use std::test::Fail;
 use tabled_color::Color;
 use tabled_config::{CellOption, ColoredConfig, PrintError, TableOption};
+use tabled_formatting::{Padding, Shadow};
 use tabled_grid::{
     Border, Cell, Columns, Entity, FixedDimension, Object, Offset, OutOfMemory, Place, Position,
     Row, Rows, Shape,
 };
-use tabled_options::{
-    BorderCorrection, Colorization, Highlight, LineChar, LineText, Padding, Shadow,
-};
+use tabled_options::{BorderCorrection, Colorization, Highlight, LineChar, LineText};
 use tabled_style::{HorizontalLine, Style, VerticalLine};
 use tabled_theme::Theme;
 

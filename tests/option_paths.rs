@@ -9,12 +9,13 @@ use std::hash::Hash;
 use std::test::Fail;
 use tabled_color::{BorderColor, Color};
 use tabled_config::{CellOption, ColoredConfig, CompactConfig, CompactMultilineConfig, TableOption};
+use tabled_formatting::Alignment;
 use tabled_grid::{
-    ANSIBuf, ANSIFmt, ANSIStr, AlignmentHorizontal, AlignmentVertical, AnsiText, Border as GridBorder, Borders,
-    FixedDimension, HorizontalLine as GridHorizontal, Offset, OutOfMemory, SegmentAll, Shape, Sides,
-    VerticalLine as GridVertical,
+    ANSIBuf, ANSIFmt, ANSIStr, AnsiText, Border as GridBorder, Borders, FixedDimension,
+    HorizontalLine as GridHorizontal, Offset, OutOfMemory, SegmentAll, Shape, VerticalLine as GridVertical,
 };
-use tabled_options::{Alignment, Highlight, LineText};
+use tabled_options::{Highlight, LineText};
+use tabled_settings::{AlignmentHorizontal, AlignmentVertical, Sides};
 use tabled_style::{Border, EmptyBorder, HorizontalLine, On, Style, VerticalLine};
 use tabled_theme::Theme;
 
@@ -296,7 +297,8 @@ fn texts_and_outlines(rt: HostRuntime) -> Result<(), Fail> {
 
 #[test]
 fn settings(rt: HostRuntime) -> Result<(), Fail> {
-    use tabled_options::{AlignmentStrategy, Colorization, ExactColorization, Justification, TrimStrategy};
+    use tabled_formatting::{AlignmentStrategy, Justification, TrimStrategy};
+    use tabled_options::{Colorization, ExactColorization};
     type Made = fn(Vec<Color>) -> Colorization;
     is_value::<Alignment>();
     is_copied::<Alignment>();
@@ -339,7 +341,7 @@ fn settings(rt: HostRuntime) -> Result<(), Fail> {
 
 #[test]
 fn settings_of_room(_rt: HostRuntime) -> Result<(), Fail> {
-    use tabled_options::{MarginColor, PaddingColor, Shadow};
+    use tabled_formatting::{MarginColor, PaddingColor, Shadow};
     type Changed = fn(Shadow) -> Shadow;
     is_ordered::<Shadow>();
     is_kept::<Shadow>();

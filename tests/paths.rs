@@ -1,5 +1,5 @@
-//! Each public name of `tabled_grid` and of `tabled_config` under the crate that has it, with what it takes and returns, its fields and its
-//! derives. Where one is taken away, or is another thing, this does not compile.
+//! Each public name of `tabled_grid` and of `tabled_config`, and some of `tabled_settings`, under the crate that has it, with what it takes
+//! and returns, its fields and its derives. Where one is taken away, or is another thing, this does not compile.
 
 use std::alloc::Global;
 use std::collections::BTreeMap;
@@ -10,9 +10,8 @@ use crate::common::derives::{is_copied, is_equated, is_kept, is_made_of_nothing,
 
 #[test]
 fn plain_values_of_the_grid(_rt: HostRuntime) -> Result<(), Fail> {
-    use tabled_grid::{
-        AlignmentHorizontal, AlignmentVertical, Entity, EntityIterator, Indent, Offset, OutOfMemory, Position, Sides,
-    };
+    use tabled_grid::{Entity, EntityIterator, Offset, OutOfMemory, Position};
+    use tabled_settings::{AlignmentHorizontal, AlignmentVertical, Indent, Sides};
     is_value::<Position>();
     is_copied::<Position>();
     is_value::<Entity>();
@@ -286,7 +285,8 @@ fn borders_of_a_configuration(rt: HostRuntime) -> Result<(), Fail> {
 #[test]
 fn what_a_configuration_keeps_besides(rt: HostRuntime) -> Result<(), Fail> {
     use tabled_config::SpannedConfig;
-    use tabled_grid::{ANSIBuf, AlignmentHorizontal, AlignmentVertical, Entity, Indent, Offset, OutOfMemory, Position, Sides};
+    use tabled_grid::{ANSIBuf, Entity, Offset, OutOfMemory, Position};
+    use tabled_settings::{AlignmentHorizontal, AlignmentVertical, Indent, Sides};
     type Refusable = Result<(), OutOfMemory>;
     type Color = Option<ANSIBuf>;
     type Flag = fn(&mut SpannedConfig, Entity, bool) -> Refusable;
@@ -337,7 +337,8 @@ fn marks_of_lines(rt: HostRuntime) -> Result<(), Fail> {
 #[test]
 fn plain_configurations(_rt: HostRuntime) -> Result<(), Fail> {
     use tabled_config::{CompactConfig, CompactMultilineConfig, Formatting};
-    use tabled_grid::{ANSIStr, AlignmentHorizontal, AlignmentVertical, Borders, Sides};
+    use tabled_grid::{ANSIStr, Borders};
+    use tabled_settings::{AlignmentHorizontal, AlignmentVertical, Sides};
     type Color = Sides<ANSIStr<'static>>;
     is_equated::<CompactConfig>();
     is_copied::<CompactConfig>();

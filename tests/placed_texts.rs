@@ -10,7 +10,7 @@ use tabled::{TableError, TextTable};
 use tabled_cells::{Placement, ShownLines, line_parts, lines_above};
 use tabled_config::SpannedConfig;
 use tabled_grid::{Entity, Position};
-use tabled_printing::push_times;
+use tabled_width::push_times;
 use tabled_settings::{AlignmentHorizontal, AlignmentVertical};
 
 /// A cell of one line beside one of four, and a longer one below it.

@@ -5,8 +5,8 @@ use crate::common::tables::Table;
 use std::alloc::Global;
 use std::test::Fail;
 use tabled_color::Color;
+use tabled_formatting::{MarginColor, Shadow};
 use tabled_grid::{Keep, OutOfMemory};
-use tabled_options::{MarginColor, Shadow};
 
 const GREEN: &str = "\u{1b}[32m";
 

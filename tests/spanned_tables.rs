@@ -3,8 +3,9 @@
 use std::alloc::Global;
 use std::test::Fail;
 use tabled_color::Color;
+use tabled_formatting::{Alignment, Margin};
 use tabled_object::{Cell, Columns, Object, Rows, Segment, Shape};
-use tabled_options::{Alignment, BorderCorrection, LineText, Margin, Span};
+use tabled_options::{BorderCorrection, LineText, Span};
 use tabled_style::Style;
 use tabled_text::{TableError, TextTable};
 

@@ -5,7 +5,7 @@ use std::alloc::{AllocError, Global};
 use std::io::Cursor;
 use std::test::Fail;
 use tabled_input::InputError;
-use tabled_request::{GivenError, Side, Surroundings, all_sides};
+use tabled_request::{ColumnSide, GivenError, Surroundings, all_sides};
 use tabled_viewing::{ViewError, run, said, understood};
 
 /// A terminal that takes UTF-8 and colors.
@@ -235,7 +235,7 @@ fn each_column_stands_at_its_side(rt: HostRuntime) -> Result<(), Fail> {
     rows.push(words_of(rt.alloc(), "a|b|c|d")?)?;
     rows.push(words_of(rt.alloc(), "e|f|g|1")?)?;
     let sides = all_sides(rt.alloc(), request, &words, &rows)?;
-    let each = [Side::Left, Side::Right, Side::Center, Side::Right];
+    let each = [ColumnSide::Left, ColumnSide::Right, ColumnSide::Center, ColumnSide::Right];
     assert!(rt; sides.as_slice() == each.as_slice());
     Ok(())
 }

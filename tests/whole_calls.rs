@@ -6,13 +6,14 @@ use std::test::Fail;
 use tabled_border::{ANSIBuf, Border};
 use tabled_config::{ColoredConfig, Mark, Run, SpannedConfig};
 use tabled_grid::{
-    Borders, Entity, FixedDimension, HorizontalLine, Indent, Layers, OutOfMemory, Position, Probes,
-    Sides, VerticalLine, border_writes,
+    Borders, Entity, FixedDimension, HorizontalLine, Layers, OutOfMemory, Position, Probes,
+    VerticalLine, border_writes,
 };
 use tabled_painting::{Output, TablePage, sizes_of_spanned};
-use tabled_printing::{Frame, Sink, push_after};
+use tabled_printing::{Frame, Sink};
+use tabled_width::push_after;
 use tabled_rooms::CellSizes;
-use tabled_settings::EntityMap;
+use tabled_settings::{EntityMap, Indent, Sides};
 use tabled_style::{ReadyStyle, Style};
 
 const CELL: Position = Position { row: 0, col: 1 };

@@ -6,11 +6,9 @@ use crate::values::padding;
 use std::alloc::Global;
 use tabled_color::BorderColor;
 use tabled_config::{CellOption, ColoredConfig, modify};
+use tabled_formatting::{Alignment, AlignmentStrategy, Justification, Padding, TrimStrategy};
 use tabled_grid::{Entity, Offset, OutOfMemory, Shape};
-use tabled_options::{
-    Alignment, AlignmentStrategy, CellColor, JoinedColor, Justification, LineChar, Padding, Span,
-    TrimStrategy,
-};
+use tabled_options::{CellColor, JoinedColor, LineChar, Span};
 use tabled_style::{Border, EmptyBorder};
 
 /// What makes an option.
@@ -60,31 +58,31 @@ fn filling(alloc: Global) -> Result<Justification, OutOfMemory> {
 pub(crate) fn settings() -> [Named; 13] {
     [
         (
-            "<Alignment as CellOption<R, ColoredConfig>>::change",
+            "<S as CellOption<R, ColoredConfig>>::change (Alignment)",
             |turn| { on_a_bare_row(turn, |_| Ok(Alignment::bottom())) },
         ),
         (
-            "<AlignmentStrategy as CellOption<R, ColoredConfig>>::change",
+            "<S as CellOption<R, ColoredConfig>>::change (AlignmentStrategy)",
             |turn| { on_a_bare_row(turn, |_| Ok(AlignmentStrategy::PerLine)) },
         ),
         (
-            "<TrimStrategy as CellOption<R, ColoredConfig>>::change",
+            "<S as CellOption<R, ColoredConfig>>::change (TrimStrategy)",
             |turn| { on_a_bare_row(turn, |_| Ok(TrimStrategy::Both)) },
         ),
         (
-            "<Justification as CellOption<R, ColoredConfig>>::change",
+            "<S as CellOption<R, ColoredConfig>>::change (Justification)",
             |turn| on_a_row(turn, filling),
         ),
         (
-            "<Justification as CellOption<R, ColoredConfig>>::change (the first)",
+            "<S as CellOption<R, ColoredConfig>>::change (the first Justification)",
             |turn| { on_a_bare_row(turn, filling) },
         ),
         (
-            "<Padding as CellOption<R, ColoredConfig>>::change",
+            "<S as CellOption<R, ColoredConfig>>::change (Padding)",
             |turn| { on_a_bare_row(turn, |_| Ok(Padding::zero())) },
         ),
         (
-            "<PaddingColor<C> as CellOption<R, ColoredConfig>>::change",
+            "<S as CellOption<R, ColoredConfig>>::change (PaddingColor)",
             |turn| { on_a_bare_row(turn, padding) },
         ),
         (

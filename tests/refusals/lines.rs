@@ -5,7 +5,8 @@ use std::alloc::Global;
 use tabled_config::{ColoredConfig, Mark, Run, SpannedConfig};
 use tabled_grid::{FixedDimension, OutOfMemory};
 use tabled_painting::Output;
-use tabled_printing::{Sink, push_after};
+use tabled_printing::Sink;
+use tabled_width::push_after;
 use tabled_style::Style;
 
 /// What becomes of a text at whose end this is written. Where memory is refused it begins as it did.

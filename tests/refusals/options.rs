@@ -6,14 +6,16 @@ use crate::values::{margin, padding, three};
 use std::alloc::Global;
 use tabled_color::{BorderColor, Color};
 use tabled_config::{ColoredConfig, CompactConfig, CompactMultilineConfig, TableOption};
+use tabled_formatting::{
+    Alignment, AlignmentStrategy, Justification, Margin, MarginColor, Padding, PaddingColor, Shadow,
+    TrimStrategy,
+};
 use tabled_grid::{
     ANSIStr, Borders, Combine, Difference, FixedDimension, OutOfMemory, Row, Rows, Segment,
     SegmentAll, Shape, Union,
 };
 use tabled_options::{
-    Alignment, AlignmentStrategy, BorderCorrection, CellColor, Colorization, ExactColorization,
-    Highlight, JoinedColor, Justification, LineText, Margin, MarginColor, Padding, PaddingColor,
-    Shadow, TrimStrategy,
+    BorderCorrection, CellColor, Colorization, ExactColorization, Highlight, JoinedColor, LineText,
 };
 use tabled_style::{Border, EmptyBorder, HorizontalLine, ReadyStyle, Style};
 use tabled_theme::Theme;
@@ -60,42 +62,42 @@ where
 pub(crate) fn settings() -> [Named; 14] {
     [
         (
-            "<Alignment as TableOption<R, ColoredConfig, D>>::change",
+            "<S as TableOption<R, ColoredConfig, D>>::change (Alignment)",
             |turn| with(turn, |_| Ok(Alignment::bottom())),
         ),
         (
-            "<AlignmentStrategy as TableOption<R, ColoredConfig, D>>::change",
+            "<S as TableOption<R, ColoredConfig, D>>::change (AlignmentStrategy)",
             |turn| with(turn, |_| Ok(AlignmentStrategy::PerLine)),
         ),
         (
-            "<TrimStrategy as TableOption<R, ColoredConfig, D>>::change",
+            "<S as TableOption<R, ColoredConfig, D>>::change (TrimStrategy)",
             |turn| with(turn, |_| Ok(TrimStrategy::Both)),
         ),
         (
-            "<Justification as TableOption<R, ColoredConfig, D>>::change",
+            "<S as TableOption<R, ColoredConfig, D>>::change (Justification)",
             |turn| with(
                 turn,
                 |alloc| color(alloc).map(|color| Justification::colored('#', color)),
             ),
         ),
         (
-            "<Padding as TableOption<R, ColoredConfig, D>>::change",
+            "<S as TableOption<R, ColoredConfig, D>>::change (Padding)",
             |turn| with(turn, |_| Ok(Padding::new(2, 0, 1, 0).fill('<', ' ', '^', ' '))),
         ),
         (
-            "<PaddingColor<C> as TableOption<R, ColoredConfig, D>>::change",
+            "<S as TableOption<R, ColoredConfig, D>>::change (PaddingColor)",
             |turn| with(turn, padding),
         ),
         (
-            "<MarginColor<C> as TableOption<R, ColoredConfig, D>>::change",
+            "<S as TableOption<R, ColoredConfig, D>>::change (MarginColor)",
             |turn| with(turn, margin),
         ),
         (
-            "<Margin as TableOption<R, ColoredConfig, D>>::change",
+            "<S as TableOption<R, ColoredConfig, D>>::change (Margin)",
             |turn| with(turn, |_| Ok(Margin::new(2, 0, 1, 0).fill('<', ' ', '^', ' '))),
         ),
         (
-            "<Shadow as TableOption<R, ColoredConfig, D>>::change",
+            "<S as TableOption<R, ColoredConfig, D>>::change (Shadow)",
             |turn| with(
                 turn,
                 |alloc| color(alloc).map(|color| Shadow::new(2).set_color(color)),
@@ -273,27 +275,27 @@ fn record() -> Borders<char> {
 pub(crate) fn on_compact() -> [Named; 6] {
     [
         (
-            "<Alignment as TableOption<R, CompactConfig, D>>::change",
+            "<S as TableOption<R, CompactConfig, D>>::change (Alignment)",
             |turn| { compact(turn, Alignment::right()) },
         ),
         (
-            "<Borders<char> as TableOption<R, CompactConfig, D>>::change",
+            "<S as TableOption<R, CompactConfig, D>>::change (Borders)",
             |turn| { compact(turn, record()) },
         ),
         (
-            "<PaddingColor<ANSIStr<'static>> as TableOption<R, CompactConfig, D>>::change",
+            "<S as TableOption<R, CompactConfig, D>>::change (PaddingColor)",
             |turn| { compact(turn, red_padding()) },
         ),
         (
-            "<MarginColor<ANSIStr<'static>> as TableOption<R, CompactConfig, D>>::change",
+            "<S as TableOption<R, CompactConfig, D>>::change (MarginColor)",
             |turn| { compact(turn, red_margin()) },
         ),
         (
-            "<Style<T, B, L, R, H, V, HN, VN> as TableOption<Data, CompactConfig, Dims>>::change",
+            "<S as TableOption<R, CompactConfig, D>>::change (Style)",
             |turn| { compact(turn, Style::modern()) },
         ),
         (
-            "<Theme as TableOption<Data, CompactConfig, Dims>>::change",
+            "<S as TableOption<R, CompactConfig, D>>::change (Theme)",
             |turn| {
                 let theme = theme(turn.alloc())?;
                 compact(turn, theme)
@@ -306,31 +308,31 @@ pub(crate) fn on_compact() -> [Named; 6] {
 pub(crate) fn on_lines() -> [Named; 7] {
     [
         (
-            "<Alignment as TableOption<R, CompactMultilineConfig, D>>::change",
+            "<S as TableOption<R, CompactMultilineConfig, D>>::change (Alignment)",
             |turn| { lines(turn, Alignment::bottom()) },
         ),
         (
-            "<AlignmentStrategy as TableOption<R, CompactMultilineConfig, D>>::change",
+            "<S as TableOption<R, CompactMultilineConfig, D>>::change (AlignmentStrategy)",
             |turn| { lines(turn, AlignmentStrategy::PerLine) },
         ),
         (
-            "<Borders<char> as TableOption<R, CompactMultilineConfig, D>>::change",
+            "<S as TableOption<R, CompactMultilineConfig, D>>::change (Borders)",
             |turn| { lines(turn, record()) },
         ),
         (
-            "<PaddingColor<ANSIStr<'static>> as TableOption<R, CompactMultilineConfig, D>>::change",
+            "<S as TableOption<R, CompactMultilineConfig, D>>::change (PaddingColor)",
             |turn| lines(turn, red_padding()),
         ),
         (
-            "<MarginColor<ANSIStr<'static>> as TableOption<R, CompactMultilineConfig, D>>::change",
+            "<S as TableOption<R, CompactMultilineConfig, D>>::change (MarginColor)",
             |turn| lines(turn, red_margin()),
         ),
         (
-            "<Style<T, B, L, R, H, V, HN, VN> as TableOption<Data, CompactMultilineConfig, Dims>>::change",
+            "<S as TableOption<R, CompactMultilineConfig, D>>::change (Style)",
             |turn| lines(turn, Style::modern()),
         ),
         (
-            "<Theme as TableOption<Data, CompactMultilineConfig, Dims>>::change",
+            "<S as TableOption<R, CompactMultilineConfig, D>>::change (Theme)",
             |turn| {
                 let theme = theme(turn.alloc())?;
                 lines(turn, theme)

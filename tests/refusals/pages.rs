@@ -5,7 +5,7 @@ use std::alloc::Global;
 use std::env::{Env, FillError};
 use std::io;
 use std::io::{Cursor, ErrorKind, Write};
-use tabled_csv::{CsvError, csv};
+use tabled_input::{CsvError, csv};
 use tabled_grid::OutOfMemory;
 use tabled_input::{Cells, InputError, read_input, read_rows};
 use tabled_pages::{ShowError, all_words, run};

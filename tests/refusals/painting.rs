@@ -7,8 +7,8 @@ use crate::turn::{Named, Outcome, Turn};
 use std::alloc::Global;
 use tabled::{TableError, TextTable};
 use tabled_config::TableOption;
+use tabled_formatting::{Justification, Padding, Shadow};
 use tabled_grid::{Cell, OutOfMemory, Position};
-use tabled_options::{Justification, Padding, Shadow};
 use tabled_painting::{TablePage, sizes_of_spanned};
 use tabled_style::Style;
 

@@ -2,7 +2,7 @@
 
 use crate::turn::{Named, Outcome, Turn};
 use tabled_grid::OutOfMemory;
-use tabled_printing::push_times;
+use tabled_width::push_times;
 
 /// What becomes of a character that is written several times. Where that is refused some may have been written.
 fn write(turn: &mut Turn) -> Result<Outcome, OutOfMemory> {

@@ -4,7 +4,7 @@ use crate::turn::{Named, Outcome, Turn};
 use std::alloc::Global;
 use tabled::builder::Builder;
 use tabled::{TableError, Tabled, TextTable};
-use tabled_csv::separated;
+use tabled_input::separated;
 use tabled_grid::{OutOfMemory, Position};
 use tabled_settings::AlignmentHorizontal;
 use tabled_rows::{fill_rows, reserve_column};

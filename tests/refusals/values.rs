@@ -6,11 +6,10 @@ use std::alloc::Global;
 use tabled_border::{ANSIBuf, ANSIStr, Border, Keep, OutOfMemory};
 use tabled_color::{BorderColor, Color};
 use tabled_config::{CompactConfig, CompactMultilineConfig};
+use tabled_formatting::{Justification, MarginColor, PaddingColor, Shadow};
 use tabled_grid::{Borders, HorizontalLine, VerticalLine};
 use tabled_object::Rows;
-use tabled_options::{
-    Colorization, Highlight, Justification, LineText, MarginColor, PaddingColor, Shadow,
-};
+use tabled_options::{Colorization, Highlight, LineText};
 use tabled_settings::{AlignmentHorizontal, AlignmentVertical, Indent, Sides};
 use tabled_style::Style;
 
@@ -166,8 +165,8 @@ pub(crate) fn builders() -> [Named; 7] {
         ("BorderColor::filled", fill_a_border),
         ("BorderColor::to_ansi", turn_a_border),
         ("Colorization::chess", make_a_board),
-        ("PaddingColor<C>::filled", fill_a_padding),
-        ("MarginColor<C>::filled", fill_a_margin),
+        ("SideColors<C, Of>::filled", fill_a_padding),
+        ("SideColors<C, Of>::filled (a margin)", fill_a_margin),
         ("Highlight<O>::colored", color_an_outline),
         (
             "LineText<Line>::new",
@@ -357,13 +356,13 @@ pub(crate) fn option_copies() -> [Named; 6] {
         ),
         ("<Justification as Keep>::keep", copy_a_filling),
         (
-            "<PaddingColor<C> as Keep>::keep",
+            "<SideColors<C, Of> as Keep>::keep",
             |turn| {
                 let value = padding(turn.alloc());
                 keep(turn, value)
             },
         ),
-        ("<MarginColor<C> as Keep>::keep", copy_a_margin),
+        ("<SideColors<C, Of> as Keep>::keep (a margin)", copy_a_margin),
         (
             "<Shadow as Keep>::keep",
             |turn| {
@@ -412,10 +411,10 @@ pub(crate) fn clones() -> [Named; 9] {
             |turn| { clone(turn, VerticalLine::new(Some('x'), None, None, Some('y'))) },
         ),
         (
-            "<PaddingColor<C> as Clone>::clone",
+            "<SideColors<C, Of> as Clone>::clone",
             |turn| clone(turn, red()),
         ),
-        ("<MarginColor<C> as Clone>::clone", clone_a_margin),
+        ("<SideColors<C, Of> as Clone>::clone (a margin)", clone_a_margin),
         (
             "<CompactConfig as Clone>::clone",
             |turn| clone(turn, CompactConfig::new()),

@@ -51,7 +51,7 @@ pub trait AnsiText {
 /// Two colors are equal where their texts are. Colors are ordered by prefix, then by suffix.
 #[derive(Drop)]
 pub struct ANSIBuf {
-    /// Its texts, or none where both are empty.
+    /// The two texts of the color, or none where both are empty.
     texts: Option<Arc<OwnedTexts>>,
 }
 
@@ -83,7 +83,7 @@ impl Model for ANSIBuf {
 }
 
 impl ANSIBuf {
-    /// The color of these two texts, which are copied. Empty texts take no memory.
+    /// Makes the color of these two texts, which are copied. Empty texts take no memory.
     pub fn new(alloc: Global, prefix: &str, suffix: &str) -> Result<Self, OutOfMemory>
         ensures texts { IfOk result (λ color. color ≡ record { prefix = prefix.now; suffix = suffix.now }) }
         ensures empty { prefix.now ≡ [] → suffix.now ≡ [] → IsOk result }
@@ -100,7 +100,7 @@ impl ANSIBuf {
         })
     }
 
-    /// The text before what is colored.
+    /// Returns the text before what is colored.
     pub fn get_prefix(&self) -> &str
         ensures { result.now ≡ self.now.prefix }
     {
@@ -110,7 +110,7 @@ impl ANSIBuf {
         }
     }
 
-    /// The text after what is colored.
+    /// Returns the text after what is colored.
     pub fn get_suffix(&self) -> &str
         ensures { result.now ≡ self.now.suffix }
     {
@@ -120,7 +120,7 @@ impl ANSIBuf {
         }
     }
 
-    /// Whether both texts are empty.
+    /// Returns whether both texts are empty.
     pub fn is_empty(&self) -> bool
         ensures { IsTrue result ↔ ((self.now.prefix ≡ []) × (self.now.suffix ≡ [])) }
     {
@@ -239,35 +239,35 @@ pub struct ANSIStr<'a> {
 impl<'a> ANSIStr<'a> {
     ghost use Rattle.tabled_border.specs.LentTexts.{lent_texts};
 
-    /// The color of these two texts.
+    /// Makes the color of these two texts.
     pub const fn new(prefix: &'a str, suffix: &'a str) -> Self
         ensures { lent_texts result ≡ record { prefix = prefix.now; suffix = suffix.now } }
     {
         ANSIStr { prefix, suffix }
     }
 
-    /// The color of two empty texts.
+    /// Makes the color of two empty texts.
     pub const fn empty() -> Self
         ensures { lent_texts result ≡ record { prefix = []; suffix = [] } }
     {
         ANSIStr::new("", "")
     }
 
-    /// The text before what is colored.
+    /// Returns the text before what is colored.
     pub const fn get_prefix(&self) -> &'a str
         ensures { result.now ≡ (lent_texts self.now).prefix }
     {
         self.prefix
     }
 
-    /// The text after what is colored.
+    /// Returns the text after what is colored.
     pub const fn get_suffix(&self) -> &'a str
         ensures { result.now ≡ (lent_texts self.now).suffix }
     {
         self.suffix
     }
 
-    /// Whether both texts are empty.
+    /// Returns whether both texts are empty.
     pub fn is_empty(&self) -> bool
         ensures { IsTrue result ↔ (((lent_texts self.now).prefix ≡ []) × ((lent_texts self.now).suffix ≡ [])) }
     {

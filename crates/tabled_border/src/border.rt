@@ -53,7 +53,7 @@ impl<T: Copy> Clone for Border<T> {
 impl<T> Border<T> {
     ghost use Rattle.tabled_border.specs.Border.{no_border};
 
-    /// A border of these sides and corners.
+    /// Makes a border of these sides and corners.
     pub const fn new(
         top: Option<T>,
         bottom: Option<T>,
@@ -87,7 +87,7 @@ impl<T> Border<T> {
         }
     }
 
-    /// A border with all sides and corners given.
+    /// Makes a border with all sides and corners given.
     pub const fn full(
         top: T,
         bottom: T,
@@ -121,7 +121,7 @@ impl<T> Border<T> {
         }
     }
 
-    /// A border with `c` on all sides and corners.
+    /// Makes a border with `c` on all sides and corners.
     pub const fn filled(c: T) -> Self
     where
         T: Copy,
@@ -139,14 +139,14 @@ impl<T> Border<T> {
         Border::full(c, c, c, c, c, c, c, c)
     }
 
-    /// A border with nothing given.
+    /// Makes a border with nothing given.
     pub const fn empty() -> Self
         ensures { result ≡ no_border }
     {
         Border::new(None, None, None, None, None, None, None, None)
     }
 
-    /// Whether the upper side or one of its corners is given.
+    /// Returns whether the upper side or one of its corners is given.
     pub fn has_top(&self) -> bool
         ensures { result ≡ list_any is_some
             (self.now.top ∷ self.now.left_top_corner ∷ self.now.right_top_corner ∷ []) }
@@ -154,7 +154,7 @@ impl<T> Border<T> {
         self.top.is_some() || self.left_top_corner.is_some() || self.right_top_corner.is_some()
     }
 
-    /// Whether the lower side or one of its corners is given.
+    /// Returns whether the lower side or one of its corners is given.
     pub fn has_bottom(&self) -> bool
         ensures { result ≡ list_any is_some
             (self.now.bottom ∷ self.now.left_bottom_corner ∷ self.now.right_bottom_corner ∷ []) }
@@ -164,7 +164,7 @@ impl<T> Border<T> {
             || self.right_bottom_corner.is_some()
     }
 
-    /// Whether the left side or one of its corners is given.
+    /// Returns whether the left side or one of its corners is given.
     pub fn has_left(&self) -> bool
         ensures { result ≡ list_any is_some
             (self.now.left ∷ self.now.left_top_corner ∷ self.now.left_bottom_corner ∷ []) }
@@ -172,7 +172,7 @@ impl<T> Border<T> {
         self.left.is_some() || self.left_top_corner.is_some() || self.left_bottom_corner.is_some()
     }
 
-    /// Whether the right side or one of its corners is given.
+    /// Returns whether the right side or one of its corners is given.
     pub fn has_right(&self) -> bool
         ensures { result ≡ list_any is_some
             (self.now.right ∷ self.now.right_top_corner ∷ self.now.right_bottom_corner ∷ []) }
@@ -182,7 +182,7 @@ impl<T> Border<T> {
             || self.right_bottom_corner.is_some()
     }
 
-    /// Whether all sides and corners are equal: each is as the upper side.
+    /// Returns whether all sides and corners are equal: each is as the upper side.
     pub fn is_same(&self) -> bool
     where
         T: PartialEq,
@@ -199,7 +199,7 @@ impl<T> Border<T> {
             && self.top == self.right_bottom_corner
     }
 
-    /// Whether nothing is given.
+    /// Returns whether nothing is given.
     pub fn is_empty(&self) -> bool
         ensures { IsTrue result ↔ (self.now ≡ no_border) }
     {
@@ -213,7 +213,7 @@ impl<T> Border<T> {
             && self.right_bottom_corner.is_none()
     }
 
-    /// The border with each side and corner that is given converted.
+    /// Returns the border with each side and corner that is given converted.
     pub fn convert<U: From<T>>(self) -> Border<U>
         ensures top { Converts U.from_gives self.top result.top }
         ensures bottom { Converts U.from_gives self.bottom result.bottom }

@@ -2,7 +2,7 @@
 use Rattle.std.proofs.Common.{◌≡◌, List, [], ◌∷◌, map, length, String, string_bytes, refl, arith, vec_len}
 use Rattle.std.specs.declared.vec.Vec.{Vec}
 use Rattle.std.proofs.lemmas.List.{length-map}
-use Rattle.tabled_printing.specs.Texts.{texts}
+use Rattle.tabled_width.specs.Texts.{texts}
 
 module _ {Z W : Type 0} where
   pub lengths : (rows : List (Vec (String Z) W)) → map vec_len rows ≡ map length (texts rows)

@@ -1,7 +1,7 @@
 -- Records of a table that is to be.
 use Rattle.std.specs.Prelude.{ℕ, ◌-◌, List, [], ◌++◌, map, length, replicate}
 use Rattle.tabled_cells.specs.Placed.{greatest}
-use Rattle.tabled_printing.specs.Texts.{Table}
+use Rattle.tabled_width.specs.Texts.{Table}
 use Rattle.tabled_rows.specs.Rows.{filled_to, column_put}
 
 -- how many columns records have: as many as the longest has texts

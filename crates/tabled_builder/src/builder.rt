@@ -3,7 +3,7 @@
 ghost use Rattle.std.specs.Prelude.{◌≡◌, [], ◌∷◌, ◌++◌, length, map, option_map, slice_get, string_bytes, IfOk, OnOk, OnErr};
 ghost use Rattle.std.specs.List.{insert, remove};
 ghost use Rattle.tabled_configuration.specs.Colored.{Shows};
-ghost use Rattle.tabled_printing.specs.Texts.{texts};
+ghost use Rattle.tabled_width.specs.Texts.{texts};
 ghost use Rattle.tabled_builder.specs.Records.{columns, filled, with_column};
 
 use crate::records::{columns_of, new_records};
@@ -31,7 +31,7 @@ impl Drop for Builder {
 }
 
 impl Model for Builder {
-    ghost use Rattle.tabled_printing.specs.Texts.{Table, texts};
+    ghost use Rattle.tabled_width.specs.Texts.{Table, texts};
 
     ghost Value = { Table };
 
@@ -39,7 +39,7 @@ impl Model for Builder {
 }
 
 impl Builder {
-    /// A builder without records.
+    /// Makes a builder without records.
     pub fn new(alloc: Global) -> Self
         ensures { result ≡ [] }
     {
@@ -48,7 +48,7 @@ impl Builder {
         }
     }
 
-    /// A builder of these records, which may be of unlike length.
+    /// Makes a builder of these records, which may be of unlike length.
     pub fn from_rows(records: Vec<Vec<String>>) -> Self
         ensures { result ≡ texts records.items }
     {
@@ -125,21 +125,21 @@ impl Builder {
         remove_column(&mut self.records, index);
     }
 
-    /// How many records there are.
+    /// Returns how many records there are.
     pub fn count_records(&self) -> usize
         ensures { result ≡ length self.now }
     {
         self.records.len()
     }
 
-    /// How many columns there are: as many as the longest record has texts.
+    /// Returns how many columns there are: as many as the longest record has texts.
     pub fn count_columns(&self) -> usize
         ensures { result ≡ columns self.now }
     {
         columns_of(&self.records)
     }
 
-    /// A table of the records, each filled with empty texts up to the longest. Only memory can be refused.
+    /// Returns a table of the records, each filled with empty texts up to the longest. Only memory can be refused.
     pub fn build(self) -> Result<TextTable, OutOfMemory>
         ensures texts { IfOk result (λ table. table.texts ≡ filled self) }
         ensures config { IfOk result (λ table. Shows [] table.config) }

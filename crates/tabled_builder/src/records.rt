@@ -1,7 +1,7 @@
 //! Records that are filled up, and new ones.
 
 ghost use Rattle.std.specs.Prelude.{◌≡◌, ◌<◌, [], IfOk, OnOk, map, max, replicate, length};
-ghost use Rattle.tabled_printing.specs.Texts.{texts};
+ghost use Rattle.tabled_width.specs.Texts.{texts};
 ghost use Rattle.tabled_rows.specs.Rows.{HasRoom, filled_to};
 ghost use Rattle.tabled_builder.specs.Records.{columns};
 

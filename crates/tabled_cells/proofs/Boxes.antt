@@ -9,8 +9,8 @@ use Rattle.unicode_width.specs.declared.state.After.{After}
 use Rattle.unicode_width.specs.declared.state.After.TheVariants.{Alef, SolidusAlef}
 use Rattle.unicode_width.specs.declared.state.State.{State}
 use Rattle.unicode_width.specs.Kind.{kind, is_ligature_transparent}
-use Rattle.tabled_printing.specs.Columns.{is_narrow_kind}
-use Rattle.tabled_printing.proofs.Ranges.{in_range}
+use Rattle.tabled_width.specs.Narrow.{is_narrow_kind}
+use Rattle.tabled_width.proofs.Ranges.{in_range}
 use Rattle.unicode_width.specs.Width.{plain, of_kind, alone, joins, before_alef, is_lam, is_emoji, Reading, past_selectors, in_context, past_emoji, step, is_emoji_variation_base, is_emoji_modifier_base}
 
 -- a character that no rule joins to what follows it

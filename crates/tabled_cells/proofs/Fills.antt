@@ -9,15 +9,14 @@ use Rattle.std.proofs.lemmas.List.Elements.{All-replicate, All-weaker}
 use Rattle.std.proofs.lemmas.List.Sums.{AllPass-from_list_all, list_all-from_AllPass}
 use Rattle.std.proofs.lemmas.Str.{encodes-IsAscii}
 use Rattle.unicode_width.specs.Width.{plain, read_before, str_width}
-use Rattle.tabled_width.specs.Texts.{is_printable, begins_with}
+use Rattle.tabled_width.specs.Texts.{is_printable, begins_with, times, width_of_text}
 use Rattle.tabled_width.proofs.AfterSpace.{spaces_before}
 use Rattle.tabled_width.proofs.Prefixes.{width_before}
 use Rattle.tabled_width.proofs.Printing.{printable_ascii}
-use Rattle.tabled_printing.specs.Columns.{draws_plainly, is_narrow}
-use Rattle.tabled_printing.specs.Texts.{times, width_of_text}
-use Rattle.tabled_printing.proofs.Ranges.{plainly_narrow}
-use Rattle.tabled_printing.proofs.Tiles.{Tile, Tile-append, Tile-narrow, Tile-times, Splits-encoded, chars_of}
-use Rattle.tabled_printing.proofs.TimesLemmas.{times_spaces}
+use Rattle.tabled_width.specs.Narrow.{draws_plainly, is_narrow}
+use Rattle.tabled_width.proofs.Ranges.{plainly_narrow}
+use Rattle.tabled_width.proofs.Tiles.{Tile, Tile-append, Tile-narrow, Tile-times, Splits-encoded, chars_of}
+use Rattle.tabled_width.proofs.TimesLemmas.{times_spaces}
 use Rattle.tabled_cells.specs.Placed.{fills, fill_of}
 use Rattle.tabled_cells.proofs.Boxes.{box_step}
 

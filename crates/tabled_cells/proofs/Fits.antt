@@ -17,20 +17,19 @@ use Rattle.tabled_settings.specs.declared.sides.Sides.{Sides}
 use Rattle.tabled_settings.specs.Live.{value_at}
 use Rattle.tabled_settings.specs.Padding.{first_padding, keeps_first_padding}
 use Rattle.tabled_settings.proofs.Paddings.{no_padding_at}
-use Rattle.tabled_printing.specs.Columns.{draws_plainly, is_narrow}
-use Rattle.tabled_width.specs.Texts.{is_printable}
+use Rattle.tabled_width.specs.Narrow.{draws_plainly, is_narrow}
+use Rattle.tabled_width.specs.Texts.{is_printable, pieces, width_of_text}
 use Rattle.tabled_width.specs.Limited.{IsPrintableText}
-use Rattle.tabled_printing.proofs.Ranges.{plainly_narrow}
-use Rattle.tabled_printing.specs.Texts.{pieces, width_of_text}
+use Rattle.tabled_width.proofs.Ranges.{plainly_narrow}
 use Rattle.tabled_width.proofs.PieceFacts.{all_lack, all_texts}
 use Rattle.tabled_width.proofs.AfterSpace.{IsUtf8-spaces, one_space, space_read, spaces_before}
-use Rattle.tabled_printing.proofs.Tiles.{IsOther, Lacks, Tile, Tile-append, Tile-same, Tile-space, Tile-times, Splits, Splits-append, Splits-encoded, Splits-utf8, char_lacks, narrow_other}
+use Rattle.tabled_width.proofs.Tiles.{IsOther, Lacks, Tile, Tile-append, Tile-same, Tile-space, Tile-times, Splits, Splits-append, Splits-encoded, Splits-utf8, char_lacks, narrow_other}
 use Rattle.tabled_cells.specs.declared.filling.LineParts.{LineParts}
 use Rattle.tabled_cells.specs.declared.placement.Placement.{Placement}
 use Rattle.tabled_cells.specs.Trimmed.{without_ends, is_space, is_blank, line_shown, lines_shown}
 use Rattle.tabled_cells.specs.Placements.{placement_at}
 use Rattle.tabled_cells.specs.Placed.{StartsWithSpaces, padding_shown, fill_shown, line_parts, lines_above, free_before, times, filled, fill_of, greatest, aligned_width}
-use Rattle.tabled_printing.proofs.TimesLemmas.{times_spaces}
+use Rattle.tabled_width.proofs.TimesLemmas.{times_spaces}
 use Rattle.tabled_cells.proofs.Fills.{Printable, bytes_tile, fill_narrow, fill_before}
 use Rattle.tabled_cells.proofs.Trimming.{ends_off}
 

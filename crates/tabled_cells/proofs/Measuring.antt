@@ -2,7 +2,7 @@
 use Rattle.std.proofs.Common.{◌≡◌, ◌≢◌, ℕ, ◌-◌, Bool, true, false, if◌then◌else◌, List, map, refl, ap}
 use Rattle.tabled_settings.specs.declared.alignment.AlignmentHorizontal.{AlignmentHorizontal}
 use Rattle.tabled_settings.specs.declared.alignment.AlignmentHorizontal.TheVariants.{Left}
-use Rattle.tabled_printing.specs.Texts.{width_of_text}
+use Rattle.tabled_width.specs.Texts.{width_of_text}
 use Rattle.tabled_cells.specs.declared.filling.LineParts.{LineParts}
 use Rattle.tabled_cells.specs.declared.placement.Placement.{Placement}
 use Rattle.tabled_cells.specs.Placed.{greatest, free_before, fill_of, line_parts, aligned_width}

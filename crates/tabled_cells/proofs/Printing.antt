@@ -5,8 +5,7 @@ use Rattle.std.specs.List.{list_all}
 use Rattle.std.proofs.lemmas.Bool.Decides.{nat_tests}
 use Rattle.std.proofs.lemmas.List.Splits.{slice_split_none}
 use Rattle.std.proofs.lemmas.List.Sums.{AllPass-from_list_all}
-use Rattle.tabled_printing.specs.Texts.{pieces}
-use Rattle.tabled_width.specs.Texts.{is_printable}
+use Rattle.tabled_width.specs.Texts.{pieces, is_printable}
 
 no_line_feed : (b : ℕ) → is_printable b ≡ true → eqb b 10 ≡ false
 no_line_feed b h = grind (arith, nat_tests)

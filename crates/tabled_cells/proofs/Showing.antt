@@ -1,7 +1,7 @@
 -- The lines that are had of a text.
 use Rattle.std.proofs.Common.{◌≡◌, ℕ, ◌+◌, ◌-◌, ◌<◌, ◌≤◌, List, [], ◌∷◌, take, drop, length, get_or, sym, ap, ◌∙◌, arith}
 use Rattle.std.proofs.lemmas.List.{drop-drop, get_or-map, get_or-take, length-take-le}
-use Rattle.tabled_printing.specs.Texts.{pieces}
+use Rattle.tabled_width.specs.Texts.{pieces}
 use Rattle.tabled_cells.specs.declared.shown_lines.ShownLines.{ShownLines}
 use Rattle.tabled_cells.specs.Shown.{shown}
 use Rattle.tabled_cells.specs.Trimmed.{line_trimmed}

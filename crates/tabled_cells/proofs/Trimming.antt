@@ -5,7 +5,7 @@ use Rattle.std.proofs.lemmas.Bool.{cond-true, cond-false, cond_both, ne_eqb}
 use Rattle.std.proofs.lemmas.List.{map_push, reverse-append, reverse-reverse, drop_more, take-append-drop, take_more, take_all}
 use Rattle.std.proofs.lemmas.Grind.{common_steps}
 use Rattle.std.proofs.lemmas.List.Folds.{list_all-append}
-use Rattle.tabled_printing.specs.Texts.{pieces}
+use Rattle.tabled_width.specs.Texts.{pieces}
 use Rattle.tabled_cells.specs.declared.placement.Placement.{Placement}
 use Rattle.tabled_cells.specs.Trimmed.{without_first, without_last, without_ends, is_space, is_blank, line_trimmed, line_shown, lines_shown, first_lines}
 

@@ -1,5 +1,5 @@
 -- A cell as it is printed: where its text stands in it, and what fills the rest.
-pub use Rattle.tabled_printing.specs.Texts.{times}
+pub use Rattle.tabled_width.specs.Texts.{times}
 pub use Rattle.tabled_rooms.specs.Sizes.{greatest}
 use Rattle.std.specs.Prelude.{◌≡◌, ℕ, Bool, true, ◌+◌, ◌-◌, ◌/◌, ◌&&◌, ◌||◌, not, if◌then◌else◌, List, ◌++◌, map, chars}
 use Rattle.std.specs.Int.{is_in_range}
@@ -8,9 +8,8 @@ use Rattle.tabled_settings.specs.declared.alignment.AlignmentHorizontal.{Alignme
 use Rattle.tabled_settings.specs.declared.alignment.AlignmentVertical.{AlignmentVertical}
 use Rattle.tabled_settings.specs.declared.indent.Indent.{Indent}
 use Rattle.tabled_settings.specs.declared.sides.Sides.{Sides}
-use Rattle.tabled_printing.specs.Columns.{draws_plainly, is_narrow}
-use Rattle.tabled_printing.specs.Texts.{width_of_text}
-use Rattle.tabled_width.specs.Texts.{is_printable, begins_with}
+use Rattle.tabled_width.specs.Narrow.{draws_plainly, is_narrow}
+use Rattle.tabled_width.specs.Texts.{width_of_text, is_printable, begins_with}
 use Rattle.tabled_cells.specs.declared.filling.LineParts.{LineParts}
 use Rattle.tabled_cells.specs.declared.placement.Placement.{Placement}
 

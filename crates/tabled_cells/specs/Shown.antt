@@ -1,7 +1,7 @@
 -- The lines that are had of a text, and how wide they are as one.
 use Rattle.std.specs.Prelude.{◌≡◌, ◌≢◌, ℕ, false, List, map}
 use Rattle.tabled_settings.specs.declared.alignment.AlignmentHorizontal.{AlignmentHorizontal as Side}
-use Rattle.tabled_printing.specs.Texts.{pieces, width_of_text}
+use Rattle.tabled_width.specs.Texts.{pieces, width_of_text}
 use Rattle.tabled_cells.specs.declared.placement.Placement.{Placement}
 use Rattle.tabled_cells.specs.declared.shown_lines.ShownLines.{ShownLines}
 use Rattle.tabled_cells.specs.Placed.{greatest}

@@ -2,7 +2,7 @@
 use Rattle.std.specs.Prelude.{ℕ, Bool, ◌==◌, if◌then◌else◌, Option, Some, None, List, [], ◌∷◌, map, reverse, take}
 use Rattle.std.specs.List.{list_all}
 use denote.Ref.{Bor}
-use Rattle.tabled_printing.specs.Texts.{pieces}
+use Rattle.tabled_width.specs.Texts.{pieces}
 use Rattle.tabled_cells.specs.declared.placement.Placement.{Placement}
 
 -- a list without the elements at its start that pass a test, without those at its end, and without those at both its ends

@@ -6,8 +6,7 @@ ghost use Rattle.tabled_cells.specs.Placed as parts;
 
 use crate::Placement;
 use crate::placement::free_before;
-use tabled_printing::draws_plainly;
-use tabled_width::{is_printable, width_of};
+use tabled_width::{draws_plainly, is_printable, width_of};
 
 /// What stands beside the text of a line, between its padding.
 #[derive(Clone, Copy, Debug)]
@@ -55,7 +54,7 @@ fn fill_of(character: char, line: &str) -> char
     }
 }
 
-/// How a line in a column is filled, where something as wide as `aligned` is aligned.
+/// Returns how a line in a column is filled, where something as wide as `aligned` is aligned.
 #[tactic(auto, unfolding(crate::specs::Placed::line_parts))]
 pub fn line_parts(how: &Placement, width: usize, aligned: usize, line: &str) -> LineParts
     ensures { result ≡ parts.line_parts how.now width aligned line.now }

@@ -5,8 +5,8 @@ ghost use Rattle.tabled_cells.specs.Placed as parts;
 
 use tabled_configuration::SpannedConfig;
 use tabled_object::Position;
-use tabled_printing::draws_plainly;
 use tabled_settings::{AlignmentHorizontal, AlignmentVertical, Indent, Sides};
+use tabled_width::draws_plainly;
 
 /// How the text of a cell stands in it, and what fills the rest.
 #[derive(Clone, Copy, Debug)]
@@ -30,7 +30,7 @@ pub struct Placement {
 impl Placement {
     ghost use Rattle.tabled_cells.specs.Placements.{placement_at};
 
-    /// How the text of a cell stands in it, by what is set for the cell.
+    /// Makes the placement of the text of a cell, by what is set for the cell.
     #[tactic(auto, unfolding(crate::specs::Placements::placement_at))]
     pub fn of(cfg: &SpannedConfig, position: Position) -> Self
         ensures { result ≡ placement_at cfg.now.settings.cells position.row position.col }
@@ -47,7 +47,7 @@ impl Placement {
     }
 }
 
-/// How much of what is free in a line stands before the text.
+/// Returns how much of what is free in a line stands before the text.
 pub fn free_before(alignment: AlignmentHorizontal, free: usize) -> usize
     ensures value { result ≡ parts.free_before alignment free }
     ensures within { result ≤ free }
@@ -71,7 +71,8 @@ fn free_above(alignment: AlignmentVertical, free: usize) -> usize
     }
 }
 
-/// How many lines of a cell stand above its text, which has so many: those of its padding, and of the free ones what its alignment says.
+/// Returns how many lines of a cell stand above its text, which has so many: those of its padding, and of the free ones what its alignment
+/// says.
 pub fn lines_above(how: &Placement, height: usize, count: usize) -> usize
     ensures { result ≡ parts.lines_above how.now height count }
 {
@@ -83,7 +84,7 @@ pub fn lines_above(how: &Placement, height: usize, count: usize) -> usize
     padding.top.size + free_above(how.alignment_vertical, free)
 }
 
-/// What is shown of the character that fills a side: the character where it draws plainly, else a space.
+/// Returns what is shown of the character that fills a side: the character where it draws plainly, else a space.
 pub fn fill_shown(character: char) -> char
     ensures { result ≡ parts.fill_shown character }
 {

@@ -1,7 +1,7 @@
 //! The lines of a text that are shown.
 
 ghost use Rattle.std.specs.Prelude.{◌≡◌, ◌<◌, ◌≤◌, [], drop, length, map, IfSome, MatchOption, if◌then◌else◌, slice_index_or};
-ghost use Rattle.tabled_printing.specs.Texts.{pieces, width_of_text};
+ghost use Rattle.tabled_width.specs.Texts.{pieces, width_of_text};
 ghost use Rattle.tabled_cells.specs.Trimmed.{pieces_left};
 
 use crate::Placement;
@@ -32,7 +32,7 @@ impl<'a> ShownLines<'a> {
     ghost use Rattle.tabled_cells.specs.Trimmed.{first_lines, lines_shown};
     ghost use Rattle.tabled_cells.specs.Shown.{shown, KnowsWidest};
 
-    /// The lines of a text that are shown, of a cell that is placed so.
+    /// Makes the lines of a text that are shown, of a cell that is placed so.
     pub fn of(how: &Placement, text: &'a str) -> Self
         ensures lines { shown result ≡ lines_shown how.now text.now }
         ensures widest { KnowsWidest how.now result }
@@ -75,7 +75,7 @@ impl<'a> ShownLines<'a> {
         }
     }
 
-    /// The same lines, with the widest known.
+    /// The lines of a text once it is known how wide the widest of them is.
     #[tactic(auto, unfolding(crate::specs::Shown::shown))]
     fn measured(self) -> Self
         ensures lines { shown result ≡ shown self.entry }
@@ -92,7 +92,7 @@ impl<'a> ShownLines<'a> {
         lines
     }
 
-    /// How many lines there are.
+    /// Returns how many lines there are.
     #[tactic(auto, unfolding(crate::specs::Shown::shown))]
     pub fn len(&self) -> usize
         ensures { result ≡ length (shown self.now) }
@@ -129,7 +129,7 @@ impl<'a> ShownLines<'a> {
         Some(line_trimmed(self.trims, line))
     }
 
-    /// How wide what is aligned is: a line by itself, or all lines as one.
+    /// Returns how wide what is aligned is: a line by itself, or all lines as one.
     pub fn aligned(&self, how: &Placement, line: &str) -> usize
         ensures { result ≡ (if how.now.line_alignment then width_of_text line.now else self.now.widest) }
     {

@@ -1,7 +1,7 @@
 //! The lines of a text, and what is trimmed of them.
 
 ghost use Rattle.std.specs.Prelude.{◌≡◌, ◌<◌, ◌≤◌, [], ◌∷◌, reverse, take, drop, length, IfSome, MatchOption};
-ghost use Rattle.tabled_printing.specs.Texts.{pieces};
+ghost use Rattle.tabled_width.specs.Texts.{pieces};
 ghost use Rattle.tabled_cells.specs.Trimmed.{without_first, without_last, is_space, pieces_left};
 ghost use Rattle.tabled_cells.specs.Trimmed as shown;
 

@@ -6,25 +6,25 @@ use Rattle.std.proofs.lemmas.Bool.{and_parts, eqb-true}
 use Rattle.std.proofs.lemmas.List.Elements.{All-map}
 use Rattle.std.proofs.lemmas.List.FromFn.{get_or-map-range_with_len, length-map-range_with_len}
 use Rattle.tabled_object.specs.Entities.{below}
-use Rattle.tabled_grid.specs.declared.place.LineOf.{LineOf}
+use Rattle.tabled_places.specs.declared.place.LineOf.{LineOf}
 use Rattle.tabled_layout.specs.declared.margin.Margin.{Margin}
 use Rattle.tabled_configuration.specs.Configuration.{ConfigEvent}
 use Rattle.tabled_printing.specs.Along.{is_empty}
 use Rattle.tabled_printing.specs.Picture.{Look, text_lines, marks_along, line_if_drawn, row_lines}
-use Rattle.tabled_printing.specs.Texts.{Table, pieces}
+use Rattle.tabled_width.specs.Texts.{Table, pieces}
 use Rattle.tabled_cells.specs.Placements.{placement_at}
 use Rattle.tabled_cells.specs.Trimmed.{lines_shown}
-use Rattle.tabled_printing.proofs.PieceTexts.{cut_lines}
-use Rattle.tabled_printing.proofs.Tiles.{Lacks}
+use Rattle.tabled_width.proofs.PieceTexts.{cut_lines}
+use Rattle.tabled_width.proofs.Tiles.{Lacks}
 use Rattle.tabled_cells.proofs.Fits.{placed_at_lacks, settings_lack}
 use Rattle.tabled_painting.specs.Painted.{plain}
 use Rattle.tabled_painting.specs.CellLines.{coloring_at}
 use Rattle.tabled_painting.specs.Margin.{in_margin, is_without_room}
 use Rattle.tabled_painting.specs.PaintedTable.{Cells, painted_cells, painted_lines, painted_table}
 use Rattle.tabled_painting.proofs.Plain.{ShowsTexts, plain_cell, plain_lines, without_room}
-use Rattle.tabled_text.specs.Sizes.{column_count, column_widths, row_heights}
-use Rattle.tabled_text.specs.Cells.{cells_set, cell_colors, cell_texts}
-use Rattle.tabled_text.specs.TextTable.{look_of}
+use Rattle.tabled_measure.specs.Sizes.{column_count, column_widths, row_heights}
+use Rattle.tabled_measure.specs.Cells.{cells_set, cell_colors}
+use Rattle.tabled_text.specs.TextTable.{cell_texts, look_of}
 
 no_lines : (view : Look) (cells : Table) → is_empty view.shape ≡ true → text_lines view cells ≡ []
 no_lines view cells empty =

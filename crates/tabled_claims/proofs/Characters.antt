@@ -11,30 +11,30 @@ use Rattle.tabled_border.specs.Texts.{Texts}
 use Rattle.tabled_object.specs.declared.entity.Entity.{Entity}
 use Rattle.tabled_object.specs.Entities.{cells_of, is_inside}
 use Rattle.tabled_object.specs.Listing.{listed}
-use Rattle.tabled_grid.specs.declared.borders.Borders.{Borders}
-use Rattle.tabled_grid.specs.declared.event.Event.{Event}
-use Rattle.tabled_grid.specs.declared.event.Event.TheVariants.{Write as write, Erase as erase}
-use Rattle.tabled_grid.specs.declared.event.Written.TheVariants.{Sign as sign}
-use Rattle.tabled_grid.specs.declared.event.Region.TheVariants.{All as every_site, One as one_site}
-use Rattle.tabled_grid.specs.declared.lines.HorizontalLine.{HorizontalLine}
-use Rattle.tabled_grid.specs.declared.lines.VerticalLine.{VerticalLine}
-use Rattle.tabled_grid.specs.declared.place.LineOf.{LineOf}
-use Rattle.tabled_grid.specs.declared.place.Place.{Place}
-use Rattle.tabled_grid.specs.declared.place.Rank.TheVariants.{First as at_first, Inner as inside, Last as at_last}
-use Rattle.tabled_grid.specs.declared.site.Class.{Class}
-use Rattle.tabled_grid.specs.declared.site.Class.TheVariants.{Edges as edges, Crossings as crossings}
-use Rattle.tabled_grid.specs.declared.site.Direction.TheVariants.{Horizontal, Vertical}
-use Rattle.tabled_grid.specs.declared.site.Part.{Part}
-use Rattle.tabled_grid.specs.declared.site.Site.{Site}
-use Rattle.tabled_grid.specs.declared.site.Site.TheVariants.{Class as of_class, Cell as at_spot}
-use Rattle.tabled_grid.specs.declared.site.Spot.{Spot}
-use Rattle.tabled_grid.specs.declared.site.Spot.TheVariants.{Edge, Crossing}
-use Rattle.tabled_grid.specs.Borders.{has_horizontal, has_vertical}
-use Rattle.tabled_grid.specs.Calls.{given_write, places_set, places_erased, spots_erased, spot_of, frame_erased, border_set, border_erased, borders_of, borders_erased, entity_border_set, entity_border_erased}
-use Rattle.tabled_grid.specs.CellBorder.{border_fields, border_places}
-use Rattle.tabled_grid.specs.Lines.{part_write, horizontal_line_set, vertical_line_set}
-use Rattle.tabled_grid.specs.Site.{class_value}
-use Rattle.tabled_grid.specs.State.{class_record_set, class_writes, classes}
+use Rattle.tabled_places.specs.declared.borders.Borders.{Borders}
+use Rattle.tabled_places.specs.declared.event.Event.{Event}
+use Rattle.tabled_places.specs.declared.event.Event.TheVariants.{Write as write, Erase as erase}
+use Rattle.tabled_places.specs.declared.event.Written.TheVariants.{Sign as sign}
+use Rattle.tabled_places.specs.declared.event.Region.TheVariants.{All as every_site, One as one_site}
+use Rattle.tabled_places.specs.declared.lines.HorizontalLine.{HorizontalLine}
+use Rattle.tabled_places.specs.declared.lines.VerticalLine.{VerticalLine}
+use Rattle.tabled_places.specs.declared.place.LineOf.{LineOf}
+use Rattle.tabled_places.specs.declared.place.Place.{Place}
+use Rattle.tabled_places.specs.declared.place.Rank.TheVariants.{First as at_first, Inner as inside, Last as at_last}
+use Rattle.tabled_places.specs.declared.site.Class.{Class}
+use Rattle.tabled_places.specs.declared.site.Class.TheVariants.{Edges as edges, Crossings as crossings}
+use Rattle.tabled_places.specs.declared.site.Direction.TheVariants.{Horizontal, Vertical}
+use Rattle.tabled_places.specs.declared.site.Part.{Part}
+use Rattle.tabled_places.specs.declared.site.Site.{Site}
+use Rattle.tabled_places.specs.declared.site.Site.TheVariants.{Class as of_class, Cell as at_spot}
+use Rattle.tabled_places.specs.declared.site.Spot.{Spot}
+use Rattle.tabled_places.specs.declared.site.Spot.TheVariants.{Edge, Crossing}
+use Rattle.tabled_places.specs.Borders.{has_horizontal, has_vertical}
+use Rattle.tabled_places.specs.Calls.{given_write, places_set, places_erased, spots_erased, spot_of, frame_erased, border_set, border_erased, borders_of, borders_erased, entity_border_set, entity_border_erased}
+use Rattle.tabled_places.specs.CellBorder.{border_fields, border_places}
+use Rattle.tabled_places.specs.Lines.{part_write, horizontal_line_set, vertical_line_set}
+use Rattle.tabled_places.specs.Site.{class_value}
+use Rattle.tabled_places.specs.State.{class_record_set, class_writes, classes}
 use Rattle.tabled_configuration.specs.Configuration.{ConfigEvent, characters_of, settings_of, by_characters, by_colors, borders_replaced, borders_set, horizontal_lines_put, vertical_lines_put}
 use Rattle.tabled_configuration.specs.Options.{entity_bordered, entity_unbordered, framed, inner_of, table_bordered, table_unbordered}
 use Rattle.tabled_printing.specs.Picture.{Look}

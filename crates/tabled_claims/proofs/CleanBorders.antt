@@ -4,14 +4,14 @@ use Rattle.std.specs.Prelude.{filter, option_and_then}
 use Rattle.std.specs.List.{list_all, last_or}
 use Rattle.std.proofs.lemmas.Bool.{and_parts, not-true}
 use Rattle.tabled_clean.specs.Steering.{steers}
-use Rattle.tabled_grid.specs.declared.place.Place.{Place}
-use Rattle.tabled_grid.specs.declared.site.Site.{Site}
-use Rattle.tabled_grid.specs.declared.event.Event.{Event}
-use Rattle.tabled_grid.specs.declared.event.Event.TheVariants.{Write as write, Erase as erase}
-use Rattle.tabled_grid.specs.declared.event.Written.{Written}
-use Rattle.tabled_grid.specs.declared.event.Written.TheVariants.{Sign as sign, Standing as standing}
-use Rattle.tabled_grid.specs.Event.{covers, left_by, replay}
-use Rattle.tabled_grid.specs.Value.{first_sign, sign_or, sites, inside, value}
+use Rattle.tabled_places.specs.declared.place.Place.{Place}
+use Rattle.tabled_places.specs.declared.site.Site.{Site}
+use Rattle.tabled_places.specs.declared.event.Event.{Event}
+use Rattle.tabled_places.specs.declared.event.Event.TheVariants.{Write as write, Erase as erase}
+use Rattle.tabled_places.specs.declared.event.Written.{Written}
+use Rattle.tabled_places.specs.declared.event.Written.TheVariants.{Sign as sign, Standing as standing}
+use Rattle.tabled_places.specs.Event.{covers, left_by, replay}
+use Rattle.tabled_places.specs.Value.{first_sign, sign_or, sites, inside, value}
 use Rattle.tabled_configuration.specs.Configuration.{ConfigEvent, characters_of}
 use Rattle.tabled_printing.specs.Picture.{character, look, edge_size}
 use Rattle.tabled_claims.specs.Clean.{is_clean_write}

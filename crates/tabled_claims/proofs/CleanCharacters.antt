@@ -13,7 +13,7 @@ use Rattle.unicode_width.proofs.Computing.{unicode_width}
 use Rattle.unicode_width.specs.Kind.{kind}
 use Rattle.tabled_clean.specs.Steering.{steers}
 use Rattle.tabled_clean.proofs.SteeringLemmas.{above}
-use Rattle.tabled_printing.specs.Columns.{is_ambiguous_kind, draws_plainly}
+use Rattle.tabled_width.specs.Narrow.{is_ambiguous_kind, draws_plainly}
 use Rattle.tabled_painting.specs.Margin.{fill_shown}
 
 pub space_steers : steers 32 ≡ false

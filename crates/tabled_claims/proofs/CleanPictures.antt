@@ -7,8 +7,8 @@ use Rattle.std.proofs.lemmas.List.Elements.{All-nil, All-cons, All-head, All-tai
 use Rattle.tabled_clean.specs.Steering.{IsCleanText, steers, is_clean}
 use Rattle.tabled_border.specs.Texts.{Texts}
 use Rattle.tabled_object.specs.Entities.{below}
-use Rattle.tabled_grid.specs.declared.place.Place.{Place}
-use Rattle.tabled_grid.specs.declared.place.LineOf.{LineOf}
+use Rattle.tabled_places.specs.declared.place.Place.{Place}
+use Rattle.tabled_places.specs.declared.place.LineOf.{LineOf}
 use Rattle.tabled_settings.specs.declared.cell_settings.CellSettings.{CellSettings}
 use Rattle.tabled_settings.specs.declared.indent.Indent.{Indent}
 use Rattle.tabled_settings.specs.declared.sides.Sides.{Sides}
@@ -17,7 +17,7 @@ use Rattle.tabled_layout.specs.declared.margin.Margin.{Margin}
 use Rattle.tabled_configuration.specs.Configuration.{ConfigEvent}
 use Rattle.tabled_printing.specs.Along.{is_empty, along, crossing_at}
 use Rattle.tabled_printing.specs.Picture.{Look, character, look, mark_at, marks_along}
-use Rattle.tabled_printing.specs.Texts.{Table, width_of_text}
+use Rattle.tabled_width.specs.Texts.{Table, width_of_text}
 use Rattle.tabled_cells.specs.declared.placement.Placement.{Placement}
 use Rattle.tabled_cells.specs.Placed.{times, lines_above as cell_lines_above, free_before, fills, fill_of, line_parts, aligned_width}
 use Rattle.tabled_cells.specs.Placements.{placement_at}
@@ -30,11 +30,11 @@ use Rattle.tabled_painting.specs.PaintedSpans.{columns_spanned, painted_as_set, 
 use Rattle.tabled_rooms.specs.Hosts.{Cell, Counts, host}
 use Rattle.tabled_painting.proofs.PainterLemmas.{plain_paint}
 use Rattle.tabled_painting.proofs.Plain.{plain_both}
-use Rattle.tabled_text.specs.Sizes.{column_count, column_widths, row_heights}
-use Rattle.tabled_text.specs.Cells.{cells_set, cell_colors, settings_set, leaves_sizes}
+use Rattle.tabled_measure.specs.Sizes.{column_count, column_widths, row_heights}
+use Rattle.tabled_measure.specs.Cells.{cells_set, cell_colors, settings_set, leaves_sizes}
 use Rattle.tabled_text.specs.TextTable.{look_of, look_with_spans, painted, text_of, widths_with_spans, heights_with_spans}
 use Rattle.tabled_claims.specs.Clean.{WritesClean}
-use Rattle.tabled_text.specs.Changed.{CellsAreClean}
+use Rattle.tabled_measure.specs.Changed.{CellsAreClean}
 use Rattle.tabled_claims.proofs.CleanCharacters.{space_steers, fill_steers}
 use Rattle.tabled_claims.proofs.CleanBorders.{borders_steer}
 use Rattle.tabled_claims.proofs.CleanTexts.{Quiet, Quiet-one, Quiet-nil, Quiet-append, Quiet-text, Quiet-times, Quiet-joined, quiet_clean, shown_clean}

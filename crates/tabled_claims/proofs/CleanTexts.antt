@@ -11,8 +11,8 @@ use Rattle.std.proofs.lemmas.Str.{chars-append, encodes-append, encodes-chars, e
 use Rattle.std.proofs.lemmas.Str.Ascii.{IsAscii-nil, IsAscii-cons}
 use Rattle.tabled_clean.specs.Steering.{IsCleanText, steers, is_clean}
 use Rattle.tabled_width.proofs.PieceFacts.{all_texts}
-use Rattle.tabled_printing.specs.Texts.{pieces, times}
-use Rattle.tabled_printing.proofs.Tiles.{chars_of}
+use Rattle.tabled_width.specs.Texts.{pieces, times}
+use Rattle.tabled_width.proofs.Tiles.{chars_of}
 use Rattle.tabled_cells.specs.declared.placement.Placement.{Placement}
 use Rattle.tabled_cells.specs.Trimmed.{without_first, without_ends, is_space, is_blank, line_shown, lines_shown}
 use Rattle.tabled_claims.proofs.CleanCharacters.{space_steers, feed_steers, is_plain_byte, bytes_plain}

@@ -17,7 +17,7 @@ use Rattle.tabled_layout.specs.declared.table_settings.TableSettings.{TableSetti
 use Rattle.tabled_layout.specs.TableSettings.{TableEvent, of_cells, of_margin, of_column_spans, of_row_spans, after_event, cell_event, first_settings, settings_after}
 use Rattle.tabled_configuration.specs.Configuration.{ConfigEvent, characters_of, settings_of}
 use Rattle.tabled_formatting.specs.Formatting.{Justifying, justification_set}
-use Rattle.tabled_text.specs.Cells.{cells_set}
+use Rattle.tabled_measure.specs.Cells.{cells_set}
 use Rattle.tabled_claims.specs.Characters.{WritesOnly}
 use Rattle.tabled_claims.specs.Clean.{WritesClean, fills_of, is_clean_if_given, is_clean_write, is_quiet}
 use Rattle.tabled_claims.proofs.Characters.{drawn_both, settings_both}

@@ -7,19 +7,20 @@ use Rattle.std.specs.Str.{chars}
 use Rattle.tabled_clean.specs.Steering.{steers}
 use Rattle.tabled_configuration.specs.Colored.{Colored, Changes}
 use Rattle.tabled_configuration.specs.Configuration.{ConfigEvent, settings_of, setting_event, borders_replaced, horizontal_lines_put, vertical_lines_put}
-use Rattle.tabled_grid.specs.declared.event.Event.TheVariants.{Erase as erase}
-use Rattle.tabled_grid.specs.declared.event.Region.TheVariants.{All as every_site}
-use Rattle.tabled_grid.specs.State.{class_record_set}
+use Rattle.tabled_places.specs.declared.event.Event.TheVariants.{Erase as erase}
+use Rattle.tabled_places.specs.declared.event.Region.TheVariants.{All as every_site}
+use Rattle.tabled_places.specs.State.{class_record_set}
 use Rattle.tabled_object.specs.declared.position.Position.{Position}
 use Rattle.tabled_settings.specs.Padding.{keeps_first_padding}
 use Rattle.tabled_layout.specs.Spans.{position_cmp}
 use Rattle.tabled_layout.specs.TableSettings.{settings_after, first_settings}
 use Rattle.tabled_style.specs.Shown.{StyleShown}
 use Rattle.tabled_theme.specs.Events.{style_applied}
-use Rattle.tabled_text.specs.Cells.{leaves_sizes}
-use Rattle.tabled_pages.proofs.NoSpans.{no_settings}
+use Rattle.tabled_measure.specs.Cells.{leaves_sizes}
+use Rattle.tabled_claims.proofs.NoSettings.{no_settings}
 use Rattle.tabled_configuration.proofs.ConfigurationLemmas.{Shows_after_change}
-use Rattle.tabled_printing.specs.Columns.{is_narrow, WritesNarrow}
+use Rattle.tabled_width.specs.Narrow.{is_narrow}
+use Rattle.tabled_printing.specs.Columns.{WritesNarrow}
 use Rattle.tabled_claims.specs.Clean.{ShowsPlainly, WritesClean, is_quiet}
 use Rattle.tabled_claims.proofs.Characters.{drawn_both}
 use Rattle.tabled_claims.proofs.CleanWrites.{clean_append}

@@ -5,14 +5,15 @@ use Rattle.std.proofs.lemmas.Bool.{and_from, and_parts}
 use Rattle.std.proofs.lemmas.List.Folds.{list_all-append}
 use Rattle.tabled_clean.specs.Steering.{steers}
 use Rattle.unicode_width.proofs.Computing.{unicode_width}
-use Rattle.tabled_grid.specs.declared.event.Event.{Event}
-use Rattle.tabled_grid.specs.declared.event.Event.TheVariants.{Write as write, Erase as erase}
-use Rattle.tabled_grid.specs.declared.event.Written.TheVariants.{Sign as sign, Standing as standing}
-use Rattle.tabled_grid.specs.declared.event.Region.TheVariants.{All as every_site}
-use Rattle.tabled_grid.specs.Lines.{horizontal_line_set}
-use Rattle.tabled_grid.specs.State.{class_record_set, class_writes, classes}
+use Rattle.tabled_places.specs.declared.event.Event.{Event}
+use Rattle.tabled_places.specs.declared.event.Event.TheVariants.{Write as write, Erase as erase}
+use Rattle.tabled_places.specs.declared.event.Written.TheVariants.{Sign as sign, Standing as standing}
+use Rattle.tabled_places.specs.declared.event.Region.TheVariants.{All as every_site}
+use Rattle.tabled_places.specs.Lines.{horizontal_line_set}
+use Rattle.tabled_places.specs.State.{class_record_set, class_writes, classes}
 use Rattle.tabled_configuration.specs.Configuration.{borders_replaced, horizontal_lines_put, vertical_lines_put}
-use Rattle.tabled_printing.specs.Columns.{is_narrow, WritesNarrow}
+use Rattle.tabled_width.specs.Narrow.{is_narrow}
+use Rattle.tabled_printing.specs.Columns.{WritesNarrow}
 use Rattle.tabled_style.specs.declared.ready_style.ReadyStyle.{ReadyStyle}
 use Rattle.tabled_style.specs.declared.ready_style.ReadyStyle.TheVariants as ready
 use Rattle.tabled_style.specs.Named.{shown, ready_applied}

@@ -4,13 +4,13 @@ use Rattle.std.proofs.lemmas.Bool.{cond_both, le-ltb}
 use Rattle.std.proofs.lemmas.List.{map-id}
 use Rattle.tabled_settings.specs.CellSettings.{first_settings}
 use Rattle.tabled_settings.specs.Padding.{first_padding}
-use Rattle.tabled_printing.specs.Texts.{pieces, width_of_text}
+use Rattle.tabled_width.specs.Texts.{pieces, width_of_text}
 use Rattle.tabled_cells.specs.declared.placement.Placement.{Placement}
 use Rattle.tabled_cells.specs.Placements.{placement_at}
 use Rattle.tabled_cells.specs.Trimmed.{lines_shown}
 use Rattle.tabled_cells.specs.Placed.{filled, line_parts, aligned_width}
 use Rattle.tabled_cells.proofs.Fits.{empty_line, placed_line, placed_at}
-use Rattle.tabled_printing.proofs.TimesLemmas.{times_spaces}
+use Rattle.tabled_width.proofs.TimesLemmas.{times_spaces}
 
 -- a line
 unset_line : (row col width aligned : ℕ) (line : List ℕ) → placed_line (placement_at first_settings row col) width aligned line ≡ 32 ∷ line ++ replicate (width - 2 - width_of_text line) 32 ++ 32 ∷ []

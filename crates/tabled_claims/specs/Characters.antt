@@ -2,15 +2,15 @@
 use Rattle.std.specs.Prelude.{◌≡◌, ℕ, Bool, true, Option, Some, None, List, [], ◌∷◌}
 use Rattle.std.specs.List.{list_all}
 use Rattle.tabled_border.specs.declared.border.Border.{Border}
-use Rattle.tabled_grid.specs.CellBorder.{border_fields}
-use Rattle.tabled_grid.specs.Site.{class_value}
-use Rattle.tabled_grid.specs.State.{classes}
-use Rattle.tabled_grid.specs.declared.borders.Borders.{Borders}
-use Rattle.tabled_grid.specs.declared.event.Event.{Event}
-use Rattle.tabled_grid.specs.declared.event.Event.TheVariants.{Write as write, Erase as erase}
-use Rattle.tabled_grid.specs.declared.event.Written.TheVariants.{Sign as sign, Standing as standing}
-use Rattle.tabled_grid.specs.declared.lines.HorizontalLine.{HorizontalLine}
-use Rattle.tabled_grid.specs.declared.lines.VerticalLine.{VerticalLine}
+use Rattle.tabled_places.specs.CellBorder.{border_fields}
+use Rattle.tabled_places.specs.Site.{class_value}
+use Rattle.tabled_places.specs.State.{classes}
+use Rattle.tabled_places.specs.declared.borders.Borders.{Borders}
+use Rattle.tabled_places.specs.declared.event.Event.{Event}
+use Rattle.tabled_places.specs.declared.event.Event.TheVariants.{Write as write, Erase as erase}
+use Rattle.tabled_places.specs.declared.event.Written.TheVariants.{Sign as sign, Standing as standing}
+use Rattle.tabled_places.specs.declared.lines.HorizontalLine.{HorizontalLine}
+use Rattle.tabled_places.specs.declared.lines.VerticalLine.{VerticalLine}
 use Rattle.tabled_configuration.specs.Configuration.{ConfigEvent, characters_of, settings_of}
 
 -- whether an event writes no other character than one that passes

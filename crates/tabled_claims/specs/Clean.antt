@@ -10,13 +10,13 @@ use Rattle.tabled_settings.specs.CellSettings.{justification_event}
 use Rattle.tabled_settings.specs.Live.{value_at}
 use Rattle.tabled_settings.specs.Setting.{EntityEvent}
 use Rattle.tabled_layout.specs.TableSettings.{cell_event}
-use Rattle.tabled_grid.specs.declared.borders.Borders.{Borders}
-use Rattle.tabled_grid.specs.declared.event.Event.{Event}
-use Rattle.tabled_grid.specs.declared.lines.HorizontalLine.{HorizontalLine}
-use Rattle.tabled_grid.specs.declared.lines.VerticalLine.{VerticalLine}
+use Rattle.tabled_places.specs.declared.borders.Borders.{Borders}
+use Rattle.tabled_places.specs.declared.event.Event.{Event}
+use Rattle.tabled_places.specs.declared.lines.HorizontalLine.{HorizontalLine}
+use Rattle.tabled_places.specs.declared.lines.VerticalLine.{VerticalLine}
 use Rattle.tabled_configuration.specs.Configuration.{Configuration, ConfigEvent, Shows, characters_of, settings_of}
 use Rattle.tabled_printing.specs.Columns.{WritesNarrow}
-use Rattle.tabled_text.specs.Cells.{cells_set, leaves_sizes}
+use Rattle.tabled_measure.specs.Cells.{cells_set, leaves_sizes}
 use Rattle.tabled_claims.specs.Characters.{is_passing_write, passes_if_given, passes_border, passes_record, passes_horizontal, passes_vertical}
 
 -- whether a character does not steer

@@ -1,5 +1,4 @@
 pub mod Characters
 pub mod Clean
 pub mod NarrowParts
-pub mod TextOrder
 pub mod Stretches

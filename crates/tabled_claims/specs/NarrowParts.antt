@@ -2,13 +2,13 @@
 use Rattle.std.specs.Prelude.{ℕ, Bool, true, Option, Some, None, [], ◌∷◌}
 use Rattle.std.specs.List.{list_all}
 use Rattle.tabled_border.specs.declared.border.Border.{Border}
-use Rattle.tabled_grid.specs.CellBorder.{border_fields}
-use Rattle.tabled_grid.specs.Site.{class_value}
-use Rattle.tabled_grid.specs.State.{classes}
-use Rattle.tabled_grid.specs.declared.borders.Borders.{Borders}
-use Rattle.tabled_grid.specs.declared.lines.HorizontalLine.{HorizontalLine}
-use Rattle.tabled_grid.specs.declared.lines.VerticalLine.{VerticalLine}
-use Rattle.tabled_printing.specs.Columns.{is_narrow}
+use Rattle.tabled_places.specs.CellBorder.{border_fields}
+use Rattle.tabled_places.specs.Site.{class_value}
+use Rattle.tabled_places.specs.State.{classes}
+use Rattle.tabled_places.specs.declared.borders.Borders.{Borders}
+use Rattle.tabled_places.specs.declared.lines.HorizontalLine.{HorizontalLine}
+use Rattle.tabled_places.specs.declared.lines.VerticalLine.{VerticalLine}
+use Rattle.tabled_width.specs.Narrow.{is_narrow}
 
 -- whether a character that may be given is narrow where it is
 abbrev pub is_narrow_if_given : Option ℕ → Bool

@@ -5,7 +5,7 @@ ghost use Rattle.std.specs.List.{All};
 ghost use Rattle.std.specs.Str.{IsUtf8};
 ghost use Rattle.tabled_settings.specs.declared.cell_settings.CellSettings.{CellSettings};
 ghost use Rattle.tabled_settings.specs.CellSettings.{first_settings};
-ghost use Rattle.tabled_printing.specs.Texts.{pieces, width_of_text};
+ghost use Rattle.tabled_width.specs.Texts.{pieces, width_of_text};
 ghost use Rattle.tabled_cells.specs.Placements.{placement_at};
 ghost use Rattle.tabled_cells.specs.Placed.{greatest};
 ghost use Rattle.tabled_cells.specs.Trimmed.{lines_shown};
@@ -32,8 +32,8 @@ pub fn placement_of_a_cell(cfg: &SpannedConfig, position: Position) -> Placement
     Placement::of(cfg, position)
 }
 
-/// Whatever is set for it, where its padding at the left is of spaces, each line of a cell is as wide as its column, where that leaves room for
-/// its text; also after any text that stands before it, where it begins with a space. Whatever is set, no line has a line feed.
+/// Whatever is set for it, where its padding at the left is of spaces, each line of a cell is as wide as its column, where that leaves room
+/// for its text; also after any text that stands before it, where it begins with a space. Whatever is set, no line has a line feed.
 pub fn cells_always_fit()
     ensures wide { (settings : CellSettings) (row col : ℕ) (colors : Coloring) (width height : ℕ) (text : List ℕ) (line : ℕ) → let how = placement_at settings row col in IsUtf8 text → how.padding.left.fill ≡ 32
         → how.padding.left.size + greatest (map width_of_text (pieces text)) + how.padding.right.size ≤ width

@@ -5,15 +5,16 @@ ghost use Rattle.std.specs.Prelude.{◌≡◌, ◌+◌, ◌≤◌, ◌++◌, ◌
 ghost use Rattle.std.specs.List.{list_all};
 ghost use Rattle.std.specs.Str.{IsUtf8};
 ghost use Rattle.tabled_border.specs.declared.border.Border.{Border as Frame};
-ghost use Rattle.tabled_grid.specs.declared.borders.Borders.{Borders as Classes};
-ghost use Rattle.tabled_grid.specs.declared.place.LineOf.{LineOf};
+ghost use Rattle.tabled_places.specs.declared.borders.Borders.{Borders as Classes};
+ghost use Rattle.tabled_places.specs.declared.place.LineOf.{LineOf};
 ghost use Rattle.tabled_object.specs.declared.entity.Entity.{Entity};
 ghost use Rattle.tabled_configuration.specs.Configuration.{ConfigEvent, characters_of};
 ghost use Rattle.tabled_configuration.specs.Options.{entity_bordered, entity_unbordered, table_bordered, table_unbordered};
-ghost use Rattle.tabled_printing.specs.Columns.{HasNarrowBorders, WritesNarrow, draws_plainly, is_narrow};
+ghost use Rattle.tabled_width.specs.Narrow.{draws_plainly, is_narrow};
+ghost use Rattle.tabled_printing.specs.Columns.{HasNarrowBorders, WritesNarrow};
 ghost use Rattle.tabled_claims.specs.NarrowParts.{is_narrow_border, is_narrow_horizontal, is_narrow_if_given, is_narrow_record, is_narrow_vertical};
 ghost use Rattle.tabled_printing.specs.Picture.{Look, look};
-ghost use Rattle.tabled_printing.specs.Texts.{width_of_text};
+ghost use Rattle.tabled_width.specs.Texts.{width_of_text};
 ghost use Rattle.tabled_color.specs.Shade.{Shade};
 ghost use Rattle.tabled_highlight.specs.Highlighting.{highlight_events};
 ghost use Rattle.tabled_options.specs.LineChar.{EdgeChar, line_char_events};
@@ -41,7 +42,7 @@ pub fn character_draws_plainly(character: char) -> bool
     ensures test { result ≡ draws_plainly character }
     ensures narrow { IsTrue result → is_narrow character ≡ true }
 {
-    tabled_printing::draws_plainly(character)
+    tabled_width::draws_plainly(character)
 }
 
 /// Where only narrow characters are written, a table shows no others.

@@ -6,11 +6,12 @@ ghost use Rattle.tabled_configuration.specs.Configuration.{ConfigEvent};
 ghost use Rattle.tabled_configuration.specs.Configuration as borders;
 ghost use Rattle.tabled_painting.specs.Widths.{StandsStraightIn, text_width};
 ghost use Rattle.tabled_printing.specs.Along.{is_empty};
-ghost use Rattle.tabled_printing.specs.Columns.{IsRectangle, WritesNarrow};
-ghost use Rattle.tabled_printing.specs.Texts.{pieces};
-ghost use Rattle.tabled_text.specs.Cells.{StandApart, leaves_sizes, margin_set};
+ghost use Rattle.tabled_width.specs.Narrow.{IsRectangle};
+ghost use Rattle.tabled_printing.specs.Columns.{WritesNarrow};
+ghost use Rattle.tabled_width.specs.Texts.{pieces};
+ghost use Rattle.tabled_measure.specs.Cells.{StandApart, leaves_sizes, margin_set};
 ghost use Rattle.tabled_text.specs.Refusal.{unequal};
-ghost use Rattle.tabled_text.specs.Sizes.{column_count, unequal_row};
+ghost use Rattle.tabled_measure.specs.Sizes.{column_count, unequal_row};
 ghost use Rattle.tabled_text.specs.TextTable.{lent_rows, lent_texts, look_of, look_printed, text_of};
 ghost use Rattle.tabled_text.specs.declared.table_error.TableError.{TableError as Refusal};
 
@@ -30,7 +31,8 @@ pub fn table_of_lent_texts<'a>(
     LentTable::from_rows(alloc, rows)
 }
 
-/// The same of rows that are lent themselves; whatever else they are, memory may be refused before they are looked at.
+/// A table of rows that are lent themselves has their texts and nothing else yet; whatever else they are, memory may be refused before they
+/// are looked at.
 pub fn table_of_lent_rows<'a>(
     alloc: Global,
     rows: &[&[&'a str]],
@@ -42,8 +44,8 @@ pub fn table_of_lent_rows<'a>(
     LentTable::new(alloc, rows)
 }
 
-/// Its text is that of any table with these texts and this configuration, a rectangle and with straight vertical lines as `tables` says of
-/// such a text, though nothing is known of the texts but that they are lent; nothing but memory is ever refused.
+/// The text of a table of lent texts is that of any table with these texts and this configuration, a rectangle and with straight vertical
+/// lines as `tables` says of such a text, though nothing is known of the texts but that they are lent; nothing but memory is ever refused.
 pub fn text_of_lent_texts(table: &LentTable) -> Result<String, OutOfMemory>
     ensures text { (events : List ConfigEvent) → borders.Shows events table.now.config.spanned → IfOk result (λ text. string_bytes text ≡ text_of events table.now.texts) }
     ensures rectangle { (events : List ConfigEvent) → borders.Shows events table.now.config.spanned → WritesNarrow events → StandApart events table.now.texts

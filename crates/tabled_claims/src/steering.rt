@@ -3,8 +3,8 @@
 ghost use Rattle.std.specs.Prelude.{◌≡◌, ◌++◌, [], ℕ, List, Option, true, IfSome};
 ghost use Rattle.std.specs.List.{list_all};
 ghost use Rattle.tabled_border.specs.declared.border.Border.{Border as Frame};
-ghost use Rattle.tabled_grid.specs.declared.borders.Borders.{Borders as Classes};
-ghost use Rattle.tabled_grid.specs.declared.place.LineOf.{LineOf};
+ghost use Rattle.tabled_places.specs.declared.borders.Borders.{Borders as Classes};
+ghost use Rattle.tabled_places.specs.declared.place.LineOf.{LineOf};
 ghost use Rattle.tabled_object.specs.declared.entity.Entity.{Entity};
 ghost use Rattle.tabled_configuration.specs.Configuration.{ConfigEvent, characters_of};
 ghost use Rattle.tabled_configuration.specs.Options.{entity_bordered, entity_unbordered, table_bordered, table_unbordered};

@@ -12,19 +12,20 @@ ghost use Rattle.tabled_configuration.specs.Configuration.{ConfigEvent};
 ghost use Rattle.tabled_configuration.specs.Configuration as borders;
 ghost use Rattle.tabled_configuration.specs.Options.{MakesInTurn};
 ghost use Rattle.tabled_printing.specs.Along.{is_empty};
-ghost use Rattle.tabled_printing.specs.Columns.{IsRectangle, WritesNarrow, is_narrow};
+ghost use Rattle.tabled_width.specs.Narrow.{IsRectangle, is_narrow};
+ghost use Rattle.tabled_printing.specs.Columns.{WritesNarrow};
 ghost use Rattle.tabled_printing.specs.Picture.{printed};
-ghost use Rattle.tabled_printing.specs.Texts.{Table, pieces, texts, width_of_text};
+ghost use Rattle.tabled_width.specs.Texts.{Table, pieces, texts, width_of_text};
 ghost use Rattle.tabled_painting.specs.Margin.{is_without_room};
 ghost use Rattle.tabled_painting.specs.Painted.{Painted, plain};
 ghost use Rattle.tabled_painting.specs.PaintedTable.{plain_text, colored_text};
 ghost use Rattle.tabled_painting.specs.Widths.{StandsStraightIn, text_width};
-ghost use Rattle.tabled_text.specs.Cells.{KeepsApart, StandApart, cell_texts, cells_set, margin_set, leaves_sizes, sets_no_padding, sets_no_spans};
-ghost use Rattle.tabled_text.specs.Changed.{CellsAreClean, CellsArePrintable};
+ghost use Rattle.tabled_measure.specs.Cells.{KeepsApart, StandApart, cells_set, margin_set, leaves_sizes, sets_no_padding, sets_no_spans};
+ghost use Rattle.tabled_measure.specs.Changed.{CellsAreClean, CellsArePrintable};
 ghost use Rattle.tabled_text.specs.Fitted.{CanShare, IsFitted, frame_width, least_width};
 ghost use Rattle.tabled_text.specs.Refusal.{unequal};
-ghost use Rattle.tabled_text.specs.Sizes.{cell, column_count, column_widths, row_heights, unequal_row};
-ghost use Rattle.tabled_text.specs.TextTable.{AreRead, heights_read, lent_rows, look_of, look_printed, painted, painted_alone, shape_of, text_of, widths_read};
+ghost use Rattle.tabled_measure.specs.Sizes.{cell, column_count, column_widths, row_heights, unequal_row};
+ghost use Rattle.tabled_text.specs.TextTable.{cell_texts, AreRead, heights_read, lent_rows, look_of, look_printed, painted, painted_alone, shape_of, text_of, widths_read};
 ghost use Rattle.tabled_object.specs.declared.dimension.FixedDimension.{FixedDimension};
 ghost use Rattle.tabled_text.specs.declared.table_error.TableError.{TableError as Refusal};
 ghost use Rattle.std.specs.Fmt.{WritesOnOk};
@@ -49,7 +50,7 @@ pub fn table_of_texts(alloc: Global, rows: &[&[&str]]) -> Result<TextTable, Tabl
     TextTable::new(alloc, rows)
 }
 
-/// The same for rows that are handed over: unequal rows are refused for that alone.
+/// A table of rows that are handed over has their texts: unequal rows are refused for that alone.
 pub fn table_of_rows(alloc: Global, rows: Vec<Vec<String>>) -> Result<TextTable, TableError>
     ensures texts { IfOk result (λ table. table.texts ≡ texts rows.items) }
     ensures config { IfOk result (λ table. Shows [] table.config) }
@@ -98,7 +99,7 @@ where
     table.apply_to(object, option)
 }
 
-/// The same as `option_on_a_table`, in a chain of calls.
+/// An option in a chain of calls does what it does by `option_on_a_table`.
 pub fn option_in_a_chain<P>(table: &mut TextTable, option: P) -> Result<&mut TextTable, OutOfMemory>
 where
     P: TableOption<Shape, ColoredConfig, FixedDimension> + Drop,
@@ -110,7 +111,7 @@ where
     table.with(option)
 }
 
-/// The same as `option_on_cells`, in a chain of calls.
+/// An option on cells in a chain of calls does what it does by `option_on_cells`.
 pub fn cells_in_a_chain<O, P>(
     table: &mut TextTable,
     object: O,
@@ -157,7 +158,7 @@ where
     table.apply(option)
 }
 
-/// The same text after another one, which a refusal leaves as it was.
+/// The text of a table after another one, which a refusal leaves as it was.
 pub fn text_appended(table: &TextTable, out: &mut String) -> Result<(), OutOfMemory>
     ensures text { (events : List ConfigEvent) → borders.Shows events table.now.config.spanned → OnOk result (string_bytes out.new ≡ string_bytes out.old ++ text_of events table.now.texts) }
     ensures unchanged { OnErr result (string_bytes out.new ≡ string_bytes out.old) }
@@ -165,7 +166,7 @@ pub fn text_appended(table: &TextTable, out: &mut String) -> Result<(), OutOfMem
     table.append_to(out)
 }
 
-/// The same text to a writer: only the writer's own fault can leave something written.
+/// The text of a table to a writer: only the writer's own fault can leave something written.
 pub fn text_written<W: fmt::Write>(table: &TextTable, out: &mut W) -> Result<(), TableError>
     ensures text { (events : List ConfigEvent) → borders.Shows events table.now.config.spanned → OnOk result (W.write_str_gives out.old (text_of events table.now.texts) out.new) }
     ensures refusal { IfErr result (λ e. (e ≡ Refusal.OutOfMemory) ⊎ (e ≡ Refusal.Write)) }
@@ -175,9 +176,9 @@ pub fn text_written<W: fmt::Write>(table: &TextTable, out: &mut W) -> Result<(),
 }
 
 /// Where only narrow characters were written, and the padding of each cell begins with a space, the text of a table of equal rows is a
-/// rectangle, whatever its cells say, however they stand, whichever of them span, and with any margin: each of its lines takes as many columns
-/// of the terminal as the others. So it is where no padding is set [unset]; and, whatever padding is set, for texts of printable ASCII, where
-/// narrow characters fill the cells beside them [printable].
+/// rectangle, whatever its cells say, however they stand, whichever of them span, and with any margin: each of its lines takes as many
+/// columns of the terminal as the others. So it is where no padding is set [unset]; and, whatever padding is set, for texts of printable
+/// ASCII, where narrow characters fill the cells beside them [printable].
 pub fn text_is_a_rectangle()
     ensures rectangle { (events : List ConfigEvent) (table : Table) → unequal_row table ≡ None → ((r c : ℕ) → IsUtf8 (cell (slice_index_or table r []) c)) → WritesNarrow events → StandApart events table
         → IsRectangle (text_width (look_printed events table) (margin_set events)) (text_of events table) }
@@ -193,10 +194,10 @@ pub fn vertical_lines_stand_straight()
         → StandsStraightIn (look_of events table) (margin_set events) c (pieces (text_of events table)) }
 {}
 
-/// A table that is kept within a number of columns of the terminal prints lines that take no more, with its cells and their padding, its lines
-/// and its margin: where only narrow characters were written, where no cell spans and the padding of each begins with a space, where the columns
-/// can have one column each, and where each text can be kept within the share of its column, as one can whose characters take one column, and
-/// one of any characters that is cut off.
+/// A table that is kept within a number of columns of the terminal prints lines that take no more, with its cells and their padding, its
+/// lines and its margin: where only narrow characters were written, where no cell spans and the padding of each begins with a space, where
+/// the columns can have one column each, and where each text can be kept within the share of its column, as one can whose characters take one
+/// column, and one of any characters that is cut off.
 pub fn fitted_table_fits(
     table: &mut TextTable,
     total: usize,
@@ -213,8 +214,8 @@ pub fn fitted_table_fits(
     table.to_text()
 }
 
-/// The same, where no column has less than a least share, if it asks for that: the table is then no wider than it may be where its columns can
-/// have that share each. Of texts of printable ASCII nothing more is asked than that [printable].
+/// A table fitted so that no column has less than a least share, if it asks for that: the table is then no wider than it may be where its
+/// columns can have that share each. Of texts of printable ASCII nothing more is asked than that [printable].
 pub fn fitted_with_least_shares(
     table: &mut TextTable,
     total: usize,
@@ -233,7 +234,8 @@ pub fn fitted_with_least_shares(
     table.to_text()
 }
 
-/// The least width that a table can be kept within, by the columns of its frame and the least share of each column; as far as it can be counted.
+/// The least width that a table can be kept within, by the columns of its frame and the least share of each column; as far as it can be
+/// counted.
 pub fn least_width_of_a_table(table: &TextTable, least: usize) -> usize
     ensures { (events : List ConfigEvent) → borders.Shows events table.now.config.spanned → result ≡ min (least_width (max least 1) events table.now.texts) usize.MAX }
 {
@@ -261,8 +263,8 @@ pub fn cleaned_table_steers_nothing(table: &mut TextTable) -> Result<String, Out
     table.to_text()
 }
 
-/// The same in color: the text is that of painted lines, and none of their characters steers, so what stands between the texts of the colors does
-/// not.
+/// A cleaned table in color: its text is that of painted lines, and none of their characters steers, so what stands between the texts of the
+/// colors does not.
 pub fn cleaned_table_in_color(table: &mut TextTable) -> Result<String, OutOfMemory>
     ensures { (events : List ConfigEvent) → Shows events table.old.config → WritesClean events
         → IfOk result (λ text. (lines : List Painted) × (string_bytes text ≡ colored_text lines) × All (λ line. is_clean (plain line) ≡ true) lines) }
@@ -291,7 +293,7 @@ pub fn text_in_color(table: &TextTable) -> Result<String, OutOfMemory>
     table.to_ansi()
 }
 
-/// The same text after another one, which a refusal leaves as it was.
+/// The text of a table after another one, which a refusal leaves as it was.
 pub fn text_in_color_appended(table: &TextTable, out: &mut String) -> Result<(), OutOfMemory>
     ensures text { (events : List ConfigEvent) → Shows events table.now.config → OnOk result (string_bytes out.new ≡ string_bytes out.old ++ colored_text (painted events table.now.texts)) }
     ensures unchanged { OnErr result (string_bytes out.new ≡ string_bytes out.old) }
@@ -299,7 +301,7 @@ pub fn text_in_color_appended(table: &TextTable, out: &mut String) -> Result<(),
     table.append_ansi_to(out)
 }
 
-/// The same text to a writer: only the writer's own fault can leave something written.
+/// The text of a table to a writer: only the writer's own fault can leave something written.
 pub fn text_in_color_written<W: fmt::Write>(
     table: &TextTable,
     out: &mut W,
@@ -320,7 +322,7 @@ pub fn text_printed<W: io::Write>(table: &TextTable, out: &mut W) -> Result<(), 
     table.print_to(out)
 }
 
-/// The same in color.
+/// The text in color to a stream of bytes: only the stream's own fault can leave something written.
 pub fn text_in_color_printed<W: io::Write>(table: &TextTable, out: &mut W) -> Result<(), TableError>
     ensures text { (events : List ConfigEvent) → Shows events table.now.config → OnOk result (Appends (W.contents out.old) (W.contents out.new) (colored_text (painted events table.now.texts))) }
     ensures refusal { IfErr result (λ e. (e ≡ Refusal.OutOfMemory) ⊎ (e ≡ Refusal.Write)) }
@@ -346,7 +348,7 @@ pub fn text_printed_between<W: io::Write>(
     table.print_between(before, after, out)
 }
 
-/// The same in color.
+/// The text in color between two others, to a stream of bytes: only the stream's own fault can leave something written.
 pub fn text_in_color_printed_between<W: io::Write>(
     table: &TextTable,
     before: &str,

@@ -4,20 +4,20 @@ ghost use Rattle.std.specs.Prelude.{◌≡◌, ℕ, List, [], ◌∷◌, ◌++�
 ghost use Rattle.tabled_clean.specs.Steering.{is_clean};
 ghost use Rattle.tabled_border.specs.declared.border.Border.{Border as Around};
 ghost use Rattle.tabled_object.specs.declared.entity.Entity.TheVariants.{Cell};
-ghost use Rattle.tabled_grid.specs.declared.place.Place.TheVariants.{Cross};
-ghost use Rattle.tabled_grid.specs.Event.{replay};
-ghost use Rattle.tabled_grid.specs.Value.{value};
+ghost use Rattle.tabled_places.specs.declared.place.Place.TheVariants.{Cross};
+ghost use Rattle.tabled_places.specs.Event.{replay};
+ghost use Rattle.tabled_places.specs.Value.{value};
 ghost use Rattle.tabled_configuration.specs.Colored.{Colored, Changes};
 ghost use Rattle.tabled_configuration.specs.Configuration.{ConfigEvent, borders_replaced, characters_of};
-ghost use Rattle.tabled_printing.specs.Columns.{IsRectangle};
+ghost use Rattle.tabled_width.specs.Narrow.{IsRectangle};
 ghost use Rattle.tabled_printing.specs.Headline.{HaveMade};
 ghost use Rattle.tabled_configuration.specs.Options.{MakesInTurn, entity_bordered};
 ghost use Rattle.tabled_style.specs.Ready.{ascii};
 ghost use Rattle.tabled_claims.specs.Clean.{ShowsPlainly};
 
-use crate::lists::headline;
 use std::alloc::Global;
 use tabled_border::{Border, OutOfMemory};
+use tabled_border_claims::lists::headline;
 use tabled_configuration::{CellOption, ColoredConfig, SpannedConfig, TableOption};
 use tabled_grid::{LineOf, Place};
 use tabled_highlight::Highlight;
@@ -95,8 +95,8 @@ pub fn framed_with_a_title(alloc: Global, rows: Vec<Vec<String>>) -> Result<Stri
     Ok(text)
 }
 
-/// Rows of texts from outside, cleaned, in a rounded frame with a title on its first line: whatever the texts say, each line of the printed text
-/// takes as many columns of the terminal as the others, and nothing in it steers the terminal.
+/// Rows of texts from outside, cleaned, in a rounded frame with a title on its first line: whatever the texts say, each line of the printed
+/// text takes as many columns of the terminal as the others, and nothing in it steers the terminal.
 ///
 /// ```text
 /// Prices──╮

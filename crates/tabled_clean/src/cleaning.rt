@@ -10,7 +10,7 @@ use tabled_border::OutOfMemory;
 /// What a carriage return is shown as.
 const RETURN_SHOWN: char = '\u{240D}';
 
-/// Whether a character steers a terminal, in place of being shown: a control character but the line feed (those below the space, the
+/// Returns whether a character steers a terminal, in place of being shown: a control character but the line feed (those below the space, the
 /// delete character, and U+0080 to U+009F), a character that sets a direction of writing (U+061C, U+200E, U+200F, U+202A to U+202E,
 /// U+2066 to U+2069), or a separator of lines or paragraphs (U+2028, U+2029).
 #[tactic(auto, unfolding(crate::specs::Steering::steers))]
@@ -53,7 +53,7 @@ fn is_printable(text: &str) -> bool
     all
 }
 
-/// Whether no character of a text steers a terminal.
+/// Returns whether no character of a text steers a terminal.
 pub fn is_clean(text: &str) -> bool
     ensures { result ≡ is_clean text.now }
 {
@@ -110,7 +110,7 @@ fn written(alloc: Global, text: &str) -> Result<String, OutOfMemory>
     Ok(clean)
 }
 
-/// A text in which nothing steers a terminal. A carriage return before a line feed is left out. In the place of each other character
+/// Returns a text in which nothing steers a terminal. A carriage return before a line feed is left out. In the place of each other character
 /// that steers stands the picture of its control character, from U+2400 on, or U+FFFD; the rest is as it was. Memory may be refused.
 ///
 /// ```text

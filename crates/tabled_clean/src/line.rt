@@ -18,7 +18,7 @@ fn in_line(character: char) -> char
     }
 }
 
-/// A text on one line, in which nothing steers a terminal: that of `cleaned`, with the picture U+240A in the place of each line feed:
+/// Returns a text on one line, in which nothing steers a terminal: that of `cleaned`, with the picture U+240A in the place of each line feed:
 /// `a␊b` for an `a`, a line feed and a `b`. Memory may be refused.
 pub fn cleaned_line(alloc: Global, text: &str) -> Result<String, OutOfMemory>
     ensures { IfOk result (λ line. string_bytes line ≡ cleaned_line text.now) }

@@ -9,15 +9,15 @@ use Rattle.tabled_border.specs.declared.border.Border.{Border}
 use Rattle.tabled_object.specs.declared.entity.Entity.{Entity}
 use Rattle.tabled_object.specs.Entities.{below}
 use Rattle.tabled_settings.specs.Setting.{is_global}
-use Rattle.tabled_grid.specs.declared.place.LineOf.{LineOf}
-use Rattle.tabled_grid.specs.declared.place.Place.{Place}
-use Rattle.tabled_grid.specs.declared.site.Spot.{Spot}
-use Rattle.tabled_grid.specs.declared.site.Spot.TheVariants.{Crossing}
-use Rattle.tabled_grid.specs.declared.event.Event.{Event}
-use Rattle.tabled_grid.specs.declared.writes.Target.{Target}
-use Rattle.tabled_grid.specs.declared.writes.Write.{Write}
-use Rattle.tabled_grid.specs.Calls.{spot_of, entity_border_set, edge_of, crossing_of}
-use Rattle.tabled_grid.specs.Writes.{given_event, writes_made}
+use Rattle.tabled_places.specs.declared.place.LineOf.{LineOf}
+use Rattle.tabled_places.specs.declared.place.Place.{Place}
+use Rattle.tabled_places.specs.declared.site.Spot.{Spot}
+use Rattle.tabled_places.specs.declared.site.Spot.TheVariants.{Crossing}
+use Rattle.tabled_places.specs.declared.event.Event.{Event}
+use Rattle.tabled_places.specs.declared.writes.Target.{Target}
+use Rattle.tabled_places.specs.declared.writes.Write.{Write}
+use Rattle.tabled_places.specs.Calls.{spot_of, entity_border_set, edge_of, crossing_of}
+use Rattle.tabled_places.specs.Writes.{given_event, writes_made}
 use Rattle.tabled_configuration.specs.Configuration as borders
 use Rattle.tabled_configuration.specs.Configuration.{Configuration, of_colors, by_characters, by_colors, cell_colors_of, writes_applied}
 use Rattle.tabled_configuration.specs.ChangeLaws.{none_change_borders, both_change_borders}

@@ -44,7 +44,7 @@ impl BorderColor {
     ghost use Rattle.tabled_border.specs.Border.{no_border};
     ghost use Rattle.tabled_color.specs.BorderColors.{full_border, border_texts};
 
-    /// No colors.
+    /// Makes a border without colors.
     pub const fn new() -> Self
         ensures { result ≡ no_border }
     {
@@ -53,7 +53,7 @@ impl BorderColor {
         }
     }
 
-    /// A color for each side and corner.
+    /// Makes a color for each side and corner.
     pub const fn full(
         top: Color,
         bottom: Color,
@@ -268,14 +268,14 @@ impl BorderColor {
         }
     }
 
-    /// The border that has these colors.
+    /// Returns the border that has these colors.
     pub fn into_inner(self) -> Border<Color>
         ensures { result ≡ self }
     {
         self.inner
     }
 
-    /// The border that has copies of these colors, each of which owns its texts. Where two are equal these are shared.
+    /// Returns the border that has copies of these colors, each of which owns its texts. Where two are equal these are shared.
     pub fn to_ansi(&self, alloc: Global) -> Result<Border<ANSIBuf>, OutOfMemory>
         ensures { IfOk result (λ border. border ≡ border_texts self.now) }
     {

@@ -40,14 +40,14 @@ impl Model for Color {
 }
 
 impl Color {
-    /// The color of these two texts, which are copied.
+    /// Makes the color of these two texts, which are copied.
     pub fn new(alloc: Global, prefix: &str, suffix: &str) -> Result<Self, OutOfMemory>
         ensures { IfOk result (λ color. color ≡ owned_shade prefix.now suffix.now) }
     {
         Ok(Color::from(ANSIBuf::new(alloc, prefix, suffix)?))
     }
 
-    /// The static color of two empty texts.
+    /// Makes the static color of two empty texts.
     pub const fn empty() -> Self
         ensures { result ≡ static_shade [] [] }
     {
@@ -59,14 +59,14 @@ impl Color {
         }
     }
 
-    /// Whether both texts are empty.
+    /// Returns whether both texts are empty.
     pub fn is_empty(&self) -> bool
         ensures { IsTrue result ↔ ((self.now.prefix ≡ []) × (self.now.suffix ≡ [])) }
     {
         self.get_prefix().is_empty() && self.get_suffix().is_empty()
     }
 
-    /// The text before what is colored.
+    /// Returns the text before what is colored.
     pub fn get_prefix(&self) -> &str
         ensures { result.now ≡ self.now.prefix }
     {
@@ -76,7 +76,7 @@ impl Color {
         }
     }
 
-    /// The text after what is colored.
+    /// Returns the text after what is colored.
     pub fn get_suffix(&self) -> &str
         ensures { result.now ≡ self.now.suffix }
     {
@@ -86,7 +86,7 @@ impl Color {
         }
     }
 
-    /// The color as one that lends its texts, where they are static.
+    /// Returns the color as one that lends its texts, where they are static.
     pub fn as_ansi_str(&self) -> Option<ANSIStr<'static>>
         ensures { option_map lent_texts result ≡ (if self.now.owned then None else Some (texts_of self.now)) }
     {
@@ -96,7 +96,7 @@ impl Color {
         }
     }
 
-    /// A color of characters by its red, green and blue part.
+    /// Makes a color of characters by its red, green and blue part.
     pub fn rgb_fg(alloc: Global, r: u8, g: u8, b: u8) -> Result<Self, OutOfMemory>
         ensures { IfOk result (λ color. color ≡ owned_shade (rgb_sequence (codes "38") r g b) (sequence (codes "39"))) }
     {
@@ -104,7 +104,7 @@ impl Color {
         Color::new(alloc, prefix.as_str(), "\u{1b}[39m")
     }
 
-    /// A color of the background by its red, green and blue part.
+    /// Makes a color of the background by its red, green and blue part.
     pub fn rgb_bg(alloc: Global, r: u8, g: u8, b: u8) -> Result<Self, OutOfMemory>
         ensures { IfOk result (λ color. color ≡ owned_shade (rgb_sequence (codes "48") r g b) (sequence (codes "49"))) }
     {
@@ -112,7 +112,7 @@ impl Color {
         Color::new(alloc, prefix.as_str(), "\u{1b}[49m")
     }
 
-    /// The text with each of its lines colored, and line feeds between them. A line feed ends a line, with the carriage
+    /// Returns the text with each of its lines colored, and line feeds between them. A line feed ends a line, with the carriage
     /// return before it.
     ///
     /// `Color::FG_RED.colorize(alloc, "a\nb")?`, with `␛` for the escape character:
@@ -153,7 +153,7 @@ impl Color {
         Color::new(alloc, prefix.as_str(), suffix.as_str())
     }
 
-    /// The color as one that owns its texts. It takes no memory where this one does.
+    /// Returns the color as one that owns its texts. It takes no memory where this one does.
     pub fn into_ansi(self, alloc: Global) -> Result<ANSIBuf, OutOfMemory>
         ensures texts { IfOk result (λ color. color ≡ texts_of self) }
         ensures owned { IsTrue self.owned → IsOk result }

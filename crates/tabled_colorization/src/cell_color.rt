@@ -31,7 +31,7 @@ impl Model for CellColor {
 }
 
 impl CellColor {
-    /// This color.
+    /// Makes an option that gives cells this color, and their padding and filling too.
     pub fn new(color: Color) -> Self
         ensures { result ≡ color }
     {

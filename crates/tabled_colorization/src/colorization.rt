@@ -59,7 +59,7 @@ impl Colorization {
         })
     }
 
-    /// A color for each row.
+    /// Makes a color for each row.
     pub fn rows(colors: Vec<Color>) -> Self
         ensures { result ≡ record { pattern = pattern.Rows; colors = colors.items } }
     {
@@ -69,7 +69,7 @@ impl Colorization {
         }
     }
 
-    /// A color for each column.
+    /// Makes a color for each column.
     pub fn columns(colors: Vec<Color>) -> Self
         ensures { result ≡ record { pattern = pattern.Columns; colors = colors.items } }
     {
@@ -79,7 +79,7 @@ impl Colorization {
         }
     }
 
-    /// A color for each cell, row by row: the first cell of a row goes on where the last one of the row above stopped.
+    /// Makes a color for each cell, row by row: the first cell of a row goes on where the last one of the row above stopped.
     pub fn by_row(colors: Vec<Color>) -> Self
         ensures { result ≡ record { pattern = pattern.ByRow; colors = colors.items } }
     {
@@ -89,7 +89,7 @@ impl Colorization {
         }
     }
 
-    /// A color for each cell, column by column: the first cell of a column goes on where the last one of the column at its
+    /// Makes a color for each cell, column by column: the first cell of a column goes on where the last one of the column at its
     /// left stopped.
     pub fn by_column(colors: Vec<Color>) -> Self
         ensures { result ≡ record { pattern = pattern.ByColumn; colors = colors.items } }
@@ -100,7 +100,7 @@ impl Colorization {
         }
     }
 
-    /// A color for each entity that an object lists, in the order of its listing.
+    /// Returns a color for each entity that an object lists, in the order of its listing.
     pub fn exact<O>(colors: Vec<Color>, target: O) -> ExactColorization<O>
         ensures { result ≡ record { colors = colors.items; target = target } }
     {
@@ -148,7 +148,7 @@ impl Keep for Colorization {
     }
 }
 
-/// The same pattern, and equal colors in the same order.
+/// Two are equal that have the same pattern, and equal colors in the same order.
 impl PartialEq for Colorization {
     ghost use Rattle.tabled_colorization.specs.Same.{same_colorization, colorization_per};
 

@@ -40,7 +40,7 @@ impl<O> Model for ExactColorization<O> {
 }
 
 impl<O> ExactColorization<O> {
-    /// These colors for what the object lists.
+    /// Makes an option that gives these colors in turn to what the object lists.
     pub(crate) fn new(colors: Vec<Color>, target: O) -> Self
         ensures { result ≡ record { colors = colors.items; target = target } }
     {

@@ -39,7 +39,7 @@ impl Model for JoinedColor {
 }
 
 impl JoinedColor {
-    /// This color.
+    /// Makes an option that joins this color onto those that cells have.
     pub fn new(color: Color) -> Self
         ensures { result ≡ color }
     {

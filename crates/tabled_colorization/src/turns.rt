@@ -41,7 +41,7 @@ pub(crate) fn colored_by(
     in_turn(alloc, pattern, &texts, rows, cols)
 }
 
-/// The same, where the colors are given by their texts.
+/// The entities of a pattern in a table, each with its color, which is given by its texts.
 fn in_turn(
     alloc: Global,
     pattern: Pattern,
@@ -72,7 +72,7 @@ pub(crate) fn colored_exactly(
     listed(alloc, &texts, entities)
 }
 
-/// The same, where the colors are given by their texts.
+/// Each entity of a list with its color, counted from 0, where colors are given by their texts.
 fn listed(alloc: Global, colors: &[ANSIBuf], entities: &[Entity]) -> Result<Colored, OutOfMemory>
     ensures { IfOk result (λ list. list.items ≡ listing_in_turn colors.now entities.now) }
 {

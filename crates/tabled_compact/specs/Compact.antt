@@ -3,7 +3,7 @@ use Rattle.std.specs.Prelude.{◌≡◌, false, []}
 use Rattle.tabled_border.specs.Texts.{Texts}
 use Rattle.tabled_border.specs.LentTexts.{lent_texts}
 use Rattle.tabled_border.specs.declared.ansi.ANSIStr.{ANSIStr}
-use Rattle.tabled_grid.specs.CustomLines.{no_borders}
+use Rattle.tabled_places.specs.CustomLines.{no_borders}
 use Rattle.tabled_settings.specs.declared.alignment.AlignmentHorizontal.TheVariants.{Left}
 use Rattle.tabled_settings.specs.declared.alignment.AlignmentVertical.TheVariants.{Top}
 use Rattle.tabled_settings.specs.declared.sides.Sides.{Sides}

@@ -2,7 +2,7 @@
 
 use std::alloc::AllocError;
 use tabled_border::ANSIStr;
-use tabled_grid::Borders;
+use tabled_places::Borders;
 use tabled_settings::{AlignmentHorizontal, Sides};
 
 /// What a table of cells of one line is drawn by: a class record, an alignment, and the colors of its margin and of the
@@ -32,7 +32,7 @@ impl CompactConfig {
     ghost use Rattle.std.specs.Prelude.{◌≡◌};
     ghost use Rattle.tabled_compact.specs.Compact.{IsPlain};
 
-    /// No borders, texts at the left side, and empty colors.
+    /// Makes a configuration of no borders, texts at the left side, and empty colors.
     pub const fn new() -> Self
         ensures { IsPlain result }
     {
@@ -52,7 +52,7 @@ impl CompactConfig {
         self
     }
 
-    /// The class record.
+    /// Returns the class record.
     pub const fn get_borders(&self) -> &Borders<char>
         ensures { result.now ≡ self.now.borders }
     {
@@ -67,7 +67,7 @@ impl CompactConfig {
         self
     }
 
-    /// Where the texts stand in their cells.
+    /// Returns where the texts stand in their cells.
     pub const fn get_alignment_horizontal(&self) -> AlignmentHorizontal
         ensures { result ≡ self.now.alignment_horizontal }
     {
@@ -82,7 +82,7 @@ impl CompactConfig {
         self
     }
 
-    /// The colors of the four sides of the margin.
+    /// Returns the colors of the four sides of the margin.
     pub const fn get_margin_color(&self) -> &Sides<ANSIStr<'static>>
         ensures { result.now ≡ self.now.margin_color }
     {
@@ -97,7 +97,7 @@ impl CompactConfig {
         self
     }
 
-    /// The colors of the four sides of each cell's padding.
+    /// Returns the colors of the four sides of each cell's padding.
     pub const fn get_padding_color(&self) -> &Sides<ANSIStr<'static>>
         ensures { result.now ≡ self.now.padding_color }
     {

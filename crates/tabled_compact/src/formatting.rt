@@ -14,7 +14,7 @@ pub struct Formatting {
 }
 
 impl Formatting {
-    /// The formatting with these three.
+    /// Makes the formatting with these three.
     pub const fn new(
         horizontal_trim: bool,
         vertical_trim: bool,

@@ -3,7 +3,7 @@
 use crate::Formatting;
 use std::alloc::AllocError;
 use tabled_border::ANSIStr;
-use tabled_grid::Borders;
+use tabled_places::Borders;
 use tabled_settings::{AlignmentHorizontal, AlignmentVertical, Sides};
 
 /// What a table of cells of many lines is drawn by: as a [`CompactConfig`](crate::CompactConfig), with an alignment from top to
@@ -35,7 +35,8 @@ impl CompactMultilineConfig {
     ghost use Rattle.std.specs.Prelude.{◌≡◌};
     ghost use Rattle.tabled_compact.specs.Compact.{IsPlainMultiline};
 
-    /// No borders, texts at the left and the upper side, empty colors, nothing trimmed and lines not aligned by themselves.
+    /// Makes a configuration of no borders, texts at the left and the upper side, empty colors, nothing trimmed and lines not aligned by
+    /// themselves.
     pub const fn new() -> Self
         ensures { IsPlainMultiline result }
     {
@@ -56,7 +57,7 @@ impl CompactMultilineConfig {
         self.borders = borders;
     }
 
-    /// The class record.
+    /// Returns the class record.
     pub const fn get_borders(&self) -> &Borders<char>
         ensures { result.now ≡ self.now.borders }
     {
@@ -70,7 +71,7 @@ impl CompactMultilineConfig {
         self.alignment_horizontal = alignment;
     }
 
-    /// Where the texts stand in their cells, from left to right.
+    /// Returns where the texts stand in their cells, from left to right.
     pub const fn get_alignment_horizontal(&self) -> AlignmentHorizontal
         ensures { result ≡ self.now.alignment_horizontal }
     {
@@ -84,7 +85,7 @@ impl CompactMultilineConfig {
         self.alignment_vertical = alignment;
     }
 
-    /// Where the texts stand in their cells, from top to bottom.
+    /// Returns where the texts stand in their cells, from top to bottom.
     pub const fn get_alignment_vertical(&self) -> AlignmentVertical
         ensures { result ≡ self.now.alignment_vertical }
     {
@@ -98,7 +99,7 @@ impl CompactMultilineConfig {
         self.formatting = formatting;
     }
 
-    /// How lines are laid out.
+    /// Returns how lines are laid out.
     pub const fn get_formatting(&self) -> Formatting
         ensures { result ≡ self.now.formatting }
     {
@@ -112,7 +113,7 @@ impl CompactMultilineConfig {
         self.margin_color = color;
     }
 
-    /// The colors of the four sides of the margin.
+    /// Returns the colors of the four sides of the margin.
     pub const fn get_margin_color(&self) -> &Sides<ANSIStr<'static>>
         ensures { result.now ≡ self.now.margin_color }
     {
@@ -126,7 +127,7 @@ impl CompactMultilineConfig {
         self.padding_color = color;
     }
 
-    /// The colors of the four sides of each cell's padding.
+    /// Returns the colors of the four sides of each cell's padding.
     pub const fn get_padding_color(&self) -> &Sides<ANSIStr<'static>>
         ensures { result.now ≡ self.now.padding_color }
     {

@@ -9,7 +9,8 @@ pub use tabled_configuration::{
     TableOption, modify,
 };
 pub use tabled_printing::{
-    Mark, PrintError, Run, Seen, character_seen, color_seen, draws_plainly, headline, line_marks,
-    line_runs, line_seen, print_plain,
+    Mark, PrintError, Run, Seen, character_seen, color_seen, headline, line_marks, line_runs,
+    line_seen, print_plain,
 };
 pub use tabled_settings::EntityMap;
+pub use tabled_width::draws_plainly;

@@ -1,9 +1,9 @@
 -- Alignments of entities set in a row.
 use Rattle.std.proofs.Common.{◌≡◌, ℕ, List, [], ◌∷◌, refl, sym, subst, ◌∙◌}
 use Rattle.tabled_border.specs.Texts.{Texts}
-use Rattle.tabled_grid.specs.Event as grid
-use Rattle.tabled_grid.specs.State.{State, state_at}
-use Rattle.tabled_grid.proofs.Replay.{Changes-nil}
+use Rattle.tabled_places.specs.Event as grid
+use Rattle.tabled_places.specs.State.{State, state_at}
+use Rattle.tabled_places.proofs.Replay.{Changes-nil}
 use Rattle.tabled_settings.specs.declared.alignment.AlignmentHorizontal.{AlignmentHorizontal}
 use Rattle.tabled_settings.specs.Live.{Live, after, after_all}
 use Rattle.tabled_settings.specs.Setting.{EntityEvent}

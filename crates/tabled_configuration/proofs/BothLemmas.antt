@@ -1,8 +1,8 @@
 -- Two settings changed at once.
 use Rattle.std.proofs.Common.{◌≡◌, ℕ, ◌++◌, subst, Result, Ok, Err, OnOk}
 use Rattle.tabled_border.specs.Texts.{Texts}
-use Rattle.tabled_grid.specs.State.{State, state_at}
-use Rattle.tabled_grid.proofs.Replay.{Changes-nil}
+use Rattle.tabled_places.specs.State.{State, state_at}
+use Rattle.tabled_places.proofs.Replay.{Changes-nil}
 use Rattle.tabled_settings.specs.CellSettings.{SettingEvent}
 use Rattle.tabled_layout.specs.declared.table_settings.TableSettings.{TableSettings}
 use Rattle.tabled_layout.specs.TableSettings.{of_cells, after_event}

@@ -4,18 +4,18 @@ use Rattle.std.proofs.lemmas.List.Elements.{filter_map-append}
 use Rattle.tabled_border.specs.Texts.{Texts}
 use Rattle.tabled_border.specs.declared.border.Border.{Border}
 use Rattle.tabled_object.specs.declared.entity.Entity.{Entity}
-use Rattle.tabled_grid.specs.declared.borders.Borders.{Borders}
-use Rattle.tabled_grid.specs.declared.lines.HorizontalLine.{HorizontalLine}
-use Rattle.tabled_grid.specs.declared.lines.VerticalLine.{VerticalLine}
-use Rattle.tabled_grid.specs.declared.writes.Write.{Write}
-use Rattle.tabled_grid.specs.declared.event.Event.TheVariants.{Erase as erase}
-use Rattle.tabled_grid.specs.declared.event.Region.TheVariants.{All as every_site}
-use Rattle.tabled_grid.specs.declared.event.Event.{Event}
-use Rattle.tabled_grid.specs.Writes.{writes_made}
-use Rattle.tabled_grid.specs.Calls.{entity_border_set, entity_border_erased, frame_erased}
-use Rattle.tabled_grid.specs.State.{state_at, class_record_set, writes_of}
-use Rattle.tabled_grid.proofs.EntityBorders.{nothing_written}
-use Rattle.tabled_grid.proofs.Replay.{Changes-nil}
+use Rattle.tabled_places.specs.declared.borders.Borders.{Borders}
+use Rattle.tabled_places.specs.declared.lines.HorizontalLine.{HorizontalLine}
+use Rattle.tabled_places.specs.declared.lines.VerticalLine.{VerticalLine}
+use Rattle.tabled_places.specs.declared.writes.Write.{Write}
+use Rattle.tabled_places.specs.declared.event.Event.TheVariants.{Erase as erase}
+use Rattle.tabled_places.specs.declared.event.Region.TheVariants.{All as every_site}
+use Rattle.tabled_places.specs.declared.event.Event.{Event}
+use Rattle.tabled_places.specs.Writes.{writes_made}
+use Rattle.tabled_places.specs.Calls.{entity_border_set, entity_border_erased, frame_erased}
+use Rattle.tabled_places.specs.State.{state_at, class_record_set, writes_of}
+use Rattle.tabled_places.proofs.EntityBorders.{nothing_written}
+use Rattle.tabled_places.proofs.Replay.{Changes-nil}
 use Rattle.tabled_settings.specs.Setting.{EntityEvent}
 use Rattle.tabled_settings.specs.Live.{Live}
 use Rattle.tabled_layout.specs.TableSettings.{TableEvent, settings_left}

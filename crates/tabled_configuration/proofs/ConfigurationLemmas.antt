@@ -2,24 +2,24 @@
 use Rattle.std.proofs.Common.{◌≡◌, ℕ, Option, None, List, [], ◌∷◌, ◌++◌, map, filter_map, refl, sym, ap, subst, ◌∙◌, Result, Ok, Err, OnOk, append-nil, flat_map}
 use Rattle.std.specs.List.{cons_option}
 use Rattle.std.proofs.lemmas.List.Elements.{filter_map-append}
-use Rattle.tabled_grid.specs.declared.offset.Offset.{Offset}
-use Rattle.tabled_grid.specs.declared.site.Direction.TheVariants.{Horizontal, Vertical}
-use Rattle.tabled_grid.specs.declared.site.Site.{Site}
-use Rattle.tabled_grid.specs.declared.site.Site.TheVariants.{Default as the_default, Class as of_class, Line as of_line, Cell as at_spot, Offset as at_offset}
-use Rattle.tabled_grid.specs.declared.borders.Borders.{Borders}
-use Rattle.tabled_grid.specs.declared.place.LineOf.{LineOf}
-use Rattle.tabled_grid.specs.declared.writes.Write.{Write}
-use Rattle.tabled_grid.specs.Event as grid
-use Rattle.tabled_grid.specs.declared.event.Event.TheVariants.{Erase as erase}
-use Rattle.tabled_grid.specs.declared.event.Region.TheVariants.{All as every_site, Level as level_sites, Offsets as offset_sites}
-use Rattle.tabled_grid.specs.declared.event.Event.{Event}
-use Rattle.tabled_grid.specs.declared.event.Region.{Region}
-use Rattle.tabled_grid.specs.Writes.{writes_made}
-use Rattle.tabled_grid.specs.State.{State, state_at, class_record_set, writes_of}
+use Rattle.tabled_object.specs.declared.offset.Offset.{Offset}
+use Rattle.tabled_places.specs.declared.site.Direction.TheVariants.{Horizontal, Vertical}
+use Rattle.tabled_places.specs.declared.site.Site.{Site}
+use Rattle.tabled_places.specs.declared.site.Site.TheVariants.{Default as the_default, Class as of_class, Line as of_line, Cell as at_spot, Offset as at_offset}
+use Rattle.tabled_places.specs.declared.borders.Borders.{Borders}
+use Rattle.tabled_places.specs.declared.place.LineOf.{LineOf}
+use Rattle.tabled_places.specs.declared.writes.Write.{Write}
+use Rattle.tabled_places.specs.Event as grid
+use Rattle.tabled_places.specs.declared.event.Event.TheVariants.{Erase as erase}
+use Rattle.tabled_places.specs.declared.event.Region.TheVariants.{All as every_site, Level as level_sites, Offsets as offset_sites}
+use Rattle.tabled_places.specs.declared.event.Event.{Event}
+use Rattle.tabled_places.specs.declared.event.Region.{Region}
+use Rattle.tabled_places.specs.Writes.{writes_made}
+use Rattle.tabled_places.specs.State.{State, state_at, class_record_set, writes_of}
 use Rattle.tabled_border.specs.Texts.{Texts}
-use Rattle.tabled_grid.proofs.Replay.{replay-nil, replay_cleared, Shows_after, Changes-append, Changes-nil, Changes_from_nothing}
-use Rattle.tabled_grid.specs.Calls.{default_set, lines_erased, offsets_erased}
-use Rattle.tabled_grid.proofs.Writing.{Shows-writes_of}
+use Rattle.tabled_places.proofs.Replay.{replay-nil, replay_cleared, Shows_after, Changes-append, Changes-nil, Changes_from_nothing}
+use Rattle.tabled_places.specs.Calls.{default_set, lines_erased, offsets_erased}
+use Rattle.tabled_places.proofs.Writing.{Shows-writes_of}
 use Rattle.tabled_layout.specs.declared.table_settings.TableSettings.{TableSettings}
 use Rattle.tabled_object.specs.declared.position.Position.{Position}
 use Rattle.tabled_layout.specs.Spans.{SpanMap, after_span, spans_after, calls_for}

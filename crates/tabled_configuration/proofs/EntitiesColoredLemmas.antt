@@ -4,9 +4,9 @@ use Rattle.std.proofs.Math.Seq.{take-suc}
 use Rattle.std.proofs.lemmas.List.{map-append}
 use Rattle.tabled_border.specs.Texts.{Texts}
 use Rattle.tabled_object.specs.declared.entity.Entity.{Entity}
-use Rattle.tabled_grid.specs.Event as grid
-use Rattle.tabled_grid.specs.State.{state_at}
-use Rattle.tabled_grid.proofs.Replay.{Changes-nil}
+use Rattle.tabled_places.specs.Event as grid
+use Rattle.tabled_places.specs.State.{state_at}
+use Rattle.tabled_places.proofs.Replay.{Changes-nil}
 use Rattle.tabled_settings.specs.declared.sides.Sides.{Sides}
 use Rattle.tabled_layout.specs.declared.table_settings.TableSettings.{TableSettings}
 use Rattle.tabled_settings.specs.Setting.{write_of}

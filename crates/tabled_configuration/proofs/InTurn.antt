@@ -2,11 +2,11 @@
 use Rattle.std.proofs.Common.{◌≡◌, ◌==◌, ◌||◌, true, false, cond, ℕ, List, [], ◌∷◌, ◌++◌, map, refl, sym, ap, subst, ◌∙◌, append_assoc, Result, Ok, Err, IsOk, OnOk, OnErr, append-nil, flat_map}
 use Rattle.tabled_object.specs.declared.entity.Entity.{Entity}
 use Rattle.tabled_border.specs.declared.border.Border.{Border}
-use Rattle.tabled_grid.specs.declared.borders.Borders.{Borders}
-use Rattle.tabled_grid.specs.Calls.{entity_border_set, entity_border_erased, frame_erased}
-use Rattle.tabled_grid.specs.Event as grid
-use Rattle.tabled_grid.specs.State.{State, state_at, class_record_set}
-use Rattle.tabled_grid.proofs.Replay.{Changes-append}
+use Rattle.tabled_places.specs.declared.borders.Borders.{Borders}
+use Rattle.tabled_places.specs.Calls.{entity_border_set, entity_border_erased, frame_erased}
+use Rattle.tabled_places.specs.Event as grid
+use Rattle.tabled_places.specs.State.{State, state_at, class_record_set}
+use Rattle.tabled_places.proofs.Replay.{Changes-append}
 use Rattle.tabled_border.specs.Texts.{Texts}
 use Rattle.tabled_configuration.specs.Configuration.{Configuration, Changes, by_characters}
 use Rattle.tabled_configuration.specs.Options.{MakesInTurn, entity_bordered, entity_unbordered, inner_of, table_unbordered}

@@ -2,17 +2,17 @@
 use Rattle.std.proofs.Common.{◌≡◌, ℕ, suc, ◌+◌, ◌<◌, arith, List, [], ◌∷◌, ◌++◌, length, take, slice_index_or, refl, sym, ap, subst, ◌∙◌, flat_map, append-nil}
 use Rattle.std.proofs.Math.Seq.{take-suc}
 use Rattle.std.proofs.lemmas.Grind.{flat_map-append}
-use Rattle.tabled_grid.specs.declared.borders.Borders.{Borders}
-use Rattle.tabled_grid.specs.declared.lines.HorizontalLine.{HorizontalLine}
-use Rattle.tabled_grid.specs.declared.lines.VerticalLine.{VerticalLine}
-use Rattle.tabled_grid.specs.Calls.{line_set_horizontal, line_set_vertical}
-use Rattle.tabled_grid.specs.Event as grid
-use Rattle.tabled_grid.specs.declared.event.Event.TheVariants.{Erase as erase}
-use Rattle.tabled_grid.specs.declared.event.Region.TheVariants.{All as every_site}
-use Rattle.tabled_grid.specs.declared.event.Event.{Event}
-use Rattle.tabled_grid.specs.State.{State, state_at, class_record_set}
+use Rattle.tabled_places.specs.declared.borders.Borders.{Borders}
+use Rattle.tabled_places.specs.declared.lines.HorizontalLine.{HorizontalLine}
+use Rattle.tabled_places.specs.declared.lines.VerticalLine.{VerticalLine}
+use Rattle.tabled_places.specs.Calls.{line_set_horizontal, line_set_vertical}
+use Rattle.tabled_places.specs.Event as grid
+use Rattle.tabled_places.specs.declared.event.Event.TheVariants.{Erase as erase}
+use Rattle.tabled_places.specs.declared.event.Region.TheVariants.{All as every_site}
+use Rattle.tabled_places.specs.declared.event.Event.{Event}
+use Rattle.tabled_places.specs.State.{State, state_at, class_record_set}
 use Rattle.tabled_border.specs.Texts.{Texts}
-use Rattle.tabled_grid.proofs.Replay.{replay_cleared, Shows_after, Changes-append, Changes-nil}
+use Rattle.tabled_places.proofs.Replay.{replay_cleared, Shows_after, Changes-append, Changes-nil}
 use Rattle.tabled_configuration.specs.Configuration.{Configuration, Changes, borders_replaced, horizontal_lines_put, vertical_lines_put}
 use Rattle.tabled_layout.specs.declared.table_settings.TableSettings.{TableSettings}
 use Rattle.tabled_configuration.proofs.ConfigurationLemmas.{Changes_by_both}

@@ -3,7 +3,8 @@ use Rattle.std.proofs.Common.{◌≡◌, ◌↔◌, Bool, true, ◌&&◌, nat_eq
 use Rattle.std.proofs.lemmas.Bool.{eqb-true, and_parts}
 use Rattle.std.specs.Cmp.Lexicographic.{pointwise, same_text}
 use Rattle.tabled_grid.specs.Same.{same_state}
-use Rattle.tabled_grid.proofs.SameLemmas.{IsExact, exact_state}
+use Rattle.tabled_grid.proofs.SameLemmas.{exact_state}
+use Rattle.tabled_kept.proofs.ExactMaps.{IsExact}
 use Rattle.tabled_layout.specs.contracts.table_settings.TableSettingsPartialEq.TheImpl.{eq-value as same_settings}
 use Rattle.tabled_settings.proofs.SameSettings.{exact_live}
 use Rattle.tabled_layout.proofs.SameLayout.{exact_settings}

@@ -1,10 +1,10 @@
 -- Events that are made a second time in a row.
 use Rattle.std.proofs.Common.{◌≡◌, List, [], ap, ◌∙◌}
-use Rattle.tabled_grid.specs.Event as grid
-use Rattle.tabled_grid.specs.declared.event.Event.{Event}
-use Rattle.tabled_grid.specs.State.{State, state_at}
-use Rattle.tabled_grid.proofs.PuttingBack.{same_state}
-use Rattle.tabled_grid.proofs.Leaving.{second_time}
+use Rattle.tabled_places.specs.Event as grid
+use Rattle.tabled_places.specs.declared.event.Event.{Event}
+use Rattle.tabled_places.specs.State.{State, state_at}
+use Rattle.tabled_places.proofs.PuttingBack.{same_state}
+use Rattle.tabled_places.proofs.Leaving.{second_time}
 use Rattle.tabled_layout.specs.TableSettings.{settings_after}
 use Rattle.tabled_configuration.specs.CellColors.{colors_after}
 use Rattle.tabled_configuration.specs.Configuration as borders

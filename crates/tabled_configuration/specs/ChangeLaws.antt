@@ -2,9 +2,9 @@
 use Rattle.std.specs.Prelude.{◌≡◌, Option, List, [], ◌∷◌, ◌++◌}
 use Rattle.std.proofs.Common.{refl, sym, ap, subst, ◌∙◌}
 use Rattle.std.proofs.lemmas.List.Elements.{filter_map-append}
-use Rattle.tabled_grid.specs.Event as grid
-use Rattle.tabled_grid.specs.State.{state_at}
-use Rattle.tabled_grid.proofs.Replay.{Changes-append, Changes-nil}
+use Rattle.tabled_places.specs.Event as grid
+use Rattle.tabled_places.specs.State.{state_at}
+use Rattle.tabled_places.proofs.Replay.{Changes-append, Changes-nil}
 use Rattle.tabled_border.specs.Texts.{Texts}
 use Rattle.tabled_settings.specs.Live.{Live}
 use Rattle.tabled_layout.specs.TableSettings.{settings_after}

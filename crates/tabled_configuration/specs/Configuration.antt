@@ -2,17 +2,17 @@
 use Rattle.std.specs.Prelude.{◌≡◌, ℕ, Bool, ◌==◌, ◌&&◌, Option, Some, None, List, [], ◌∷◌, ◌++◌, map, flat_map, filter_map}
 use Rattle.std.specs.Coded.{Coded, codes}
 use Rattle.std.specs.FinMap as finmap
-use Rattle.tabled_grid.specs.declared.lines.HorizontalLine.{HorizontalLine}
-use Rattle.tabled_grid.specs.declared.lines.VerticalLine.{VerticalLine}
-use Rattle.tabled_grid.specs.declared.borders.Borders.{Borders}
-use Rattle.tabled_grid.specs.declared.writes.Write.{Write}
-use Rattle.tabled_grid.specs.Event as grid
-use Rattle.tabled_grid.specs.declared.event.Event.TheVariants.{Erase as erase}
-use Rattle.tabled_grid.specs.declared.event.Region.TheVariants.{All as every_site, Level as level_sites}
-use Rattle.tabled_grid.specs.declared.event.Event.{Event}
-use Rattle.tabled_grid.specs.Writes.{writes_made}
-use Rattle.tabled_grid.specs.Calls.{default_set, line_set_horizontal, line_set_vertical}
-use Rattle.tabled_grid.specs.State.{State, state_at, class_record_set, writes_of}
+use Rattle.tabled_places.specs.declared.lines.HorizontalLine.{HorizontalLine}
+use Rattle.tabled_places.specs.declared.lines.VerticalLine.{VerticalLine}
+use Rattle.tabled_places.specs.declared.borders.Borders.{Borders}
+use Rattle.tabled_places.specs.declared.writes.Write.{Write}
+use Rattle.tabled_places.specs.Event as grid
+use Rattle.tabled_places.specs.declared.event.Event.TheVariants.{Erase as erase}
+use Rattle.tabled_places.specs.declared.event.Region.TheVariants.{All as every_site, Level as level_sites}
+use Rattle.tabled_places.specs.declared.event.Event.{Event}
+use Rattle.tabled_places.specs.Writes.{writes_made}
+use Rattle.tabled_places.specs.Calls.{default_set, line_set_horizontal, line_set_vertical}
+use Rattle.tabled_places.specs.State.{State, state_at, class_record_set, writes_of}
 use Rattle.tabled_border.specs.Texts.{Texts}
 use Rattle.tabled_settings.specs.CellSettings.{SettingEvent}
 use Rattle.tabled_settings.specs.Padding.{keeps_first_padding}

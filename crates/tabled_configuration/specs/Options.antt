@@ -1,13 +1,13 @@
 -- What options do, entity by entity, and what the border of a cell does to a table.
 use Rattle.std.specs.Prelude.{◌≡◌, ◌==◌, ◌||◌, ◌++◌, ℕ, List, [], ◌∷◌, if◌then◌else◌}
 use Rattle.tabled_border.specs.declared.border.Border.{Border}
-use Rattle.tabled_grid.specs.declared.borders.Borders.{Borders}
+use Rattle.tabled_places.specs.declared.borders.Borders.{Borders}
 use Rattle.tabled_object.specs.declared.entity.Entity.{Entity}
-use Rattle.tabled_grid.specs.CustomLines.{no_borders}
-use Rattle.tabled_grid.specs.Calls.{entity_border_set, entity_border_erased, frame_erased}
-use Rattle.tabled_grid.specs.declared.place.Rank.TheVariants.{Inner as inner}
-use Rattle.tabled_grid.specs.Borders.{has_horizontal, has_vertical}
-use Rattle.tabled_grid.specs.State.{class_record_set}
+use Rattle.tabled_places.specs.CustomLines.{no_borders}
+use Rattle.tabled_places.specs.Calls.{entity_border_set, entity_border_erased, frame_erased}
+use Rattle.tabled_places.specs.declared.place.Rank.TheVariants.{Inner as inner}
+use Rattle.tabled_places.specs.Borders.{has_horizontal, has_vertical}
+use Rattle.tabled_places.specs.State.{class_record_set}
 use Rattle.tabled_configuration.specs.Configuration.{ConfigEvent, by_characters, borders_set}
 
 -- steps in a row lead from the old configuration to the new one: each is a change by the events that it makes of what stands

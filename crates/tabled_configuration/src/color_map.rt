@@ -52,21 +52,22 @@ impl Model for ColorMap {
 }
 
 impl ColorMap {
-    /// These colors, or none.
+    /// The colors of cells of a map, or none.
     pub(crate) fn new(map: Option<EntityMap<ANSIBuf>>) -> Self
         ensures { result ≡ map }
     {
         ColorMap { map }
     }
 
-    /// Whether there never was a map: no color was written yet and none given. A removal of all colors leaves the map.
+    /// Returns whether there never was a map: no color was written yet and none given. A removal of all colors leaves the map.
     pub fn is_empty(&self) -> bool
         ensures { IsTrue result ↔ (self.now ≡ None) }
     {
         self.map.is_none()
     }
 
-    /// Whether each cell of a row is known to have the same color, whatever its column. It takes as long where many have one as where few do.
+    /// Returns whether each cell of a row is known to have the same color, whatever its column. It takes as long where many have one as where
+    /// few do.
     pub fn is_row_alike(&self, row: usize) -> bool
         ensures alike { IsTrue result → AreColorsAlike self.now row }
         ensures none { self.now ≡ None → IsTrue result }

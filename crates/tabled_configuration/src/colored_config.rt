@@ -52,7 +52,7 @@ impl ColoredConfig {
     ghost use Rattle.tabled_configuration.specs.contracts.spanned_config.SpannedConfig.{the_row as spanned_row};
     ghost use Rattle.tabled_kept.specs.contracts.probes.Probes.{the_row as probes_row};
 
-    /// A configuration over the given one, without colors of cells.
+    /// Makes a configuration over the given one, without colors of cells.
     pub fn new(config: SpannedConfig) -> Self
         ensures { result ≡ record { spanned = config; cell_colors = None } }
     {
@@ -62,7 +62,7 @@ impl ColoredConfig {
         }
     }
 
-    /// A configuration over the given one, with these colors of cells.
+    /// Makes a configuration over the given one, with these colors of cells.
     pub fn with_colors(config: SpannedConfig, colors: EntityMap<ANSIBuf>) -> Self
         ensures { result ≡ record { spanned = config; cell_colors = Some colors } }
     {
@@ -92,7 +92,7 @@ impl ColoredConfig {
         self.colors.remove(entity)
     }
 
-    /// The color of a cell: none before a color was set or a map of colors given; then the one that was set last for the
+    /// Returns the color of a cell: none before a color was set or a map of colors given; then the one that was set last for the
     /// cell, or the map's default, which is the color without texts where the map was not given.
     pub fn get_color(&self, position: Position) -> Option<&ANSIBuf>
         ensures { option_copied result ≡ option_map (λ colors. value_at colors position) self.now.cell_colors }
@@ -100,21 +100,21 @@ impl ColoredConfig {
         self.colors.get_color(position)
     }
 
-    /// The colors of cells.
+    /// Returns the colors of cells.
     pub fn get_colors(&self) -> &ColorMap
         ensures { result.now ≡ self.now.cell_colors }
     {
         &self.colors
     }
 
-    /// The configuration of the borders and of what is set for cells.
+    /// Returns the configuration of the borders and of what is set for cells.
     pub fn config(&self) -> &SpannedConfig
         ensures { result.now ≡ self.now.spanned }
     {
         &self.config
     }
 
-    /// The configuration of the borders and of what is set for cells, to be changed. What is written there is this configuration's.
+    /// Returns the configuration of the borders and of what is set for cells, to be changed. What is written there is this configuration's.
     pub fn config_mut(&mut self) -> &mut SpannedConfig
         ensures* writes_back { sem 𝓛 (Lends the_row (spanned_row probes_row) self.entry result (λ config. record self.old { spanned = config })) }
         ensures value { result.now ≡ self.old.spanned }
@@ -122,7 +122,7 @@ impl ColoredConfig {
         &mut self.config
     }
 
-    /// The configuration of the borders, given up by this one; the colors of cells are dropped.
+    /// Returns the configuration of the borders, given up by this one; the colors of cells are dropped.
     pub fn into_inner(self) -> SpannedConfig
         ensures { result ≡ self.spanned }
     {

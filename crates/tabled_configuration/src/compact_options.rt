@@ -1,9 +1,10 @@
-//! Compact configurations as configurations that options change, and a class record as an option on them.
+//! Compact configurations as configurations that options change, and the options that set something on them.
 
-ghost use Rattle.std.specs.Prelude.{◌≡◌, [], ◌∷◌, Some, IsOk};
-ghost use Rattle.tabled_object.specs.declared.entity.Entity.TheVariants as cells;
+ghost use Rattle.std.specs.Prelude.{◌≡◌, [], ◌∷◌, IsOk};
+ghost use Rattle.tabled_configuration.specs.Resizing.{hinted_on_table};
+ghost use Rattle.tabled_configuration.specs.declared.resizing.Resizes.TheVariants as resizing;
 
-use crate::{Configured, TableOption};
+use crate::{Configured, Resizes, TableOption};
 use tabled_border::OutOfMemory;
 use tabled_compact::{CompactConfig, CompactMultilineConfig};
 use tabled_grid::Borders;
@@ -35,12 +36,34 @@ impl Configured for CompactMultilineConfig {
     ghost both_change = { both_become };
 }
 
-impl<R, D> TableOption<R, CompactConfig, D> for Borders<char> {
-    ghost makes = { λ borders records dims old. record old { borders = borders } ∷ [] };
+/// An option that sets something on compact configurations `C`, and reads nothing. It is a [`TableOption`] that takes no memory.
+pub trait SetCompact<C> {
+    ghost use Rattle.tabled_configuration.specs.declared.resizing.Resizes.{Resizes};
 
-    ghost hinted = { λ borders. Some cells.Global };
+    /// What it makes of a configuration.
+    ghost sets: { Self → C → C };
 
-    /// Sets the class record, and nothing else. It takes no memory and returns Ok.
+    /// Where it is applied when a table has to find sizes anew.
+    ghost resizes: { Resizes };
+
+    /// Sets it, and nothing else.
+    fn set_compact(&self, cfg: &mut C)
+        ensures { cfg.new ≡ sets self.now cfg.old };
+
+    /// Where it is applied when a table has to find sizes anew.
+    fn resizes() -> Resizes
+        ensures { result ≡ resizes };
+}
+
+impl<R, D, S> TableOption<R, CompactConfig, D> for S
+where
+    S: SetCompact<CompactConfig> + Drop,
+{
+    ghost makes = { λ option records dims old. S.sets option old ∷ [] };
+
+    ghost hinted = { λ option. hinted_on_table S.resizes };
+
+    /// Sets it, and nothing else. It takes no memory and returns Ok.
     fn change(
         self,
         _records: &mut R,
@@ -48,25 +71,28 @@ impl<R, D> TableOption<R, CompactConfig, D> for Borders<char> {
         _dims: &mut D,
     ) -> Result<(), OutOfMemory>
         ensures always { IsOk result }
-        ensures ok { cfg.new ≡ record cfg.old { borders = self } }
+        ensures ok { cfg.new ≡ S.sets self cfg.old }
         ensures records { _records.new ≡ _records.old }
         ensures sizes { _dims.new ≡ _dims.old }
     {
-        *cfg = cfg.set_borders(self);
+        self.set_compact(cfg);
         Ok(())
     }
 
     fn hint_change(&self) -> Option<Entity> {
-        Some(Entity::Global)
+        S::resizes().on_table()
     }
 }
 
-impl<R, D> TableOption<R, CompactMultilineConfig, D> for Borders<char> {
-    ghost makes = { λ borders records dims old. record old { borders = borders } ∷ [] };
+impl<R, D, S> TableOption<R, CompactMultilineConfig, D> for S
+where
+    S: SetCompact<CompactMultilineConfig> + Drop,
+{
+    ghost makes = { λ option records dims old. S.sets option old ∷ [] };
 
-    ghost hinted = { λ borders. Some cells.Global };
+    ghost hinted = { λ option. hinted_on_table S.resizes };
 
-    /// Sets the class record, and nothing else. It takes no memory and returns Ok.
+    /// Sets it, and nothing else. It takes no memory and returns Ok.
     fn change(
         self,
         _records: &mut R,
@@ -74,15 +100,45 @@ impl<R, D> TableOption<R, CompactMultilineConfig, D> for Borders<char> {
         _dims: &mut D,
     ) -> Result<(), OutOfMemory>
         ensures always { IsOk result }
-        ensures ok { cfg.new ≡ record cfg.old { borders = self } }
+        ensures ok { cfg.new ≡ S.sets self cfg.old }
         ensures records { _records.new ≡ _records.old }
         ensures sizes { _dims.new ≡ _dims.old }
     {
-        cfg.set_borders(self);
+        self.set_compact(cfg);
         Ok(())
     }
 
     fn hint_change(&self) -> Option<Entity> {
-        Some(Entity::Global)
+        S::resizes().on_table()
+    }
+}
+
+/// Sets the class record.
+impl SetCompact<CompactConfig> for Borders<char> {
+    ghost sets = { λ borders old. record old { borders = borders } };
+
+    ghost resizes = { resizing.Always };
+
+    fn set_compact(&self, cfg: &mut CompactConfig) {
+        *cfg = cfg.set_borders(*self);
+    }
+
+    fn resizes() -> Resizes {
+        Resizes::Always
+    }
+}
+
+/// Sets the class record.
+impl SetCompact<CompactMultilineConfig> for Borders<char> {
+    ghost sets = { λ borders old. record old { borders = borders } };
+
+    ghost resizes = { resizing.Always };
+
+    fn set_compact(&self, cfg: &mut CompactMultilineConfig) {
+        cfg.set_borders(*self);
+    }
+
+    fn resizes() -> Resizes {
+        Resizes::Always
     }
 }

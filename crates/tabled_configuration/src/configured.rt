@@ -24,8 +24,8 @@ pub trait Configured {
 pub struct BorderEvent {}
 
 impl Model for BorderEvent {
-    ghost use Rattle.tabled_grid.specs.declared.event.Event.TheVariants.{Erase as erase};
-    ghost use Rattle.tabled_grid.specs.declared.event.Region.TheVariants.{All as every_site};
+    ghost use Rattle.tabled_places.specs.declared.event.Event.TheVariants.{Erase as erase};
+    ghost use Rattle.tabled_places.specs.declared.event.Region.TheVariants.{All as every_site};
     ghost use Rattle.tabled_configuration.specs.Configuration.{ConfigEvent, of_characters};
 
     ghost Value = { ConfigEvent };

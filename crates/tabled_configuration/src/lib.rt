@@ -9,12 +9,17 @@ mod color_map;
 mod colored_config;
 mod compact_options;
 mod configured;
+mod resizing;
+mod setting;
 mod spanned_config;
 mod table_option;
 
 pub use cell_option::{CellOption, modify};
 pub use color_map::{ColorMap, Colors};
 pub use colored_config::ColoredConfig;
+pub use compact_options::SetCompact;
 pub use configured::{BorderEvent, Configured};
+pub use resizing::Resizes;
+pub use setting::{SetCells, SetTable};
 pub use spanned_config::SpannedConfig;
 pub use table_option::TableOption;

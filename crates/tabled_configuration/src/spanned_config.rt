@@ -1,10 +1,10 @@
 //! The configuration of a table's borders and of its cells.
 
 ghost use Rattle.std.specs.Prelude.{◌≡◌, ◌↔◌, [], ◌∷◌, IsTrue};
-ghost use Rattle.tabled_grid.specs.Event as grid;
-ghost use Rattle.tabled_grid.specs.declared.event.Event.TheVariants.{Erase as erase};
-ghost use Rattle.tabled_grid.specs.declared.event.Region.TheVariants.{All as every_site};
-ghost use Rattle.tabled_grid.specs.State.{state_at};
+ghost use Rattle.tabled_places.specs.Event as grid;
+ghost use Rattle.tabled_places.specs.declared.event.Event.TheVariants.{Erase as erase};
+ghost use Rattle.tabled_places.specs.declared.event.Region.TheVariants.{All as every_site};
+ghost use Rattle.tabled_places.specs.State.{state_at};
 ghost use Rattle.tabled_configuration.specs.Configuration.{all_but_offsets};
 
 mod applying;
@@ -62,20 +62,20 @@ impl<M> Model for SpannedConfig<M> {
 }
 
 impl<M> SpannedConfig<M> {
-    /// The allocator that the configuration keeps.
+    /// Returns the allocator that the configuration keeps.
     pub fn allocator(&self) -> Global {
         self.characters.allocator()
     }
 }
 
 impl SpannedConfig {
-    ghost use Rattle.tabled_grid.specs.declared.place.LineOf.{LineOf as Line};
-    ghost use Rattle.tabled_grid.specs.Drawn.{Drawn};
-    ghost use Rattle.tabled_grid.specs.Calls.{default_set, default_erased, cell_erased, spot_of};
+    ghost use Rattle.tabled_places.specs.declared.place.LineOf.{LineOf as Line};
+    ghost use Rattle.tabled_places.specs.Drawn.{Drawn};
+    ghost use Rattle.tabled_places.specs.Calls.{default_set, default_erased, cell_erased, spot_of};
     ghost use Rattle.std.specs.FinMap.{get};
     ghost use Rattle.tabled_configuration.specs.Configuration.{Shows, Changes, by_characters, borders_set, borders_removed};
 
-    /// A configuration in which nothing was set. It keeps the allocator for the calls that need memory.
+    /// Makes a configuration in which nothing was set. It keeps the allocator for the calls that need memory.
     pub fn new(alloc: Global) -> Self
         ensures { Shows [] result }
     {
@@ -102,7 +102,7 @@ impl SpannedConfig {
         self.characters.set_class(borders);
     }
 
-    /// The class record.
+    /// Returns the class record.
     pub fn get_borders(&self) -> &Borders<char>
         ensures { result.now ≡ self.now.characters.class_record }
     {
@@ -126,7 +126,7 @@ impl SpannedConfig {
         self.characters.set_default(character);
     }
 
-    /// The default border character, if one is set.
+    /// Returns the default border character, if one is set.
     pub fn get_border_default(&self) -> Option<char>
         ensures { result ≡ self.now.characters.default_value }
     {
@@ -147,7 +147,7 @@ impl SpannedConfig {
         self.characters.erase_default();
     }
 
-    /// The character that is kept at the cell level of one edge or one crossing, whatever other levels have; for an
+    /// Returns the character that is kept at the cell level of one edge or one crossing, whatever other levels have; for an
     /// edge `at` is not read.
     pub fn get_char(&self, place: Place) -> Option<char>
         ensures { result ≡ get self.now.characters.cells (spot_of place) }
@@ -186,7 +186,7 @@ impl SpannedConfig {
         erase_below_offsets(&mut self.characters);
     }
 
-    /// Whether horizontal line `line` is drawn in a table of `rows` rows.
+    /// Returns whether horizontal line `line` is drawn in a table of `rows` rows.
     #[inline(always)]
     pub fn has_horizontal(&self, line: usize, rows: usize) -> bool
         ensures { IsTrue result ↔ Drawn (state_at self.now.characters) rows (Line.Horizontal line) }
@@ -196,7 +196,7 @@ impl SpannedConfig {
             .draws(LineOf::Horizontal(line), rows, &mut probes)
     }
 
-    /// Whether vertical line `line` is drawn in a table of `cols` columns.
+    /// Returns whether vertical line `line` is drawn in a table of `cols` columns.
     pub fn has_vertical(&self, line: usize, cols: usize) -> bool
         ensures { IsTrue result ↔ Drawn (state_at self.now.characters) cols (Line.Vertical line) }
     {

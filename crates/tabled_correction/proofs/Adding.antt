@@ -2,10 +2,10 @@
 use Rattle.std.proofs.Common.{◌≡◌, ℕ, suc, ◌+◌, List, [], ◌∷◌, ◌++◌, map, take, sym, ap, ◌∙◌, arith, flat_map, append-nil, append_assoc}
 use Rattle.std.proofs.lemmas.List.{map-append}
 use Rattle.tabled_object.specs.Entities.{below}
-use Rattle.tabled_grid.specs.declared.event.Event.{Event}
-use Rattle.tabled_grid.specs.declared.writes.Write as grid
-use Rattle.tabled_grid.specs.Writes.{writes_made}
-use Rattle.tabled_grid.proofs.EntityBorders.{writes_made-append, nothing_written}
+use Rattle.tabled_places.specs.declared.event.Event.{Event}
+use Rattle.tabled_places.specs.declared.writes.Write as grid
+use Rattle.tabled_places.specs.Writes.{writes_made}
+use Rattle.tabled_places.proofs.EntityBorders.{writes_made-append, nothing_written}
 use Rattle.tabled_configuration.specs.Configuration.{Configuration, cell_colors_of}
 use Rattle.tabled_configuration.proofs.ColoredLemmas.{none_by_characters}
 use Rattle.tabled_correction.specs.Correction.{Write, Spanned, after_writes, columns_corrected, rows_corrected, inner_corrected, corrected, spanned, crossing_written, correction_events}

@@ -14,7 +14,7 @@ use Rattle.tabled_object.specs.declared.position.Position.{Position}
 use Rattle.tabled_object.specs.contracts.position.PositionOrd.TheImpl.Laws.{total-law}
 use Rattle.tabled_object.specs.Entities.{is_inside}
 use Rattle.tabled_layout.specs.Spans.{SpanEvent, position_cmp, same_position}
-use Rattle.tabled_grid.specs.Table.{table}
+use Rattle.tabled_kept.specs.Table.{table}
 use Rattle.tabled_layout.proofs.SpanLemmas.{is_same_position, entries_are}
 use Rattle.tabled_correction.specs.Covered.{has, covered_by, AreThose}
 

@@ -11,8 +11,8 @@ use Rattle.tabled_object.specs.declared.position.Position.{Position}
 use Rattle.tabled_object.specs.contracts.position.PositionOrd.TheImpl.Laws.{total-law}
 use Rattle.tabled_object.specs.Entities.{position, rectangle, below, cells_of, is_inside}
 use Rattle.tabled_object.proofs.Sets.{any_here, any_below, any_passing}
-use Rattle.tabled_grid.specs.Table.{table}
-use Rattle.tabled_grid.proofs.Ascending.{entries-table}
+use Rattle.tabled_kept.specs.Table.{table}
+use Rattle.tabled_kept.proofs.Ascending.{entries-table}
 use Rattle.tabled_layout.specs.Spans.{position_cmp, same_position}
 use Rattle.tabled_layout.proofs.SpanLemmas.{is_same_position, positions_apart}
 use Rattle.tabled_correction.specs.Covered.{has, AreThose}

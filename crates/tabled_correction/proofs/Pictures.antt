@@ -8,7 +8,7 @@ use Rattle.std.specs.Map.{lookup}
 use Rattle.tabled_object.specs.declared.position.Position.{Position}
 use Rattle.tabled_object.specs.contracts.position.PositionOrd.TheImpl.Laws.{total-law}
 use Rattle.tabled_object.specs.Entities.{position}
-use Rattle.tabled_grid.specs.declared.place.Place.{Place}
+use Rattle.tabled_places.specs.declared.place.Place.{Place}
 use Rattle.tabled_layout.specs.Spans.{position_cmp, same_position}
 use Rattle.tabled_layout.proofs.SpanLemmas.{is_same_position}
 use Rattle.tabled_correction.specs.Correction.{Write, PlaceCharacters, last_at, written_over}

@@ -8,23 +8,23 @@ use Rattle.std.proofs.lemmas.List.{map-append}
 use Rattle.std.proofs.lemmas.List.Elements.{filter-append}
 use Rattle.tabled_object.specs.declared.position.Position.{Position}
 use Rattle.tabled_object.specs.Entities.{position, below}
-use Rattle.tabled_grid.specs.declared.place.LineOf.{LineOf}
-use Rattle.tabled_grid.specs.declared.place.Place.{Place}
-use Rattle.tabled_grid.specs.declared.site.Direction.TheVariants.{Horizontal, Vertical}
-use Rattle.tabled_grid.specs.declared.site.Part.TheVariants.{Edges as main_edges, Crossings as meeting}
-use Rattle.tabled_grid.specs.declared.site.Spot.TheVariants.{Edge, Crossing}
-use Rattle.tabled_grid.specs.declared.site.Site.{Site}
-use Rattle.tabled_grid.specs.declared.site.Site.TheVariants.{Default as the_default, Class as of_class, Line as of_line, Cell as at_spot, Offset as at_offset}
-use Rattle.tabled_grid.specs.Site.{rank, same_site}
-use Rattle.tabled_grid.specs.declared.event.Event.{Event}
-use Rattle.tabled_grid.specs.declared.event.Written.{Written}
-use Rattle.tabled_grid.specs.declared.event.Written.TheVariants.{Sign as sign}
-use Rattle.tabled_grid.specs.Event.{covers, covered, left_by, replay}
-use Rattle.tabled_grid.specs.Event as grid
-use Rattle.tabled_grid.specs.State.{state_at}
-use Rattle.tabled_grid.specs.Value.{has_spot, class_at, plain_sites, sign_or, first_sign, plain_value}
-use Rattle.tabled_grid.proofs.Replay.{replay-append}
-use Rattle.tabled_grid.proofs.PuttingBack.{same_state}
+use Rattle.tabled_places.specs.declared.place.LineOf.{LineOf}
+use Rattle.tabled_places.specs.declared.place.Place.{Place}
+use Rattle.tabled_places.specs.declared.site.Direction.TheVariants.{Horizontal, Vertical}
+use Rattle.tabled_places.specs.declared.site.Part.TheVariants.{Edges as main_edges, Crossings as meeting}
+use Rattle.tabled_places.specs.declared.site.Spot.TheVariants.{Edge, Crossing}
+use Rattle.tabled_places.specs.declared.site.Site.{Site}
+use Rattle.tabled_places.specs.declared.site.Site.TheVariants.{Default as the_default, Class as of_class, Line as of_line, Cell as at_spot, Offset as at_offset}
+use Rattle.tabled_places.specs.Site.{rank, same_site}
+use Rattle.tabled_places.specs.declared.event.Event.{Event}
+use Rattle.tabled_places.specs.declared.event.Written.{Written}
+use Rattle.tabled_places.specs.declared.event.Written.TheVariants.{Sign as sign}
+use Rattle.tabled_places.specs.Event.{covers, covered, left_by, replay}
+use Rattle.tabled_places.specs.Event as grid
+use Rattle.tabled_places.specs.State.{state_at}
+use Rattle.tabled_places.specs.Value.{has_spot, class_at, plain_sites, sign_or, first_sign, plain_value}
+use Rattle.tabled_places.proofs.Replay.{replay-append}
+use Rattle.tabled_places.proofs.PuttingBack.{same_state}
 use Rattle.tabled_layout.specs.Spans.{SpanEvent, same_position}
 use Rattle.tabled_layout.specs.TableSettings.{settings_after}
 use Rattle.tabled_configuration.specs.Configuration.{Configuration, Changes, of_characters, setting_event, by_characters}

@@ -6,15 +6,15 @@ use Rattle.std.specs.FinMap.{entries}
 use Rattle.tabled_object.specs.declared.entity.Entity.TheVariants.{Global}
 use Rattle.tabled_object.specs.declared.position.Position.{Position}
 use Rattle.tabled_object.specs.Entities.{position, below, cells_of, is_inside}
-use Rattle.tabled_grid.specs.declared.place.Place.{Place}
-use Rattle.tabled_grid.specs.declared.borders.Borders.{Borders}
-use Rattle.tabled_grid.specs.declared.site.Spot.TheVariants.{Crossing}
-use Rattle.tabled_grid.specs.declared.site.Site.TheVariants.{Cell as at_spot}
-use Rattle.tabled_grid.specs.declared.event.Written.TheVariants.{Sign as sign}
-use Rattle.tabled_grid.specs.declared.event.Event.{Event}
-use Rattle.tabled_grid.specs.declared.event.Event.TheVariants.{Write as write}
-use Rattle.tabled_grid.specs.State.{state_at}
-use Rattle.tabled_grid.specs.Value.{plain_value}
+use Rattle.tabled_places.specs.declared.place.Place.{Place}
+use Rattle.tabled_places.specs.declared.borders.Borders.{Borders}
+use Rattle.tabled_places.specs.declared.site.Spot.TheVariants.{Crossing}
+use Rattle.tabled_places.specs.declared.site.Site.TheVariants.{Cell as at_spot}
+use Rattle.tabled_places.specs.declared.event.Written.TheVariants.{Sign as sign}
+use Rattle.tabled_places.specs.declared.event.Event.{Event}
+use Rattle.tabled_places.specs.declared.event.Event.TheVariants.{Write as write}
+use Rattle.tabled_places.specs.State.{state_at}
+use Rattle.tabled_places.specs.Value.{plain_value}
 use Rattle.tabled_layout.specs.Spans.{SpanMap, SpanEvent, same_position}
 use Rattle.tabled_layout.specs.Covering.{covered_by_column_span, covered_by_row_span, covered_by_both_spans}
 use Rattle.tabled_configuration.specs.Configuration.{Configuration, ConfigEvent, by_characters}

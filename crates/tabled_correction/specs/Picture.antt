@@ -5,7 +5,7 @@ use Rattle.std.specs.BTreeMap.{BTreeMap, get}
 use Rattle.std.specs.Option.{option_or}
 use Rattle.tabled_object.specs.declared.position.Position.{Position}
 use Rattle.tabled_object.specs.Entities.{position}
-use Rattle.tabled_grid.specs.declared.place.Place.{Place}
+use Rattle.tabled_places.specs.declared.place.Place.{Place}
 use Rattle.tabled_layout.specs.Spans.{position_cmp}
 use Rattle.tabled_correction.specs.Correction.{PlaceCharacters, Spanned, spanned}
 use Rattle.tabled_correction.specs.declared.picture.Picture.{Picture}

@@ -2,7 +2,7 @@
 
 ghost use Rattle.std.specs.Prelude.{◌≡◌, ◌++◌, map, IfOk, OnOk, OnErr, Some};
 ghost use Rattle.tabled_object.specs.declared.entity.Entity.TheVariants as cells;
-ghost use Rattle.tabled_grid.specs.Writes.{writes_made};
+ghost use Rattle.tabled_places.specs.Writes.{writes_made};
 ghost use Rattle.tabled_configuration.specs.Colored.{Changes};
 ghost use Rattle.tabled_correction.specs.Correction.{spanned, corrected, crossing_written, correction_events};
 
@@ -29,7 +29,7 @@ use tabled_object::{Entity, ExactRecords, Position, Records};
 pub struct BorderCorrection {}
 
 impl BorderCorrection {
-    /// The correction for the spans that are set when it is applied.
+    /// Makes the correction for the spans that are set when it is applied.
     pub fn span() -> Self {
         BorderCorrection {}
     }

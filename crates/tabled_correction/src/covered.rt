@@ -2,7 +2,7 @@
 
 ghost use Rattle.std.specs.Prelude.{◌≡◌, ◌||◌, ◌&&◌, ◌==◌, IfOk, OnOk};
 ghost use Rattle.tabled_object.specs.declared.position.Position.{Position as At};
-ghost use Rattle.tabled_grid.specs.Table.{table};
+ghost use Rattle.tabled_kept.specs.Table.{table};
 ghost use Rattle.tabled_layout.specs.Spans.{position_cmp};
 ghost use Rattle.tabled_layout.specs.Covering.{covered_by_column_span, covered_by_row_span, covered_by_both_spans};
 ghost use Rattle.tabled_correction.specs.Covered.{has, is_in, AreThose};
@@ -17,16 +17,16 @@ use tabled_object::Position;
 /// The cells of a table that spans cover.
 #[derive(Drop)]
 pub(crate) struct Covered {
-    /// Those that column spans cover.
+    /// The cells that column spans cover.
     pub(crate) in_rows: BTreeSet<Position>,
-    /// Those that row spans cover.
+    /// The cells that row spans cover.
     pub(crate) in_columns: BTreeSet<Position>,
-    /// Those that both spans of a cell cover.
+    /// The cells that both spans of a cell cover.
     pub(crate) by_both: BTreeSet<Position>,
 }
 
 impl Covered {
-    /// Those of a configuration, in a table of `shape.0` rows and `shape.1` columns.
+    /// The cells that the spans of a configuration cover, in a table of `shape.0` rows and `shape.1` columns.
     pub(crate) fn of(cfg: &SpannedConfig, shape: (usize, usize)) -> Result<Self, OutOfMemory>
         ensures in_rows { IfOk result (λ covered. AreThose covered.in_rows.keys shape (covered_by_column_span cfg.now.settings.column_spans)) }
         ensures in_columns { IfOk result (λ covered. AreThose covered.in_columns.keys shape (covered_by_row_span cfg.now.settings.row_spans)) }

@@ -31,7 +31,7 @@ pub(crate) struct Picture<'a> {
 }
 
 impl<'a> Picture<'a> {
-    ghost use Rattle.tabled_grid.specs.declared.place.Place.{Place as Spot};
+    ghost use Rattle.tabled_places.specs.declared.place.Place.{Place as Spot};
     ghost use Rattle.tabled_object.specs.Entities.{is_inside};
     ghost use Rattle.tabled_correction.specs.Correction.{after_writes, spanned};
     ghost use Rattle.tabled_correction.specs.Correction as correction;

@@ -1,7 +1,7 @@
 //! The steps of a correction: each is read off one picture and says which crossings become what.
 
 ghost use Rattle.std.specs.Prelude.{◌≡◌, ◌++◌, ◌+◌, ◌<◌, OnOk};
-ghost use Rattle.tabled_grid.specs.declared.place.Place.{Place as Spot};
+ghost use Rattle.tabled_places.specs.declared.place.Place.{Place as Spot};
 ghost use Rattle.tabled_correction.specs.Correction as correction;
 ghost use Rattle.tabled_correction.specs.Picture.{pictured};
 
@@ -59,7 +59,7 @@ impl Picture<'_> {
         Ok(())
     }
 
-    /// Those of one column span, column by column, as far as the table goes.
+    /// The crossings that one column span corrects, column by column, as far as the table goes.
     #[tactic(auto, unfolding(crate::specs::Correction::column_span_step))]
     fn add_column_span(
         &self,
@@ -80,7 +80,7 @@ impl Picture<'_> {
         Ok(())
     }
 
-    /// Those above and below one column of a span; column 0 has none.
+    /// The crossings above and below one column of a span; column 0 has none.
     #[tactic(auto, unfolding(crate::specs::Correction::column_step))]
     fn add_column(
         &self,
@@ -167,7 +167,7 @@ impl Picture<'_> {
         Ok(())
     }
 
-    /// Those of one row span, row by row after its first, as far as the table goes.
+    /// The crossings that one row span corrects, row by row after its first, as far as the table goes.
     #[tactic(auto, unfolding(crate::specs::Correction::row_span_step))]
     fn add_row_span(
         &self,
@@ -188,7 +188,7 @@ impl Picture<'_> {
         Ok(())
     }
 
-    /// Those at the left and the right of one row of a span.
+    /// The crossings at the left and the right of one row of a span.
     #[tactic(auto, unfolding(crate::specs::Correction::row_step))]
     fn add_row(&self, writes: &mut Writes, cell: Position) -> Result<(), OutOfMemory>
         requires row { cell.row < (pictured self.now).shape.0 }
@@ -236,7 +236,7 @@ impl Picture<'_> {
         Ok(())
     }
 
-    /// Those beside one of them.
+    /// The crossings beside a cell that both spans of another cover.
     #[tactic(auto, unfolding(crate::specs::Correction::inner_step))]
     pub(crate) fn add_inner(&self, writes: &mut Writes, cell: Position) -> Result<(), OutOfMemory>
         requires row { cell.row < (pictured self.now).shape.0 }

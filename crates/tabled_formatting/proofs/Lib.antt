@@ -1,2 +1,1 @@
-pub mod FormattingLemmas
 pub mod MarginLemmas

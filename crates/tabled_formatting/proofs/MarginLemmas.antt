@@ -1,13 +1,13 @@
 -- What a shadow sets, one call after the other.
 use Rattle.std.proofs.Common.{◌≡◌, Option, Some, None, option_map, List, [], ◌++◌, refl, ap, subst, ◌∙◌}
 use Rattle.tabled_border.specs.Texts.{Texts}
-use Rattle.tabled_grid.specs.declared.offset.Offset.{Offset}
+use Rattle.tabled_object.specs.declared.offset.Offset.{Offset}
 use Rattle.tabled_settings.specs.declared.sides.Sides.{Sides}
 use Rattle.tabled_settings.specs.declared.indent.Indent.{Indent}
 use Rattle.tabled_layout.specs.Margin.{of_size, of_offset, of_color}
 use Rattle.tabled_color.specs.Shade.{Shade}
 use Rattle.tabled_configuration.specs.ChangeLaws.{both_change_borders}
-use Rattle.tabled_configuration.specs.Configuration.{Configuration, ConfigEvent, Changes, by_margin, cell_colors_of}
+use Rattle.tabled_configuration.specs.Configuration.{Configuration, ConfigEvent, Changes, by_margin}
 use Rattle.tabled_formatting.specs.declared.shadow.Shadow.{Shadow}
 use Rattle.tabled_formatting.specs.Margins.{shadow_sizes, shadow_offsets, shadow_colors, shadow_colored, shadow_set}
 
@@ -28,11 +28,3 @@ shadow_falls shadow size offset es old sized placed new size_is offset_is colore
     ∙ ap (λ given. by_margin (of_size (shadow_sizes shadow)) ++ (by_margin (of_offset given) ++ es)) offset_is
     ∙ ap (λ last. by_margin (of_size (shadow_sizes shadow)) ++ (by_margin (of_offset (shadow_offsets shadow)) ++ last)) colored)
     (both_change_borders (by_margin (of_size size)) (by_margin (of_offset offset) ++ es) old sized new by_size (both_change_borders (by_margin (of_offset offset)) es sized placed new by_offset by_color))
-
--- none of it is a color of cells
-none_when_colored : (color : Option Shade) (shadow : Shadow) → cell_colors_of (shadow_colored color shadow.direction) ≡ []
-none_when_colored (Some given) shadow = refl
-none_when_colored None shadow = refl
-
-pub none_in_shadow_set : (shadow : Shadow) → cell_colors_of (shadow_set shadow) ≡ []
-none_in_shadow_set shadow = none_when_colored shadow.color shadow

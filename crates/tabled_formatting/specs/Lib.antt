@@ -3,3 +3,4 @@ pub mod Compact
 pub mod SideTexts
 pub mod Formatting
 pub mod Margins
+pub mod LeavesColors

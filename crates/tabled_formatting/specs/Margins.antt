@@ -1,8 +1,8 @@
 -- What options set of the margin around a table.
 use Rattle.std.specs.Prelude.{ℕ, Bool, true, false, Option, Some, None, List, [], ◌++◌}
 use Rattle.tabled_border.specs.Texts.{Texts}
-use Rattle.tabled_grid.specs.declared.offset.Offset.{Offset}
-use Rattle.tabled_grid.specs.declared.offset.Offset.TheVariants.{Start, End}
+use Rattle.tabled_object.specs.declared.offset.Offset.{Offset}
+use Rattle.tabled_object.specs.declared.offset.Offset.TheVariants.{Start, End}
 use Rattle.tabled_settings.specs.declared.sides.Sides.{Sides}
 use Rattle.tabled_settings.specs.declared.indent.Indent.{Indent}
 use Rattle.tabled_settings.specs.Padding.{no_indent}

@@ -61,7 +61,7 @@ impl Alignment {
         Alignment::Vertical(AlignmentVertical::Center)
     }
 
-    /// The alignment between the left and the right side, if it is one.
+    /// Returns the alignment between the left and the right side, if it is one.
     pub const fn as_horizontal(self) -> Option<AlignmentHorizontal>
         ensures { result ≡ horizontal_of self }
     {
@@ -71,7 +71,7 @@ impl Alignment {
         }
     }
 
-    /// The alignment between the upper and the lower side, if it is one.
+    /// Returns the alignment between the upper and the lower side, if it is one.
     pub const fn as_vertical(self) -> Option<AlignmentVertical>
         ensures { result ≡ vertical_of self }
     {

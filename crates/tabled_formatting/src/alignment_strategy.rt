@@ -1,14 +1,11 @@
 //! Whether the lines of a text are aligned as one.
 
-ghost use Rattle.std.specs.Prelude.{◌≡◌, Some, None, IsTrue, IsOk, OnOk, OnErr};
-ghost use Rattle.tabled_object.specs.declared.entity.Entity.TheVariants as cells;
-ghost use Rattle.tabled_settings.specs.Setting.{is_global};
-ghost use Rattle.tabled_configuration.specs.Configuration as borders;
-ghost use Rattle.tabled_configuration.specs.Colored.{Changes};
+ghost use Rattle.std.specs.Prelude.{◌≡◌, ⊤, refl};
+ghost use Rattle.tabled_configuration.specs.declared.resizing.Resizes.TheVariants as resizing;
 ghost use Rattle.tabled_formatting.specs.Formatting.{strategy_set, each_line};
 
 use tabled_border::OutOfMemory;
-use tabled_configuration::{CellOption, ColoredConfig, SpannedConfig, TableOption};
+use tabled_configuration::{Resizes, SetCells, SpannedConfig};
 use tabled_object::Entity;
 
 /// Whether the lines of a text in a cell are moved as one block, or each by itself. Here a text of two lines at the right of
@@ -27,15 +24,6 @@ pub enum AlignmentStrategy {
 }
 
 impl AlignmentStrategy {
-    /// Sets whether each line of the texts of the cells of an entity is aligned by itself.
-    fn set(&self, config: &mut SpannedConfig, entity: Entity) -> Result<(), OutOfMemory>
-        ensures ok { OnOk result (borders.Changes (strategy_set self.now entity) config.old config.new) }
-        ensures err { OnErr result (config.new ≡ config.old) }
-        ensures always { IsTrue (is_global entity) → IsOk result }
-    {
-        config.set_line_alignment(entity, self.is_per_line())
-    }
-
     /// Whether each line is aligned by itself.
     pub(crate) fn is_per_line(&self) -> bool
         ensures { result ≡ each_line self.now }
@@ -47,48 +35,21 @@ impl AlignmentStrategy {
     }
 }
 
-impl<R> CellOption<R, ColoredConfig> for AlignmentStrategy {
-    ghost makes = { λ strategy records entity old. strategy_set strategy entity };
+impl SetCells for AlignmentStrategy {
+    ghost sets = { strategy_set };
 
-    ghost hinted = { λ strategy. Some cells.Global };
+    ghost resizes = { resizing.OnCells };
 
-    /// Sets it for the cells of the entity. Where memory is refused nothing changes.
-    fn change(
-        &self,
-        _records: &mut R,
-        cfg: &mut ColoredConfig,
-        entity: Entity,
-    ) -> Result<(), OutOfMemory> {
-        self.set(cfg.config_mut(), entity)
+    ghost takes_no_memory = { λ strategy. ⊤ };
+
+    ghost leaves_colors = { λ strategy entity. refl };
+
+    /// Sets it for the cells of the entity. Where memory is refused nothing changes; for all cells none is asked for.
+    fn set_cells(&self, config: &mut SpannedConfig, entity: Entity) -> Result<(), OutOfMemory> {
+        config.set_line_alignment(entity, self.is_per_line())
     }
 
-    fn hint_change(&self) -> Option<Entity> {
-        Some(Entity::Global)
-    }
-}
-
-impl<R, D> TableOption<R, ColoredConfig, D> for AlignmentStrategy {
-    ghost makes = { λ strategy records dims old. strategy_set strategy cells.Global };
-
-    ghost hinted = { λ strategy. None };
-
-    /// Sets it for all cells. It takes no memory and returns Ok.
-    fn change(
-        self,
-        _records: &mut R,
-        cfg: &mut ColoredConfig,
-        _dims: &mut D,
-    ) -> Result<(), OutOfMemory>
-        ensures always { IsOk result }
-        ensures ok { OnOk result (Changes (strategy_set self cells.Global) cfg.old cfg.new) }
-        ensures err { OnErr result (cfg.new ≡ cfg.old) }
-        ensures records { _records.new ≡ _records.old }
-        ensures sizes { _dims.new ≡ _dims.old }
-    {
-        self.set(cfg.config_mut(), Entity::Global)
-    }
-
-    fn hint_change(&self) -> Option<Entity> {
-        None
+    fn resizes() -> Resizes {
+        Resizes::OnCells
     }
 }

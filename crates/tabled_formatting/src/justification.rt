@@ -1,17 +1,15 @@
 //! What fills a cell beside its text.
 
-ghost use Rattle.std.specs.Prelude.{◌≡◌, Some, None, IfOk, OnOk, OnErr, option_map, option_copied};
-ghost use Rattle.tabled_object.specs.declared.entity.Entity.TheVariants as cells;
+ghost use Rattle.std.specs.Prelude.{◌≡◌, refl, Some, None, IfOk, option_map, option_copied};
+ghost use Rattle.tabled_configuration.specs.declared.resizing.Resizes.TheVariants as resizing;
 ghost use Rattle.tabled_color.specs.Shade.{texts_of};
-ghost use Rattle.tabled_configuration.specs.Configuration as borders;
-ghost use Rattle.tabled_configuration.specs.Colored.{Changes};
 ghost use Rattle.tabled_formatting.specs.Formatting.{justification_set};
 
 use std::alloc::Global;
 use std::marker::Model;
 use tabled_border::{ANSIBuf, Keep, OutOfMemory};
 use tabled_color::Color;
-use tabled_configuration::{CellOption, ColoredConfig, SpannedConfig, TableOption};
+use tabled_configuration::{Resizes, SetCells, SpannedConfig};
 use tabled_object::Entity;
 
 /// The character that fills cells beside their texts, and its color. Here it is `#`:
@@ -35,7 +33,7 @@ impl Model for Justification {
 }
 
 impl Justification {
-    /// This character, without a color.
+    /// Makes a filling of this character, without a color.
     pub fn new(c: char) -> Self
         ensures { result ≡ record { character = Some c; color = None } }
     {
@@ -45,7 +43,7 @@ impl Justification {
         }
     }
 
-    /// This character, in a color.
+    /// Makes a filling of this character, in a color.
     pub fn colored(c: char, color: Color) -> Self
         ensures { result ≡ record { character = Some c; color = Some color } }
     {
@@ -55,7 +53,7 @@ impl Justification {
         }
     }
 
-    /// The same character, in a color.
+    /// Returns the filling in a color, with its character.
     pub fn color(self, color: Color) -> Self
         ensures { result ≡ record self { color = Some color } }
     {
@@ -63,15 +61,6 @@ impl Justification {
             c: self.c,
             color: Some(color),
         }
-    }
-
-    /// Sets the character and the color for the cells of an entity.
-    fn set(&self, config: &mut SpannedConfig, entity: Entity) -> Result<(), OutOfMemory>
-        ensures ok { OnOk result (borders.Changes (justification_set self.now entity) config.old config.new) }
-        ensures err { OnErr result (config.new ≡ config.old) }
-    {
-        let color = optional_texts(config.allocator(), self.color.as_ref())?;
-        config.set_colored_justification(entity, self.c.unwrap_or(' '), color)
     }
 }
 
@@ -106,44 +95,23 @@ impl Keep for Justification {
     }
 }
 
-impl<R> CellOption<R, ColoredConfig> for Justification {
-    ghost makes = { λ given records entity old. justification_set given entity };
+impl SetCells for Justification {
+    ghost sets = { justification_set };
 
-    ghost hinted = { λ given. None };
+    ghost resizes = { resizing.Never };
+
+    ghost takes_no_memory = { λ given. ⊥ };
+
+    ghost leaves_colors = { λ given entity. refl };
 
     /// Sets the character and the color for the cells of the entity: a space where no character is given, and no color where
     /// none is given. Where memory is refused neither changes.
-    fn change(
-        &self,
-        _records: &mut R,
-        cfg: &mut ColoredConfig,
-        entity: Entity,
-    ) -> Result<(), OutOfMemory> {
-        self.set(cfg.config_mut(), entity)
+    fn set_cells(&self, config: &mut SpannedConfig, entity: Entity) -> Result<(), OutOfMemory> {
+        let color = optional_texts(config.allocator(), self.color.as_ref())?;
+        config.set_colored_justification(entity, self.c.unwrap_or(' '), color)
     }
 
-    fn hint_change(&self) -> Option<Entity> {
-        None
-    }
-}
-
-impl<R, D> TableOption<R, ColoredConfig, D> for Justification {
-    ghost makes = { λ given records dims old. justification_set given cells.Global };
-
-    ghost hinted = { λ given. None };
-
-    /// Sets the character and the color for all cells: a space where no character is given, and no color where none is given.
-    /// Where memory is refused neither changes.
-    fn change(
-        self,
-        _records: &mut R,
-        cfg: &mut ColoredConfig,
-        _dims: &mut D,
-    ) -> Result<(), OutOfMemory> {
-        self.set(cfg.config_mut(), Entity::Global)
-    }
-
-    fn hint_change(&self) -> Option<Entity> {
-        None
+    fn resizes() -> Resizes {
+        Resizes::Never
     }
 }

@@ -13,6 +13,7 @@ mod margin_color;
 mod padding;
 mod padding_color;
 mod shadow;
+mod side_colors;
 mod texts;
 mod trim_strategy;
 
@@ -24,4 +25,5 @@ pub use margin_color::MarginColor;
 pub use padding::Padding;
 pub use padding_color::PaddingColor;
 pub use shadow::Shadow;
+pub use side_colors::{OfMargin, OfPadding, SideColors};
 pub use trim_strategy::TrimStrategy;

@@ -1,13 +1,12 @@
 //! The room around a table.
 
-ghost use Rattle.std.specs.Prelude.{◌≡◌, Some};
-ghost use Rattle.tabled_object.specs.declared.entity.Entity.TheVariants as cells;
+ghost use Rattle.std.specs.Prelude.{◌≡◌, ⊤, refl};
+ghost use Rattle.tabled_configuration.specs.declared.resizing.Resizes.TheVariants as resizing;
 ghost use Rattle.tabled_formatting.specs.Margins.{margin_given, with_fills};
 
 use std::marker::Model;
 use tabled_border::OutOfMemory;
-use tabled_configuration::{ColoredConfig, TableOption};
-use tabled_object::Entity;
+use tabled_configuration::{Resizes, SetTable, SpannedConfig};
 use tabled_settings::{Indent, Sides};
 
 /// The room around a table: how many columns at its left and its right, how many lines above and below it, and the characters that fill
@@ -54,7 +53,8 @@ impl Margin {
         }
     }
 
-    /// The same room filled with these characters. A character that does not take one column of a terminal by itself is printed as a space.
+    /// Returns the margin with its room filled with these characters. A character that does not take one column of a terminal by itself is
+    /// printed as a space.
     pub fn fill(self, left: char, right: char, top: char, bottom: char) -> Self
         ensures { result ≡ with_fills self left right top bottom }
     {
@@ -70,23 +70,23 @@ impl Margin {
     }
 }
 
-impl<R, D> TableOption<R, ColoredConfig, D> for Margin {
-    ghost makes = { λ margin records dims old. margin_given margin };
+impl SetTable for Margin {
+    ghost sets = { margin_given };
 
-    ghost hinted = { λ margin. Some cells.Global };
+    ghost resizes = { resizing.Always };
 
-    /// Sets how wide the margin is on each side, and what fills it. Its offsets and its colors stay.
-    fn change(
-        self,
-        _records: &mut R,
-        cfg: &mut ColoredConfig,
-        _dims: &mut D,
-    ) -> Result<(), OutOfMemory> {
-        cfg.config_mut().set_margin(self.sizes);
+    ghost takes_no_memory = { λ margin. ⊤ };
+
+    ghost leaves_colors = { λ margin. refl };
+
+    /// Sets how wide the margin is on each side, and what fills it. Its offsets and its colors stay. It takes no memory and
+    /// returns Ok.
+    fn set_table(&self, config: &mut SpannedConfig) -> Result<(), OutOfMemory> {
+        config.set_margin(self.sizes);
         Ok(())
     }
 
-    fn hint_change(&self) -> Option<Entity> {
-        Some(Entity::Global)
+    fn resizes() -> Resizes {
+        Resizes::Always
     }
 }

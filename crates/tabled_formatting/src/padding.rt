@@ -1,14 +1,13 @@
 //! The padding of cells.
 
-ghost use Rattle.std.specs.Prelude.{◌≡◌, Some, IsOk, OnOk, OnErr};
-ghost use Rattle.tabled_object.specs.declared.entity.Entity.TheVariants as cells;
-ghost use Rattle.tabled_configuration.specs.Colored.{Changes};
+ghost use Rattle.std.specs.Prelude.{◌≡◌, ⊤, refl};
+ghost use Rattle.tabled_configuration.specs.declared.resizing.Resizes.TheVariants as resizing;
 ghost use Rattle.tabled_formatting.specs.Formatting.{padding_given};
 ghost use Rattle.tabled_formatting.specs.Margins.{with_fills};
 
 use std::marker::Model;
 use tabled_border::OutOfMemory;
-use tabled_configuration::{CellOption, ColoredConfig, TableOption};
+use tabled_configuration::{Resizes, SetCells, SpannedConfig};
 use tabled_object::Entity;
 use tabled_settings::{Indent, Sides};
 
@@ -59,7 +58,7 @@ impl Padding {
         }
     }
 
-    /// No padding: the text stands right at the border.
+    /// Makes a padding without room: the text stands right at the border.
     pub fn zero() -> Self
         ensures { result ≡ record { left = spaces 0; right = spaces 0; top = spaces 0; bottom = spaces 0 } }
     {
@@ -73,8 +72,8 @@ impl Padding {
         Padding::new(size, size, size, size)
     }
 
-    /// The same padding filled with these characters. A character that does not take one column of a terminal by itself is printed as a
-    /// space.
+    /// Returns the padding with its room filled with these characters. A character that does not take one column of a terminal by itself is
+    /// printed as a space.
     pub fn fill(self, left: char, right: char, top: char, bottom: char) -> Self
         ensures { result ≡ with_fills self left right top bottom }
     {
@@ -90,48 +89,22 @@ impl Padding {
     }
 }
 
-impl<R> CellOption<R, ColoredConfig> for Padding {
-    ghost makes = { λ padding records entity old. padding_given padding entity };
+impl SetCells for Padding {
+    ghost sets = { padding_given };
 
-    ghost hinted = { λ padding. Some cells.Global };
+    ghost resizes = { resizing.Always };
 
-    /// Sets the padding of the cells of the entity. Its colors stay. Where memory is refused nothing changes.
-    fn change(
-        &self,
-        _records: &mut R,
-        cfg: &mut ColoredConfig,
-        entity: Entity,
-    ) -> Result<(), OutOfMemory> {
-        cfg.config_mut().set_padding(entity, self.sizes)
+    ghost takes_no_memory = { λ padding. ⊤ };
+
+    ghost leaves_colors = { λ padding entity. refl };
+
+    /// Sets the padding of the cells of the entity. Its colors stay. Where memory is refused nothing changes; for all cells none is
+    /// asked for.
+    fn set_cells(&self, config: &mut SpannedConfig, entity: Entity) -> Result<(), OutOfMemory> {
+        config.set_padding(entity, self.sizes)
     }
 
-    fn hint_change(&self) -> Option<Entity> {
-        Some(Entity::Global)
-    }
-}
-
-impl<R, D> TableOption<R, ColoredConfig, D> for Padding {
-    ghost makes = { λ padding records dims old. padding_given padding cells.Global };
-
-    ghost hinted = { λ padding. Some cells.Global };
-
-    /// Sets the padding of all cells. Its colors stay. It takes no memory and returns Ok.
-    fn change(
-        self,
-        _records: &mut R,
-        cfg: &mut ColoredConfig,
-        _dims: &mut D,
-    ) -> Result<(), OutOfMemory>
-        ensures always { IsOk result }
-        ensures ok { OnOk result (Changes (padding_given self cells.Global) cfg.old cfg.new) }
-        ensures err { OnErr result (cfg.new ≡ cfg.old) }
-        ensures records { _records.new ≡ _records.old }
-        ensures sizes { _dims.new ≡ _dims.old }
-    {
-        cfg.config_mut().set_padding(Entity::Global, self.sizes)
-    }
-
-    fn hint_change(&self) -> Option<Entity> {
-        Some(Entity::Global)
+    fn resizes() -> Resizes {
+        Resizes::Always
     }
 }

@@ -1,18 +1,16 @@
 //! A shadow of a table.
 
-ghost use Rattle.std.specs.Prelude.{◌≡◌, true, false, None, Some, IfOk, OnOk, OnErr, option_map};
-ghost use Rattle.tabled_object.specs.declared.entity.Entity.TheVariants as cells;
-ghost use Rattle.tabled_configuration.specs.Configuration as borders;
-ghost use Rattle.tabled_configuration.specs.Colored.{Changes};
+ghost use Rattle.std.specs.Prelude.{◌≡◌, true, false, None, Some, IfOk, option_map};
+ghost use Rattle.tabled_configuration.specs.declared.resizing.Resizes.TheVariants as resizing;
 ghost use Rattle.tabled_formatting.specs.Margins.{indent_of, shadow_sizes, offset_of, shadow_offsets, color_of, shadow_colors, shadow_set};
+ghost use Rattle.tabled_formatting.specs.LeavesColors.{none_in_shadow_set};
 
 use crate::texts::copied_texts;
 use std::alloc::Global;
 use tabled_border::{ANSIBuf, Keep, OutOfMemory};
 use tabled_color::Color;
-use tabled_configuration::{ColoredConfig, SpannedConfig, TableOption};
+use tabled_configuration::{Resizes, SetTable, SpannedConfig};
 use tabled_grid::Offset;
-use tabled_object::Entity;
 use tabled_settings::{Indent, Sides};
 
 /// A shadow of a table. It falls on two sides of the margin that meet at a corner, and begins a little away from the other
@@ -37,7 +35,7 @@ impl Shadow {
     /// The character of a shadow for which none is set.
     pub const DEFAULT_FILL: char = '▒';
 
-    /// A shadow of the given number of columns and lines, of the default character, at the right and below, with an offset of
+    /// Makes a shadow of the given number of columns and lines, of the default character, at the right and below, with an offset of
     /// one and without a color.
     pub fn new(size: usize) -> Self
         ensures { result ≡ record { fill = 9618; size = size; offset = 1; direction = record { left = false; right = true; top = false; bottom = true }; color = None } }
@@ -51,7 +49,7 @@ impl Shadow {
         }
     }
 
-    /// The shadow with this character. One that does not draw plainly (`draws_plainly`) is a space when a table is printed.
+    /// Returns the shadow with this character. One that does not draw plainly (`draws_plainly`) is a space when a table is printed.
     pub fn set_fill(mut self, fill: char) -> Self
         ensures { result ≡ record self { fill = fill } }
     {
@@ -59,7 +57,7 @@ impl Shadow {
         self
     }
 
-    /// The shadow that begins the given number of places away from the corners that it does not touch.
+    /// Returns the shadow that begins the given number of places away from the corners that it does not touch.
     pub fn set_offset(mut self, offset: usize) -> Self
         ensures { result ≡ record self { offset = offset } }
     {
@@ -67,7 +65,7 @@ impl Shadow {
         self
     }
 
-    /// The shadow above the table, and no longer below it.
+    /// Returns the shadow above the table, and no longer below it.
     ///
     /// `Shadow::new(1).set_top()`:
     ///
@@ -85,7 +83,7 @@ impl Shadow {
         self
     }
 
-    /// The shadow below the table, and no longer above it.
+    /// Returns the shadow below the table, and no longer above it.
     pub fn set_bottom(mut self) -> Self
         ensures { result ≡ record self { direction = record self.direction { top = false; bottom = true } } }
     {
@@ -94,7 +92,7 @@ impl Shadow {
         self
     }
 
-    /// The shadow at the left of the table, and no longer at its right.
+    /// Returns the shadow at the left of the table, and no longer at its right.
     ///
     /// `Shadow::new(1).set_left()`:
     ///
@@ -112,7 +110,7 @@ impl Shadow {
         self
     }
 
-    /// The shadow at the right of the table, and no longer at its left.
+    /// Returns the shadow at the right of the table, and no longer at its left.
     pub fn set_right(mut self) -> Self
         ensures { result ≡ record self { direction = record self.direction { left = false; right = true } } }
     {
@@ -121,7 +119,7 @@ impl Shadow {
         self
     }
 
-    /// The shadow in this color.
+    /// Returns the shadow in this color.
     pub fn set_color(self, color: Color) -> Self
         ensures { result ≡ record self { color = Some color } }
     {
@@ -132,20 +130,6 @@ impl Shadow {
             direction: self.direction,
             color: Some(color),
         }
-    }
-
-    /// Sets the margin, its offsets and, where the shadow has one, its color.
-    fn set(&self, config: &mut SpannedConfig) -> Result<(), OutOfMemory>
-        ensures ok { OnOk result (borders.Changes (shadow_set self.now) config.old config.new) }
-        ensures err { OnErr result (config.new ≡ config.old) }
-    {
-        let colors = self.colors(config.allocator())?;
-        config.set_margin(self.sizes());
-        config.set_margin_offset(self.offsets());
-        if let Some(colors) = colors {
-            config.set_margin_color(colors);
-        }
-        Ok(())
     }
 
     /// How wide the margin is on each side, and what fills it.
@@ -245,23 +229,28 @@ impl Keep for Shadow {
     }
 }
 
-impl<R, D> TableOption<R, ColoredConfig, D> for Shadow {
-    ghost makes = { λ shadow records dims old. shadow_set shadow };
+impl SetTable for Shadow {
+    ghost sets = { shadow_set };
 
-    ghost hinted = { λ shadow. Some cells.Global };
+    ghost resizes = { resizing.Always };
+
+    ghost takes_no_memory = { λ shadow. ⊥ };
+
+    ghost leaves_colors = { none_in_shadow_set };
 
     /// Sets the margin on each side and where it begins, and its color where the shadow has one: else the margin's colors stay.
     /// Where memory is refused nothing changes.
-    fn change(
-        self,
-        _records: &mut R,
-        cfg: &mut ColoredConfig,
-        _dims: &mut D,
-    ) -> Result<(), OutOfMemory> {
-        self.set(cfg.config_mut())
+    fn set_table(&self, config: &mut SpannedConfig) -> Result<(), OutOfMemory> {
+        let colors = self.colors(config.allocator())?;
+        config.set_margin(self.sizes());
+        config.set_margin_offset(self.offsets());
+        if let Some(colors) = colors {
+            config.set_margin_color(colors);
+        }
+        Ok(())
     }
 
-    fn hint_change(&self) -> Option<Entity> {
-        Some(Entity::Global)
+    fn resizes() -> Resizes {
+        Resizes::Always
     }
 }

@@ -3,12 +3,14 @@ use Rattle.std.proofs.Common.{◌≡◌, ◌↔◌, IsFalse, nat_lt, ℕ, Bool, 
 use Rattle.std.specs.Cmp.{nat_cmp_total}
 use Rattle.std.proofs.lemmas.Bool.Decides.{nat_tests}
 use Rattle.std.specs.FinMap as map
-use Rattle.tabled_grid.specs.declared.place.LineOf.{LineOf}
+use Rattle.tabled_places.specs.declared.place.LineOf.{LineOf}
 use Rattle.tabled_grid.specs.declared.line_numbers.LineNumbers.{LineNumbers}
-use Rattle.tabled_grid.specs.Keys.{line_cmp, spot_cmp, spots_total, exact_spots}
-use Rattle.tabled_grid.specs.Site.{Rank, first, inner, last, Spot}
-use Rattle.tabled_grid.specs.Drawn.{lies_on}
-use Rattle.tabled_grid.specs.Table.{count, passes, one_if}
+use Rattle.tabled_places.specs.Keys.{line_cmp, spot_cmp, spots_total, exact_spots}
+use Rattle.tabled_places.specs.declared.place.Rank.{Rank}
+use Rattle.tabled_places.specs.declared.place.Rank.TheVariants.{First as first, Inner as inner, Last as last}
+use Rattle.tabled_places.specs.declared.site.Spot.{Spot}
+use Rattle.tabled_places.specs.Drawn.{lies_on}
+use Rattle.tabled_grid.specs.Count.{count, passes, one_if}
 use Rattle.tabled_grid.specs.Counted.{number_at, CellsCounted, number_of, numbers_of, exchanged, LinesCounted}
 use Rattle.tabled_grid.proofs.Counting.{count-insert, count-remove, count-empty, count_positive, count_from, count-le}
 

@@ -1,13 +1,12 @@
 -- How a count of keys goes with a map.
 use Rattle.std.proofs.Common.{◌≡◌, ℕ, Bool, true, false, cond, Option, Some, None, is_some, ◌⊎◌, inl, inr, zero, suc, List, [], ◌∷◌, length, refl, sym, ap, ◌∙◌, ◌+◌, ◌-◌, ◌<◌, ◌≤◌, arith, filter, Ordering}
 use Rattle.std.specs.Ordering.{eq_by_cmp}
-use Rattle.std.specs.Cmp.{IsTotalOrder, eq_by_cmp_equiv, Equal-is}
+use Rattle.std.specs.Cmp.{IsTotalOrder, eq_by_cmp_equiv}
 use Rattle.std.specs.FinMap as map
-use Rattle.tabled_grid.specs.Table.{table, passes, count, one_if}
-use Rattle.tabled_grid.proofs.Tables.{len-table}
-
-pub tied : {K : Type 0} {R : K → K → Ordering} → map.IsAntisymmetric R → (q k : K) → eq_by_cmp R q k ≡ true → q ≡ k
-tied {R = R} exact q k e = exact q k ((Equal-is (R q k)).0 e)
+use Rattle.tabled_places.proofs.Blocks.{tied}
+use Rattle.tabled_grid.specs.Count.{passes, count, one_if}
+use Rattle.tabled_kept.specs.Table.{table}
+use Rattle.tabled_kept.proofs.Tables.{len-table}
 
 -- the value, if it passes
 abbrev passing : {X : Type 0} → (X → Bool) → Option X → Option X

@@ -4,19 +4,26 @@ use Rattle.std.specs.Cmp.{nat_cmp_total}
 use Rattle.std.specs.FinMap as map
 use Rattle.std.proofs.lemmas.Bool.{eqb-true, ltb-true, lt-ltb, or_cases, or_left, or_right}
 use Rattle.tabled_grid.specs.declared.line_numbers.LineNumbers.{LineNumbers}
-use Rattle.tabled_grid.specs.declared.place.LineOf.{LineOf}
-use Rattle.tabled_grid.specs.Site.{Direction, Horizontal, Vertical, Rank, first, inner, last, stands, class_value, mark, meeting, horizontal_meeting, Spot, Site, the_default, of_class, of_line, at_spot}
-use Rattle.tabled_grid.specs.Event.{sign}
-use Rattle.tabled_grid.specs.Table.{passes}
-use Rattle.tabled_grid.specs.Keys.{line_cmp, spot_cmp}
-use Rattle.tabled_grid.specs.Counted.{number_at, number_of, CellsCounted, LinesCounted, horizontal_draws, vertical_draws}
-use Rattle.tabled_grid.specs.Drawn.{number, lies_on, draws, Drawn}
-use Rattle.tabled_grid.specs.State.{State, state_at, horizontal_part, vertical_part, has_class, line_classes, rank_draws, class_draws}
-use Rattle.tabled_grid.specs.Reading.{across_drawn, line_drawn}
+use Rattle.tabled_places.specs.declared.place.LineOf.{LineOf}
+use Rattle.tabled_places.specs.declared.site.Direction.{Direction}
+use Rattle.tabled_places.specs.declared.site.Direction.TheVariants.{Horizontal, Vertical}
+use Rattle.tabled_places.specs.declared.place.Rank.{Rank}
+use Rattle.tabled_places.specs.declared.place.Rank.TheVariants.{First as first, Inner as inner, Last as last}
+use Rattle.tabled_places.specs.Site.{stands, class_value, horizontal_meeting}
+use Rattle.tabled_places.specs.declared.site.Part.TheVariants.{Mark as mark, Crossings as meeting}
+use Rattle.tabled_places.specs.declared.site.Spot.{Spot}
+use Rattle.tabled_places.specs.declared.site.Site.{Site}
+use Rattle.tabled_places.specs.declared.site.Site.TheVariants.{Default as the_default, Class as of_class, Line as of_line, Cell as at_spot}
+use Rattle.tabled_places.specs.declared.event.Written.TheVariants.{Sign as sign}
+use Rattle.tabled_grid.specs.Count.{passes}
+use Rattle.tabled_places.specs.Keys.{line_cmp, spot_cmp}
+use Rattle.tabled_grid.specs.Counted.{number_at, number_of, CellsCounted, LinesCounted, horizontal_draws, vertical_draws, across_drawn, line_drawn}
+use Rattle.tabled_places.specs.Drawn.{number, lies_on, draws, Drawn}
+use Rattle.tabled_places.specs.State.{State, state_at, horizontal_part, vertical_part, has_class, line_classes, rank_draws, class_draws}
 use Rattle.tabled_grid.proofs.Counting.{count_positive, count_from}
 use Rattle.tabled_grid.proofs.CountedLemmas.{cell_counts, some_on_line}
-use Rattle.tabled_grid.proofs.LineWrites.{same_number}
-use Rattle.tabled_grid.proofs.LookUps.{is_some-sign, line_of, drawing, some_rank, by_rank, all_draw, class_draws_it}
+use Rattle.tabled_places.proofs.LineWrites.{same_number}
+use Rattle.tabled_places.proofs.LookUps.{is_some-sign, line_of, drawing, some_rank, by_rank, all_draw, class_draws_it}
 
 -- what a part of a custom line has, the line has
 line_there : {A B : Type 0} (f : A → Option B) (o : Option A) → is_some (option_and_then f o) ≡ true → is_some o ≡ true

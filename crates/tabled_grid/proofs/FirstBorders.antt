@@ -4,19 +4,25 @@ use Rattle.std.specs.FinMap as map
 use Rattle.tabled_border.specs.declared.border.Border.{Border}
 use Rattle.tabled_object.specs.declared.position.Position.{Position}
 use Rattle.tabled_object.specs.Entities.{is_inside}
-use Rattle.tabled_grid.specs.declared.offset.Offset.{Offset}
-use Rattle.tabled_grid.specs.declared.place.LineOf.{LineOf}
-use Rattle.tabled_grid.specs.declared.place.Place.{Place}
-use Rattle.tabled_grid.specs.CellBorder.{border_places, border_fields}
-use Rattle.tabled_grid.specs.Keys.{spot_cmp}
-use Rattle.tabled_grid.specs.Site.{Spot, Site, of_line, at_spot, at_offset, level, same_site}
-use Rattle.tabled_grid.specs.Event.{sign, level_sites, erase, covered, replay, Changes}
-use Rattle.tabled_grid.specs.State.{State, state_at, HasNoCells}
-use Rattle.tabled_grid.specs.Calls.{spot_of, border_set, borders_of, places_set}
-use Rattle.tabled_grid.proofs.CellBorders.{by_erasure}
-use Rattle.tabled_grid.proofs.EntityBorders.{borders_inside, borders_outside, no_borders_left}
-use Rattle.tabled_grid.proofs.PuttingBack.{same_state}
-use Rattle.tabled_grid.proofs.Replay.{Changes-append, Changes-nil}
+use Rattle.tabled_object.specs.declared.offset.Offset.{Offset}
+use Rattle.tabled_places.specs.declared.place.LineOf.{LineOf}
+use Rattle.tabled_places.specs.declared.place.Place.{Place}
+use Rattle.tabled_places.specs.CellBorder.{border_places, border_fields}
+use Rattle.tabled_places.specs.Keys.{spot_cmp}
+use Rattle.tabled_places.specs.declared.site.Spot.{Spot}
+use Rattle.tabled_places.specs.declared.site.Site.{Site}
+use Rattle.tabled_places.specs.declared.site.Site.TheVariants.{Line as of_line, Cell as at_spot, Offset as at_offset}
+use Rattle.tabled_places.specs.Site.{level, same_site}
+use Rattle.tabled_places.specs.declared.event.Written.TheVariants.{Sign as sign}
+use Rattle.tabled_places.specs.declared.event.Region.TheVariants.{Level as level_sites}
+use Rattle.tabled_places.specs.declared.event.Event.TheVariants.{Erase as erase}
+use Rattle.tabled_places.specs.Event.{covered, replay, Changes}
+use Rattle.tabled_places.specs.State.{State, state_at, HasNoCells}
+use Rattle.tabled_places.specs.Calls.{spot_of, border_set, borders_of, places_set}
+use Rattle.tabled_places.proofs.CellBorders.{by_erasure}
+use Rattle.tabled_places.proofs.EntityBorders.{borders_inside, borders_outside, no_borders_left}
+use Rattle.tabled_places.proofs.PuttingBack.{same_state}
+use Rattle.tabled_places.proofs.Replay.{Changes-append, Changes-nil}
 use Rattle.tabled_grid.proofs.Seen.{as_events}
 
 -- a site of another level is at no edge and no crossing

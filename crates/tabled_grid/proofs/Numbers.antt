@@ -4,9 +4,9 @@ use Rattle.std.specs.Ordering.{eq_by_cmp}
 use Rattle.std.specs.Cmp.{eq_by_cmp_equiv}
 use Rattle.std.specs.FinMap as map
 use Rattle.tabled_grid.specs.Counted.{number_at}
-use Rattle.tabled_grid.specs.declared.place.LineOf.{LineOf}
-use Rattle.tabled_grid.specs.Keys.{line_cmp, lines_total, is_same_line}
-use Rattle.tabled_grid.specs.Site.{same_line}
+use Rattle.tabled_places.specs.declared.place.LineOf.{LineOf}
+use Rattle.tabled_places.specs.Keys.{line_cmp, lines_total, is_same_line}
+use Rattle.tabled_places.specs.Site.{same_line}
 use Rattle.tabled_kept.specs.OneMore.{IsOneMore}
 
 through : (b : Bool) (n : ℕ) (o : Option ℕ) → unwrap_or (cond b (Some n) o) 0 ≡ cond b n (unwrap_or o 0)

@@ -8,10 +8,10 @@ use Rattle.std.specs.declared.cmp.Ordering.{Ordering}
 use Rattle.std.specs.declared.cmp.Ordering.TheVariants.{Less, Equal, Greater}
 use Rattle.std.proofs.lemmas.Bool.Decides.{nat_tests}
 use Rattle.std.proofs.lemmas.Map.Keys.{le_from_not_gt}
-use Rattle.tabled_grid.specs.declared.keys.EdgePlace.{EdgePlace}
-use Rattle.tabled_grid.specs.declared.offset.Offset.{Offset}
-use Rattle.tabled_grid.specs.Keys.{edge_place_cmp}
-use Rattle.tabled_grid.specs.State.{edge_place}
+use Rattle.tabled_places.specs.declared.keys.EdgePlace.{EdgePlace}
+use Rattle.tabled_object.specs.declared.offset.Offset.{Offset}
+use Rattle.tabled_places.specs.Keys.{edge_place_cmp}
+use Rattle.tabled_places.specs.State.{edge_place}
 use Rattle.tabled_kept.specs.FirstFrom.{IsFirstFrom}
 
 zero_first : (n : ℕ) → is_gt (nat_cmp 0 n) ≡ false

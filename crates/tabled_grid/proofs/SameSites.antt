@@ -3,16 +3,26 @@ use Rattle.std.proofs.Common.{◌≡◌, Bool, true, Option, Some, None, refl, o
 use Rattle.std.specs.Option.{option_eq}
 use Rattle.std.specs.Cmp.{nat_cmp_total}
 use Rattle.std.proofs.lemmas.Bool.{and_parts}
-use Rattle.tabled_grid.specs.declared.borders.Borders.{Borders}
-use Rattle.tabled_grid.specs.declared.lines.HorizontalLine.{HorizontalLine}
-use Rattle.tabled_grid.specs.declared.lines.VerticalLine.{VerticalLine}
-use Rattle.tabled_grid.specs.declared.place.LineOf.{LineOf}
-use Rattle.tabled_grid.specs.Keys.{spots_total, edge_places_total}
-use Rattle.tabled_grid.specs.Site.{Horizontal, Vertical, first, inner, last, Class, edges, crossings, class_value, Part, mark, main_edges, meeting, Site, the_default, of_class, of_line, at_spot, at_offset}
-use Rattle.tabled_grid.specs.Event.{Written, sign}
-use Rattle.tabled_grid.specs.State.{State, state_at, edge_place, horizontal_part, vertical_part}
+use Rattle.tabled_places.specs.declared.borders.Borders.{Borders}
+use Rattle.tabled_places.specs.declared.lines.HorizontalLine.{HorizontalLine}
+use Rattle.tabled_places.specs.declared.lines.VerticalLine.{VerticalLine}
+use Rattle.tabled_places.specs.declared.place.LineOf.{LineOf}
+use Rattle.tabled_places.specs.Keys.{spots_total, edge_places_total}
+use Rattle.tabled_places.specs.declared.site.Direction.TheVariants.{Horizontal, Vertical}
+use Rattle.tabled_places.specs.declared.place.Rank.TheVariants.{First as first, Inner as inner, Last as last}
+use Rattle.tabled_places.specs.declared.site.Class.{Class}
+use Rattle.tabled_places.specs.declared.site.Class.TheVariants.{Edges as edges, Crossings as crossings}
+use Rattle.tabled_places.specs.Site.{class_value}
+use Rattle.tabled_places.specs.declared.site.Part.{Part}
+use Rattle.tabled_places.specs.declared.site.Part.TheVariants.{Mark as mark, Edges as main_edges, Crossings as meeting}
+use Rattle.tabled_places.specs.declared.site.Site.{Site}
+use Rattle.tabled_places.specs.declared.site.Site.TheVariants.{Default as the_default, Class as of_class, Line as of_line, Cell as at_spot, Offset as at_offset}
+use Rattle.tabled_places.specs.declared.event.Written.{Written}
+use Rattle.tabled_places.specs.declared.event.Written.TheVariants.{Sign as sign}
+use Rattle.tabled_places.specs.State.{State, state_at, edge_place, horizontal_part, vertical_part}
 use Rattle.tabled_kept.proofs.SameGets.{all_of, get_alike, alike_get}
-use Rattle.tabled_grid.specs.Same.{same_map, same_horizontal, same_vertical, same_borders, same_below, same_lines, same_cells, same_state, same_written}
+use Rattle.tabled_grid.specs.Same.{same_horizontal, same_vertical, same_borders, same_below, same_lines, same_cells, same_state, same_written}
+use Rattle.tabled_kept.specs.Same.{same_map}
 
 abbrev SameValues : {V : Type 0} → (V → V → Bool) → Option V → Option V → Type 0
 SameValues E a b = option_eq E a b ≡ true

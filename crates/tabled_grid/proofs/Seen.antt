@@ -1,14 +1,15 @@
 -- From a store's fields to what its contracts see.
 use Rattle.std.proofs.Common.{◌≡◌, false, Option, List, sym, ap, subst, Result, Ok, Err, IfOk, OnOk, OnErr, is_err, nat_cmp}
 use Rattle.std.specs.FinMap as map
-use Rattle.tabled_grid.specs.declared.borders.Borders.{Borders}
-use Rattle.tabled_grid.specs.declared.lines.HorizontalLine.{HorizontalLine}
-use Rattle.tabled_grid.specs.declared.lines.VerticalLine.{VerticalLine}
+use Rattle.tabled_places.specs.declared.borders.Borders.{Borders}
+use Rattle.tabled_places.specs.declared.lines.HorizontalLine.{HorizontalLine}
+use Rattle.tabled_places.specs.declared.lines.VerticalLine.{VerticalLine}
 use Rattle.tabled_grid.specs.declared.layers.Layers.TheInside.{Inside}
-use Rattle.tabled_grid.specs.Table.{table}
-use Rattle.tabled_grid.specs.Keys.{spot_cmp, edge_place_cmp}
-use Rattle.tabled_grid.specs.Event.{Event, Changes}
-use Rattle.tabled_grid.specs.State.{State, state_at}
+use Rattle.tabled_kept.specs.Table.{table}
+use Rattle.tabled_places.specs.Keys.{spot_cmp, edge_place_cmp}
+use Rattle.tabled_places.specs.declared.event.Event.{Event}
+use Rattle.tabled_places.specs.Event.{Changes}
+use Rattle.tabled_places.specs.State.{State, state_at}
 
 -- what the fields keep
 abbrev pub seen : {T M : Type 0} → Inside T M → State T

@@ -1,15 +1,20 @@
 -- The numbers that a store keeps beside what is kept, so that a line is found drawn in a few readings.
-use Rattle.std.specs.Prelude.{◌≡◌, ℕ, ◌+◌, ◌-◌, ◌<◌, ◌^◌, min, Bool, false, is_some, unwrap_or, Option, Some, None}
+use Rattle.std.specs.Prelude.{◌≡◌, ℕ, ◌+◌, ◌-◌, ◌<◌, ◌^◌, min, Bool, false, ◌&&◌, ◌||◌, nat_lt, is_some, unwrap_or, Option, Some, None}
 use Rattle.std.specs.Ordering.{nat_cmp}
 use Rattle.std.specs.FinMap.{FinMap, get, len}
-use Rattle.tabled_grid.specs.declared.lines.HorizontalLine.{HorizontalLine}
-use Rattle.tabled_grid.specs.declared.lines.VerticalLine.{VerticalLine}
+use Rattle.tabled_places.specs.declared.lines.HorizontalLine.{HorizontalLine}
+use Rattle.tabled_places.specs.declared.lines.VerticalLine.{VerticalLine}
 use Rattle.tabled_grid.specs.declared.line_numbers.LineNumbers.{LineNumbers}
-use Rattle.tabled_grid.specs.declared.place.LineOf.{LineOf}
-use Rattle.tabled_grid.specs.Drawn.{lies_on}
-use Rattle.tabled_grid.specs.Keys.{line_cmp, spot_cmp}
-use Rattle.tabled_grid.specs.Site.{Horizontal, Vertical, Rank, first, inner, last, horizontal_meeting, Spot, Edge, Crossing}
-use Rattle.tabled_grid.specs.Table.{count, passes, one_if}
+use Rattle.tabled_places.specs.declared.place.LineOf.{LineOf}
+use Rattle.tabled_places.specs.Drawn.{lies_on, number}
+use Rattle.tabled_places.specs.Keys.{line_cmp, spot_cmp}
+use Rattle.tabled_places.specs.declared.site.Direction.TheVariants.{Horizontal, Vertical}
+use Rattle.tabled_places.specs.declared.place.Rank.{Rank}
+use Rattle.tabled_places.specs.declared.place.Rank.TheVariants.{First as first, Inner as inner, Last as last}
+use Rattle.tabled_places.specs.Site.{stands, horizontal_meeting}
+use Rattle.tabled_places.specs.declared.site.Spot.{Spot}
+use Rattle.tabled_places.specs.declared.site.Spot.TheVariants.{Edge, Crossing}
+use Rattle.tabled_grid.specs.Count.{count, passes, one_if}
 
 -- the number that is kept for a line: 0 where none is kept
 abbrev pub number_at : FinMap line_cmp ℕ → LineOf → ℕ
@@ -61,3 +66,13 @@ exchanged numbers taken put = record {
 pub record LinesCounted {L : Type 0} (draws : Rank → L → Bool) (numbers : LineNumbers) (lines : FinMap nat_cmp L) : Type 0 where
   pub numbers_are : (rank : Rank) → number_of rank numbers ≡ count (λ _ line. draws rank line) lines
   pub few : len lines < 2 ^ 64
+
+-- whether a custom line draws line n, of the lines 0 to count, by the numbers of those that cross it
+abbrev pub across_drawn : LineNumbers → ℕ → ℕ → Bool
+across_drawn numbers count n =
+    (stands first count n && nat_lt 0 numbers.first) || (stands last count n && nat_lt 0 numbers.last) || (stands inner count n && nat_lt 0 numbers.inner)
+
+-- whether a line is drawn by the custom line that stands there, by those that cross it, or by what is kept on it
+abbrev pub line_drawn : {L : Type 0} → FinMap nat_cmp L → LineNumbers → FinMap line_cmp ℕ → ℕ → LineOf → Bool
+line_drawn own across numbers count line =
+    is_some (get own (number line)) || across_drawn across count (number line) || nat_lt 0 (number_at numbers line)

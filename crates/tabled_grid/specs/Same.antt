@@ -2,11 +2,12 @@
 use Rattle.std.specs.Prelude.{Bool, true, false, ◌&&◌}
 use Rattle.std.specs.Option.{option_eq}
 pub use Rattle.tabled_kept.specs.Same.{same_map}
-use Rattle.tabled_grid.specs.declared.borders.Borders.{Borders}
-use Rattle.tabled_grid.specs.declared.lines.HorizontalLine.{HorizontalLine}
-use Rattle.tabled_grid.specs.declared.lines.VerticalLine.{VerticalLine}
-use Rattle.tabled_grid.specs.Event.{Written, sign, standing}
-use Rattle.tabled_grid.specs.State.{State}
+use Rattle.tabled_places.specs.declared.borders.Borders.{Borders}
+use Rattle.tabled_places.specs.declared.lines.HorizontalLine.{HorizontalLine}
+use Rattle.tabled_places.specs.declared.lines.VerticalLine.{VerticalLine}
+use Rattle.tabled_places.specs.declared.event.Written.{Written}
+use Rattle.tabled_places.specs.declared.event.Written.TheVariants.{Sign as sign, Standing as standing}
+use Rattle.tabled_places.specs.State.{State}
 
 -- two records: in each field the same, or nothing in both
 abbrev pub same_horizontal : {T : Type 0} → (T → T → Bool) → HorizontalLine T → HorizontalLine T → Bool

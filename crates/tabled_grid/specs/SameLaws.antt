@@ -6,11 +6,12 @@ use Rattle.std.specs.Cmp.{IsTotalOrder, IsPartialEquivalence, IsEquivalence, on_
 use Rattle.std.specs.Cmp.Lexicographic.{pointwise, lists_per, options_equiv}
 use Rattle.std.specs.declared.cmp.Ordering.{Ordering}
 use Rattle.std.specs.FinMap.{FinMap, entries}
-use Rattle.tabled_grid.specs.declared.borders.Borders.{Borders}
-use Rattle.tabled_grid.specs.declared.lines.HorizontalLine.{HorizontalLine}
-use Rattle.tabled_grid.specs.declared.lines.VerticalLine.{VerticalLine}
-use Rattle.tabled_grid.specs.Keys.{edge_place_cmp, spots_total, edge_places_total}
-use Rattle.tabled_grid.specs.Same.{same_map, same_horizontal, same_vertical, same_borders, same_below, same_lines, same_cells, same_state}
+use Rattle.tabled_places.specs.declared.borders.Borders.{Borders}
+use Rattle.tabled_places.specs.declared.lines.HorizontalLine.{HorizontalLine}
+use Rattle.tabled_places.specs.declared.lines.VerticalLine.{VerticalLine}
+use Rattle.tabled_places.specs.Keys.{edge_place_cmp, spots_total, edge_places_total}
+use Rattle.tabled_grid.specs.Same.{same_horizontal, same_vertical, same_borders, same_below, same_lines, same_cells, same_state}
+use Rattle.tabled_kept.specs.Same.{same_map}
 
 module _ {T : Type 0} {E : T → T → Bool} (p : IsPartialEquivalence E) where
   option_symm : (a b : Option T) → option_eq E a b ≡ option_eq E b a

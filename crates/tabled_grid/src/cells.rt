@@ -2,13 +2,15 @@
 
 ghost use Rattle.std.specs.Prelude.{◌≡◌, ◌+◌, ◌<◌, ◌^◌, ◌&&◌, is_some, IsSome, IsTrue, OnOk, OnErr, IfOk, None};
 ghost use Rattle.std.specs.FinMap as map;
-ghost use Rattle.tabled_grid.specs.Table.{table, one_if};
-ghost use Rattle.tabled_grid.specs.Keys.{line_cmp, spot_cmp};
+ghost use Rattle.tabled_grid.specs.Count.{one_if};
+ghost use Rattle.tabled_kept.specs.Table.{table};
+ghost use Rattle.tabled_places.specs.Keys.{line_cmp, spot_cmp};
 ghost use Rattle.tabled_grid.specs.Counted.{number_at};
-ghost use Rattle.tabled_grid.specs.Drawn.{lies_on};
-ghost use Rattle.tabled_grid.specs.declared.place.LineOf.{LineOf};
+ghost use Rattle.tabled_places.specs.Drawn.{lies_on};
+ghost use Rattle.tabled_places.specs.declared.place.LineOf.{LineOf};
 
 use crate::counter::{add, remove};
+use crate::spots::{line_across, line_of};
 use crate::{LineOf, OutOfMemory, Spot};
 use tabled_kept::CountedMap;
 
@@ -63,9 +65,9 @@ fn count(numbers: &mut CountedMap<LineOf, u128>, spot: Spot) -> Result<(), OutOf
     ensures ok { OnOk result ((line : LineOf) → number_at (table line_cmp numbers.new) line ≡ number_at (table line_cmp numbers.old) line + one_if (lies_on line spot)) }
     ensures err { OnErr result ((line : LineOf) → number_at (table line_cmp numbers.new) line ≡ number_at (table line_cmp numbers.old) line) }
 {
-    let first = spot.first_line();
+    let first = line_of(spot);
     add(numbers, first)?;
-    let Some(second) = spot.second_line() else {
+    let Some(second) = line_across(spot) else {
         return Ok(());
     };
     if add(numbers, second).is_err() {
@@ -80,8 +82,8 @@ fn discount(numbers: &mut CountedMap<LineOf, u128>, spot: Spot)
     requires { (line : LineOf) → IsTrue (lies_on line spot) → 0 < number_at (table line_cmp numbers.old) line }
     ensures { (line : LineOf) → number_at (table line_cmp numbers.new) line + one_if (lies_on line spot) ≡ number_at (table line_cmp numbers.old) line }
 {
-    remove(numbers, spot.first_line());
-    if let Some(second) = spot.second_line() {
+    remove(numbers, line_of(spot));
+    if let Some(second) = line_across(spot) {
         remove(numbers, second);
     }
 }

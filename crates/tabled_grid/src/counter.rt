@@ -1,11 +1,11 @@
 //! How many cell sites are kept on each line.
 
 ghost use Rattle.std.specs.Prelude.{◌≡◌, ◌+◌, ◌-◌, ◌<◌, ◌^◌, if◌then◌else◌, OnOk, OnErr};
-ghost use Rattle.tabled_grid.specs.Table.{table};
-ghost use Rattle.tabled_grid.specs.Site.{same_line};
-ghost use Rattle.tabled_grid.specs.Keys.{line_cmp};
+ghost use Rattle.tabled_kept.specs.Table.{table};
+ghost use Rattle.tabled_places.specs.Site.{same_line};
+ghost use Rattle.tabled_places.specs.Keys.{line_cmp};
 ghost use Rattle.tabled_grid.specs.Counted.{number_at};
-ghost use Rattle.tabled_grid.specs.declared.place.LineOf.{LineOf};
+ghost use Rattle.tabled_places.specs.declared.place.LineOf.{LineOf};
 
 use crate::{LineOf, OutOfMemory, Probes};
 use tabled_kept::CountedMap;

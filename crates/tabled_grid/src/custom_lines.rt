@@ -3,17 +3,23 @@
 ghost use Rattle.std.specs.Prelude.{◌≡◌, OnOk, OnErr, None};
 ghost use Rattle.std.specs.Ordering.{nat_cmp};
 ghost use Rattle.std.specs.FinMap as map;
-ghost use Rattle.tabled_grid.specs.Table.{table};
+ghost use Rattle.tabled_kept.specs.Table.{table};
 ghost use Rattle.tabled_grid.specs.Counted.{LinesCounted};
 
 use crate::line_numbers::{KeptNumbers, LineNumbers};
-use crate::{OutOfMemory, Rank};
-use tabled_kept::CountedMap;
+use crate::{HorizontalLine, OutOfMemory, Rank, VerticalLine};
+use tabled_kept::{CountedMap, Numbered};
+
+/// Custom horizontal lines, lent, each with the index at which it stands, in rising order.
+pub type HorizontalLines<'a, T> = Numbered<'a, HorizontalLine<T>>;
+
+/// Custom vertical lines, lent, each with the index at which it stands, in rising order.
+pub type VerticalLines<'a, T> = Numbered<'a, VerticalLine<T>>;
 
 /// A custom line of one direction.
 pub(crate) trait CustomLine {
     ghost use Rattle.std.specs.Prelude.{◌≡◌, Bool, Option, option_copied};
-    ghost use Rattle.tabled_grid.specs.declared.place.Rank.{Rank};
+    ghost use Rattle.tabled_places.specs.declared.place.Rank.{Rank};
 
     /// What stands along it.
     type Value;
@@ -29,6 +35,56 @@ pub(crate) trait CustomLine {
 
     fn draws(&self, rank: Rank) -> bool
         ensures { result ≡ draws rank self.now };
+}
+
+impl<T> CustomLine for HorizontalLine<T> {
+    ghost use Rattle.tabled_places.specs.Site.{horizontal_meeting};
+    ghost use Rattle.tabled_grid.specs.Counted.{horizontal_draws};
+
+    type Value = T;
+
+    ghost meeting = { horizontal_meeting };
+
+    ghost draws = { horizontal_draws };
+
+    fn meeting(&self, rank: Rank) -> Option<&T> {
+        match rank {
+            Rank::First => self.left.as_ref(),
+            Rank::Inner => self.intersection.as_ref(),
+            Rank::Last => self.right.as_ref(),
+        }
+    }
+
+    fn draws(&self, rank: Rank) -> bool {
+        self.meeting(rank).is_some()
+    }
+}
+
+impl<T> CustomLine for VerticalLine<T> {
+    ghost use Rattle.tabled_places.specs.Site.{vertical_meeting};
+    ghost use Rattle.tabled_grid.specs.Counted.{vertical_draws};
+
+    type Value = T;
+
+    ghost meeting = { vertical_meeting };
+
+    ghost draws = { vertical_draws };
+
+    fn meeting(&self, rank: Rank) -> Option<&T> {
+        match rank {
+            Rank::First => self.top.as_ref(),
+            Rank::Inner => self.intersection.as_ref(),
+            Rank::Last => self.bottom.as_ref(),
+        }
+    }
+
+    fn draws(&self, rank: Rank) -> bool {
+        match rank {
+            Rank::First => self.top.is_some(),
+            Rank::Inner => false,
+            Rank::Last => self.bottom.is_some(),
+        }
+    }
 }
 
 /// Puts a line at an index. Where memory is refused nothing changes, and none stood there.

@@ -13,7 +13,6 @@ mod reads;
 mod writes;
 
 use crate::custom_lines::{put_line, take_line};
-use crate::keys::EdgePlace;
 use crate::line_numbers::{KeptNumbers, LineNumbers};
 use crate::{
     Borders, HorizontalLine, LineOf, Offset, OutOfMemory, Place, Position, Probes, Spot, Target,
@@ -23,6 +22,7 @@ pub use entity_border::border_writes;
 use std::alloc::Global;
 use std::marker::Model;
 use tabled_kept::{CountedMap, One};
+use tabled_places::EdgePlace;
 
 /// What a table keeps for its border places, of one kind of value: characters, or colors.
 ///
@@ -74,9 +74,9 @@ impl<T: Drop, M> Drop for Layers<T, M> {
 }
 
 impl<T, M> Model for Layers<T, M> {
-    ghost use Rattle.tabled_grid.specs.State.{State};
-    ghost use Rattle.tabled_grid.specs.Table.{table};
-    ghost use Rattle.tabled_grid.specs.Keys.{line_cmp, spot_cmp, edge_place_cmp};
+    ghost use Rattle.tabled_places.specs.State.{State};
+    ghost use Rattle.tabled_kept.specs.Table.{table};
+    ghost use Rattle.tabled_places.specs.Keys.{line_cmp, spot_cmp, edge_place_cmp};
     ghost use Rattle.tabled_grid.specs.Counted.{CellsCounted, LinesCounted, vertical_draws, horizontal_draws};
     ghost use Rattle.std.specs.Ordering.{nat_cmp};
     ghost use Rattle.std.specs.Coded.{codes};
@@ -103,20 +103,24 @@ impl<T, M> Model for Layers<T, M> {
 }
 
 impl<T, M> Layers<T, M> {
-    /// The allocator that the store keeps.
+    /// Returns the allocator that the store keeps.
     pub fn allocator(&self) -> Global {
         self.alloc
     }
 }
 
 impl<T> Layers<T> {
-    ghost use Rattle.tabled_grid.specs.Event.{erase, level_sites, Shows, Changes};
-    ghost use Rattle.tabled_grid.specs.State.{state_at, class_record_set};
-    ghost use Rattle.tabled_grid.specs.Site.{Horizontal, Vertical, mark, of_line, at_spot};
-    ghost use Rattle.tabled_grid.specs.Calls.{default_set, line_set_horizontal, line_set_vertical, line_removed, spot_of, cell_set, cell_erased, offset_site, offset_set, offsets_erased, lines_erased};
-    ghost use Rattle.tabled_grid.specs.declared.place.LineOf.{LineOf as Line};
+    ghost use Rattle.tabled_places.specs.declared.event.Event.TheVariants.{Erase as erase};
+    ghost use Rattle.tabled_places.specs.declared.event.Region.TheVariants.{Level as level_sites};
+    ghost use Rattle.tabled_places.specs.Event.{Shows, Changes};
+    ghost use Rattle.tabled_places.specs.State.{state_at, class_record_set};
+    ghost use Rattle.tabled_places.specs.declared.site.Direction.TheVariants.{Horizontal, Vertical};
+    ghost use Rattle.tabled_places.specs.declared.site.Part.TheVariants.{Mark as mark};
+    ghost use Rattle.tabled_places.specs.declared.site.Site.TheVariants.{Line as of_line, Cell as at_spot};
+    ghost use Rattle.tabled_places.specs.Calls.{default_set, line_set_horizontal, line_set_vertical, line_removed, spot_of, cell_set, cell_erased, offset_site, offset_set, offsets_erased, lines_erased};
+    ghost use Rattle.tabled_places.specs.declared.place.LineOf.{LineOf as Line};
 
-    /// A store in which nothing was written. It keeps the allocator for the calls that need memory.
+    /// Makes a store in which nothing was written. It keeps the allocator for the calls that need memory.
     pub fn new(alloc: Global) -> Self
         ensures { Shows [] (state_at result) }
     {

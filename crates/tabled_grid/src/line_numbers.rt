@@ -3,7 +3,7 @@
 
 ghost use Rattle.std.specs.Prelude.{◌≡◌, option_copied};
 ghost use Rattle.tabled_grid.specs.Counted.{number_of};
-ghost use Rattle.tabled_grid.specs.Probing.{IsCounted, IsRaised};
+ghost use Rattle.tabled_kept.specs.Probing.{IsCounted, IsRaised};
 
 use crate::custom_lines::CustomLine;
 use crate::{Keep, OutOfMemory, Probes, Rank};
@@ -22,7 +22,7 @@ pub(crate) struct LineNumbers {
 impl LineNumbers {
     ghost use Rattle.tabled_grid.specs.Counted.{numbers_of, exchanged};
 
-    /// Those of no line.
+    /// The numbers of no line.
     pub(crate) fn none() -> Self
         ensures { result ≡ record { first = 0; inner = 0; last = 0 } }
     {
@@ -33,7 +33,7 @@ impl LineNumbers {
         }
     }
 
-    /// Those of one line, or of none.
+    /// The numbers of one line, or of none.
     pub(crate) fn of<L: CustomLine>(line: Option<&L>) -> Self
         ensures { result ≡ numbers_of L.draws (option_copied line.entry) }
     {
@@ -68,7 +68,7 @@ impl LineNumbers {
     }
 }
 
-/// These numbers as a store keeps them: each of the three is read by itself.
+/// How many custom lines draw the lines of a rank, as a store keeps it: each of the three numbers is read by itself.
 #[derive(Debug, Drop)]
 pub(crate) struct KeptNumbers<M = Probes> {
     kept: LineNumbers,
@@ -103,7 +103,7 @@ impl<M: Meter> KeptNumbers<M> {
 
 /// What is not counted, which stands where no look-up that is written for every type of meters can call it.
 impl KeptNumbers {
-    /// Those of no line.
+    /// The numbers of no line, as a store keeps them.
     pub(crate) fn new() -> Self
         ensures { result ≡ record { first = 0; inner = 0; last = 0 } }
     {

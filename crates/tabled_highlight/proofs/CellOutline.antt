@@ -2,14 +2,14 @@
 use Rattle.std.proofs.Common.{◌≡◌, ℕ, zero, suc, ◌||◌, Bool, true, false, is_some, Option, Some, None, option_map, List, [], ◌∷◌, refl, ap, ◌∙◌}
 use Rattle.std.proofs.lemmas.Bool.{or_left, or_right}
 use Rattle.tabled_object.specs.Entities.{position}
-use Rattle.tabled_grid.specs.declared.site.Direction.TheVariants.{Horizontal, Vertical}
-use Rattle.tabled_grid.specs.declared.site.Spot.{Spot}
-use Rattle.tabled_grid.specs.declared.site.Spot.TheVariants.{Edge, Crossing}
-use Rattle.tabled_grid.specs.declared.site.Site.{Site}
-use Rattle.tabled_grid.specs.declared.site.Site.TheVariants.{Cell as at_spot}
-use Rattle.tabled_grid.specs.declared.event.Written.TheVariants.{Sign as sign}
-use Rattle.tabled_grid.specs.Event.{covered}
-use Rattle.tabled_grid.proofs.Leaving.{AllOf, on_spots, spot_itself}
+use Rattle.tabled_places.specs.declared.site.Direction.TheVariants.{Horizontal, Vertical}
+use Rattle.tabled_places.specs.declared.site.Spot.{Spot}
+use Rattle.tabled_places.specs.declared.site.Spot.TheVariants.{Edge, Crossing}
+use Rattle.tabled_places.specs.declared.site.Site.{Site}
+use Rattle.tabled_places.specs.declared.site.Site.TheVariants.{Cell as at_spot}
+use Rattle.tabled_places.specs.declared.event.Written.TheVariants.{Sign as sign}
+use Rattle.tabled_places.specs.Event.{covered}
+use Rattle.tabled_places.proofs.Leaving.{AllOf, on_spots, spot_itself}
 use Rattle.tabled_highlight.specs.Outline.{Outlining, CellSet, upper_left, upper_right, lower_left, lower_right, across_value, down_value, crossing_value, outline_value}
 use Rattle.tabled_highlight.specs.Around.{all_written, unless, around}
 

@@ -8,13 +8,13 @@ use Rattle.tabled_object.specs.declared.entity.Entity.{Entity}
 use Rattle.tabled_object.specs.declared.position.Position.{Position}
 use Rattle.tabled_object.specs.Entities.{is_inside}
 use Rattle.tabled_object.specs.Listing.{covered, listed}
-use Rattle.tabled_grid.specs.declared.site.Site.{Site}
-use Rattle.tabled_grid.specs.declared.event.Written.{Written}
-use Rattle.tabled_grid.specs.declared.writes.Write.{Write}
-use Rattle.tabled_grid.specs.Event as grid
-use Rattle.tabled_grid.specs.State.{state_at}
-use Rattle.tabled_grid.specs.Writes.{writes_made}
-use Rattle.tabled_grid.proofs.Leaving.{on_spots, same_change}
+use Rattle.tabled_places.specs.declared.site.Site.{Site}
+use Rattle.tabled_places.specs.declared.event.Written.{Written}
+use Rattle.tabled_places.specs.declared.writes.Write.{Write}
+use Rattle.tabled_places.specs.Event as grid
+use Rattle.tabled_places.specs.State.{state_at}
+use Rattle.tabled_places.specs.Writes.{writes_made}
+use Rattle.tabled_places.proofs.Leaving.{on_spots, same_change}
 use Rattle.tabled_layout.specs.TableSettings.{settings_after}
 use Rattle.tabled_configuration.specs.Configuration.{Configuration, Changes, of_characters, of_colors, setting_event, cell_colors_of, by_characters, by_colors, writes_applied}
 use Rattle.tabled_configuration.proofs.ConfigurationLemmas.{passed_over, both_passed_over, characters_of-both, colors_of-both, Changes_by_both}

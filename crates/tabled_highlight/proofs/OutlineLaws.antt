@@ -7,16 +7,16 @@ use Rattle.tabled_border.specs.declared.border.Border.{Border}
 use Rattle.tabled_object.specs.declared.entity.Entity.{Entity}
 use Rattle.tabled_object.specs.Listing.{listed}
 use Rattle.tabled_object.proofs.Sets.{any_map}
-use Rattle.tabled_grid.specs.declared.site.Spot.{Spot}
-use Rattle.tabled_grid.specs.declared.site.Site.{Site}
-use Rattle.tabled_grid.specs.declared.site.Site.TheVariants.{Default as the_default, Class as of_class, Line as of_line, Cell as at_spot, Offset as at_offset}
-use Rattle.tabled_grid.specs.Site.{same_spot, same_site}
-use Rattle.tabled_grid.specs.declared.event.Event.{Event}
-use Rattle.tabled_grid.specs.declared.event.Written.TheVariants.{Sign as sign}
-use Rattle.tabled_grid.specs.Event.{covered, replay}
-use Rattle.tabled_grid.proofs.SameSite.{same_site-eq}
-use Rattle.tabled_grid.proofs.Replay.{replay_uncovered}
-use Rattle.tabled_grid.proofs.Leaving.{Leaves, on_spots, covered_is, left_is, covered_written}
+use Rattle.tabled_places.specs.declared.site.Spot.{Spot}
+use Rattle.tabled_places.specs.declared.site.Site.{Site}
+use Rattle.tabled_places.specs.declared.site.Site.TheVariants.{Default as the_default, Class as of_class, Line as of_line, Cell as at_spot, Offset as at_offset}
+use Rattle.tabled_places.specs.Site.{same_spot, same_site}
+use Rattle.tabled_places.specs.declared.event.Event.{Event}
+use Rattle.tabled_places.specs.declared.event.Written.TheVariants.{Sign as sign}
+use Rattle.tabled_places.specs.Event.{covered, replay}
+use Rattle.tabled_places.proofs.SameSite.{same_site-eq}
+use Rattle.tabled_places.proofs.Replay.{replay_uncovered}
+use Rattle.tabled_places.proofs.Leaving.{Leaves, on_spots, covered_is, left_is, covered_written}
 use Rattle.tabled_highlight.specs.Outline.{Outlining, across_value, down_value, outline_value, every_spot, outline, IsSpotOf}
 use Rattle.tabled_highlight.proofs.Spots.{outline_leaves}
 use Rattle.tabled_highlight.proofs.Made.{listed_inside}

@@ -6,16 +6,16 @@ use Rattle.std.proofs.lemmas.Bool.{or_left, or_right, and_from, and_parts}
 use Rattle.tabled_object.specs.declared.position.Position.{Position}
 use Rattle.tabled_object.specs.Entities.{position, below, is_inside}
 use Rattle.tabled_object.proofs.Sets.{any_map}
-use Rattle.tabled_grid.specs.declared.place.LineOf.{LineOf}
-use Rattle.tabled_grid.specs.declared.site.Direction.TheVariants.{Horizontal, Vertical}
-use Rattle.tabled_grid.specs.declared.site.Spot.{Spot}
-use Rattle.tabled_grid.specs.declared.site.Spot.TheVariants.{Edge, Crossing}
-use Rattle.tabled_grid.specs.declared.site.Site.TheVariants.{Cell as at_spot}
-use Rattle.tabled_grid.specs.Site.{same_spot}
-use Rattle.tabled_grid.specs.Keys.{same_spot-eq}
-use Rattle.tabled_grid.specs.Event.{covered}
-use Rattle.tabled_grid.specs.Calls.{line_spots, edge_of, crossing_of}
-use Rattle.tabled_grid.proofs.Leaving.{Leaves, on_spots, leaves_on_spots, all_agree, covered_written, spot_itself}
+use Rattle.tabled_places.specs.declared.place.LineOf.{LineOf}
+use Rattle.tabled_places.specs.declared.site.Direction.TheVariants.{Horizontal, Vertical}
+use Rattle.tabled_places.specs.declared.site.Spot.{Spot}
+use Rattle.tabled_places.specs.declared.site.Spot.TheVariants.{Edge, Crossing}
+use Rattle.tabled_places.specs.declared.site.Site.TheVariants.{Cell as at_spot}
+use Rattle.tabled_places.specs.Site.{same_spot}
+use Rattle.tabled_places.specs.Keys.{same_spot-eq}
+use Rattle.tabled_places.specs.Event.{covered}
+use Rattle.tabled_places.specs.Calls.{line_spots, edge_of, crossing_of}
+use Rattle.tabled_places.proofs.Leaving.{Leaves, on_spots, leaves_on_spots, all_agree, covered_written, spot_itself}
 use Rattle.tabled_highlight.specs.Outline.{Outlining, CellSet, outline_value, every_spot, outline}
 use Rattle.tabled_highlight.specs.Around.{all_written, around}
 use Rattle.tabled_highlight.proofs.Tests.{one_holds, less_here, less_next, found_below, any_flat}

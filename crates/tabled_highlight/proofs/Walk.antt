@@ -4,11 +4,11 @@ use Rattle.std.proofs.lemmas.Bool.{or_left, or_right}
 use Rattle.tabled_object.specs.declared.position.Position.{Position}
 use Rattle.tabled_object.specs.Entities.{position}
 use Rattle.tabled_object.proofs.Sets.{is_here, here_itself, same_here}
-use Rattle.tabled_grid.specs.declared.site.Site.{Site}
-use Rattle.tabled_grid.specs.declared.site.Site.TheVariants.{Cell as at_spot}
-use Rattle.tabled_grid.specs.Event.{covered}
-use Rattle.tabled_grid.proofs.Replay.{covered-append}
-use Rattle.tabled_grid.proofs.Leaving.{AllOf, all_of-append, Leaves, on_spots, leaves_on_spots}
+use Rattle.tabled_places.specs.declared.site.Site.{Site}
+use Rattle.tabled_places.specs.declared.site.Site.TheVariants.{Cell as at_spot}
+use Rattle.tabled_places.specs.Event.{covered}
+use Rattle.tabled_places.proofs.Replay.{covered-append}
+use Rattle.tabled_places.proofs.Leaving.{AllOf, all_of-append, Leaves, on_spots, leaves_on_spots}
 use Rattle.tabled_highlight.specs.Outline.{Outlining, CellSet, outline_value}
 use Rattle.tabled_highlight.specs.Around.{has, all_written, around, line_after, written_around_each}
 use Rattle.tabled_highlight.proofs.Tests.{one_holds}

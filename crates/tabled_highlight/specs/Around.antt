@@ -3,13 +3,13 @@ use Rattle.std.specs.Prelude.{ℕ, ◌+◌, ◌-◌, ◌^◌, min, ◌==◌, ◌
 use Rattle.std.specs.List.{flat_map, list_any}
 use Rattle.tabled_border.specs.declared.border.Border.{Border}
 use Rattle.tabled_object.specs.declared.position.Position.{Position}
-use Rattle.tabled_grid.specs.declared.site.Direction.TheVariants.{Horizontal, Vertical}
-use Rattle.tabled_grid.specs.declared.site.Spot.{Spot}
-use Rattle.tabled_grid.specs.declared.site.Spot.TheVariants.{Edge, Crossing}
-use Rattle.tabled_grid.specs.declared.site.Site.TheVariants.{Cell as at_spot}
-use Rattle.tabled_grid.specs.declared.event.Written.TheVariants.{Sign as sign}
-use Rattle.tabled_grid.specs.declared.event.Event.{Event}
-use Rattle.tabled_grid.specs.declared.event.Event.TheVariants.{Write as write}
+use Rattle.tabled_places.specs.declared.site.Direction.TheVariants.{Horizontal, Vertical}
+use Rattle.tabled_places.specs.declared.site.Spot.{Spot}
+use Rattle.tabled_places.specs.declared.site.Spot.TheVariants.{Edge, Crossing}
+use Rattle.tabled_places.specs.declared.site.Site.TheVariants.{Cell as at_spot}
+use Rattle.tabled_places.specs.declared.event.Written.TheVariants.{Sign as sign}
+use Rattle.tabled_places.specs.declared.event.Event.{Event}
+use Rattle.tabled_places.specs.declared.event.Event.TheVariants.{Write as write}
 use Rattle.tabled_highlight.specs.declared.around.Neighbors.{Neighbors}
 use Rattle.tabled_highlight.specs.Outline.{Outlining, CellSet, upper_left, upper_right, lower_left, lower_right, across_value, down_value, crossing_value}
 

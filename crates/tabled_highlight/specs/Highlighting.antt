@@ -4,7 +4,7 @@ use Rattle.tabled_border.specs.declared.border.Border.{Border}
 use Rattle.tabled_border.specs.Border.{no_border}
 use Rattle.tabled_object.specs.declared.entity.Entity.{Entity}
 use Rattle.tabled_object.specs.Listing.{listed}
-use Rattle.tabled_grid.specs.declared.event.Event.{Event}
+use Rattle.tabled_places.specs.declared.event.Event.{Event}
 use Rattle.tabled_configuration.specs.Configuration.{ConfigEvent, by_characters, by_colors}
 use Rattle.tabled_color.specs.Shade.{Shade}
 use Rattle.tabled_color.specs.BorderColors.{border_texts}

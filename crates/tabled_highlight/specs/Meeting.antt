@@ -1,8 +1,8 @@
 -- The edges that meet at a crossing.
 use Rattle.std.specs.Prelude.{ℕ, zero, suc, Bool, false, not, if◌then◌else◌, List, [], ◌∷◌, ◌++◌, filter}
-use Rattle.tabled_grid.specs.declared.site.Direction.TheVariants.{Horizontal, Vertical}
-use Rattle.tabled_grid.specs.declared.site.Spot.{Spot}
-use Rattle.tabled_grid.specs.declared.site.Spot.TheVariants.{Edge, Crossing}
+use Rattle.tabled_places.specs.declared.site.Direction.TheVariants.{Horizontal, Vertical}
+use Rattle.tabled_places.specs.declared.site.Spot.{Spot}
+use Rattle.tabled_places.specs.declared.site.Spot.TheVariants.{Edge, Crossing}
 use Rattle.tabled_highlight.specs.Outline.{CellSet, upper_right, lower_left, lower_right}
 
 -- whether exactly one of two is true

@@ -2,8 +2,8 @@
 
 ghost use Rattle.std.specs.Prelude.{◌≡◌, ◌||◌, ◌++◌, [], Some, IfOk, OnOk, option_copied, ◌∷◌};
 ghost use Rattle.std.specs.Option.{option_or};
-ghost use Rattle.tabled_grid.specs.Calls.{spot_of};
-ghost use Rattle.tabled_grid.specs.Writes.{writes_made};
+ghost use Rattle.tabled_places.specs.Calls.{spot_of};
+ghost use Rattle.tabled_places.specs.Writes.{writes_made};
 ghost use Rattle.tabled_highlight.specs.Outline as outline;
 ghost use Rattle.tabled_highlight.specs.Highlighting.{drawn_with};
 ghost use Rattle.tabled_highlight.specs.Around.{has, all_written, unless, neighbors, sides, corners, line_after, written_around};
@@ -28,7 +28,7 @@ struct Neighbors {
 }
 
 impl Neighbors {
-    /// Those of a cell.
+    /// The cells of a set that stand beside a cell.
     fn of(cells: &BTreeSet<Position>, pos: Position) -> Self
         ensures { result ≡ neighbors (has cells.now.keys) pos.row (line_after pos.row) pos.col (line_after pos.col) }
     {
@@ -114,7 +114,7 @@ pub(crate) fn outline_writes<T: Keep>(
     }
 }
 
-/// The same with a border that is there.
+/// The writes of the outline of a set of cells by a border.
 fn writes_around<T: Keep>(
     alloc: Global,
     cells: &BTreeSet<Position>,

@@ -1,7 +1,7 @@
 //! An outline around cells of a table.
 
 ghost use Rattle.std.specs.Prelude.{◌≡◌, Some, None, IfOk, OnOk, OnErr, option_copied, option_map};
-ghost use Rattle.tabled_grid.specs.Writes.{writes_made};
+ghost use Rattle.tabled_places.specs.Writes.{writes_made};
 ghost use Rattle.tabled_configuration.specs.Configuration as borders;
 ghost use Rattle.tabled_configuration.specs.Colored.{Changes};
 ghost use Rattle.tabled_color.specs.BorderColors.{full_border, border_texts};
@@ -52,7 +52,7 @@ impl<O> Model for Highlight<O> {
 }
 
 impl<O> Highlight<O> {
-    /// An outline around the cells that the object names, with neither characters nor colors yet: without them it changes nothing.
+    /// Makes an outline around the cells that the object names, with neither characters nor colors yet: without them it changes nothing.
     pub fn new(target: O) -> Self
         ensures { result ≡ record { target = target; border = None; diagonal = None; color = None } }
     {
@@ -64,7 +64,7 @@ impl<O> Highlight<O> {
         }
     }
 
-    /// An outline of one character, on all sides and corners.
+    /// Makes an outline of one character, on all sides and corners.
     ///
     /// ```text
     /// *****
@@ -83,7 +83,7 @@ impl<O> Highlight<O> {
         }
     }
 
-    /// An outline of one color, on all sides and corners, which is copied for them. The characters stay as they are.
+    /// Makes an outline of one color, on all sides and corners, which is copied for them. The characters stay as they are.
     /// Memory may be refused for the copies.
     ///
     /// The cells (0, 0), (0, 1) and (1, 1) of a table of the style `ascii`, with `r` for each place that has the color:

@@ -1,2 +1,6 @@
 pub mod Reading
 pub mod Faults
+pub mod Cuts
+pub mod Steps
+pub mod Returns
+pub mod ReadBack

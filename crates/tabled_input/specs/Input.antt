@@ -2,10 +2,10 @@
 use Rattle.std.specs.Prelude.{ℕ, ◌+◌, not, ◌==◌, nat_lt, if◌then◌else◌, List, length, take, Option, Some, None}
 use Rattle.std.specs.List.{count_by, suffix_len}
 use Rattle.std.specs.Str.Lossy.{utf8_valid_len}
-use Rattle.tabled_csv.specs.Lines.{separated}
-use Rattle.tabled_csv.specs.Quoted.{csv_rows, has_open_quote}
-use Rattle.tabled_csv.specs.declared.quoted.CsvError.{CsvError}
-use Rattle.tabled_csv.specs.declared.quoted.CsvError.TheVariants as csv
+use Rattle.tabled_input.specs.Lines.{separated}
+use Rattle.tabled_input.specs.Quoted.{csv_rows, has_open_quote}
+use Rattle.tabled_input.specs.declared.quoted.CsvError.{CsvError}
+use Rattle.tabled_input.specs.declared.quoted.CsvError.TheVariants as csv
 use Rattle.tabled_input.specs.declared.error.InputError.{InputError}
 use Rattle.tabled_input.specs.declared.error.InputError.TheVariants.{TooLong, NotUtf8, OpenQuote, OutOfMemory}
 use Rattle.tabled_input.specs.declared.read.TheConstants.{INPUT_LIMIT}

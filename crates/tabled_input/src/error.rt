@@ -4,18 +4,18 @@ ghost use Rattle.std.specs.Prelude.{◌≡◌};
 ghost use Rattle.tabled_input.specs.Input.{of_csv};
 ghost use Rattle.tabled_input.specs.declared.error.InputError.{InputError as Refusal};
 
+use crate::CsvError;
 use std::alloc::{AllocError, AllocFailed};
-use tabled_csv::CsvError;
 
 /// Why an input has no rows, in the order in which the reasons are tested. Memory may be refused at any point. Lines, rows and bytes are
 /// counted from 1.
 #[derive(Clone, Copy, Debug, PartialEq, Eq)]
 pub enum InputError {
-    /// It could not be read.
+    /// The input could not be read.
     ReadFailed,
-    /// It has more bytes than are taken.
+    /// The input has more bytes than are taken.
     TooLong,
-    /// It is no text of UTF-8: the line of the first byte that belongs to none, and its number in the line.
+    /// The input is no text of UTF-8: the line of the first byte that belongs to none, and its number in the line.
     NotUtf8 { line: usize, byte: usize },
     /// A cell of this row, the last one, begins with a quote, and no other quote ends it.
     OpenQuote { row: usize },

@@ -5,7 +5,7 @@ ghost use Rattle.tabled_input.specs.Input.{byte_after, line_after};
 
 use crate::read::INPUT_LIMIT;
 
-/// Where the byte after these stands: its line, and its number in the line, both counted from 1.
+/// Returns where the byte after these stands: its line, and its number in the line, both counted from 1.
 pub fn place_after(bytes: &[u8]) -> (usize, usize)
     requires { length bytes.now ≤ INPUT_LIMIT }
     ensures line { result.0 ≡ line_after bytes.now }

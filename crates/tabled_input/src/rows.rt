@@ -4,16 +4,16 @@ ghost use Rattle.std.specs.Prelude.{◌≡◌, ◌==◌, ◌+◌, ◌≤◌, ◌
 ghost use Rattle.std.specs.Io.KnownBytes.{Consumes, IsAtEnd};
 ghost use Rattle.std.specs.Str.{IsUtf8};
 ghost use Rattle.std.specs.Str.Lossy.{utf8_valid_len};
-ghost use Rattle.tabled_csv.specs.Lines.{cells_of};
+ghost use Rattle.tabled_input.specs.Lines.{cells_of};
 ghost use Rattle.tabled_input.specs.Input.{fault_of, fault_of_text, not_utf8, rows_in};
 ghost use Rattle.tabled_input.specs.declared.error.InputError.{InputError as Refusal};
 
 use crate::error::InputError;
 use crate::place::place_after;
 use crate::read::{INPUT_LIMIT, read_input};
+use crate::{csv, separated};
 use std::alloc::Global;
 use std::io::Read;
-use tabled_csv::{csv, separated};
 
 /// How the cells of an input stand.
 #[derive(Clone, Copy, Debug, PartialEq, Eq)]
@@ -70,7 +70,7 @@ fn rows_of_bytes(alloc: Global, cells: Cells, bytes: &[u8]) -> Result<Vec<Vec<St
     Ok(rows)
 }
 
-/// The rows of what is read: it is read whole, and at most one byte past the limit of 268,435,456 bytes. Over a reader that tells its
+/// Returns the rows of what is read: it is read whole, and at most one byte past the limit of 268,435,456 bytes. Over a reader that tells its
 /// bytes, the rows are those of these bytes, and a refusal is the first fault that they have; unless reading failed, or memory was refused.
 pub fn read_rows<R: Read>(
     alloc: Global,

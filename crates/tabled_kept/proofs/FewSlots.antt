@@ -6,7 +6,7 @@ use Rattle.std.specs.Ordering.{nat_cmp, is_eq, is_lt, eq_by_cmp, ordering_then}
 use Rattle.std.specs.Cmp.{IsTotalOrder, ranked, tied_itself}
 use Rattle.std.specs.FinMap as map
 use Rattle.std.specs.FinMap.Entries.{below_all, is_sorted}
-use Rattle.tabled_kept.specs.declared.table.Slot.{Slot}
+use Rattle.tabled_keys.specs.declared.key.Slot.{Slot}
 use Rattle.tabled_kept.specs.Slots.{slot_cmp, slots_total}
 use Rattle.tabled_kept.specs.Table.{table}
 use Rattle.tabled_kept.specs.Kept.{keyed, all_entries, Parted}

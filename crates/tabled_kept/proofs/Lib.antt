@@ -1,6 +1,7 @@
 pub mod EmptyMaps
 pub mod SlotLemmas
 pub mod SameGets
+pub mod ExactMaps
 pub mod TableLemmas
 pub mod SameRows
 pub mod Tables

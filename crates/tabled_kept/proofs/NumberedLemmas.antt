@@ -8,11 +8,11 @@ use Rattle.std.specs.Cmp.{nat_cmp_total, nat_cmp_is, tied_itself}
 use Rattle.std.specs.FinMap as map
 use Rattle.std.proofs.lemmas.Bool.{cases_lt}
 use Rattle.std.proofs.lemmas.Bool.Decides.{nat_tests}
-use Rattle.tabled_kept.specs.Slots.{slot_cmp, slots_total, slot, numbered}
+use Rattle.tabled_kept.specs.Slots.{slot_cmp, slots_total, numbered}
+use Rattle.tabled_keys.specs.Slots.{slot, slot_of_number, number_at_slot, numbers_back}
 use Rattle.tabled_kept.specs.Sheet.{far_number}
 use Rattle.tabled_kept.specs.Table.{table}
-use Rattle.tabled_kept.specs.Kept.{all_entries, Parted, slot_of_number, number_at_slot}
-use Rattle.tabled_kept.specs.KeyLaws.{numbers_back}
+use Rattle.tabled_kept.specs.Kept.{all_entries, Parted}
 use Rattle.tabled_kept.proofs.SlotLemmas.{or_else, find-append, find-slots}
 use Rattle.tabled_kept.proofs.Ascending.{entries-table}
 use Rattle.tabled_kept.proofs.TableLemmas.{exact_slots}

@@ -3,7 +3,7 @@ use Rattle.std.proofs.Common.{◌≡◌, ℕ, ◌+◌, ◌<◌, Bool, true, fals
 use Rattle.std.specs.Ordering.{nat_cmp}
 use Rattle.std.specs.Cmp.{IsTotalOrder}
 use Rattle.std.specs.FinMap as map
-use Rattle.tabled_kept.specs.declared.table.Slot.{Slot}
+use Rattle.tabled_keys.specs.declared.key.Slot.{Slot}
 use Rattle.tabled_kept.specs.Slots.{slot_cmp, slots_total, filled, in_rows}
 use Rattle.tabled_kept.specs.Table.{table}
 use Rattle.tabled_kept.specs.Kept.{all_entries, Parted}

@@ -5,7 +5,8 @@ use Rattle.std.specs.Option.{option_eq}
 use Rattle.std.specs.Cmp.{nat_cmp_total}
 use Rattle.std.specs.FinMap as map
 use Rattle.std.proofs.lemmas.Bool.{cases_lt}
-use Rattle.tabled_kept.specs.Slots.{slot_cmp, slots_total, slot, in_rows}
+use Rattle.tabled_kept.specs.Slots.{slot_cmp, slots_total, in_rows}
+use Rattle.tabled_keys.specs.Slots.{slot}
 use Rattle.tabled_kept.specs.Same.{same_map}
 use Rattle.tabled_kept.proofs.SameGets.{get_alike, alike_get, same_decided, both_none}
 use Rattle.tabled_kept.proofs.TableLemmas.{in_slot_of, in_no_row}

@@ -9,8 +9,9 @@ use Rattle.std.specs.BTreeMap.{is_at}
 use Rattle.std.specs.FinMap as map
 use Rattle.std.proofs.lemmas.Bool.Decides.{nat_tests}
 use Rattle.std.proofs.lemmas.Nat.{div-mul-add, mod-mul-add}
-use Rattle.tabled_kept.specs.declared.table.Slot.{Slot}
-use Rattle.tabled_kept.specs.Slots.{slot_cmp, slots_total, slot}
+use Rattle.tabled_keys.specs.declared.key.Slot.{Slot}
+use Rattle.tabled_kept.specs.Slots.{slot_cmp, slots_total}
+use Rattle.tabled_keys.specs.Slots.{slot}
 use Rattle.tabled_kept.specs.Table.{table}
 use Rattle.tabled_kept.specs.Same.{same_map}
 use Rattle.tabled_kept.specs.Sheet.{is_near, far_number, far_slot, sheet, PartedSheet}

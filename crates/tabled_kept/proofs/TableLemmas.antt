@@ -6,8 +6,9 @@ use Rattle.std.specs.FinMap as map
 use Rattle.std.proofs.lemmas.Bool.{eqb-true, and_parts}
 use Rattle.std.proofs.lemmas.Bool.Decides.{nat_tests}
 use Rattle.std.proofs.lemmas.List.{get_or_past}
-use Rattle.tabled_kept.specs.declared.table.Slot.{Slot}
-use Rattle.tabled_kept.specs.Slots.{slot_cmp, slots_total, slot, in_row, rows_from, in_rows}
+use Rattle.tabled_keys.specs.declared.key.Slot.{Slot}
+use Rattle.tabled_kept.specs.Slots.{slot_cmp, slots_total, in_row, rows_from, in_rows}
+use Rattle.tabled_keys.specs.Slots.{slot}
 use Rattle.tabled_kept.proofs.SlotLemmas.{padded, set_item, or_else, find-append}
 
 -- slots tie where both of their numbers are equal

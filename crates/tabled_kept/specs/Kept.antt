@@ -1,9 +1,7 @@
 -- What a kept map keeps: values in slots, and the others in an ordered map.
-use Rattle.std.specs.Prelude.{◌≡◌, ℕ, nat_lt, if◌then◌else◌, Option, Some, None, IsSome, List, ◌++◌, map}
+use Rattle.std.specs.Prelude.{◌≡◌, Option, Some, None, IsSome, List, ◌++◌, map}
 use Rattle.std.specs.FinMap.{FinMap, get, entries}
 use Rattle.std.specs.declared.cmp.Ordering.{Ordering}
-use Rattle.tabled_kept.specs.declared.table.Slot.{Slot}
-use Rattle.tabled_kept.specs.Slots.{slot}
 use Rattle.tabled_kept.specs.Table.{table}
 
 -- entries under their keys in place of their slots
@@ -18,14 +16,3 @@ all_entries key_at dense others = keyed key_at (entries dense) ++ others
 pub record Parted {S K V : Type 0} {Q : S → S → Ordering} (R : K → K → Ordering) (slot_of : K → Option S) (key_at : S → K) (dense : FinMap Q V) (others : List (K × V)) : Type 0 where
   pub in_place : (s : S) → IsSome (get dense s) → slot_of (key_at s) ≡ Some s
   pub apart : (key : K) → IsSome (slot_of key) → get (table R others) key ≡ None
-
--- numbers below this one have slots
-abbrev pub dense_end : ℕ
-dense_end = 256
-
--- the slot of a number: one of the first row
-abbrev pub slot_of_number : ℕ → Option Slot
-slot_of_number n = if nat_lt n dense_end then Some (slot 0 n) else None
-
-abbrev pub number_at_slot : Slot → ℕ
-number_at_slot s = s.col

@@ -2,8 +2,9 @@
 use Rattle.std.specs.Prelude.{ℕ, ◌+◌, ◌*◌, ◌/◌, ◌%◌, ◌^◌, ◌&&◌, Bool, nat_lt, if◌then◌else◌, Option, Some, None, List}
 use Rattle.std.specs.Ordering.{nat_cmp}
 use Rattle.std.specs.FinMap.{FinMap, entries}
-use Rattle.tabled_kept.specs.declared.table.Slot.{Slot}
-use Rattle.tabled_kept.specs.Slots.{slot_cmp, slot}
+use Rattle.tabled_keys.specs.declared.key.Slot.{Slot}
+use Rattle.tabled_kept.specs.Slots.{slot_cmp}
+use Rattle.tabled_keys.specs.Slots.{slot}
 use Rattle.tabled_kept.specs.Table.{table}
 use Rattle.tabled_kept.specs.Kept.{all_entries, Parted}
 

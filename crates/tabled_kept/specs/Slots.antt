@@ -4,9 +4,10 @@ use Rattle.std.specs.Ordering.{nat_cmp}
 use Rattle.std.specs.Cmp.{IsTotalOrder}
 use Rattle.std.specs.FinMap.{FinMap, from_entries, entries}
 use Rattle.std.specs.declared.cmp.Ordering.{Ordering}
-use Rattle.tabled_kept.specs.declared.table.Slot.{Slot}
-use Rattle.tabled_kept.specs.contracts.table.SlotOrd.TheImpl.{cmp-value}
-use Rattle.tabled_kept.specs.contracts.table.SlotOrd.TheImpl.Laws as law
+use Rattle.tabled_keys.specs.declared.key.Slot.{Slot}
+use Rattle.tabled_keys.specs.Slots.{slot}
+use Rattle.tabled_keys.specs.contracts.key.SlotOrd.TheImpl.{cmp-value}
+use Rattle.tabled_keys.specs.contracts.key.SlotOrd.TheImpl.Laws as law
 
 -- the values in a list of slots, each under the number of its slot, where the first slot has the given number
 abbrev pub numbered : {V : Type 0} → ℕ → List (Option V) → List (ℕ × V)
@@ -24,9 +25,6 @@ slot_cmp = cmp-value.it
 
 pub slots_total : IsTotalOrder slot_cmp
 slots_total = law.total-law
-
-abbrev pub slot : ℕ → ℕ → Slot
-slot row col = record { row = row; col = col }
 
 -- the values of one row, each under its slot
 abbrev pub in_row : {V : Type 0} → ℕ → List (ℕ × V) → List (Slot × V)

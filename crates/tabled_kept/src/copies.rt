@@ -4,10 +4,10 @@ ghost use Rattle.std.specs.Prelude.{◌≡◌, IfOk};
 ghost use Rattle.std.specs.List.Sorted.{IsStrictlySortedBy};
 ghost use Rattle.std.specs.Map.{keys_of};
 
-use crate::key::Key;
 use std::alloc::Global;
 use std::collections::BTreeMap;
 use tabled_border::{Keep, OutOfMemory};
+use tabled_keys::Key;
 
 /// Copies of all values, in their order, or of none.
 pub(crate) fn copies<V: Keep>(values: &[V], alloc: Global) -> Result<Vec<V>, OutOfMemory>

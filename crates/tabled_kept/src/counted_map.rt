@@ -8,20 +8,20 @@ ghost use Rattle.tabled_kept.specs.FirstFrom.{IsFirstFrom};
 ghost use Rattle.tabled_kept.specs.OneMore.{IsOneMore};
 ghost use Rattle.tabled_kept.specs.Probing.{IsCounted, IsRaised};
 
-use crate::key::Key;
 use crate::meter::Meter;
 use crate::probes::Probes;
 use crate::tally::Tally;
 use std::alloc::Global;
 use std::marker::{Model, PhantomData};
 use tabled_border::{Keep, OutOfMemory};
+use tabled_keys::Key;
 
 /// A map that is read in three ways, each of which is counted. Until something is kept it takes no memory beside itself. In contracts it
 /// is the list of its entries.
 #[derive(Debug, Drop)]
 pub struct CountedMap<K: Key, V, M = Probes> {
     alloc: Global,
-    /// Its entries, once something was kept.
+    /// The entries of the map, once something was kept.
     pub(crate) entries: Option<Box<Tally<K, V>>>,
     /// The type of the meters with which it is read.
     by: PhantomData<M>,
@@ -37,7 +37,7 @@ impl<K: Key, V, M> Model for CountedMap<K, V, M> {
 
 /// The readings, for every type of meters.
 impl<K: Key, V, M: Meter> CountedMap<K, V, M> {
-    /// What is kept under a key: one reading.
+    /// Returns what is kept under a key: one reading.
     pub fn read(&self, key: K, probes: &mut M) -> Option<&V>
         ensures value { option_copied result ≡ map.get (table K.cmp self.now) key }
         ensures counted { IsCounted (M.made probes.old) (M.made probes.new) }
@@ -52,7 +52,7 @@ impl<K: Key, V, M: Meter> CountedMap<K, V, M> {
         }
     }
 
-    /// The first key at or after one, where no key has a slot: one reading.
+    /// Returns the first key at or after one, where no key has a slot: one reading.
     pub fn first_from(&self, key: K, probes: &mut M) -> Option<K>
         requires { (any : K) → K.slot_of any ≡ None }
         ensures first { IsFirstFrom K.cmp (table K.cmp self.now) key result }
@@ -68,7 +68,7 @@ impl<K: Key, V, M: Meter> CountedMap<K, V, M> {
         }
     }
 
-    /// Whether nothing is kept: one reading, which does not look at the entries.
+    /// Returns whether nothing is kept: one reading, which does not look at the entries.
     pub fn is_empty(&self, probes: &mut M) -> bool
         ensures value { IsTrue result ↔ (table K.cmp self.now ≡ map.empty) }
         ensures counted { IsCounted (M.made probes.old) (M.made probes.new) }
@@ -84,7 +84,7 @@ impl<K: Key, V, M: Meter> CountedMap<K, V, M> {
 
 /// What is not counted, which stands where no look-up that is written for every type of meters can call it.
 impl<K: Key, V> CountedMap<K, V> {
-    /// A map with nothing in it.
+    /// Makes a map with nothing in it.
     pub fn new(alloc: Global) -> Self
         ensures { table K.cmp result ≡ map.empty }
     {
@@ -163,7 +163,7 @@ impl<K: Key, V> CountedMap<K, V> {
         }
     }
 
-    /// Whether the two maps keep the same: the same keys, and equal values under each.
+    /// Returns whether the two maps keep the same: the same keys, and equal values under each.
     pub fn is_same(&self, other: &Self) -> bool
     where
         V: PartialEq,

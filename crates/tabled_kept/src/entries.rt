@@ -9,7 +9,6 @@ ghost use Rattle.tabled_kept.specs.OneMore.{IsOneMore};
 ghost use Rattle.tabled_kept.specs.Probing.{IsCounted, IsRaised};
 
 use crate::copies::copy_of;
-use crate::key::Key;
 use crate::meter::Meter;
 use crate::sheet::Sheet;
 use std::alloc::Global;
@@ -17,6 +16,7 @@ use std::collections::BTreeMap;
 use std::marker::Model;
 use std::ops::Bound;
 use tabled_border::{Keep, OutOfMemory};
+use tabled_keys::Key;
 
 /// The entries of a kept map. A value stands in the slot of its key, if the key has one, and else in an ordered map; so a reading
 /// is one of the slots or one of the ordered map. In contracts it is the list of its entries.

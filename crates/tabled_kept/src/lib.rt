@@ -7,7 +7,6 @@
 mod copies;
 mod counted_map;
 mod entries;
-mod key;
 mod meter;
 mod number;
 mod numbered;
@@ -19,9 +18,8 @@ mod table;
 mod tally;
 
 pub use counted_map::CountedMap;
-pub use key::Key;
 pub use meter::Meter;
 pub use numbered::Numbered;
 pub use one::One;
 pub use probes::Probes;
-pub use table::Slot;
+pub use tabled_keys::{Key, Slot};

@@ -3,10 +3,9 @@
 ghost use Rattle.std.specs.Prelude.{◌≡◌, ◌≤◌};
 ghost use Rattle.std.specs.Ordering.{nat_cmp};
 
-use crate::key::Key;
-use crate::table::Slot;
 use std::cmp::Ordering;
 use std::marker::Model;
+use tabled_keys::{Key, Slot};
 
 /// A number as a key. Its order is that of numbers, and asks first whether the other is less: a search passes over the lesser
 /// keys of a node one by one, which takes half the instructions that it takes with `usize`.
@@ -105,7 +104,7 @@ fn not_greater(number: usize, other: usize) -> Ordering
 /// Numbers have no slots.
 impl Key for Number {
     ghost use Rattle.std.specs.FinMap as map;
-    ghost use Rattle.tabled_kept.specs.Kept.{number_at_slot};
+    ghost use Rattle.tabled_keys.specs.Slots.{number_at_slot};
     ghost use Rattle.tabled_kept.specs.KeyLaws.{no_slot, no_slot_back, no_slot_narrow};
 
     ghost slot_of = { no_slot };

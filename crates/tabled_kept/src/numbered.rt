@@ -105,7 +105,7 @@ impl<'a, V> Iterator for Numbered<'a, V> {
 }
 
 impl<V> CountedMap<usize, V> {
-    /// What is kept, in the order of its numbers.
+    /// Returns what is kept, in the order of its numbers.
     pub fn iter(&self) -> Numbered<'_, V>
         ensures entries { result ≡ map.entries (table nat_cmp self.now) }
         ensures rising { IsStrictlySortedBy nat_cmp (keys_of result) }
@@ -118,7 +118,7 @@ impl<V> CountedMap<usize, V> {
         }
     }
 
-    /// A copy of what is kept, whose memory comes from `alloc`.
+    /// Returns a copy of what is kept, whose memory comes from `alloc`.
     pub fn copy(&self, alloc: Global) -> Result<BTreeMap<usize, V>, OutOfMemory>
     where
         V: Keep,

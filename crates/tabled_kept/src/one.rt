@@ -31,7 +31,7 @@ impl<V, M> Model for One<V, M> {
 
 /// The reading, for every type of meters.
 impl<V, M: Meter> One<V, M> {
-    /// The value: one reading.
+    /// Returns the value: one reading.
     pub fn read(&self, probes: &mut M) -> &V
         ensures value { result.now ≡ self.now }
         ensures counted { IsCounted (M.made probes.old) (M.made probes.new) }
@@ -44,7 +44,7 @@ impl<V, M: Meter> One<V, M> {
 
 /// What is not counted, which stands where no look-up that is written for every type of meters can call it.
 impl<V> One<V> {
-    /// That value, kept.
+    /// Keeps a value.
     pub fn new(value: V) -> Self
         ensures { result ≡ value }
     {
@@ -62,7 +62,7 @@ impl<V> One<V> {
         mem::replace(&mut self.kept, value)
     }
 
-    /// The value, for who reads it outside a look-up.
+    /// Returns the value, for who reads it outside a look-up.
     pub fn get(&self) -> &V
         ensures { result.now ≡ self.now }
     {

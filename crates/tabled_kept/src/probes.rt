@@ -18,14 +18,14 @@ impl std::marker::Model for Probes {
 }
 
 impl Probes {
-    /// No reading so far.
+    /// Makes a meter that has counted no reading.
     pub fn new() -> Self
         ensures { result ≡ 0 }
     {
         Probes { made: 0 }
     }
 
-    /// How many readings were made, up to `u64::MAX`.
+    /// Returns how many readings were made, up to `u64::MAX`.
     pub fn count(&self) -> u64
         ensures { result ≡ self.now }
     {

@@ -4,18 +4,19 @@ ghost use Rattle.std.specs.Prelude.{◌≡◌, ℕ, ◌<◌, ◌^◌, slice_inde
 ghost use Rattle.std.specs.BTreeMap.{get_by};
 ghost use Rattle.std.specs.Ordering.{nat_cmp};
 ghost use Rattle.std.specs.FinMap as map;
-ghost use Rattle.tabled_kept.specs.Slots.{slot};
+ghost use Rattle.tabled_keys.specs.Slots.{slot};
 ghost use Rattle.tabled_kept.specs.Sheet.{far_number};
 ghost use Rattle.tabled_kept.specs.Same.{same_map};
 ghost use Rattle.tabled_kept.specs.OneMore.{IsOneMore};
 
 use crate::copies::copy_of;
 use crate::number::Number;
-use crate::table::{Slot, Table};
+use crate::table::Table;
 use std::alloc::Global;
 use std::collections::BTreeMap;
 use std::marker::Model;
 use tabled_border::{Keep, OutOfMemory};
+use tabled_keys::Slot;
 
 /// The first row that stands in the ordered map.
 const NEAR_ROWS: usize = 256;

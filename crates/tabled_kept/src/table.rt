@@ -2,7 +2,8 @@
 
 ghost use Rattle.std.specs.Prelude.{◌≡◌, ◌<◌, ◌≤◌, ℕ, vec_len, slice_index_or, unwrap_or, IsTrue, IsFalse, OnOk, OnErr, IfOk, None, option_copied};
 ghost use Rattle.std.specs.FinMap as map;
-ghost use Rattle.tabled_kept.specs.Slots.{slot_cmp, slot, in_rows};
+ghost use Rattle.tabled_kept.specs.Slots.{slot_cmp, in_rows};
+ghost use Rattle.tabled_keys.specs.Slots.{slot};
 ghost use Rattle.tabled_kept.specs.Same.{same_map};
 ghost use Rattle.tabled_kept.specs.OneMore.{IsOneMore};
 
@@ -11,15 +12,7 @@ use crate::slots::Slots;
 use std::alloc::Global;
 use std::marker::Model;
 use tabled_border::{Keep, OutOfMemory};
-
-/// A slot of a table. Both numbers are counted from 0.
-#[derive(Clone, Copy, Debug, PartialEq, Eq, PartialOrd, Ord)]
-pub struct Slot {
-    /// The row of the table.
-    pub row: usize,
-    /// The slot of that row.
-    pub col: usize,
-}
+use tabled_keys::Slot;
 
 /// Rows of slots. There are as many rows as the greatest row written so far asks for, and each is as long as its own greatest
 /// number. In contracts they are the values, each under its slot: empty slots and empty rows play no part.

@@ -8,11 +8,11 @@ ghost use Rattle.tabled_kept.specs.OneMore.{IsOneMore};
 ghost use Rattle.tabled_kept.specs.Probing.{IsCounted, IsRaised};
 
 use crate::entries::Entries;
-use crate::key::Key;
 use crate::meter::Meter;
 use std::alloc::Global;
 use std::marker::Model;
 use tabled_border::{Keep, OutOfMemory};
+use tabled_keys::Key;
 
 /// The entries of a kept map, with their number, by which it is known at once whether there are any. In contracts it is the list
 /// of the entries.

@@ -5,7 +5,7 @@ use Rattle.tabled_object.specs.declared.dimension.FixedDimension.{FixedDimension
 use Rattle.tabled_configuration.specs.Configuration.{ConfigEvent}
 use Rattle.tabled_configuration.specs.Colored.{Colored, Changes}
 use Rattle.tabled_configuration.specs.Options.{MakesInTurn}
-use Rattle.tabled_printing.specs.Texts.{Table}
+use Rattle.tabled_width.specs.Texts.{Table}
 use Rattle.tabled_configuration.proofs.InTurn.{one_more, none_made}
 use Rattle.tabled_kinds.specs.EveryKind.{Step, InTurn}
 

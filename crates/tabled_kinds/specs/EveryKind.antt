@@ -9,11 +9,11 @@ use Rattle.tabled_configuration.specs.Colored.{Colored, Changes, by_cell_color}
 use Rattle.tabled_configuration.specs.EntitiesColored.{entities_colored}
 use Rattle.tabled_configuration.specs.Options.{MakesInTurn, table_bordered, entity_bordered, entity_unbordered, table_unbordered}
 use Rattle.tabled_printing.specs.Picture.{look}
-use Rattle.tabled_printing.specs.Texts.{Table}
+use Rattle.tabled_width.specs.Texts.{Table}
 use Rattle.tabled_color.specs.Shade.{Shade, texts_of}
 use Rattle.tabled_color.specs.BorderColors.{border_texts}
 use Rattle.tabled_color.specs.Coloring.{entity_colored, table_colored}
-use Rattle.tabled_grid.specs.declared.borders.Borders.{Borders}
+use Rattle.tabled_places.specs.declared.borders.Borders.{Borders}
 use Rattle.tabled_style.specs.Shown.{StyleShown}
 use Rattle.tabled_style.specs.declared.ready_style.ReadyStyle.{ReadyStyle}
 use Rattle.tabled_style.specs.Named.{ready_applied}
@@ -30,7 +30,7 @@ use Rattle.tabled_correction.specs.Span.{span_events}
 use Rattle.tabled_options.specs.LineChar.{line_char_events}
 use Rattle.tabled_options.specs.LineText.{text_events}
 use Rattle.tabled_options.specs.NamedLine.{row_line}
-use Rattle.tabled_text.specs.Sizes.{column_count}
+use Rattle.tabled_measure.specs.Sizes.{column_count}
 use Rattle.tabled_text.specs.TextTable.{widths_read, heights_read}
 use Rattle.tabled_kinds.specs.declared.kinds.BorderKinds.{BorderKinds}
 use Rattle.tabled_kinds.specs.declared.kinds.LineKinds.{LineKinds}

@@ -4,7 +4,7 @@
 ghost use Rattle.std.specs.Prelude.{◌≡◌, false, length, is_err, OnOk};
 ghost use Rattle.tabled_object.specs.declared.dimension.FixedDimension.{FixedDimension};
 ghost use Rattle.tabled_configuration.specs.Colored.{Changes};
-ghost use Rattle.tabled_text.specs.Sizes.{column_count};
+ghost use Rattle.tabled_measure.specs.Sizes.{column_count};
 ghost use Rattle.tabled_text.specs.TextTable.{AreRead, shape_of};
 ghost use Rattle.tabled_kinds.specs.EveryKind.{style_options, edge_options, border_options, line_options, color_options, text_options, room_options, first_targets, other_borders, other_colors, whole_colors, other_settings, other_targets, options, InTurn};
 
@@ -88,7 +88,7 @@ pub struct RoomKinds {
     pub margin: Margin,
     /// The padding of all cells.
     pub padding: Padding,
-    /// That of row 1.
+    /// The padding of row 1.
     pub inner: Padding,
     /// Over how many columns or rows the first cell spans.
     pub span: Span,
@@ -129,24 +129,24 @@ pub struct OtherSettings {
 /// An option of each kind that has something to choose.
 #[derive(Drop)]
 pub struct Kinds {
-    /// Those for borders.
+    /// The options for borders.
     pub borders: BorderKinds,
-    /// Those for single lines.
+    /// The options for single lines.
     pub lines: LineKinds,
-    /// Those for colors.
+    /// The options for colors.
     pub colors: ColorKinds,
-    /// Those for texts.
+    /// The options for texts.
     pub texts: TextKinds,
-    /// Those for rooms.
+    /// The options for rooms.
     pub rooms: RoomKinds,
 }
 
-/// Those kinds that have a second target, at that one.
+/// The kinds of options that have a second target, at that one.
 #[derive(Drop)]
 pub struct OtherTargets {
-    /// Those for borders.
+    /// The options for borders.
     pub borders: OtherBorders,
-    /// Those for cells.
+    /// The options for cells.
     pub settings: OtherSettings,
 }
 

@@ -1,9 +1,9 @@
 -- Settings of a table that are equal are one.
 use Rattle.std.proofs.Common.{◌≡◌, ◌&&◌, Bool, true, eqb-true}
 use Rattle.std.specs.Cmp.{first_so, second_so}
-use Rattle.tabled_grid.specs.declared.offset.Offset.{Offset}
-use Rattle.tabled_grid.specs.contracts.offset.OffsetPartialEq.TheImpl.{eq-value as same_offset}
-use Rattle.tabled_grid.proofs.SameLemmas.{exact_maps}
+use Rattle.tabled_object.specs.declared.offset.Offset.{Offset}
+use Rattle.tabled_object.specs.contracts.offset.OffsetPartialEq.TheImpl.{eq-value as same_offset}
+use Rattle.tabled_kept.proofs.ExactMaps.{exact_maps}
 use Rattle.tabled_settings.specs.contracts.indent.IndentPartialEq.TheImpl.{eq-value as same_indent}
 use Rattle.tabled_settings.specs.contracts.cell_settings.CellSettingsPartialEq.TheImpl.{eq-value as same_cells}
 use Rattle.tabled_settings.proofs.SameSettings.{IsExact, same_sides, exact_sides, exact_indent, same_color, exact_color}

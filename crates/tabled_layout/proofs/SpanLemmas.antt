@@ -11,8 +11,8 @@ use Rattle.std.proofs.lemmas.Bool.{eqb-true, and_parts}
 use Rattle.std.proofs.lemmas.List.{reverse-append}
 use Rattle.tabled_object.specs.declared.position.Position.{Position}
 use Rattle.tabled_object.specs.contracts.position.PositionOrd.TheImpl.Laws.{total-law}
-use Rattle.tabled_grid.specs.Table.{table}
-use Rattle.tabled_grid.proofs.Ascending.{entries-table}
+use Rattle.tabled_kept.specs.Table.{table}
+use Rattle.tabled_kept.proofs.Ascending.{entries-table}
 use Rattle.tabled_layout.specs.Spans.{position_cmp, SpanMap, SpanEvent, after_span, spans_after, spans_left, same_position, if_several, span_of}
 
 -- positions that compare alike are the same

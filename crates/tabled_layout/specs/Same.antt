@@ -5,7 +5,7 @@ use Rattle.std.specs.Cmp.Lexicographic.{lists_equiv}
 use Rattle.std.specs.FinMap.{entries}
 use Rattle.std.proofs.lemmas.Cmp.{nat_eq_equiv}
 use Rattle.tabled_object.specs.contracts.position.PositionOrd.TheImpl.Laws.{total-law}
-use Rattle.tabled_grid.specs.Same.{same_map}
+use Rattle.tabled_kept.specs.Same.{same_map}
 use Rattle.tabled_layout.specs.Spans.{SpanMap}
 
 -- the same positions, and at each the same count

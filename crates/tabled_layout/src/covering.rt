@@ -21,7 +21,7 @@ fn is_within_rows(position: Position, count: usize, cell: Position) -> bool
 }
 
 impl Spans {
-    /// Whether one of the first `count` cells of a row spans.
+    /// Returns whether one of the first `count` cells of a row spans.
     pub fn has_some(&self, row: usize, count: usize) -> bool
         ensures { result ≡ has_span self.now row count }
     {

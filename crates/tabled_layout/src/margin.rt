@@ -5,7 +5,7 @@ ghost use Rattle.tabled_layout.specs.Margin.{first_margin};
 
 use std::alloc::Global;
 use tabled_border::{ANSIBuf, Keep, OutOfMemory};
-use tabled_grid::Offset;
+use tabled_object::Offset;
 use tabled_settings::{Indent, Sides};
 
 /// The margin of a table: how wide it is on each side, where it begins, and its colors.
@@ -15,12 +15,12 @@ pub struct Margin {
     pub size: Sides<Indent>,
     /// Where on its side it begins.
     pub offset: Sides<Offset>,
-    /// Its color, if it has one.
+    /// The color of each side of the margin, if it has one.
     pub color: Sides<Option<ANSIBuf>>,
 }
 
 impl Margin {
-    /// No margin: size 0 and a space on each side, beginning at the start, without a color.
+    /// Makes a margin without room: size 0 and a space on each side, beginning at the start, without a color.
     pub fn new() -> Self
         ensures { result ≡ first_margin }
     {

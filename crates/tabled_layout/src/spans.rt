@@ -5,7 +5,7 @@ mod several;
 ghost use Rattle.std.specs.Prelude.{◌≡◌, ◌<◌, ◌≤◌, ◌==◌, None, IsOk, OnOk, OnErr};
 ghost use Rattle.std.specs.FinMap as map;
 ghost use Rattle.std.specs.BTreeMap.{insert_entry};
-ghost use Rattle.tabled_grid.specs.Table.{table};
+ghost use Rattle.tabled_kept.specs.Table.{table};
 ghost use Rattle.tabled_layout.specs.Spans.{position_cmp, after_span, ReachedFrom, spans_in_row};
 
 use std::alloc::Global;
@@ -44,7 +44,7 @@ impl Model for Spans {
     ghost use Rattle.std.specs.Prelude.{ℕ};
     ghost use Rattle.std.specs.Coded.{codes};
     ghost use Rattle.std.specs.FinMap as map;
-    ghost use Rattle.tabled_grid.specs.Table.{table};
+    ghost use Rattle.tabled_kept.specs.Table.{table};
     ghost use Rattle.tabled_layout.specs.Spans.{position_cmp, NoLonger};
 
     ghost Value = { map.FinMap position_cmp ℕ };
@@ -57,7 +57,7 @@ impl Model for Spans {
 }
 
 impl Spans {
-    /// No spans.
+    /// Makes spans of no cells.
     pub fn new(alloc: Global) -> Self
         ensures { result ≡ map.empty }
     {
@@ -88,14 +88,14 @@ impl Spans {
         self.spans.get(&position).copied()
     }
 
-    /// The spans, in the order of their rows and in each row of their columns.
+    /// Returns the spans, in the order of their rows and in each row of their columns.
     pub fn as_map(&self) -> &BTreeMap<Position, usize>
         ensures { table position_cmp result.now.entries ≡ self.now }
     {
         &self.spans
     }
 
-    /// Whether no cell spans.
+    /// Returns whether no cell spans.
     pub fn is_empty(&self) -> bool
         ensures { result ≡ (map.len self.now == 0) }
     {
@@ -168,7 +168,7 @@ fn put_copy(
     Ok(())
 }
 
-/// The same positions, with the same counts.
+/// Two are equal that have the same positions, with the same counts.
 impl PartialEq for Spans {
     ghost use Rattle.tabled_layout.specs.Same.{same_spans, spans_per};
 

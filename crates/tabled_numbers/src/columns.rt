@@ -8,7 +8,7 @@ ghost use Rattle.tabled_numbers.specs.Numbers as numbers;
 use crate::numbers::is_number;
 use std::convert::AsStr;
 
-/// How many columns rows have: as many as the first one has cells.
+/// Returns how many columns rows have: as many as the first one has cells.
 pub fn column_count<T: AsStr>(rows: &[Vec<T>]) -> usize
     ensures { result ≡ column_count (map (λ row. map T.text row.items) rows.now) }
 {
@@ -18,7 +18,7 @@ pub fn column_count<T: AsStr>(rows: &[Vec<T>]) -> usize
     }
 }
 
-/// The text of the cell of a row in a column, the empty one past the end of the row.
+/// Returns the text of the cell of a row in a column, the empty one past the end of the row.
 pub fn text_of<'a, T: AsStr>(cells: &'a [T], col: usize) -> &'a str
     ensures { result.now ≡ cell (map T.text cells.now) col }
 {
@@ -49,7 +49,7 @@ fn has_number<T: AsStr>(rows: &[Vec<T>], col: usize) -> bool
     rows.iter().any(|row| is_number(text_of(row, col)))
 }
 
-/// Whether each cell of a column is a number or empty, and one of them a number. Past the end of a row its cell is empty.
+/// Returns whether each cell of a column is a number or empty, and one of them a number. Past the end of a row its cell is empty.
 #[tactic(auto, unfolding(crate::specs::Columns::is_numeric))]
 pub fn is_numeric<T: AsStr>(rows: &[Vec<T>], col: usize) -> bool
     ensures { result ≡ is_numeric (map (λ row. map T.text row.items) rows.now) col }

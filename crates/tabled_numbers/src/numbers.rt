@@ -38,7 +38,7 @@ fn has_digits_alone(text: &[u8]) -> bool
     text.iter().all(|byte| is_digit(*byte))
 }
 
-/// Whether the text is of digits, at least one.
+/// Returns whether the text is of digits, at least one.
 pub fn are_digits(text: &[u8]) -> bool
     ensures { result ≡ are_digits text.now }
 {
@@ -123,9 +123,9 @@ fn is_scaled(text: &[u8]) -> bool
     }
 }
 
-/// Whether a text is a number, as cells have them: a sign; digits, with one comma or low line between two of them, or a point and digits,
-/// or both; an exponent after `e` or `E`, with a sign of its own; a percent sign. Sign, exponent and percent sign may be absent, and no
-/// space stands anywhere.
+/// Returns whether a text is a number, as cells have them: a sign; digits, with one comma or low line between two of them, or a point and
+/// digits, or both; an exponent after `e` or `E`, with a sign of its own; a percent sign. Sign, exponent and percent sign may be absent, and
+/// no space stands anywhere.
 ///
 /// So `7`, `-1,024.50`, `.5`, `1e-9` and `30%` are numbers, and `1.`, `1,,0`, `e9`, `0x1F` and `7 kg` are none.
 pub fn is_number(text: &str) -> bool

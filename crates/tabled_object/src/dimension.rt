@@ -29,7 +29,7 @@ pub struct FixedDimension {
 }
 
 impl FixedDimension {
-    /// The sizes of these lists.
+    /// Makes the sizes of these lists.
     pub fn new(widths: Vec<usize>, heights: Vec<usize>) -> Self
         ensures widths { result.widths ≡ widths }
         ensures heights { result.heights ≡ heights }

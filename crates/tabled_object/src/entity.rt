@@ -22,7 +22,7 @@ pub enum Entity {
 }
 
 impl Entity {
-    /// The cells of the entity in a table of the given numbers of rows and columns, in row order. A column, a row or a cell
+    /// Returns the cells of the entity in a table of the given numbers of rows and columns, in row order. A column, a row or a cell
     /// that is named outside the table is given all the same: its callers pass over what lies outside.
     pub fn iter(&self, count_rows: usize, count_cols: usize) -> EntityIterator
         ensures { result ≡ cells_of self.now count_rows count_cols }

@@ -1,4 +1,5 @@
-//! Which cells: the counts and sizes of a table, positions, entities, and objects that name cells before the table is known.
+//! Which cells: the counts and sizes of a table, positions, entities, and objects that name cells before the table is known; and places
+//! of an edge, counted from one of its ends.
 //!
 //! `docs/DEFINITIONS.md` explains the words of the contracts. Users name these items by `tabled_grid`.
 #![tactic(auto)]
@@ -6,6 +7,7 @@
 mod dimension;
 mod entity;
 mod object;
+mod offset;
 mod position;
 mod records;
 
@@ -16,5 +18,6 @@ pub use object::{
     LastColumn, LastColumnOffset, LastRow, LastRowOffset, Object, Row, Rows, Segment, SegmentAll,
     Union, is_covered, listed_entities,
 };
+pub use offset::Offset;
 pub use position::Position;
 pub use records::{ExactRecords, Records, Shape};

@@ -33,7 +33,7 @@ pub trait Object<R: Records + ExactRecords> {
     /// What the object lists, in order, in a table of the given numbers of rows and columns.
     ghost listing: { Self → ℕ → ℕ → List Entity };
 
-    /// That listing the object takes no memory.
+    /// What it says that listing the object takes no memory.
     ghost takes_no_memory: { Self → Type 0 } = { λ _. ⊥ };
 
     /// The entities of the object in that table. The memory for them, where there is need of any, comes from `alloc`.

@@ -12,7 +12,7 @@ pub struct Position {
 }
 
 impl Position {
-    /// The position of that row and column.
+    /// Makes the position of that row and column.
     pub const fn new(row: usize, col: usize) -> Self
         ensures row { result.row ≡ row }
         ensures col { result.col ≡ col }

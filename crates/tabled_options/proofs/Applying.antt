@@ -5,7 +5,7 @@ use Rattle.tabled_printing.specs.Picture.{Look, look}
 use Rattle.tabled_configuration.proofs.ColoredLemmas.{none_by_characters, none_by_both}
 use Rattle.tabled_object.specs.declared.entity.Entity.{Entity}
 use Rattle.tabled_object.specs.Entities.{cells_of}
-use Rattle.tabled_grid.specs.declared.place.LineOf.{LineOf}
+use Rattle.tabled_places.specs.declared.place.LineOf.{LineOf}
 use Rattle.tabled_color.specs.Shade.{texts_of}
 use Rattle.tabled_options.specs.LineChar.{EdgeChar, mark_written, has_edge, direction_of, line_char_events}
 use Rattle.tabled_options.specs.LineText.{Lettering, characters_written, colors_written, places_taken, text_events}

@@ -2,8 +2,8 @@
 use Rattle.std.proofs.Common.{◌≡◌, ℕ, ◌+◌, ◌-◌, ◌^◌, min, true, is_some, Option, List, [], ◌++◌, length, take, drop, ap, sym, subst, ◌∙◌, arith, length-append, Result, OnOk, zip}
 use Rattle.std.proofs.lemmas.List.{length-take, take_min}
 use Rattle.std.proofs.lemmas.List.FromFn.{length-map-range_with_len}
-use Rattle.tabled_grid.specs.declared.place.Place.{Place}
-use Rattle.tabled_grid.specs.declared.place.LineOf.{LineOf}
+use Rattle.tabled_places.specs.declared.place.Place.{Place}
+use Rattle.tabled_places.specs.declared.place.LineOf.{LineOf}
 use Rattle.tabled_grid.proofs.Seen.{on_ok}
 use Rattle.tabled_printing.specs.Picture.{Look}
 use Rattle.tabled_options.specs.declared.pen.Pen.{Pen}

@@ -4,7 +4,7 @@ use Rattle.std.specs.List.{zip, range_with_len}
 use Rattle.std.proofs.lemmas.List.{drop-drop, drop_all, append-nil, map-append, nil_from_length}
 use Rattle.std.proofs.lemmas.List.FromFn.{length-map-range_with_len, map-range_with_len_more}
 use Rattle.tabled_object.specs.Entities.{below}
-use Rattle.tabled_grid.specs.declared.place.Place.{Place}
+use Rattle.tabled_places.specs.declared.place.Place.{Place}
 use Rattle.tabled_options.specs.declared.pen.Pen.{Pen}
 use Rattle.tabled_options.specs.Passing.{Passed}
 use Rattle.tabled_options.proofs.Zipping.{zip-nil, laid_in_two}

@@ -1,16 +1,16 @@
 -- A text on a line.
 use Rattle.std.specs.Prelude.{ℕ, ◌-◌, ◌^◌, min, Bool, true, is_some, Option, Some, None, option_map, List, [], ◌++◌, map, length, take, drop, filter, zip}
 use Rattle.tabled_border.specs.Texts.{Texts}
-use Rattle.tabled_grid.specs.declared.offset.Offset.{Offset}
-use Rattle.tabled_grid.specs.declared.place.LineOf.{LineOf}
-use Rattle.tabled_grid.specs.declared.place.Place.{Place}
-use Rattle.tabled_grid.specs.declared.site.Direction.TheVariants.{Horizontal, Vertical}
-use Rattle.tabled_grid.specs.declared.site.Spot.TheVariants.{Crossing}
-use Rattle.tabled_grid.specs.declared.site.Site.{Site}
-use Rattle.tabled_grid.specs.declared.site.Site.TheVariants.{Cell as at_spot, Offset as at_offset}
-use Rattle.tabled_grid.specs.declared.event.Event.{Event}
-use Rattle.tabled_grid.specs.declared.event.Event.TheVariants.{Write as write}
-use Rattle.tabled_grid.specs.declared.event.Written.TheVariants.{Sign as sign}
+use Rattle.tabled_object.specs.declared.offset.Offset.{Offset}
+use Rattle.tabled_places.specs.declared.place.LineOf.{LineOf}
+use Rattle.tabled_places.specs.declared.place.Place.{Place}
+use Rattle.tabled_places.specs.declared.site.Direction.TheVariants.{Horizontal, Vertical}
+use Rattle.tabled_places.specs.declared.site.Spot.TheVariants.{Crossing}
+use Rattle.tabled_places.specs.declared.site.Site.{Site}
+use Rattle.tabled_places.specs.declared.site.Site.TheVariants.{Cell as at_spot, Offset as at_offset}
+use Rattle.tabled_places.specs.declared.event.Event.{Event}
+use Rattle.tabled_places.specs.declared.event.Event.TheVariants.{Write as write}
+use Rattle.tabled_places.specs.declared.event.Written.TheVariants.{Sign as sign}
 use Rattle.tabled_configuration.specs.Configuration.{ConfigEvent, by_characters, by_colors}
 use Rattle.tabled_printing.specs.Along.{along}
 use Rattle.tabled_printing.specs.Picture.{Look}

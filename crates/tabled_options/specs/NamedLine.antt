@@ -1,6 +1,6 @@
 -- The lines that rows and columns name.
 use Rattle.std.specs.Prelude.{ℕ, ◌-◌, nat_lt, if◌then◌else◌, Option, Some, None, option_map}
-use Rattle.tabled_grid.specs.declared.place.LineOf.{LineOf}
+use Rattle.tabled_places.specs.declared.place.LineOf.{LineOf}
 
 -- the line above a row, and that left of a column
 abbrev pub row_line : ℕ → Option LineOf

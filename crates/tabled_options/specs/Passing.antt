@@ -1,6 +1,6 @@
 -- How a pen goes along places. Only private calls cite this.
 use Rattle.std.specs.Prelude.{◌≡◌, ◌-◌, List, ◌++◌, length, drop, zip}
-use Rattle.tabled_grid.specs.declared.place.Place.{Place}
+use Rattle.tabled_places.specs.declared.place.Place.{Place}
 use Rattle.tabled_options.specs.declared.pen.Pen.{Pen}
 
 -- after it went along these places, the pen has passed over as many as it still had to, and laid its characters on the

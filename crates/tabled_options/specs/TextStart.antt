@@ -2,9 +2,9 @@
 use Rattle.std.specs.Prelude.{ℕ, ◌+◌, ◌-◌, ◌/◌, nat_lt, nat_le, if◌then◌else◌, max, fold, Option, Some, None, option_map, option_and_then, List, take, length, encode_utf8_all}
 use Rattle.tabled_settings.specs.declared.alignment.AlignmentHorizontal.{AlignmentHorizontal}
 use Rattle.tabled_settings.specs.declared.alignment.AlignmentVertical.{AlignmentVertical}
-use Rattle.tabled_grid.specs.declared.offset.Offset.{Offset}
-use Rattle.tabled_grid.specs.declared.place.LineOf.{LineOf}
-use Rattle.tabled_printing.specs.Texts.{pieces, width_of_text}
+use Rattle.tabled_object.specs.declared.offset.Offset.{Offset}
+use Rattle.tabled_places.specs.declared.place.LineOf.{LineOf}
+use Rattle.tabled_width.specs.Texts.{pieces, width_of_text}
 use Rattle.tabled_formatting.specs.declared.alignment.Alignment.{Alignment}
 use Rattle.tabled_formatting.specs.Alignment.{horizontal_of, vertical_of}
 

@@ -1,8 +1,8 @@
 //! Options that write on the lines of a table: single characters, and texts.
 //!
 //! The outline around cells is written in `tabled_highlight`, cells that span and the correction of their borders in
-//! `tabled_correction`, colors in turn in `tabled_colorization`, what is set for texts and of the margin in `tabled_formatting`;
-//! all are passed on here.
+//! `tabled_correction`, colors in turn in `tabled_colorization`: these are passed on here. What is set for texts and of the margin stands
+//! in `tabled_formatting` alone.
 //!
 //! `docs/DEFINITIONS.md` explains the words of the contracts.
 #![tactic(auto)]
@@ -19,8 +19,4 @@ pub use line_char::LineChar;
 pub use line_text::LineText;
 pub use tabled_colorization::{CellColor, Colorization, ExactColorization, JoinedColor};
 pub use tabled_correction::{BorderCorrection, Span};
-pub use tabled_formatting::{
-    Alignment, AlignmentStrategy, Justification, Margin, MarginColor, Padding, PaddingColor,
-    Shadow, TrimStrategy,
-};
 pub use tabled_highlight::Highlight;

@@ -3,7 +3,7 @@
 ghost use Rattle.std.specs.Prelude.{◌≡◌, Some, IfOk, OnOk, OnErr, map, true, false, [], ◌∷◌, filter};
 ghost use Rattle.tabled_object.specs.Entities.{cells_of};
 ghost use Rattle.tabled_object.specs.declared.entity.Entity.TheVariants as cells;
-ghost use Rattle.tabled_grid.specs.Writes.{writes_made};
+ghost use Rattle.tabled_places.specs.Writes.{writes_made};
 ghost use Rattle.tabled_configuration.specs.Colored.{Changes};
 ghost use Rattle.tabled_options.specs.LineChar.{direction_of, has_edge, mark_written, line_char_events};
 
@@ -46,7 +46,7 @@ impl Model for LineChar {
 }
 
 impl LineChar {
-    /// The character at this place of horizontal edges.
+    /// Makes the character at this place of horizontal edges.
     ///
     /// `LineChar::horizontal(':', Offset::Start(0))` on row 1, the line above it:
     ///
@@ -63,7 +63,7 @@ impl LineChar {
         }
     }
 
-    /// The character at this place of vertical edges.
+    /// Makes the character at this place of vertical edges.
     ///
     /// `LineChar::vertical(':', Offset::Start(0))` on row 1, beside its cells:
     ///

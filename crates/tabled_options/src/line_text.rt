@@ -11,7 +11,6 @@ ghost use Rattle.tabled_options.specs.LineText.{places_taken, text_events};
 
 mod writes;
 
-use crate::Alignment;
 use crate::named_line::NamedLine;
 use crate::table_line::TableLine;
 use crate::text_start::{TextSize, text_start, widest};
@@ -21,6 +20,7 @@ use tabled_border::{ANSIBuf, OutOfMemory};
 use tabled_clean::cleaned_line;
 use tabled_color::Color;
 use tabled_configuration::{ColoredConfig, SpannedConfig, TableOption};
+use tabled_formatting::Alignment;
 use tabled_grid::{LineOf, Offset, Place, Write};
 use tabled_object::{Dimension, Entity, ExactRecords, Records};
 use writes::{character_writes, color_writes};
@@ -68,10 +68,10 @@ impl<Line> Model for LineText<Line> {
 }
 
 impl<Line> LineText<Line> {
-    ghost use Rattle.tabled_grid.specs.declared.offset.Offset.TheVariants as offset;
+    ghost use Rattle.tabled_object.specs.declared.offset.Offset.TheVariants as offset;
     ghost use Rattle.tabled_options.specs.Laying.{looked};
 
-    /// The text at the start of the line that the object names. The text is copied.
+    /// Makes the text at the start of the line that the object names. The text is copied.
     ///
     /// `LineText::new(alloc, "ABC", Rows::first())?`:
     ///

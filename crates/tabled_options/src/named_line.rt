@@ -1,7 +1,7 @@
 //! Which line of a table an object names.
 
 ghost use Rattle.std.specs.Prelude.{◌≡◌, ℕ, Option};
-ghost use Rattle.tabled_grid.specs.declared.place.LineOf.{LineOf};
+ghost use Rattle.tabled_places.specs.declared.place.LineOf.{LineOf};
 ghost use Rattle.tabled_options.specs.NamedLine.{row_line, column_line, last_row_line, last_column_line, before_last};
 
 use tabled_grid::LineOf as Line;

@@ -1,7 +1,7 @@
 //! Characters laid on places, one after the other.
 
 ghost use Rattle.std.specs.Prelude.{◌≡◌, [], ◌∷◌, OnOk, List, length, min};
-ghost use Rattle.tabled_grid.specs.declared.place.Place.{Place as Spot};
+ghost use Rattle.tabled_places.specs.declared.place.Place.{Place as Spot};
 
 use tabled_border::OutOfMemory;
 use tabled_grid::Place;

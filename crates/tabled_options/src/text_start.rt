@@ -3,7 +3,7 @@
 ghost use Rattle.std.specs.Prelude.{◌≡◌, option_and_then};
 ghost use Rattle.tabled_options.specs.TextStart.{widest, middle, horizontal_offset, vertical_offset, aligned_offset, moved, moved_if_aligned, place_number};
 
-use crate::Alignment;
+use tabled_formatting::Alignment;
 use tabled_grid::{LineOf, Offset};
 use tabled_settings::{AlignmentHorizontal, AlignmentVertical};
 use unicode_width::UnicodeWidthStr;

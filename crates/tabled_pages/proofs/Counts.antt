@@ -2,8 +2,8 @@
 use Rattle.std.proofs.Common.{◌≡◌, ℕ, ◌+◌, Bool, true, false, [], ◌∷◌, length, refl, sym, ap, ◌∙◌, ◌==◌, ◌&&◌, if◌then◌else◌, Option, Some, None, Result, Ok, Err}
 use Rattle.std.specs.Prelude.{is_none, MatchOption, IsOkUnless}
 use Rattle.std.specs.List.{list_all}
-use Rattle.tabled_printing.specs.Texts.{Table}
-use Rattle.tabled_text.specs.Sizes.{column_count, first_unequal, unequal_row}
+use Rattle.tabled_width.specs.Texts.{Table}
+use Rattle.tabled_measure.specs.Sizes.{column_count, first_unequal, unequal_row}
 use Rattle.tabled_text.specs.Refusal.{unequal}
 use Rattle.tabled_text.specs.declared.table_error.TableError.{TableError}
 use Rattle.tabled_text.specs.declared.table_error.TableError.TheVariants.{OutOfMemory, UnequalRows}

@@ -2,6 +2,5 @@ pub mod Allowed
 pub mod Counts
 pub mod FirstFault
 pub mod Lines
-pub mod NoSpans
 pub mod OneLine
 pub mod Pages

@@ -11,9 +11,9 @@ use Rattle.std.proofs.lemmas.Str.Ascii.{IsAscii-from_all}
 use Rattle.unicode_width.specs.Width.{str_width}
 use Rattle.unicode_width.proofs.Rules.{str_width-printable}
 use Rattle.tabled_object.specs.Entities.{below}
-use Rattle.tabled_printing.specs.Texts as printer
-use Rattle.tabled_printing.specs.Texts.{Table}
-use Rattle.tabled_text.specs.Sizes.{cell, column_count, column_width, column_widths, greatest, width_asked, height_asked, row_height, row_heights}
+use Rattle.tabled_width.specs.Texts as printer
+use Rattle.tabled_width.specs.Texts.{Table}
+use Rattle.tabled_measure.specs.Sizes.{cell, column_count, column_width, column_widths, greatest, width_asked, height_asked, row_height, row_heights}
 use Rattle.tabled_pages.specs.declared.bytes.TheConstants.{TAB, LINE_FEED, FIRST_PRINTABLE, LAST_PRINTABLE}
 use Rattle.tabled_pages.specs.Input.{is_byte, without_empty_last, lines_of, cells_of, rows_of, is_allowed}
 use Rattle.tabled_pages.proofs.Lines.{pieces-some}

@@ -1,6 +1,6 @@
 -- The page of an input: its table, or nothing where the input is empty.
 use Rattle.std.proofs.Common.{◌≡◌, ℕ, ◌<◌, ◌≤◌, true, List, [], ◌∷◌, ◌++◌, length, map, refl, ap, arith}
-use Rattle.tabled_printing.specs.Texts.{Table}
+use Rattle.tabled_width.specs.Texts.{Table}
 use Rattle.tabled_style.specs.declared.ready_style.ReadyStyle.{ReadyStyle}
 use Rattle.tabled_text.specs.TextTable.{text_of}
 use Rattle.tabled_pages.specs.declared.bytes.TheConstants.{LINE_FEED}

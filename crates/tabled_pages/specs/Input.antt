@@ -2,8 +2,8 @@
 use Rattle.std.specs.Prelude.{ℕ, Bool, not, nat_lt, ◌==◌, ◌||◌, if◌then◌else◌, List, [], ◌∷◌, map, length, Option, Some, None}
 use Rattle.std.specs.Int.{is_in_range}
 use Rattle.std.specs.List.{slice_split, list_all}
-use Rattle.tabled_printing.specs.Texts.{Table}
-use Rattle.tabled_text.specs.Sizes.{column_count}
+use Rattle.tabled_width.specs.Texts.{Table}
+use Rattle.tabled_measure.specs.Sizes.{column_count}
 use Rattle.tabled_pages.specs.declared.bytes.TheConstants.{TAB, LINE_FEED, FIRST_PRINTABLE, LAST_PRINTABLE}
 use Rattle.tabled_pages.specs.declared.read.TheConstants.{INPUT_LIMIT}
 use Rattle.tabled_pages.specs.declared.error.ShowError.{ShowError}

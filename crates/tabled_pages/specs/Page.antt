@@ -1,6 +1,6 @@
 -- The text that the program writes for a style and an input.
 use Rattle.std.specs.Prelude.{ℕ, List, [], ◌∷◌, ◌++◌}
-use Rattle.tabled_printing.specs.Texts.{Table}
+use Rattle.tabled_width.specs.Texts.{Table}
 use Rattle.tabled_text.specs.TextTable.{text_of}
 use Rattle.tabled_pages.specs.declared.bytes.TheConstants.{LINE_FEED}
 use Rattle.tabled_style.specs.declared.ready_style.ReadyStyle.{ReadyStyle}

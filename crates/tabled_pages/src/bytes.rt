@@ -37,7 +37,7 @@ fn are_allowed(input: &[u8]) -> bool
     all
 }
 
-/// An input as a text. Refused where it has a byte that it may not have.
+/// Returns an input as a text. Refused where it has a byte that it may not have.
 pub fn as_text(input: &[u8]) -> Result<&str, ShowError>
     ensures text { IfOk result (λ text. text.now ≡ input.now) }
     ensures allowed { OnOk result (list_all is_allowed input.now ≡ true) }

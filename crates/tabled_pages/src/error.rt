@@ -33,7 +33,7 @@ pub enum ShowError {
 impl ShowError {
     ghost use Rattle.tabled_pages.specs.Refusal.{text_of, status_of};
 
-    /// What the program says on standard error.
+    /// Returns what the program says on standard error.
     pub fn text(&self) -> &'static str
         ensures { result.now ≡ text_of self.now }
     {
@@ -48,7 +48,7 @@ impl ShowError {
         }
     }
 
-    /// The status that the program ends with.
+    /// Returns the status that the program ends with.
     pub fn status(&self) -> u8
         ensures { result ≡ status_of self.now }
     {

@@ -44,7 +44,7 @@ fn cells_of<'a>(alloc: Global, line: &'a str, room: usize) -> Result<Vec<&'a str
     Ok(cells)
 }
 
-/// The rows of an input: the cells of each line, which are not copied.
+/// Returns the rows of an input: the cells of each line, which are not copied.
 pub fn rows_of<'a>(alloc: Global, input: &'a str) -> Result<Vec<Vec<&'a str>>, AllocError>
     ensures { IfOk result (λ rows. lent_texts rows.items ≡ rows_of input.now) }
 {

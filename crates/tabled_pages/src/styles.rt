@@ -5,7 +5,7 @@ ghost use Rattle.tabled_pages.specs.Style.{style_of};
 
 use tabled_style::ReadyStyle;
 
-/// The style that these words ask for: one word, the name of a style.
+/// Returns the style that these words ask for: one word, the name of a style.
 pub fn style_of(words: &[String]) -> Option<ReadyStyle>
     ensures { result ≡ style_of (map string_bytes words.now) }
 {

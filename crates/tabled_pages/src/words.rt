@@ -24,7 +24,7 @@ fn word_at<E: Env>(alloc: Global, env: &E, place: usize) -> Result<Option<String
     }
 }
 
-/// The words after the program's name, one after the other, each of at most 64 bytes. Which they are no contract says, since that of
+/// Returns the words after the program's name, one after the other, each of at most 64 bytes. Which they are no contract says, since that of
 /// `Env::arg` does not tell what an argument is.
 pub fn all_words<E: Env>(alloc: Global, env: &E) -> Result<Vec<String>, ShowError>
     ensures refusal { IfErr result (λ e. (e ≡ ShowError.Usage) ⊎ (e ≡ ShowError.OutOfMemory)) }

@@ -15,15 +15,14 @@ use Rattle.tabled_settings.specs.declared.indent.Indent.{Indent}
 use Rattle.tabled_settings.specs.declared.sides.Sides.{Sides}
 use Rattle.tabled_settings.specs.CellSettings.{no_colors as no_sides}
 use Rattle.tabled_settings.specs.Padding.{first_padding}
-use Rattle.tabled_printing.specs.Texts.{pieces, width_of_text}
-use Rattle.tabled_printing.proofs.TimesLemmas.{times_both}
+use Rattle.tabled_width.specs.Texts.{pieces, width_of_text, is_printable}
+use Rattle.tabled_width.proofs.TimesLemmas.{times_both}
 use Rattle.tabled_cells.specs.declared.filling.LineParts.{LineParts}
 use Rattle.tabled_cells.specs.declared.placement.Placement.{Placement}
 use Rattle.tabled_settings.specs.declared.alignment.AlignmentVertical.{AlignmentVertical}
 use Rattle.tabled_settings.specs.declared.alignment.AlignmentVertical.TheVariants.{Top, Center, Bottom}
 use Rattle.tabled_cells.specs.Placed.{times, free_before, free_above, fill_of, greatest, line_parts, aligned_width, padding_shown}
 use Rattle.tabled_cells.specs.Placements.{placement_at}
-use Rattle.tabled_width.specs.Texts.{is_printable}
 use Rattle.tabled_cells.specs.Trimmed.{without_ends, is_space, is_blank, line_shown, lines_shown}
 use Rattle.tabled_cells.proofs.Printing.{one_piece, printable_width}
 use Rattle.tabled_painting.specs.Painted.{Painted, paint, plain, colored_if}

@@ -6,12 +6,12 @@ use Rattle.std.proofs.lemmas.Bool.Decides.{nat_tests}
 use Rattle.std.proofs.lemmas.List.{get_or_past}
 use Rattle.std.proofs.lemmas.List.FromFn.{map-range_with_len_more, get_or-map-range_with_len, length-map-range_with_len}
 use Rattle.tabled_object.specs.Entities.{below}
-use Rattle.tabled_grid.specs.Drawn.{Drawn, drawn}
-use Rattle.tabled_grid.specs.State.{state_at}
-use Rattle.tabled_grid.specs.declared.event.Event.{Event}
-use Rattle.tabled_grid.specs.declared.place.LineOf.{LineOf}
-use Rattle.tabled_grid.specs.declared.site.Direction.{Direction}
-use Rattle.tabled_grid.specs.declared.site.Direction.TheVariants.{Horizontal, Vertical}
+use Rattle.tabled_places.specs.Drawn.{Drawn, drawn}
+use Rattle.tabled_places.specs.State.{state_at}
+use Rattle.tabled_places.specs.declared.event.Event.{Event}
+use Rattle.tabled_places.specs.declared.place.LineOf.{LineOf}
+use Rattle.tabled_places.specs.declared.site.Direction.{Direction}
+use Rattle.tabled_places.specs.declared.site.Direction.TheVariants.{Horizontal, Vertical}
 use Rattle.tabled_configuration.specs.Configuration.{Configuration, all_writes, characters_of}
 use Rattle.tabled_printing.proofs.LookLemmas.{own_drawn}
 use Rattle.tabled_rooms.specs.Rooms.{first_line}

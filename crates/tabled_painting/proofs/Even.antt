@@ -4,15 +4,15 @@ use Rattle.std.specs.List.{list_all, All, AllZip, join_with_byte}
 use Rattle.std.proofs.lemmas.Bool.Decides.{nat_tests}
 use Rattle.std.proofs.lemmas.List.{length-map}
 use Rattle.std.proofs.lemmas.List.Elements.{All-weaker}
-use Rattle.tabled_grid.specs.declared.place.LineOf.{LineOf}
+use Rattle.tabled_places.specs.declared.place.LineOf.{LineOf}
 use Rattle.tabled_layout.specs.declared.margin.Margin.{Margin}
-use Rattle.tabled_printing.specs.Texts.{pieces, width_of_text}
+use Rattle.tabled_width.specs.Texts.{pieces, width_of_text}
 use Rattle.tabled_printing.specs.Along.{is_empty, along}
 use Rattle.tabled_printing.specs.Picture.{Look, character, marks_along}
 use Rattle.tabled_printing.specs.Columns.{HasNarrowBorders, columns_before, table_width}
-use Rattle.tabled_printing.proofs.PieceTexts.{cut_lines}
+use Rattle.tabled_width.proofs.PieceTexts.{cut_lines}
 use Rattle.tabled_printing.proofs.Straight.{Cut, across_long, lines_around, lines_tiles, lines_some, lines_cut}
-use Rattle.tabled_printing.proofs.Tiles.{Tile, Lacks, width_of_nothing, each_wide}
+use Rattle.tabled_width.proofs.Tiles.{Tile, Lacks, width_of_nothing, each_wide}
 use Rattle.tabled_painting.specs.Painted.{Painted, plain}
 use Rattle.tabled_painting.specs.Margin.{in_margin}
 use Rattle.tabled_painting.specs.PaintedTable.{Cells, painted_lines, painted_table, with_margin, plain_text}

@@ -12,13 +12,13 @@ use Rattle.tabled_printing.specs.declared.mark.Run.{Run}
 use Rattle.tabled_printing.specs.Marks.{mark_of, run_marks}
 use Rattle.tabled_printing.specs.Picture.{Look, Shown, character, mark_at}
 use Rattle.tabled_printing.specs.Beside.{mark_beside}
-use Rattle.tabled_grid.specs.declared.place.Place.{Place}
+use Rattle.tabled_places.specs.declared.place.Place.{Place}
 use Rattle.tabled_cells.specs.Placed.{times}
 use Rattle.tabled_painting.specs.declared.painter.Painter.{Painter}
 use Rattle.tabled_painting.specs.Painted.{Painted, paint}
 use Rattle.tabled_painting.specs.InColor.{Paints}
 use Rattle.tabled_painting.specs.PaintedTable.{painted_mark, painted_marks, side_painted, painted_side}
-use Rattle.tabled_painting.specs.TextsBy.{texts_by}
+use Rattle.tabled_cells.specs.TextsBy.{texts_by}
 use Rattle.tabled_painting.proofs.PainterLemmas.{paints_both}
 
 -- what holds of two choices by one test

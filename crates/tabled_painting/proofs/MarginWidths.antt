@@ -6,15 +6,16 @@ use Rattle.std.proofs.lemmas.List.Elements.{All-nil, All-cons, All-head, All-tai
 use Rattle.std.proofs.lemmas.List.Sums.{sum_by-cons}
 use Rattle.tabled_object.specs.Entities.{below}
 use Rattle.tabled_border.specs.Texts.{Texts}
-use Rattle.tabled_grid.specs.declared.place.Place.{Place}
-use Rattle.tabled_grid.specs.declared.place.LineOf.{LineOf}
+use Rattle.tabled_places.specs.declared.place.Place.{Place}
+use Rattle.tabled_places.specs.declared.place.LineOf.{LineOf}
 use Rattle.tabled_layout.specs.declared.margin.Margin.{Margin}
 use Rattle.tabled_printing.specs.Along.{along}
 use Rattle.tabled_printing.specs.Picture.{Look, character}
-use Rattle.tabled_printing.specs.Columns.{is_narrow, draws_plainly, columns_before, table_width, StandsAt}
-use Rattle.tabled_printing.proofs.Ranges.{plainly_narrow}
+use Rattle.tabled_width.specs.Narrow.{is_narrow, draws_plainly, StandsAt}
+use Rattle.tabled_printing.specs.Columns.{columns_before, table_width}
+use Rattle.tabled_width.proofs.Ranges.{plainly_narrow}
 use Rattle.tabled_printing.proofs.Straight.{Cut, stands_from_cut, AllZip-weaker}
-use Rattle.tabled_printing.proofs.Tiles.{Tile, Tile-append, Tile-times, Tile-same, Tile-flat}
+use Rattle.tabled_width.proofs.Tiles.{Tile, Tile-append, Tile-times, Tile-same, Tile-flat}
 use Rattle.tabled_cells.specs.Placed.{times}
 use Rattle.tabled_painting.specs.Painted.{Painted, paint, plain}
 use Rattle.tabled_painting.specs.Margin.{Side, fill_shown, side_at, is_left_out, between_sides, strip, in_margin, left_side, right_side, top_side, bottom_side}

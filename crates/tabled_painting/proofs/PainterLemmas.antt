@@ -5,7 +5,7 @@ use Rattle.std.proofs.lemmas.List.{append-nil, append_assoc, length-replicate}
 use Rattle.std.proofs.lemmas.Str.{length-le-encodes}
 use Rattle.tabled_cells.specs.Placed.{free_before, times}
 use Rattle.tabled_settings.specs.declared.alignment.AlignmentHorizontal.{AlignmentHorizontal}
-use Rattle.tabled_printing.proofs.TimesLemmas.{times_both, times_spaces}
+use Rattle.tabled_width.proofs.TimesLemmas.{times_both, times_spaces}
 use Rattle.tabled_cells.proofs.Fits.{before_fits}
 use Rattle.tabled_painting.specs.BareCells.{bare_text}
 use Rattle.tabled_border.specs.Texts.{Texts}

@@ -4,11 +4,11 @@ use Rattle.std.specs.List.{flat_map}
 use Rattle.std.proofs.lemmas.List.{append-nil, map-append, length-map}
 use Rattle.std.proofs.lemmas.Simd.{map-map}
 use Rattle.tabled_object.specs.Entities.{below}
-use Rattle.tabled_grid.specs.declared.place.Place.{Place}
-use Rattle.tabled_grid.specs.declared.place.LineOf.{LineOf}
+use Rattle.tabled_places.specs.declared.place.Place.{Place}
+use Rattle.tabled_places.specs.declared.place.LineOf.{LineOf}
 use Rattle.tabled_layout.specs.declared.margin.Margin.{Margin}
 use Rattle.tabled_printing.specs.Along.{is_empty}
-use Rattle.tabled_printing.specs.Texts.{Table, pieces}
+use Rattle.tabled_width.specs.Texts.{Table, pieces}
 use Rattle.tabled_printing.specs.Picture.{Look, Shown, character, text_shown, text_marked, mark_at, marks_along, side_shown, line_of_pieces, line_if_drawn, text_lines}
 use Rattle.tabled_cells.specs.declared.placement.Placement.{Placement}
 use Rattle.tabled_cells.specs.Placed.{times, lines_above, line_parts, aligned_width}

@@ -8,14 +8,15 @@ use Rattle.std.proofs.lemmas.List.Concat.{length-flat_map}
 use Rattle.std.proofs.lemmas.List.Elements.{All-nil, All-cons, All-append, All-map}
 use Rattle.std.proofs.lemmas.List.FromFn.{length-range_with_len}
 use Rattle.tabled_object.specs.Entities.{below}
-use Rattle.tabled_grid.specs.declared.place.Place.{Place}
-use Rattle.tabled_grid.specs.declared.place.LineOf.{LineOf}
+use Rattle.tabled_places.specs.declared.place.Place.{Place}
+use Rattle.tabled_places.specs.declared.place.LineOf.{LineOf}
 use Rattle.tabled_layout.specs.declared.margin.Margin.{Margin}
 use Rattle.tabled_printing.specs.Along.{is_empty, along}
 use Rattle.tabled_printing.specs.Picture.{Look, character, text_shown, text_marked, mark_at, marks_along}
-use Rattle.tabled_printing.specs.Columns.{is_narrow, HasNarrowBorders, IsRectangle, line_width, columns_before, table_width}
+use Rattle.tabled_width.specs.Narrow.{is_narrow, IsRectangle}
+use Rattle.tabled_printing.specs.Columns.{HasNarrowBorders, line_width, columns_before, table_width}
 use Rattle.tabled_printing.proofs.Straight.{across_long}
-use Rattle.tabled_printing.proofs.Tiles.{Tile, Tile-nil, Tile-append, Tile-narrow, Tile-same, Tile-flat}
+use Rattle.tabled_width.proofs.Tiles.{Tile, Tile-nil, Tile-append, Tile-narrow, Tile-same, Tile-flat}
 use Rattle.tabled_rooms.specs.Hosts.{Cell, Counts, host}
 use Rattle.tabled_rooms.specs.Rooms.{one_if, room_width}
 use Rattle.tabled_rooms.proofs.LawLemmas.{at_home}

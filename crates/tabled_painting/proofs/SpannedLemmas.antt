@@ -8,8 +8,8 @@ use Rattle.std.proofs.lemmas.Bool.Decides.{nat_tests}
 use Rattle.std.proofs.lemmas.List.{map-append, get_or_default, get_or-set_same, get_or-set_other, length-set}
 use Rattle.std.proofs.lemmas.List.Concat.{flat_map-append}
 use Rattle.tabled_object.specs.Entities.{below}
-use Rattle.tabled_grid.specs.declared.place.Place.{Place}
-use Rattle.tabled_grid.specs.declared.place.LineOf.{LineOf}
+use Rattle.tabled_places.specs.declared.place.Place.{Place}
+use Rattle.tabled_places.specs.declared.place.LineOf.{LineOf}
 use Rattle.tabled_printing.specs.Along.{is_empty, crossing_at}
 use Rattle.tabled_printing.specs.LinePieces.{crossing_places, piece_places, all_places, places_before}
 use Rattle.tabled_printing.specs.Picture.{Look, mark_at, marks_along}
@@ -21,7 +21,7 @@ use Rattle.tabled_rooms.specs.Rooms.{room_width, room_height, first_line}
 use Rattle.tabled_border.specs.Texts.{Texts}
 use Rattle.tabled_settings.specs.declared.cell_settings.CellSettings.{CellSettings}
 use Rattle.tabled_settings.specs.Live.{Live}
-use Rattle.tabled_printing.specs.Texts.{Table}
+use Rattle.tabled_width.specs.Texts.{Table}
 use Rattle.tabled_rooms.proofs.RoomLemmas.{line_within, room_within, width_same}
 use Rattle.tabled_rooms.proofs.SizeLemmas.{flat_map_same}
 use Rattle.tabled_painting.specs.Pages.{most}

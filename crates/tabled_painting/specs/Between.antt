@@ -1,7 +1,7 @@
 -- What repeats between the rows of a table, so that it is painted once.
 use Rattle.std.specs.Prelude.{◌≡◌, ℕ, ◌<◌, Bool, None, List}
 use Rattle.std.specs.FinMap.{get}
-use Rattle.tabled_grid.specs.declared.place.LineOf.{LineOf}
+use Rattle.tabled_places.specs.declared.place.LineOf.{LineOf}
 use Rattle.tabled_object.specs.declared.dimension.FixedDimension.{FixedDimension}
 use Rattle.tabled_configuration.specs.Configuration.{Configuration}
 use Rattle.tabled_printing.specs.Alike.{IsBareLine}

@@ -10,8 +10,6 @@ pub mod Viewed
 pub mod Rows
 pub mod BareCells
 pub mod Outputs
-pub mod Printable
-pub mod TextsBy
 pub mod Widths
 pub mod PaintedSpans
 pub mod RoomLines

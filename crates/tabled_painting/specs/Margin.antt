@@ -3,7 +3,7 @@ use Rattle.std.specs.Prelude.{ℕ, Bool, nat_lt, nat_le, ◌+◌, ◌-◌, ◌==
 use Rattle.std.specs.List.{flat_map}
 use Rattle.tabled_border.specs.Texts.{Texts}
 use Rattle.tabled_object.specs.Entities.{below}
-use Rattle.tabled_grid.specs.declared.offset.Offset.{Offset}
+use Rattle.tabled_object.specs.declared.offset.Offset.{Offset}
 use Rattle.tabled_layout.specs.declared.margin.Margin.{Margin}
 use Rattle.tabled_cells.specs.Placed.{times}
 pub use Rattle.tabled_cells.specs.Placed.{fill_shown}

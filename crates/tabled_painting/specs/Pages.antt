@@ -1,7 +1,7 @@
 -- What is written of a table's lines.
 use Rattle.std.specs.Prelude.{◌≡◌, ℕ, Bool, true, ◌+◌, min, None, List, [], ◌∷◌, ◌++◌, length, map, replicate, option_copied}
 use Rattle.std.specs.List.{join_with_byte}
-use Rattle.tabled_grid.specs.declared.place.LineOf.{LineOf}
+use Rattle.tabled_places.specs.declared.place.LineOf.{LineOf}
 use Rattle.tabled_printing.specs.Picture.{Look, marks_along}
 use Rattle.tabled_painting.specs.declared.margin_sides.MarginSides.{MarginSides}
 use Rattle.tabled_painting.specs.Painted.{Painted, colored_if}

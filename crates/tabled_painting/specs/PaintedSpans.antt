@@ -5,7 +5,7 @@ use Rattle.std.specs.FinMap.{get}
 use Rattle.std.specs.List.{flat_map}
 use Rattle.tabled_border.specs.Texts.{Texts}
 use Rattle.tabled_object.specs.Entities.{below, position}
-use Rattle.tabled_grid.specs.declared.place.Place.{Place}
+use Rattle.tabled_places.specs.declared.place.Place.{Place}
 use Rattle.tabled_settings.specs.declared.cell_settings.CellSettings.{CellSettings}
 use Rattle.tabled_settings.specs.Live.{Live}
 use Rattle.tabled_layout.specs.declared.margin.Margin.{Margin}
@@ -13,7 +13,7 @@ use Rattle.tabled_layout.specs.declared.table_settings.TableSettings.{TableSetti
 use Rattle.tabled_configuration.specs.Colored.{Colored}
 use Rattle.tabled_configuration.specs.Configuration.{all_writes}
 use Rattle.tabled_printing.specs.Along.{crossing_at}
-use Rattle.tabled_printing.specs.Texts.{Table}
+use Rattle.tabled_width.specs.Texts.{Table}
 use Rattle.tabled_printing.specs.Picture.{Look, look, mark_at}
 use Rattle.tabled_rooms.specs.Hosts.{Cell, Counts, host}
 use Rattle.tabled_rooms.specs.Rooms as rooms

@@ -1,10 +1,10 @@
 -- The rooms of cells as the code keeps them. Private functions alone cite this.
 use Rattle.std.specs.Prelude.{◌≡◌, ℕ, ◌+◌, ◌-◌, ◌<◌, ◌≤◌, ◌==◌, min, Bool, true, false, if◌then◌else◌, Option, Some, None, List, [], ◌++◌, length, map, replicate, slice_index, slice_index_or}
-use Rattle.tabled_grid.specs.declared.place.LineOf.{LineOf}
-use Rattle.tabled_grid.specs.declared.site.Direction.{Direction}
-use Rattle.tabled_grid.specs.declared.site.Direction.TheVariants.{Horizontal, Vertical}
+use Rattle.tabled_places.specs.declared.place.LineOf.{LineOf}
+use Rattle.tabled_places.specs.declared.site.Direction.{Direction}
+use Rattle.tabled_places.specs.declared.site.Direction.TheVariants.{Horizontal, Vertical}
 use Rattle.tabled_printing.specs.Picture.{Look}
-use Rattle.tabled_printing.specs.Texts.{Table}
+use Rattle.tabled_width.specs.Texts.{Table}
 use Rattle.tabled_rooms.specs.Hosts.{Counts, host}
 use Rattle.std.specs.List.{flat_map, range_with_len, sum_by}
 use Rattle.tabled_object.specs.Entities.{below}

@@ -1,6 +1,6 @@
 -- The text of a table's page.
 use Rattle.std.specs.Prelude.{ℕ, List}
-use Rattle.tabled_printing.specs.Texts.{Table}
+use Rattle.tabled_width.specs.Texts.{Table}
 use Rattle.tabled_painting.specs.Painted.{Painted}
 use Rattle.tabled_painting.specs.PaintedTable.{with_margin}
 use Rattle.tabled_painting.specs.PaintedSpans.{spanned_lines}

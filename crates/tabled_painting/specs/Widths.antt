@@ -1,11 +1,12 @@
 -- How wide the lines of a table are with its margin, and where its vertical lines stand in them.
 use Rattle.std.specs.Prelude.{ℕ, ◌+◌, ◌-◌, if◌then◌else◌, List, length, take, drop}
 use Rattle.std.specs.List.{AllZip}
-use Rattle.tabled_grid.specs.declared.place.LineOf.{LineOf}
+use Rattle.tabled_places.specs.declared.place.LineOf.{LineOf}
 use Rattle.tabled_layout.specs.declared.margin.Margin.{Margin}
 use Rattle.tabled_printing.specs.Along.{is_empty, along}
 use Rattle.tabled_printing.specs.Picture.{Look, character}
-use Rattle.tabled_printing.specs.Columns.{columns_before, table_width, StandsAt}
+use Rattle.tabled_width.specs.Narrow.{StandsAt}
+use Rattle.tabled_printing.specs.Columns.{columns_before, table_width}
 
 -- how many columns each line of the text takes; a table without places has an empty text
 abbrev pub text_width : Look → Margin → ℕ

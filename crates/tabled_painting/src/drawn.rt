@@ -2,7 +2,7 @@
 
 ghost use Rattle.std.specs.Prelude.{◌≡◌, ◌+◌, ℕ, false, length, slice_index_or, IfOk};
 ghost use Rattle.tabled_configuration.specs.Configuration.{all_writes, characters_of};
-ghost use Rattle.tabled_grid.specs.Drawn.{drawn};
+ghost use Rattle.tabled_places.specs.Drawn.{drawn};
 ghost use Rattle.tabled_painting.specs.RoomLines.{line_in};
 
 use tabled_border::OutOfMemory;

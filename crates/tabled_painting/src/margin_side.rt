@@ -21,7 +21,7 @@ pub(crate) struct MarginSide<'a> {
     pub(crate) fill: char,
     /// Where it begins or ends: spaces stand in the places that this leaves out.
     pub(crate) offset: Offset,
-    /// Its color, if it has one.
+    /// The color of this side of the margin, if it has one.
     pub(crate) color: Option<&'a ANSIBuf>,
 }
 

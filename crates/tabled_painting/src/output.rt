@@ -6,7 +6,7 @@ ghost use Rattle.tabled_cells.specs.Placed.{times};
 ghost use Rattle.tabled_painting.specs.Outputs as gained;
 
 use std::alloc::AllocError;
-use tabled_printing::{push_after, push_times};
+use tabled_width::{push_after, push_times};
 
 /// What text is written into, piece by piece.
 pub trait Output {

@@ -4,13 +4,13 @@ ghost use Rattle.std.specs.Prelude.{◌≡◌, ◌≤◌, ◌<◌, ◌+◌, ◌-
 ghost use Rattle.std.specs.List.{All, flat_map};
 ghost use Rattle.std.specs.declared.option.Option.{Option as Maybe};
 ghost use Rattle.tabled_object.specs.Entities.{below};
-ghost use Rattle.tabled_printing.specs.Texts.{Table};
+ghost use Rattle.tabled_width.specs.Texts.{Table};
 ghost use Rattle.tabled_rooms.specs.Rooms.{first_line, room_height};
 ghost use Rattle.tabled_painting.specs.InColor.{Paints};
 ghost use Rattle.tabled_painting.specs.Pages.{PaintsLines};
 ghost use Rattle.tabled_painting.specs.RoomLines.{AreSpans, KeepsRooms, KeepsSpans, ShowTheSame, StandAlone, room_shown};
 ghost use Rattle.tabled_rooms.specs.declared.host.Host.{Host as Kept};
-ghost use Rattle.tabled_painting.specs.TextsBy.{texts_by};
+ghost use Rattle.tabled_cells.specs.TextsBy.{texts_by};
 ghost use Rattle.tabled_painting.specs.Viewed.{viewed};
 
 use crate::page::Page;
@@ -26,7 +26,7 @@ use tabled_rooms::{Host, next_hosts, room_widths};
 /// The lines of a table that has places, which are painted one after another. Of its spans nothing is kept where no cell has some.
 #[derive(Drop)]
 pub(crate) struct SpannedLines<'a, 'b, 'c> {
-    /// Its lines over which no cell reaches, and its rows of cells that stand alone.
+    /// The lines of the table over which no cell reaches, and its rows of cells that stand alone.
     pub(crate) lines: &'c TableLines<'a, 'b>,
     /// Which line begins each row, counted from the first line of text, and last one past the last row.
     pub(crate) firsts: &'c [usize],
@@ -250,7 +250,8 @@ impl<'a, 'b, 'c> SpannedLines<'a, 'b, 'c> {
         Ok(())
     }
 
-    /// Paints the rows of a table, each with the line above it. `hosts`, `wides` and `rooms` are for what is shown in a row: at first nothing.
+    /// Paints the rows of a table, each with the line above it. `hosts`, `wides` and `rooms` are for what is shown in a row: at first
+    /// nothing.
     fn paint_rows<O: Output + Drop + 'a, T: AsStr>(
         &self,
         page: &mut Page<'a, O>,

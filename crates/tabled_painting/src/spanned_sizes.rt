@@ -2,8 +2,8 @@
 
 ghost use Rattle.std.specs.Prelude.{◌≡◌, IfOk, length};
 ghost use Rattle.tabled_configuration.specs.Configuration.{all_writes, characters_of};
-ghost use Rattle.tabled_grid.specs.Drawn.{drawn};
-ghost use Rattle.tabled_grid.specs.declared.place.LineOf.{LineOf as Line};
+ghost use Rattle.tabled_places.specs.Drawn.{drawn};
+ghost use Rattle.tabled_places.specs.declared.place.LineOf.{LineOf as Line};
 ghost use Rattle.tabled_rooms.specs.Sizes.{spanned_heights, spanned_widths};
 ghost use Rattle.tabled_painting.specs.PaintedSpans.{columns_spanned, rows_spanned};
 
@@ -15,9 +15,9 @@ use tabled_grid::Direction;
 use tabled_object::FixedDimension;
 use tabled_rooms::{CellSizes, spanned_sizes};
 
-/// How wide each column of a table is, and how high each row: as wide as any cell asks that is shown in the column alone, and then wider
-/// where cells that are shown over several columns have no room there, those over fewer columns first; rows likewise. Only memory can be
-/// refused.
+/// Returns how wide each column of a table is, and how high each row: as wide as any cell asks that is shown in the column alone, and then
+/// wider where cells that are shown over several columns have no room there, those over fewer columns first; rows likewise. Only memory can
+/// be refused.
 pub fn sizes_of_spanned<M: CellSizes>(
     cfg: &SpannedConfig,
     shape: (usize, usize),

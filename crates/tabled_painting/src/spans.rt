@@ -26,7 +26,7 @@ pub(crate) struct Spans {
 }
 
 impl Spans {
-    /// Those of a table of which each column has a width and each row a height. Refused where cells span and no number says how wide or
+    /// The spans of a table of which each column has a width and each row a height. Refused where cells span and no number says how wide or
     /// how high it is.
     pub(crate) fn new(lines: &TableLines) -> Result<Self, OutOfMemory>
         requires widths { length lines.now.frame.dims.now.widths.items ≡ lines.now.frame.shape.1 }
@@ -45,7 +45,7 @@ impl Spans {
         })
     }
 
-    /// Those of such a table where cells span.
+    /// The spans of a table where cells span.
     fn of_rooms(lines: &TableLines) -> Result<Self, OutOfMemory>
         requires widths { length lines.now.frame.dims.now.widths.items ≡ lines.now.frame.shape.1 }
         requires heights { length lines.now.frame.dims.now.heights.items ≡ lines.now.frame.shape.0 }

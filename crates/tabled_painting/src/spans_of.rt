@@ -2,7 +2,7 @@
 
 ghost use Rattle.std.specs.Prelude.{◌≡◌, ◌≤◌, max, unwrap_or};
 ghost use Rattle.std.specs.FinMap.{get};
-ghost use Rattle.tabled_grid.specs.Table.{table};
+ghost use Rattle.tabled_kept.specs.Table.{table};
 ghost use Rattle.tabled_layout.specs.Spans.{position_cmp};
 
 use std::collections::BTreeMap;

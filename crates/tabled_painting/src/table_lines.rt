@@ -5,7 +5,7 @@ ghost use Rattle.std.specs.Option.{ForSome};
 ghost use Rattle.tabled_printing.specs.Along.{is_empty};
 ghost use Rattle.tabled_printing.specs.Marks.{mark_of};
 ghost use Rattle.tabled_printing.specs.Picture.{marks_along};
-ghost use Rattle.tabled_grid.specs.declared.place.LineOf.{LineOf as Line};
+ghost use Rattle.tabled_places.specs.declared.place.LineOf.{LineOf as Line};
 ghost use Rattle.tabled_painting.specs.InColor.{Paints};
 ghost use Rattle.tabled_painting.specs.Pages.{PaintsLines, line_text};
 ghost use Rattle.tabled_painting.specs.PaintedTable.{painted_marks, side_painted};
@@ -49,7 +49,7 @@ pub(crate) struct TableLines<'a, 'b> {
 impl<'a, 'b> TableLines<'a, 'b> {
     ghost use Rattle.tabled_painting.specs.BareCells.{IsBareIn};
     ghost use Rattle.tabled_painting.specs.PaintedTable.{painted_between, painted_cell, painted_if_drawn};
-    ghost use Rattle.tabled_grid.specs.declared.site.Direction.TheVariants.{Vertical};
+    ghost use Rattle.tabled_places.specs.declared.site.Direction.TheVariants.{Vertical};
     ghost use Rattle.tabled_printing.specs.Alike.{NoOffsetsAt};
     ghost use Rattle.tabled_painting.specs.RoomLines.{AreRowCells, ShowTheSame, begun_piece, room_shown, rooms_between, rooms_row};
     ghost use Rattle.tabled_painting.specs.Rows.{line_of, row_cell, row_painted};
@@ -165,7 +165,7 @@ impl<'a, 'b> TableLines<'a, 'b> {
         CellColors::of(self.frame.cfg, self.colors, cell).one_color()
     }
 
-    /// The same of all cells of a row, if there are several, which are known to be set alike.
+    /// The color of all cells of a row, if there are several, which are known to be set alike.
     fn row_color(&self, row: usize) -> Option<Option<&'a ANSIBuf>>
         ensures { IfSome result (λ color. (c : ℕ) → IsBareIn self.now.frame.with_colors self.now.frame.cfg.now.settings.cells self.now.colors.now row c (option_copied color)) }
     {
@@ -176,7 +176,8 @@ impl<'a, 'b> TableLines<'a, 'b> {
         None
     }
 
-    /// Paints a cell of a row of one line, and then a side, if there is one. It may be known of the row that its cells are bare, in one color.
+    /// Paints a cell of a row of one line, and then a side, if there is one. It may be known of the row that its cells are bare, in one
+    /// color.
     fn paint_cell<O: Output>(
         &self,
         painter: &mut Painter<'a, O>,

@@ -4,14 +4,14 @@ ghost use Rattle.std.specs.Prelude.{◌≡◌, false, None, List, length, IfOk, 
 ghost use Rattle.std.specs.List.{All};
 ghost use Rattle.tabled_painting.specs.Margin.{side_of, between_sides};
 ghost use Rattle.tabled_painting.specs.Pages.{IsMarginOf, PaintsLines, Strips, counted_sides, text_of_lines};
-ghost use Rattle.tabled_grid.specs.declared.place.LineOf.{LineOf as Line};
+ghost use Rattle.tabled_places.specs.declared.place.LineOf.{LineOf as Line};
 ghost use Rattle.tabled_printing.specs.Along.{is_empty};
 ghost use Rattle.tabled_printing.specs.Picture.{marks_along};
-ghost use Rattle.tabled_printing.specs.Texts.{Table};
+ghost use Rattle.tabled_width.specs.Texts.{Table};
 ghost use Rattle.tabled_painting.specs.Painted.{Painted};
 ghost use Rattle.tabled_painting.specs.PaintedSpans.{painted_by};
 ghost use Rattle.tabled_painting.specs.RoomLines.{IsSpansOf, KeepsRooms};
-ghost use Rattle.tabled_painting.specs.TextsBy.{texts_by};
+ghost use Rattle.tabled_cells.specs.TextsBy.{texts_by};
 ghost use Rattle.tabled_painting.specs.Viewed.{viewed};
 
 use crate::page::Page;
@@ -91,9 +91,9 @@ pub struct TablePage<'a, 'b> {
 impl<'a, 'b> TablePage<'a, 'b> {
     ghost use Rattle.tabled_painting.specs.TablePages.{lines_between, text_of_page};
 
-    /// The page of a table that has rows and columns, whose lines are painted in that order: in color, where the color changes along a line,
-    /// the text that ends the last color is written and then the text that begins the next, and at the end of a line the text that ends its
-    /// last color; where there is no color nothing is written. A cell that spans several columns or rows has the room of all of them.
+    /// Makes the page of a table that has rows and columns, whose lines are painted in that order: in color, where the color changes along a
+    /// line, the text that ends the last color is written and then the text that begins the next, and at the end of a line the text that ends
+    /// its last color; where there is no color nothing is written. A cell that spans several columns or rows has the room of all of them.
     /// `sizes` are the widths of its columns and the heights of its rows, `shape` the numbers of its rows and of its columns. Only memory can
     /// be refused.
     pub fn new(
@@ -124,7 +124,7 @@ impl<'a, 'b> TablePage<'a, 'b> {
         })
     }
 
-    /// How many bytes its text takes at least, or nearly so. It saturates.
+    /// Returns how many bytes its text takes at least, or nearly so. It saturates.
     pub fn least_bytes(&self) -> usize {
         let margin = &self.margin;
         let sides = margin.left.size.saturating_add(margin.right.size);

@@ -9,28 +9,28 @@ use Rattle.std.proofs.lemmas.Bool.Decides.{nat_tests}
 use Rattle.std.proofs.lemmas.Grind.{common_steps}
 use Rattle.std.proofs.lemmas.List.{get_or-map, length-map}
 use Rattle.std.proofs.lemmas.List.FromFn.{get_or-map-range_with_len, length-map-range_with_len, map-range_with_len_more}
-use Rattle.tabled_grid.specs.declared.place.Place.{Place}
-use Rattle.tabled_grid.specs.declared.place.LineOf.{LineOf}
-use Rattle.tabled_grid.specs.declared.place.Rank.{Rank}
-use Rattle.tabled_grid.specs.declared.place.Rank.TheVariants.{Inner as inner}
-use Rattle.tabled_grid.specs.declared.event.Written.TheVariants.{Sign as sign}
-use Rattle.tabled_grid.specs.declared.site.Direction.TheVariants.{Horizontal, Vertical}
-use Rattle.tabled_grid.specs.declared.site.Spot.TheVariants.{Edge, Crossing}
-use Rattle.tabled_grid.specs.declared.site.Class.TheVariants.{Edges as edges, Crossings as crossings}
-use Rattle.tabled_grid.specs.declared.site.Part.TheVariants.{Crossings as meeting}
-use Rattle.tabled_grid.specs.declared.site.Site.{Site}
-use Rattle.tabled_grid.specs.declared.site.Site.TheVariants.{Class as of_class, Line as of_line, Cell as at_spot}
-use Rattle.tabled_grid.specs.Drawn.{draws, drawn, Drawn}
-use Rattle.tabled_grid.specs.Site.{rank, stands}
-use Rattle.tabled_grid.specs.Calls.{edge_of as spot_of}
-use Rattle.tabled_grid.specs.Value.{plain_value}
-use Rattle.tabled_grid.specs.State.{State, state_at, vertical_part, HasNoCells, HasNoCellsOn}
-use Rattle.tabled_grid.specs.Keys.{spot_cmp}
+use Rattle.tabled_places.specs.declared.place.Place.{Place}
+use Rattle.tabled_places.specs.declared.place.LineOf.{LineOf}
+use Rattle.tabled_places.specs.declared.place.Rank.{Rank}
+use Rattle.tabled_places.specs.declared.place.Rank.TheVariants.{Inner as inner}
+use Rattle.tabled_places.specs.declared.event.Written.TheVariants.{Sign as sign}
+use Rattle.tabled_places.specs.declared.site.Direction.TheVariants.{Horizontal, Vertical}
+use Rattle.tabled_places.specs.declared.site.Spot.TheVariants.{Edge, Crossing}
+use Rattle.tabled_places.specs.declared.site.Class.TheVariants.{Edges as edges, Crossings as crossings}
+use Rattle.tabled_places.specs.declared.site.Part.TheVariants.{Crossings as meeting}
+use Rattle.tabled_places.specs.declared.site.Site.{Site}
+use Rattle.tabled_places.specs.declared.site.Site.TheVariants.{Class as of_class, Line as of_line, Cell as at_spot}
+use Rattle.tabled_places.specs.Drawn.{draws, drawn, Drawn}
+use Rattle.tabled_places.specs.Site.{rank, stands}
+use Rattle.tabled_places.specs.Calls.{edge_of as spot_of}
+use Rattle.tabled_places.specs.Value.{plain_value}
+use Rattle.tabled_places.specs.State.{State, state_at, vertical_part, HasNoCells, HasNoCellsOn}
+use Rattle.tabled_places.specs.Keys.{spot_cmp}
 use Rattle.tabled_object.specs.Entities.{below}
 use Rattle.tabled_configuration.specs.Configuration.{Configuration, all_writes, characters_of, colors_of}
 use Rattle.tabled_configuration.proofs.ConfigurationLemmas.{shown_characters, shown_colors}
-use Rattle.tabled_printing.specs.declared.sides.Side.{Side}
-use Rattle.tabled_printing.specs.declared.sides.Sides.{Sides}
+use Rattle.tabled_printing.specs.declared.sides.RowSide.{RowSide}
+use Rattle.tabled_printing.specs.declared.sides.RowSides.{RowSides}
 use Rattle.tabled_printing.specs.Alike.{IsBareLine, NoneBeside, NoneForCells, NoneForColumns, NoOffsetsAt, HasNoOffsetsOf}
 use Rattle.tabled_printing.specs.LinePieces.{pieces_of, piece_size, crossing_of, edge_of, crossing_places, piece_places}
 use Rattle.tabled_printing.specs.Picture.{Look, Shown, look, mark_at}
@@ -164,11 +164,11 @@ module _ (cfg : Configuration) (wanted : Bool) (shape : ℕ × ℕ) where
 -- ---- sides as they are kept
 
 -- one mark more
-pub side_more : (g : ℕ → Option Shown) (xs ys : List (Option Side)) (x : Option Side) (n m : ℕ) → m ≡ n → ys ≡ xs ++ x ∷ [] → map (option_map side_mark) xs ≡ map g (below m) → option_map side_mark x ≡ g n → map (option_map side_mark) ys ≡ map g (below (n + 1))
+pub side_more : (g : ℕ → Option Shown) (xs ys : List (Option RowSide)) (x : Option RowSide) (n m : ℕ) → m ≡ n → ys ≡ xs ++ x ∷ [] → map (option_map side_mark) xs ≡ map g (below m) → option_map side_mark x ≡ g n → map (option_map side_mark) ys ≡ map g (below (n + 1))
 side_more g xs ys x n m same pushed made is = let more = map-range_with_len_more g 0 n n (omega arith) in grind (arith, common_steps)
 
 -- one by one
-pub listed_sides : (cfg : Configuration) (wanted : Bool) (shape : ℕ × ℕ) (marks : List (Option Side)) (c : ℕ)
+pub listed_sides : (cfg : Configuration) (wanted : Bool) (shape : ℕ × ℕ) (marks : List (Option RowSide)) (c : ℕ)
     → map (option_map side_mark) marks ≡ map (plain_side cfg wanted shape) (below (shape.1 + 1)) → c ≤ shape.1 → option_map side_mark (get_or marks c None) ≡ plain_side cfg wanted shape c
 listed_sides cfg wanted shape marks c are within =
     let long : length marks ≡ shape.1 + 1 = sym (length-map marks (option_map side_mark)) ∙ ap length are ∙ length-map-range_with_len (plain_side cfg wanted shape) 0 (shape.1 + 1) in
@@ -176,7 +176,7 @@ listed_sides cfg wanted shape marks c are within =
     ∙ ap (λ xs. get_or xs c None) are ∙ get_or-map-range_with_len (plain_side cfg wanted shape) 0 (shape.1 + 1) c c None (omega (arith, within)) (omega arith)
 
 -- or by rank
-pub ranked_sides : (cfg : Configuration) (wanted : Bool) (shape : ℕ × ℕ) (one two end : Option Side) (c : ℕ) → NoneForCells cfg wanted → NoneForColumns cfg wanted
+pub ranked_sides : (cfg : Configuration) (wanted : Bool) (shape : ℕ × ℕ) (one two end : Option RowSide) (c : ℕ) → NoneForCells cfg wanted → NoneForColumns cfg wanted
     → option_map side_mark one ≡ plain_side cfg wanted shape 0 → option_map side_mark two ≡ plain_side cfg wanted shape 1 → option_map side_mark end ≡ plain_side cfg wanted shape shape.1 → c ≤ shape.1
     → option_map side_mark (if c == 0 then one else if c == shape.1 then end else two) ≡ plain_side cfg wanted shape c
 ranked_sides cfg wanted shape one two end c places lines is_first is_inner is_end within =
@@ -187,21 +187,21 @@ pub there : {A B : Type 0} (f : A → B) (found : Option A) → is_some (option_
 there f None = refl
 there f (Some x) = refl
 
-pub side_drawn : (cfg : Configuration) (wanted : Bool) (shape : ℕ × ℕ) (sides : Sides) (c : ℕ) → AreSides cfg wanted shape sides → c ≤ shape.1
+pub side_drawn : (cfg : Configuration) (wanted : Bool) (shape : ℕ × ℕ) (sides : RowSides) (c : ℕ) → AreSides cfg wanted shape sides → c ≤ shape.1
     → is_some (side_at sides c) ≡ drawn (characters_of (all_writes cfg)) shape.1 (LineOf.Vertical c)
 side_drawn cfg wanted shape sides c are within = let is = are.marks c within in grind (arith, common_steps)
 
 -- its mark is what is kept beside the first row
-pub drawn_mark : (cfg : Configuration) (wanted : Bool) (shape : ℕ × ℕ) (sides : Sides) (c : ℕ) (side : Side) → AreSides cfg wanted shape sides → c ≤ shape.1 → side_at sides c ≡ Some side
+pub drawn_mark : (cfg : Configuration) (wanted : Bool) (shape : ℕ × ℕ) (sides : RowSides) (c : ℕ) (side : RowSide) → AreSides cfg wanted shape sides → c ≤ shape.1 → side_at sides c ≡ Some side
     → side_mark side ≡ plain_mark cfg wanted shape (Place.Vertical 0 c 0)
 drawn_mark cfg wanted shape sides c side are within read = let is = are.marks c within in grind (arith, common_steps)
 
 -- ---- which look alike beside all rows
 
 -- one side more
-pub alike_more : (cfg : Configuration) (wanted : Bool) (rows : ℕ) (xs ys : List (Option Side)) (x : Option Side) → ys ≡ xs ++ x ∷ [] → ForSome x (IsAlikeSide cfg wanted rows (length xs))
+pub alike_more : (cfg : Configuration) (wanted : Bool) (rows : ℕ) (xs ys : List (Option RowSide)) (x : Option RowSide) → ys ≡ xs ++ x ∷ [] → ForSome x (IsAlikeSide cfg wanted rows (length xs))
     → ((c : ℕ) → ForSome (get_or xs c None) (IsAlikeSide cfg wanted rows c)) → (c : ℕ) → ForSome (get_or ys c None) (IsAlikeSide cfg wanted rows c)
-alike_more cfg wanted rows xs ys x pushed is all c = subst (λ (list : List (Option Side)). ForSome (get_or list c None) (IsAlikeSide cfg wanted rows c)) (sym pushed) (put_last (λ n found. ForSome found (IsAlikeSide cfg wanted rows n)) (λ n side none. absurd cc) xs x is all c)
+alike_more cfg wanted rows xs ys x pushed is all c = subst (λ (list : List (Option RowSide)). ForSome (get_or list c None) (IsAlikeSide cfg wanted rows c)) (sym pushed) (put_last (λ n found. ForSome found (IsAlikeSide cfg wanted rows n)) (λ n side none. absurd cc) xs x is all c)
   where
     put_last : {A : Type 0} (P : ℕ → Option A → Type 0) → ((n : ℕ) → P n None) → (xs : List (Option A)) (x : Option A) → P (length xs) x → ((c : ℕ) → P c (get_or xs c None)) → (c : ℕ) → P c (get_or (xs ++ x ∷ []) c None)
     put_last P none [] x is all zero = is

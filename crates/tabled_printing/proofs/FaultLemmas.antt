@@ -7,7 +7,7 @@ use Rattle.std.proofs.lemmas.List.Elements.{All-nil, All-cons}
 use Rattle.std.proofs.lemmas.List.FromFn.{length-enumerate_from, get_or-enumerate_from}
 use Rattle.std.proofs.lemmas.List.{drop_more, get_or-map, length-map}
 use Rattle.tabled_printing.specs.declared.print_error.PrintError.{PrintError}
-use Rattle.tabled_printing.specs.Texts.{Table}
+use Rattle.tabled_width.specs.Texts.{Table}
 use Rattle.tabled_configuration.specs.Configuration.{Configuration}
 use Rattle.tabled_printing.specs.Refusal.{unless, row_faults, table_faults, span_faults, first_refusal}
 

@@ -6,10 +6,6 @@ pub mod MarkLemmas
 pub mod AlikeLemmas
 pub mod TextLemmas
 pub mod PieceLemmas
-pub mod TimesLemmas
 pub mod ViewedLemmas
-pub mod Tiles
 pub mod Straight
-pub mod Ranges
-pub mod PieceTexts
 pub mod NarrowLemmas

@@ -2,16 +2,16 @@
 use Rattle.std.proofs.Common.{◌≡◌, ℕ, ◌-◌, ◌<◌, Bool, Option, List, refl, sym, ap, ◌∙◌, IsTrue, ◌↔◌}
 use Rattle.std.proofs.lemmas.Bool.{lt-ltb}
 use Rattle.std.proofs.Math.Bool.{and-true}
-use Rattle.tabled_grid.specs.declared.place.Place.{Place}
-use Rattle.tabled_grid.specs.declared.place.LineOf.{LineOf}
-use Rattle.tabled_grid.specs.declared.offset.Offset.{Offset}
-use Rattle.tabled_grid.specs.declared.event.Event.{Event}
-use Rattle.tabled_grid.specs.Event as grid
-use Rattle.tabled_grid.specs.Event.{replay}
-use Rattle.tabled_grid.specs.Value.{value, plain_value}
-use Rattle.tabled_grid.specs.Drawn.{drawn, Drawn}
-use Rattle.tabled_grid.specs.State.{State, state_at}
-use Rattle.tabled_grid.proofs.DrawnLemmas.{drawn-answer, Drawn-drawn, replay-shown, value-shown}
+use Rattle.tabled_places.specs.declared.place.Place.{Place}
+use Rattle.tabled_places.specs.declared.place.LineOf.{LineOf}
+use Rattle.tabled_object.specs.declared.offset.Offset.{Offset}
+use Rattle.tabled_places.specs.declared.event.Event.{Event}
+use Rattle.tabled_places.specs.Event as grid
+use Rattle.tabled_places.specs.Event.{replay}
+use Rattle.tabled_places.specs.Value.{value, plain_value}
+use Rattle.tabled_places.specs.Drawn.{drawn, Drawn}
+use Rattle.tabled_places.specs.State.{State, state_at}
+use Rattle.tabled_places.proofs.DrawnLemmas.{drawn-answer, Drawn-drawn, replay-shown, value-shown}
 use Rattle.tabled_border.specs.Texts.{Texts}
 use Rattle.tabled_configuration.specs.Configuration.{Configuration, ConfigEvent, Shows, characters_of, colors_of, all_writes}
 use Rattle.tabled_printing.specs.Alike.{HasNoOffsetsOf}

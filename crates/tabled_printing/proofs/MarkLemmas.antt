@@ -4,14 +4,14 @@ use Rattle.std.proofs.lemmas.List.{map-append, get_or-replicate, length-replicat
 use Rattle.std.proofs.lemmas.List.FromFn.{fill_by_all, get_or-map-range_with_len, map-range_with_len_more, length-map-range_with_len}
 use Rattle.std.proofs.lemmas.Simd.{map-map}
 use Rattle.tabled_border.specs.Texts.{Texts}
-use Rattle.tabled_grid.specs.declared.place.Place.{Place}
-use Rattle.tabled_grid.specs.declared.place.LineOf.{LineOf}
+use Rattle.tabled_places.specs.declared.place.Place.{Place}
+use Rattle.tabled_places.specs.declared.place.LineOf.{LineOf}
 use Rattle.tabled_object.specs.Entities.{below}
 use Rattle.tabled_printing.specs.Picture.{Look, Shown, character, text_shown, text_marked, mark_at}
 use Rattle.tabled_printing.specs.LinePieces.{piece_size, edge_of, edge_places}
 use Rattle.tabled_printing.specs.declared.mark.Run.{Run}
 use Rattle.tabled_printing.specs.Marks.{mark_of, run_marks}
-use Rattle.tabled_printing.specs.Texts.{times}
+use Rattle.tabled_width.specs.Texts.{times}
 
 -- a mark by its two parts
 pub mark_by : (a b : Option ℕ) (x y : Option Texts) → a ≡ b → x ≡ y → ◌≡◌ {A = Shown} (a, x) (b, y)

@@ -3,18 +3,19 @@ use Rattle.std.proofs.Common.{◌≡◌, ℕ, Bool, true, Option, Some, None, un
 use Rattle.std.specs.Prelude.{filter, option_and_then}
 use Rattle.std.specs.List.{list_all, last_or}
 use Rattle.std.proofs.lemmas.Bool.{and_parts, cond_both}
-use Rattle.tabled_grid.specs.declared.place.Place.{Place}
-use Rattle.tabled_grid.specs.declared.site.Site.{Site}
-use Rattle.tabled_grid.specs.declared.event.Event.{Event}
-use Rattle.tabled_grid.specs.declared.event.Event.TheVariants.{Write as write, Erase as erase}
-use Rattle.tabled_grid.specs.declared.event.Written.{Written}
-use Rattle.tabled_grid.specs.declared.event.Written.TheVariants.{Sign as sign, Standing as standing}
-use Rattle.tabled_grid.specs.Event.{covers, left_by}
-use Rattle.tabled_grid.specs.Value.{first_sign, sign_or, sites, inside, value}
-use Rattle.tabled_grid.specs.Event.{replay}
+use Rattle.tabled_places.specs.declared.place.Place.{Place}
+use Rattle.tabled_places.specs.declared.site.Site.{Site}
+use Rattle.tabled_places.specs.declared.event.Event.{Event}
+use Rattle.tabled_places.specs.declared.event.Event.TheVariants.{Write as write, Erase as erase}
+use Rattle.tabled_places.specs.declared.event.Written.{Written}
+use Rattle.tabled_places.specs.declared.event.Written.TheVariants.{Sign as sign, Standing as standing}
+use Rattle.tabled_places.specs.Event.{covers, left_by}
+use Rattle.tabled_places.specs.Value.{first_sign, sign_or, sites, inside, value}
+use Rattle.tabled_places.specs.Event.{replay}
 use Rattle.tabled_configuration.specs.Configuration.{ConfigEvent, characters_of}
 use Rattle.tabled_printing.specs.Picture.{look, edge_size}
-use Rattle.tabled_printing.specs.Columns.{is_narrow, is_narrow_write, HasNarrowBorders}
+use Rattle.tabled_width.specs.Narrow.{is_narrow}
+use Rattle.tabled_printing.specs.Columns.{is_narrow_write, HasNarrowBorders}
 
 -- whether what is kept, and what is shown, passes
 abbrev kept_passes : Option (Written ℕ) → Bool

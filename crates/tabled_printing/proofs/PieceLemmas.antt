@@ -8,7 +8,7 @@ use Rattle.std.proofs.lemmas.List.{map-set, get_or-map, get_or_past, take_all, d
 use Rattle.std.proofs.lemmas.List.Splits.{slice_split_none, slice_split_first}
 use Rattle.std.proofs.lemmas.List.Sums.{fails_before_first}
 use denote.Ref.{Bor}
-use Rattle.tabled_printing.specs.Texts.{pieces}
+use Rattle.tabled_width.specs.Texts.{pieces}
 use Rattle.tabled_printing.specs.Pieces.{lent, first_piece, after_first_piece}
 use Rattle.tabled_printing.specs.Picture.{Look, line_of_pieces, row_line}
 

@@ -7,14 +7,15 @@ use Rattle.std.proofs.lemmas.List.Elements.{All-nil, All-cons}
 use Rattle.std.proofs.lemmas.List.Concat.{flat_map-append}
 use Rattle.std.proofs.lemmas.List.FromFn.{length-range_with_len}
 use Rattle.tabled_object.specs.Entities.{below}
-use Rattle.tabled_grid.specs.declared.place.Place.{Place}
-use Rattle.tabled_grid.specs.declared.place.LineOf.{LineOf}
-use Rattle.tabled_printing.specs.Texts.{width_of_text}
+use Rattle.tabled_places.specs.declared.place.Place.{Place}
+use Rattle.tabled_places.specs.declared.place.LineOf.{LineOf}
+use Rattle.tabled_width.specs.Texts.{width_of_text}
 use Rattle.tabled_printing.specs.Along.{is_empty, along, along_line, crossing_at}
 use Rattle.tabled_printing.specs.Picture.{Look, character, text_shown, text_marked, mark_at, marks_along, line_of_pieces, line_if_drawn}
 use Rattle.tabled_printing.specs.Sinks.{text_of_both}
-use Rattle.tabled_printing.specs.Columns.{is_narrow, HasNarrowBorders, line_width, columns_before, table_width, StandsAt, StandsStraight}
-use Rattle.tabled_printing.proofs.Tiles.{Tile, Tile-nil, Tile-append, Tile-narrow, Tile-same, Tile-flat}
+use Rattle.tabled_width.specs.Narrow.{is_narrow, StandsAt}
+use Rattle.tabled_printing.specs.Columns.{HasNarrowBorders, line_width, columns_before, table_width, StandsStraight}
+use Rattle.tabled_width.proofs.Tiles.{Tile, Tile-nil, Tile-append, Tile-narrow, Tile-same, Tile-flat}
 
 -- ---- lists
 

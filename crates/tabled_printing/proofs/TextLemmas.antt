@@ -7,8 +7,8 @@ use Rattle.std.proofs.lemmas.List.FromFn.{map-range_with_len_more}
 use Rattle.std.proofs.lemmas.Str.{encode_ascii, IsCharBoundary-from_take, IsUtf8-string_bytes}
 use Rattle.std.specs.Str.{IsUtf8}
 use Rattle.std.specs.String.Boundary.{IsSplitPoint}
-use Rattle.tabled_printing.specs.Texts.{texts}
-use Rattle.tabled_printing.proofs.TimesLemmas.{string_len-is}
+use Rattle.tabled_width.specs.Texts.{texts}
+use Rattle.tabled_width.proofs.TimesLemmas.{string_len-is}
 use Rattle.tabled_object.specs.Entities.{below}
 pub use Rattle.tabled_configuration.proofs.Below.{below_push, flat_map_below}
 

@@ -3,11 +3,11 @@ use Rattle.std.proofs.Common.{◌≡◌, Bool, if◌then◌else◌, None, [], �
 use Rattle.std.specs.List.{flat_map}
 use Rattle.std.proofs.lemmas.List.{length-map}
 use Rattle.std.proofs.lemmas.Simd.{map-map}
-use Rattle.tabled_grid.specs.declared.place.LineOf.{LineOf}
+use Rattle.tabled_places.specs.declared.place.LineOf.{LineOf}
 use Rattle.tabled_object.specs.Entities.{below}
 use Rattle.tabled_printing.specs.Along.{is_empty, along}
 use Rattle.tabled_printing.specs.Picture.{Look, Shown, mark_at, marks_along, text_marked, text_shown, row_lines, text_lines}
-use Rattle.tabled_printing.specs.Texts.{Table}
+use Rattle.tabled_width.specs.Texts.{Table}
 use Rattle.tabled_printing.specs.Viewed.{with_colors_if}
 
 -- a mark with its color, or without it

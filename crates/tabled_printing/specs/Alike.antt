@@ -1,14 +1,14 @@
 -- Where nothing is kept for single places, or for single lines: so lines, and the places along a line, look alike.
 use Rattle.std.specs.Prelude.{◌≡◌, ◌<◌, ℕ, Bool, true, None}
 use Rattle.std.specs.FinMap.{empty, get}
-use Rattle.tabled_grid.specs.declared.keys.EdgePlace.{EdgePlace}
-use Rattle.tabled_grid.specs.declared.offset.Offset.{Offset}
-use Rattle.tabled_grid.specs.declared.place.LineOf.{LineOf}
-use Rattle.tabled_grid.specs.declared.site.Direction.{Direction}
-use Rattle.tabled_grid.specs.declared.site.Direction.TheVariants.{Horizontal, Vertical}
-use Rattle.tabled_grid.specs.declared.site.Spot.TheVariants.{Edge}
-use Rattle.tabled_grid.specs.Reading.{direction_of}
-use Rattle.tabled_grid.specs.State.{State, edge_place, offset_values, HasNoCells, HasNoCellsOn, HasNoOffsetsAt}
+use Rattle.tabled_places.specs.declared.keys.EdgePlace.{EdgePlace}
+use Rattle.tabled_object.specs.declared.offset.Offset.{Offset}
+use Rattle.tabled_places.specs.declared.place.LineOf.{LineOf}
+use Rattle.tabled_places.specs.declared.site.Direction.{Direction}
+use Rattle.tabled_places.specs.declared.site.Direction.TheVariants.{Horizontal, Vertical}
+use Rattle.tabled_places.specs.declared.site.Spot.TheVariants.{Edge}
+use Rattle.tabled_places.specs.Reading.{direction_of}
+use Rattle.tabled_places.specs.State.{State, edge_place, offset_values, HasNoCells, HasNoCellsOn, HasNoOffsetsAt}
 use Rattle.tabled_configuration.specs.Configuration.{Configuration}
 
 -- nothing is kept for a single edge or crossing: neither a character nor, where colors are wanted, a color

@@ -1,10 +1,10 @@
 -- What stands beside rows, and what is kept of it.
 use Rattle.std.specs.Prelude.{ℕ, Bool, if◌then◌else◌, Option, Some, None, List, [], ◌∷◌}
-use Rattle.tabled_grid.specs.declared.place.Place.{Place}
-use Rattle.tabled_grid.specs.declared.place.LineOf.{LineOf}
-use Rattle.tabled_grid.specs.Drawn.{drawn}
-use Rattle.tabled_grid.specs.State.{state_at}
-use Rattle.tabled_grid.specs.Value.{plain_value}
+use Rattle.tabled_places.specs.declared.place.Place.{Place}
+use Rattle.tabled_places.specs.declared.place.LineOf.{LineOf}
+use Rattle.tabled_places.specs.Drawn.{drawn}
+use Rattle.tabled_places.specs.State.{state_at}
+use Rattle.tabled_places.specs.Value.{plain_value}
 use Rattle.tabled_configuration.specs.Configuration.{Configuration, all_writes, characters_of}
 use Rattle.tabled_printing.specs.Picture.{Look, Shown, mark_at}
 

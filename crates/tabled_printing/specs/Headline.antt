@@ -1,6 +1,6 @@
 -- What stands after any list of options.
 use Rattle.std.specs.Prelude.{ℕ, List, []}
-use Rattle.tabled_grid.specs.declared.place.LineOf.{LineOf}
+use Rattle.tabled_places.specs.declared.place.LineOf.{LineOf}
 use Rattle.tabled_configuration.specs.Configuration.{ConfigEvent}
 use Rattle.tabled_configuration.specs.Colored.{Colored, Shows, Changes}
 use Rattle.tabled_configuration.specs.Options.{MakesInTurn}

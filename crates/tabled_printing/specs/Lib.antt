@@ -1,4 +1,3 @@
-pub mod Texts
 pub mod Pieces
 pub mod Along
 pub mod Picture

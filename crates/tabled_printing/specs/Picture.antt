@@ -1,14 +1,14 @@
 -- The picture of a table and its text.
 use Rattle.std.specs.Prelude.{ℕ, Bool, Option, if◌then◌else◌, List, [], ◌∷◌, ◌++◌, map, unwrap_or, slice_index_or, encode_utf8_all}
 use Rattle.std.specs.List.{flat_map, join_with_byte}
-use Rattle.tabled_grid.specs.declared.place.Place.{Place}
-use Rattle.tabled_grid.specs.declared.place.LineOf.{LineOf}
-use Rattle.tabled_grid.specs.Event.{replay}
-use Rattle.tabled_grid.specs.Value.{value}
-use Rattle.tabled_grid.specs.Drawn.{drawn}
+use Rattle.tabled_places.specs.declared.place.Place.{Place}
+use Rattle.tabled_places.specs.declared.place.LineOf.{LineOf}
+use Rattle.tabled_places.specs.Event.{replay}
+use Rattle.tabled_places.specs.Value.{value}
+use Rattle.tabled_places.specs.Drawn.{drawn}
 use Rattle.tabled_border.specs.Texts.{Texts}
 use Rattle.tabled_configuration.specs.Configuration.{ConfigEvent, characters_of, colors_of}
-use Rattle.tabled_printing.specs.Texts.{Table, pieces}
+use Rattle.tabled_width.specs.Texts.{Table, pieces}
 use Rattle.tabled_object.specs.Entities.{below}
 use Rattle.tabled_printing.specs.Along.{is_empty, along}
 

@@ -6,7 +6,7 @@ use Rattle.std.specs.declared.io.ErrorKind.TheVariants as io
 use Rattle.tabled_printing.specs.declared.print_error.PrintError.{PrintError}
 use Rattle.tabled_configuration.specs.Configuration.{Configuration}
 pub use Rattle.tabled_configuration.specs.Configuration.{has_no_spans}
-use Rattle.tabled_printing.specs.Texts.{Table, pieces, width_of_text}
+use Rattle.tabled_width.specs.Texts.{Table, pieces, width_of_text}
 
 -- of which kind a refusal is among the errors of input and output: one of memory, or of what was given
 abbrev pub kind_of : PrintError → ErrorKind

@@ -1,7 +1,7 @@
 //! Whether nothing is kept for single places, or for single lines, so that what they show need not be looked up for each.
 
 ghost use Rattle.std.specs.Prelude.{◌↔◌, IsTrue};
-ghost use Rattle.tabled_grid.specs.Probing.{IsRaised};
+ghost use Rattle.tabled_kept.specs.Probing.{IsRaised};
 ghost use Rattle.tabled_printing.specs.Alike.{HasNoEdges, NoneBeside, NoneForCells, NoneForColumns, NoneOnLine, NoOffsetsAt};
 
 use tabled_configuration::SpannedConfig;

@@ -3,10 +3,10 @@
 ghost use Rattle.std.specs.Prelude.{◌≡◌, ◌↔◌, ◌+◌, ◌*◌, ◌≤◌, ◌<◌, ◌++◌, true, false, IsTrue, IsFalse, IfOk, length, map, option_map};
 ghost use Rattle.std.specs.Coded.{codes};
 ghost use Rattle.std.specs.FinMap as finmap;
-ghost use Rattle.tabled_grid.specs.declared.place.LineOf.{LineOf as Line};
-ghost use Rattle.tabled_grid.specs.declared.place.Place.{Place as Spot};
-ghost use Rattle.tabled_grid.specs.declared.site.Direction.TheVariants.{Vertical};
-ghost use Rattle.tabled_grid.specs.Probing.{IsRaised};
+ghost use Rattle.tabled_places.specs.declared.place.LineOf.{LineOf as Line};
+ghost use Rattle.tabled_places.specs.declared.place.Place.{Place as Spot};
+ghost use Rattle.tabled_places.specs.declared.site.Direction.TheVariants.{Vertical};
+ghost use Rattle.tabled_kept.specs.Probing.{IsRaised};
 ghost use Rattle.tabled_object.specs.Entities.{below};
 ghost use Rattle.tabled_printing.specs.Along.{is_empty};
 ghost use Rattle.tabled_printing.specs.Alike.{IsBareLine, NoOffsetsAt, NoneForColumns};
@@ -20,7 +20,7 @@ use crate::alike::{has_no_offsets_at, has_none_for_cells, has_none_for_columns, 
 use crate::mark::{mark_seen, plain_mark};
 use crate::sink::Sink;
 use crate::walk::Walk;
-use crate::{Mark, Run, Sides};
+use crate::{Mark, RowSides, Run};
 use tabled_border::OutOfMemory;
 use tabled_configuration::SpannedConfig;
 use tabled_grid::{Direction, LineOf, Place};
@@ -48,7 +48,7 @@ pub struct Frame<'a, 'b, D, M = Probes> {
     /// Whether colors are wanted.
     pub with_colors: bool,
     /// What vertical lines show beside rows.
-    pub sides: Sides<'a>,
+    pub sides: RowSides<'a>,
     /// Whether no vertical line is a custom one.
     pub has_plain_columns: bool,
     ghost has_places: { is_empty shape ≡ false },
@@ -60,7 +60,7 @@ pub struct Frame<'a, 'b, D, M = Probes> {
 impl<'a, 'b, D: Dimension> Frame<'a, 'b, D> {
     ghost use Rattle.tabled_printing.specs.Viewed.{frame_look};
 
-    /// The frame of a table that has rows and columns.
+    /// Makes the frame of a table that has rows and columns.
     pub fn new(
         cfg: &'a SpannedConfig,
         dims: &'b D,
@@ -75,7 +75,7 @@ impl<'a, 'b, D: Dimension> Frame<'a, 'b, D> {
     {
         let has_plain_columns = has_none_for_columns(cfg, with_colors);
         let by_rank = has_plain_columns && has_none_for_cells(cfg, with_colors);
-        let sides = Sides::of(cfg, shape, with_colors, by_rank)?;
+        let sides = RowSides::of(cfg, shape, with_colors, by_rank)?;
         Ok(Frame {
             cfg,
             dims,
@@ -86,7 +86,7 @@ impl<'a, 'b, D: Dimension> Frame<'a, 'b, D> {
         })
     }
 
-    /// Whether a horizontal line is drawn.
+    /// Returns whether a horizontal line is drawn.
     #[tactic(auto, using(crate::proofs::LookLemmas::kept_drawn))]
     pub fn draws(&self, row: usize) -> bool
         ensures { result ≡ (frame_look D.width_of D.height_of self.now).horizontal row }
@@ -105,7 +105,7 @@ impl<'a, 'b, D: Dimension> Frame<'a, 'b, D> {
         mark_seen(self.cfg, self.shape, place, size, self.with_colors, probes)
     }
 
-    /// Whether something is kept at an offset of a vertical line beside a row.
+    /// Returns whether something is kept at an offset of a vertical line beside a row.
     pub fn has_offsets_beside(&self, row: usize) -> bool
         ensures { IsFalse result ↔ NoOffsetsAt self.now.cfg.now self.now.with_colors Vertical row }
     {
@@ -113,7 +113,8 @@ impl<'a, 'b, D: Dimension> Frame<'a, 'b, D> {
         !has_no_offsets_at(self.cfg, Direction::Vertical, row, self.with_colors, probes)
     }
 
-    /// What a vertical line shows at line `at` of the text of a row, if the line is drawn, where it is known whether the row has offsets.
+    /// Returns what a vertical line shows at line `at` of the text of a row, if the line is drawn, where it is known whether the row has
+    /// offsets.
     #[inline(always)]
     #[tactic(auto, using(crate::proofs::AlikeLemmas::side_drawn, crate::proofs::AlikeLemmas::drawn_mark, crate::proofs::AlikeLemmas::side_as_first))]
     pub fn side(&self, row: usize, col: usize, at: usize, has_offsets: bool) -> Option<Mark<'a>>
@@ -130,12 +131,12 @@ impl<'a, 'b, D: Dimension> Frame<'a, 'b, D> {
         Some(self.side_seen(row, col, at))
     }
 
-    /// How many bytes the characters of the vertical lines take beside one line of text of the first row. It saturates.
+    /// Returns how many bytes the characters of the vertical lines take beside one line of text of the first row. It saturates.
     pub fn side_bytes(&self) -> usize {
         self.sides.bytes()
     }
 
-    /// How many columns the table is long with its lines. Refused where no number says it.
+    /// Returns how many columns the table is long with its lines. Refused where no number says it.
     pub fn count_columns(&self) -> Result<usize, OutOfMemory>
         ensures { IfOk result (λ count. count ≡ length (marks_along (frame_look D.width_of D.height_of self.now) (Line.Horizontal 0))) }
     {
@@ -144,7 +145,7 @@ impl<'a, 'b, D: Dimension> Frame<'a, 'b, D> {
         Ok(count)
     }
 
-    /// How many lines of text the table is high. Refused where no number says it.
+    /// Returns how many lines of text the table is high. Refused where no number says it.
     pub fn count_lines(&self) -> Result<usize, OutOfMemory>
         ensures { IfOk result (λ count. count ≡ length (marks_along (frame_look D.width_of D.height_of self.now) (Line.Vertical 0))) }
     {
@@ -166,7 +167,7 @@ impl<'a, 'b, D: Dimension> Frame<'a, 'b, D> {
 impl<'a, 'b, D: Dimension, M: Meter> Frame<'a, 'b, D, M> {
     ghost use Rattle.tabled_printing.specs.Viewed.{frame_look};
 
-    /// Whether nothing is kept for a single place of a horizontal line, so that its edges look alike: at most four readings.
+    /// Returns whether nothing is kept for a single place of a horizontal line, so that its edges look alike: at most four readings.
     pub fn is_bare_line(&self, row: usize, probes: &mut M) -> bool
         ensures value { IsTrue result ↔ IsBareLine self.now.cfg.now self.now.with_colors row }
         ensures probes { IsRaised 4 (M.made probes.old) (M.made probes.new) }

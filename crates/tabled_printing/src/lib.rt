@@ -4,8 +4,6 @@
 #![tactic(auto)]
 
 mod alike;
-mod columns;
-mod crossing;
 mod frame;
 mod line_parts;
 mod line_pieces;
@@ -14,21 +12,17 @@ mod marks;
 mod print;
 mod print_error;
 mod refusals;
-mod repeat;
 mod seen;
 mod sides;
 mod sink;
 mod walk;
 
-pub use columns::draws_plainly;
-pub use crossing::push_after;
 pub use frame::Frame;
 pub use line_pieces::{crossing_line, crossing_of, edge_of, has_line, piece_size, pieces_of};
 pub use mark::{Mark, Run};
 pub use marks::{line_marks, line_runs};
 pub use print::{join_lines, print_plain};
 pub use print_error::PrintError;
-pub use repeat::{piece_of, push_times};
 pub use seen::{Seen, character_seen, color_seen, headline, line_seen};
-pub use sides::{Side, SideMarks, Sides};
+pub use sides::{RowSide, RowSides, SideMarks};
 pub use sink::Sink;

@@ -1,8 +1,8 @@
 //! Parts of a horizontal line, for who puts something else in the place of others.
 
 ghost use Rattle.std.specs.Prelude.{◌≤◌, ◌<◌, ◌+◌, ◌*◌, length, map};
-ghost use Rattle.tabled_grid.specs.declared.place.LineOf.{LineOf as Line};
-ghost use Rattle.tabled_grid.specs.Probing.{IsRaised};
+ghost use Rattle.tabled_places.specs.declared.place.LineOf.{LineOf as Line};
+ghost use Rattle.tabled_kept.specs.Probing.{IsRaised};
 ghost use Rattle.tabled_printing.specs.LinePieces.{crossing_places, piece_places};
 ghost use Rattle.tabled_printing.specs.Picture.{mark_at};
 ghost use Rattle.tabled_printing.specs.Sinks.{Put};

@@ -6,7 +6,7 @@ ghost use Rattle.tabled_printing.specs.LinePieces.{has_line, pieces_of, piece_si
 use tabled_grid::{LineOf, Place};
 use tabled_object::Dimension;
 
-/// Whether a table of `shape.0` rows and `shape.1` columns has places, and the line is not past the one that closes it.
+/// Returns whether a table of `shape.0` rows and `shape.1` columns has places, and the line is not past the one that closes it.
 pub fn has_line(shape: (usize, usize), line: LineOf) -> bool
     ensures { result ≡ has_line shape line }
 {
@@ -19,7 +19,7 @@ pub fn has_line(shape: (usize, usize), line: LineOf) -> bool
         }
 }
 
-/// How many columns, or rows, a line is long. It has as many edges, and meets one line of the other direction more.
+/// Returns how many columns, or rows, a line is long. It has as many edges, and meets one line of the other direction more.
 pub fn pieces_of(shape: (usize, usize), line: LineOf) -> usize
     ensures { result ≡ pieces_of shape line }
 {
@@ -29,7 +29,7 @@ pub fn pieces_of(shape: (usize, usize), line: LineOf) -> usize
     }
 }
 
-/// How many places the edge of a line has over column `n`, or beside row `n`.
+/// Returns how many places the edge of a line has over column `n`, or beside row `n`.
 pub fn piece_size<D: Dimension>(dims: &D, line: LineOf, n: usize) -> usize
     ensures { result ≡ piece_size (D.width_of dims.now) (D.height_of dims.now) line n }
 {
@@ -39,7 +39,7 @@ pub fn piece_size<D: Dimension>(dims: &D, line: LineOf, n: usize) -> usize
     }
 }
 
-/// The line of the other direction with number `n`.
+/// Returns the line of the other direction with number `n`.
 pub fn crossing_line(line: LineOf, n: usize) -> LineOf
     ensures { result ≡ crossing_line line n }
 {
@@ -49,7 +49,7 @@ pub fn crossing_line(line: LineOf, n: usize) -> LineOf
     }
 }
 
-/// The place at which a line and line `n` of the other direction cross.
+/// Returns the place at which a line and line `n` of the other direction cross.
 pub fn crossing_of(line: LineOf, n: usize) -> Place
     ensures { result ≡ crossing_of line n }
 {

@@ -1,7 +1,7 @@
 //! What the places along a line show, in order, as lists.
 
 ghost use Rattle.std.specs.Prelude.{◌≡◌, ◌+◌, ◌*◌, List, IfOk, length, map};
-ghost use Rattle.tabled_grid.specs.Probing.{IsRaised};
+ghost use Rattle.tabled_kept.specs.Probing.{IsRaised};
 ghost use Rattle.tabled_configuration.specs.Configuration.{ConfigEvent, Shows, all_writes};
 ghost use Rattle.tabled_printing.specs.LinePieces.{lines_met};
 ghost use Rattle.tabled_printing.specs.Marks.{mark_of, marks_of};
@@ -44,7 +44,7 @@ fn put_line<'a, D: Dimension, S: Sink<'a>, M: Meter>(
     walk.put_all(sink, probes)
 }
 
-/// What each place along a line of a table shows, in order, whether the line is drawn or not: `shape` is the number of the
+/// Returns what each place along a line of a table shows, in order, whether the line is drawn or not: `shape` is the number of the
 /// table's rows and of its columns. A line past the last one, and one of a table without rows or columns, has no places. At most
 /// twelve readings are made for each place, and six for each line that meets this one, drawn or not, by a meter of any type; only memory
 /// can be refused.
@@ -63,7 +63,7 @@ pub fn line_marks<'a, D: Dimension, M: Meter>(
     Ok(marks)
 }
 
-/// The same marks as runs: an edge where no offset is kept is one run, which is looked up once, and else each place is one of
+/// Returns the marks of a line as runs: an edge where no offset is kept is one run, which is looked up once, and else each place is one of
 /// its own.
 pub fn line_runs<'a, D: Dimension, M: Meter>(
     cfg: &'a SpannedConfig<M>,

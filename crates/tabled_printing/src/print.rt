@@ -3,8 +3,8 @@
 ghost use Rattle.std.specs.Prelude.{◌≡◌, ℕ, ◌≤◌, ◌<◌, ◌++◌, [], ◌∷◌, false, OnOk, OnErr, IfOk, MatchOption, IsOkUnless, List, length, map, string_bytes, slice_index_or};
 ghost use Rattle.std.specs.List.{All, flat_map, join_with_byte};
 ghost use Rattle.tabled_configuration.specs.Configuration.{ConfigEvent, Shows, all_writes};
-ghost use Rattle.tabled_printing.specs.Texts.{Appends, texts};
-ghost use Rattle.tabled_grid.specs.declared.site.Direction.TheVariants.{Vertical};
+ghost use Rattle.tabled_width.specs.Texts.{Appends, texts};
+ghost use Rattle.tabled_places.specs.declared.site.Direction.TheVariants.{Vertical};
 ghost use Rattle.tabled_printing.specs.Alike.{NoOffsetsAt};
 ghost use Rattle.tabled_printing.specs.Pieces.{lent, first_piece, after_first_piece};
 ghost use Rattle.tabled_printing.specs.Picture.{look, text_shown, side_shown, line_of_pieces, row_lines, line_if_drawn, text_lines, printed};

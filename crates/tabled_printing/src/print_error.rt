@@ -21,7 +21,7 @@ pub enum PrintError {
     Spans,
     /// There are not as many rows of cells as the table has rows.
     RowCount,
-    /// This row, counted from 0, does not have as many cells as the table has columns.
+    /// The row of this number, counted from 0, does not have as many cells as the table has columns.
     ColumnCount(usize),
     /// The text of the cell at this row and column does not have as many lines as its row is high.
     Height(usize, usize),

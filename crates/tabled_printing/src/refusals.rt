@@ -2,7 +2,7 @@
 
 ghost use Rattle.std.specs.Prelude.{◌≡◌, ◌==◌, length, map, slice_get, string_bytes};
 ghost use Rattle.std.specs.List.{list_all};
-ghost use Rattle.tabled_printing.specs.Texts.{texts, pieces, width_of_text};
+ghost use Rattle.tabled_width.specs.Texts.{texts, pieces, width_of_text};
 ghost use Rattle.tabled_printing.specs.Refusal as refusal;
 ghost use Rattle.tabled_printing.specs.Refusal.{fits_height, cell_faults, row_faults, table_faults};
 

@@ -1,16 +1,16 @@
 //! The headline of the library, as the contract of one call.
 
 ghost use Rattle.std.specs.Prelude.{◌≡◌, ◌++◌, List, [], OnOk, OnErr, IsTrue, IsOkUnless, option_copied, string_bytes};
-ghost use Rattle.tabled_grid.specs.Event.{replay};
-ghost use Rattle.tabled_grid.specs.Probing.{IsRaised};
-ghost use Rattle.tabled_grid.specs.Value.{value};
-ghost use Rattle.tabled_grid.specs.Drawn.{drawn};
+ghost use Rattle.tabled_places.specs.Event.{replay};
+ghost use Rattle.tabled_kept.specs.Probing.{IsRaised};
+ghost use Rattle.tabled_places.specs.Value.{value};
+ghost use Rattle.tabled_places.specs.Drawn.{drawn};
 ghost use Rattle.tabled_configuration.specs.Configuration.{ConfigEvent, characters_of, colors_of};
 ghost use Rattle.tabled_configuration.specs.Colored.{Colored};
 ghost use Rattle.tabled_printing.specs.Headline.{HaveMade, line_count};
 ghost use Rattle.tabled_printing.specs.Picture.{edge_size, printed};
 ghost use Rattle.tabled_printing.specs.Refusal.{has_no_spans, table_faults};
-ghost use Rattle.tabled_printing.specs.Texts.{texts};
+ghost use Rattle.tabled_width.specs.Texts.{texts};
 
 use crate::{PrintError, print_plain};
 use tabled_border::ANSIBuf;
@@ -32,7 +32,7 @@ pub struct Seen<'a> {
     pub printed: Result<(), PrintError>,
 }
 
-/// The character of a place after any list of options: that of the latest write, not erased since, of the highest level there,
+/// Returns the character of a place after any list of options: that of the latest write, not erased since, of the highest level there,
 /// found by at most six readings. `size` is how long the edge of the place is. It is written for every type of meters, so the
 /// readings that it makes are counted by the one that is lent.
 pub fn character_seen<M: Meter>(
@@ -49,7 +49,7 @@ pub fn character_seen<M: Meter>(
     cfg.char_at(place, shape, size, probes)
 }
 
-/// The color of a place after any list of options, likewise.
+/// Returns the color of a place after any list of options, found by at most six readings.
 pub fn color_seen<'a, M: Meter>(
     cfg: &'a SpannedConfig<M>,
     place: Place,
@@ -64,7 +64,7 @@ pub fn color_seen<'a, M: Meter>(
     cfg.color_at(place, shape, size, probes)
 }
 
-/// Whether a line, of the lines 0 to `count` of its direction, is drawn after any list of options, likewise.
+/// Returns whether a line, of the lines 0 to `count` of its direction, is drawn after any list of options, found by at most six readings.
 pub fn line_seen<M: Meter>(
     cfg: &SpannedConfig<M>,
     line: LineOf,
@@ -78,7 +78,7 @@ pub fn line_seen<M: Meter>(
     cfg.draws(line, count, probes)
 }
 
-/// The headline. After any list of options on a table of one shape, each edge place and crossing has, found by at most six
+/// Returns the headline. After any list of options on a table of one shape, each edge place and crossing has, found by at most six
 /// readings, the character and the color of the latest write, not erased since, of the highest level there; a line is drawn
 /// where these writes draw it; and where no spans are set and the cells fit, the printer appends exactly that picture around
 /// the cells, or refuses for memory alone.

@@ -18,7 +18,7 @@ use tabled_kept::Probes;
 
 /// What a vertical line shows beside rows.
 #[derive(Clone, Copy, Debug)]
-pub struct Side<'a> {
+pub struct RowSide<'a> {
     /// What is kept for it beside the first row, without its offsets.
     pub mark: Mark<'a>,
     /// Whether it shows that beside each row without offsets, as nothing is kept for an edge of it by itself.
@@ -29,14 +29,14 @@ pub struct Side<'a> {
 #[derive(Debug, Drop)]
 pub enum SideMarks<'a> {
     /// What the first line shows, what those between show, which look alike, and what the last one shows.
-    ByRank(Option<Side<'a>>, Option<Side<'a>>, Option<Side<'a>>),
+    ByRank(Option<RowSide<'a>>, Option<RowSide<'a>>, Option<RowSide<'a>>),
     /// What each line shows.
-    Each(Vec<Option<Side<'a>>>),
+    Each(Vec<Option<RowSide<'a>>>),
 }
 
 /// What vertical lines show beside rows.
 #[derive(Debug, Drop)]
-pub struct Sides<'a> {
+pub struct RowSides<'a> {
     /// Their marks.
     pub marks: SideMarks<'a>,
     /// The number of the last line.
@@ -44,7 +44,7 @@ pub struct Sides<'a> {
     ghost counted: { mark_count (last + 1) marks ≡ last + 1 },
 }
 
-impl<'a> Sides<'a> {
+impl<'a> RowSides<'a> {
     ghost use Rattle.tabled_printing.specs.Sides.{AreSides, side_at};
 
     /// What is kept for each line without its offsets, beside the first row of a table.
@@ -67,18 +67,18 @@ impl<'a> Sides<'a> {
             let inner = kept_side(cfg, shape, 1, with_colors);
             let end = kept_side(cfg, shape, last, with_colors);
             let marks = SideMarks::ByRank(first, inner, end);
-            return Ok(Sides { marks, last });
+            return Ok(RowSides { marks, last });
         }
         let marks = one_by_one(cfg, shape, with_colors)?;
-        Ok(Sides {
+        Ok(RowSides {
             marks: SideMarks::Each(marks),
             last,
         })
     }
 
-    /// What a line shows, if it is drawn.
+    /// Returns what a line shows, if it is drawn.
     #[inline(always)]
-    pub fn at(&self, col: usize) -> &Option<Side<'a>>
+    pub fn at(&self, col: usize) -> &Option<RowSide<'a>>
         requires { col ≤ self.now.last }
         ensures { result.now ≡ side_at self.now col }
     {
@@ -105,7 +105,7 @@ impl<'a> Sides<'a> {
 }
 
 /// How many bytes the character of a line takes.
-fn bytes_of(side: &Option<Side>) -> usize {
+fn bytes_of(side: &Option<RowSide>) -> usize {
     match side {
         Some(side) => printed_as(side.mark.shown).len_utf8(),
         None => 0,
@@ -113,7 +113,7 @@ fn bytes_of(side: &Option<Side>) -> usize {
 }
 
 /// How many bytes the characters of lines take. It saturates.
-fn bytes_of_each(sides: &[Option<Side>]) -> usize {
+fn bytes_of_each(sides: &[Option<RowSide>]) -> usize {
     let mut bytes = 0usize;
     for side in sides {
         bytes = bytes.saturating_add(bytes_of(side));
@@ -128,7 +128,7 @@ pub(crate) fn kept_side<'a>(
     shape: (usize, usize),
     col: usize,
     with_colors: bool,
-) -> Option<Side<'a>>
+) -> Option<RowSide<'a>>
     requires shape { is_empty shape ≡ false }
     requires col { col ≤ shape.1 }
     ensures mark { option_map side_mark result ≡ plain_side cfg.now with_colors shape col }
@@ -140,7 +140,7 @@ pub(crate) fn kept_side<'a>(
         return None;
     }
     let place = Place::Vertical { row: 0, col, at: 0 };
-    Some(Side {
+    Some(RowSide {
         mark: plain_mark(cfg, shape, place, with_colors, probes),
         is_alike: has_none_beside(cfg, shape.0, col, with_colors),
     })
@@ -151,7 +151,7 @@ fn one_by_one<'a>(
     cfg: &'a SpannedConfig,
     shape: (usize, usize),
     with_colors: bool,
-) -> Result<Vec<Option<Side<'a>>>, OutOfMemory>
+) -> Result<Vec<Option<RowSide<'a>>>, OutOfMemory>
     requires shape { is_empty shape ≡ false }
     ensures marks { IfOk result (λ sides. map (option_map side_mark) sides.items ≡ map (plain_side cfg.now with_colors shape) (below (shape.1 + 1))) }
     ensures alike { IfOk result (λ sides. (c : ℕ) → ForSome (slice_index_or sides.items c None) (IsAlikeSide cfg.now with_colors shape.0 c)) }

@@ -7,9 +7,10 @@ ghost use Rattle.tabled_printing.specs.Sinks.{Put};
 ghost use Rattle.tabled_printing.specs.Sinks as gains;
 
 use crate::mark::printed_as;
-use crate::{Mark, Run, push_after, push_times};
+use crate::{Mark, Run};
 use std::alloc::AllocError;
 use tabled_border::OutOfMemory;
+use tabled_width::{push_after, push_times};
 
 /// What marks are put into, run by run.
 pub trait Sink<'a> {

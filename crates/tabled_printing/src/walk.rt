@@ -3,7 +3,7 @@
 
 ghost use Rattle.std.specs.Prelude.{◌≡◌, ℕ, ◌+◌, ◌*◌, ◌≤◌, ◌<◌, true, false, IsFalse, is_some, length, map};
 ghost use Rattle.std.specs.Option.{ForSome};
-ghost use Rattle.tabled_grid.specs.Probing.{IsRaised};
+ghost use Rattle.tabled_kept.specs.Probing.{IsRaised};
 ghost use Rattle.tabled_configuration.specs.Configuration.{all_writes};
 ghost use Rattle.tabled_printing.specs.Alike.{NoOffsetsAlong};
 ghost use Rattle.tabled_printing.specs.LinePieces.{has_line, pieces_of, piece_size, crossed_after, edge_of, crossing_places, edge_places, piece_places, all_places};
@@ -15,7 +15,7 @@ use crate::alike::has_no_offsets_at;
 use crate::line_pieces::{crossing_line, crossing_of, edge_of, piece_size, pieces_of};
 use crate::mark::{mark_seen, plain_mark};
 use crate::sink::Sink;
-use crate::{Run, Sides};
+use crate::{RowSides, Run};
 use tabled_configuration::SpannedConfig;
 use tabled_grid::{Direction, LineOf};
 use tabled_kept::{Meter, Probes};
@@ -29,7 +29,7 @@ pub(crate) struct Walk<'a, 'b, 'c, D, M = Probes> {
     pub(crate) shape: (usize, usize),
     pub(crate) line: LineOf,
     /// Which of the lines that it meets are drawn, where that was looked up.
-    pub(crate) sides: Option<&'c Sides<'a>>,
+    pub(crate) sides: Option<&'c RowSides<'a>>,
     pub(crate) with_colors: bool,
     ghost is_there: { has_line shape line ≡ true },
     ghost sides_end: { ForSome sides (λ kept. kept.now.last ≡ pieces_of shape line) },

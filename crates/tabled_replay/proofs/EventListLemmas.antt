@@ -3,16 +3,16 @@ use Rattle.std.proofs.Common.{◌≡◌, ℕ, Bool, true, false, cond, ◌||◌,
 use Rattle.std.specs.List.{list_any}
 use Rattle.std.proofs.lemmas.Bool.{le-leb, lt-leb}
 use Rattle.std.proofs.lemmas.List.{take_more, drop_all}
-use Rattle.tabled_grid.specs.declared.place.LineOf.{LineOf}
-use Rattle.tabled_grid.specs.declared.place.Place.{Place}
-use Rattle.tabled_grid.specs.declared.site.Site.{Site}
-use Rattle.tabled_grid.specs.Value.{inside, sites, first_sign, value}
-use Rattle.tabled_grid.specs.declared.event.Event.TheVariants.{Write as write}
-use Rattle.tabled_grid.specs.declared.event.Written.{Written}
-use Rattle.tabled_grid.specs.declared.event.Event.{Event}
-use Rattle.tabled_grid.specs.Event.{covers, left_by, replay}
-use Rattle.tabled_grid.specs.Drawn.{number, draws, written, drawn}
-use Rattle.tabled_grid.proofs.Replay.{replay-append, replay_one}
+use Rattle.tabled_places.specs.declared.place.LineOf.{LineOf}
+use Rattle.tabled_places.specs.declared.place.Place.{Place}
+use Rattle.tabled_places.specs.declared.site.Site.{Site}
+use Rattle.tabled_places.specs.Value.{inside, sites, first_sign, value}
+use Rattle.tabled_places.specs.declared.event.Event.TheVariants.{Write as write}
+use Rattle.tabled_places.specs.declared.event.Written.{Written}
+use Rattle.tabled_places.specs.declared.event.Event.{Event}
+use Rattle.tabled_places.specs.Event.{covers, left_by, replay}
+use Rattle.tabled_places.specs.Drawn.{number, draws, written, drawn}
+use Rattle.tabled_places.proofs.Replay.{replay-append, replay_one}
 
 -- one more event decides where it covers the site
 pub replay_last : {T : Type 0} (es : List (Event T)) (e : Event T) (q : Site) → replay (es ++ e ∷ []) q ≡ cond (covers q e) (left_by e) (replay es q)

@@ -4,17 +4,17 @@
 //! definitions of the events say. The tests of the store compare the two. Nothing else calls it.
 
 ghost use Rattle.std.specs.Prelude.{◌≡◌};
-ghost use Rattle.tabled_grid.specs.Site.{stands as stands_at, level as level_at, same_site};
-ghost use Rattle.tabled_grid.specs.Event.{within as is_within, covers as is_covering, replay as replayed};
-ghost use Rattle.tabled_grid.specs.Value.{value as value_at, first_sign as first_sign_at};
-ghost use Rattle.tabled_grid.specs.Drawn.{draws as is_drawing, drawn as is_drawn};
-ghost use Rattle.tabled_grid.specs.declared.place.LineOf.{LineOf as Line};
+ghost use Rattle.tabled_places.specs.Site.{stands as stands_at, level as level_at, same_site};
+ghost use Rattle.tabled_places.specs.Event.{within as is_within, covers as is_covering, replay as replayed};
+ghost use Rattle.tabled_places.specs.Value.{value as value_at, first_sign as first_sign_at};
+ghost use Rattle.tabled_places.specs.Drawn.{draws as is_drawing, drawn as is_drawn};
+ghost use Rattle.tabled_places.specs.declared.place.LineOf.{LineOf as Line};
 
 use tabled_grid::{
     Class, Direction, Event, LineOf, Offset, Part, Place, Rank, Region, Site, Spot, Written,
 };
 
-/// What a list of events leaves at a site.
+/// Returns what a list of events leaves at a site.
 pub fn replay(events: &[Event<char>], site: Site) -> Option<Written<char>>
     ensures { result ≡ replayed events.now site }
 {
@@ -30,7 +30,7 @@ pub fn replay(events: &[Event<char>], site: Site) -> Option<Written<char>>
     found
 }
 
-/// The value of a place, in a table of `shape.0` rows and `shape.1` columns, where its edge is `size` characters long.
+/// Returns the value of a place, in a table of `shape.0` rows and `shape.1` columns, where its edge is `size` characters long.
 pub fn value(
     events: &[Event<char>],
     shape: (usize, usize),
@@ -83,7 +83,7 @@ pub fn value(
     }
 }
 
-/// Whether a line is drawn, of the lines 0 to `count` of its direction.
+/// Returns whether a line is drawn, of the lines 0 to `count` of its direction.
 pub fn drawn(events: &[Event<char>], count: usize, line: LineOf) -> bool
     ensures { result ≡ is_drawn events.now count line }
 {

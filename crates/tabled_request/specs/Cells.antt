@@ -5,7 +5,7 @@ use Rattle.std.specs.Str.{bytes_eq}
 use Rattle.tabled_request.specs.Columns.{is_comma}
 use Rattle.tabled_request.specs.Numerals.{number_of}
 use Rattle.tabled_request.specs.declared.cells.NamedCells.{NamedCells}
-use Rattle.tabled_request.specs.declared.cells.Part.{Part}
+use Rattle.tabled_request.specs.declared.cells.Choice.{Choice}
 
 abbrev pub is_colon : ℕ → Bool
 is_colon b = b == 58
@@ -23,11 +23,11 @@ is_next (Some number) n = number == n + 1
 abbrev pub is_part : List ℕ → Bool
 is_part word = bytes_eq word (codes "*") || is_from_one (number_of word)
 
-abbrev pub part_of : List ℕ → Part
+abbrev pub part_of : List ℕ → Choice
 part_of word = record { is_all = bytes_eq word (codes "*"); number = number_of word }
 
 -- whether the row or the column of that number, counted from 0, is one of them
-abbrev pub has : Part → ℕ → Bool
+abbrev pub has : Choice → ℕ → Bool
 has part n = part.is_all || is_next part.number n
 
 -- whether a part of a word names cells: by a row and a column with a colon between them

@@ -5,8 +5,8 @@ use Rattle.tabled_numbers.specs.Columns.{column_count, is_numeric}
 use Rattle.tabled_request.specs.Columns.{names_column}
 use Rattle.tabled_request.specs.Words.{word_at}
 use Rattle.tabled_request.specs.declared.request.Request.{Request}
-use Rattle.tabled_request.specs.declared.sides.Side.{Side}
-use Rattle.tabled_request.specs.declared.sides.Side.TheVariants.{Left, Center, Right}
+use Rattle.tabled_request.specs.declared.sides.ColumnSide.{ColumnSide}
+use Rattle.tabled_request.specs.declared.sides.ColumnSide.TheVariants.{Left, Center, Right}
 
 -- the rows below the header
 abbrev pub below_header : Bool → List (List (List ℕ)) → List (List (List ℕ))
@@ -22,7 +22,7 @@ abbrev pub is_named : List (List ℕ) → Option ℕ → ℕ → Bool
 is_named words number col = in_word (word_at words number) col
 
 -- where the cells of a column stand: as the words say, and else at the right where it is one of numbers
-abbrev pub side_of : Request → List (List ℕ) → List (List (List ℕ)) → ℕ → Side
+abbrev pub side_of : Request → List (List ℕ) → List (List (List ℕ)) → ℕ → ColumnSide
 side_of request words rows col =
     if is_named words request.left col then Left
     else if is_named words request.center col then Center
@@ -31,5 +31,5 @@ side_of request words rows col =
     else Left
 
 -- where the cells of each column stand
-abbrev pub sides_of : Request → List (List ℕ) → List (List (List ℕ)) → List Side
+abbrev pub sides_of : Request → List (List ℕ) → List (List (List ℕ)) → List ColumnSide
 sides_of request words rows = map (side_of request words rows) (range_with_len 0 (column_count rows))

@@ -44,19 +44,19 @@ fn is_part(word: &str) -> bool
 
 /// What a word stands for, of all rows or all columns.
 #[derive(Clone, Copy, Debug, PartialEq, Eq)]
-pub struct Part {
+pub struct Choice {
     /// All of them.
     is_all: bool,
     /// The one of this number, counted from 1.
     number: Option<usize>,
 }
 
-impl Part {
+impl Choice {
     /// What a word stands for.
-    fn of(word: &str) -> Part
+    fn of(word: &str) -> Choice
         ensures { result ≡ part_of word.now }
     {
-        Part {
+        Choice {
             is_all: is_star(word),
             number: number_of(word),
         }
@@ -73,8 +73,8 @@ impl Part {
 /// The cells that a part of a word names: those in these rows and these columns.
 #[derive(Clone, Copy, Debug, PartialEq, Eq)]
 pub struct NamedCells {
-    rows: Part,
-    cols: Part,
+    rows: Choice,
+    cols: Choice,
 }
 
 /// What stands before the first colon of a text, and what stands after it; without one the whole text, and nothing.
@@ -104,20 +104,20 @@ fn cells_of(part: &str) -> NamedCells
 {
     let (rows, cols) = cut(part);
     NamedCells {
-        rows: Part::of(rows),
-        cols: Part::of(cols),
+        rows: Choice::of(rows),
+        cols: Choice::of(cols),
     }
 }
 
-/// Whether each part of a word, between commas, names cells: by a row and a column with a colon between them, each a number from 1 on, or a
-/// star for all.
+/// Returns whether each part of a word, between commas, names cells: by a row and a column with a colon between them, each a number from 1
+/// on, or a star for all.
 pub fn are_cells(word: &str) -> bool
     ensures { result ≡ are_cells word.now }
 {
     word.split(',').all(|part| is_cell(part))
 }
 
-/// The cells that each part of a word names, between commas.
+/// Returns the cells that each part of a word names, between commas.
 pub fn named_cells(alloc: Global, word: &str) -> Result<Vec<NamedCells>, AllocError>
     ensures { IfOk result (λ named. named.items ≡ named_cells word.now) }
 {
@@ -128,7 +128,7 @@ pub fn named_cells(alloc: Global, word: &str) -> Result<Vec<NamedCells>, AllocEr
     Ok(named)
 }
 
-/// Whether some part of a word names a cell, whose row and column are counted from 0 here.
+/// Returns whether some part of a word names a cell, whose row and column are counted from 0 here.
 pub fn are_named(named: &[NamedCells], row: usize, col: usize) -> bool
     ensures { result ≡ are_named named.now row col }
 {

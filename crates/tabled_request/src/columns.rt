@@ -57,14 +57,14 @@ fn is_in(range: Option<(usize, usize)>, col: usize) -> bool
     }
 }
 
-/// Whether each part of a word, between commas, names columns: by a number from 1 on, or by two with a dash between them.
+/// Returns whether each part of a word, between commas, names columns: by a number from 1 on, or by two with a dash between them.
 pub fn are_columns(word: &str) -> bool
     ensures { result ≡ are_columns word.now }
 {
     word.split(',').all(|part| range_named(part).is_some())
 }
 
-/// Whether some part of a word names a column, which is counted from 0 here.
+/// Returns whether some part of a word names a column, which is counted from 0 here.
 pub fn names_column(word: &str, col: usize) -> bool
     ensures { result ≡ names_column word.now col }
 {

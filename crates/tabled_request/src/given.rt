@@ -49,8 +49,8 @@ fn keep_word(words: &mut Vec<String>, bytes: &[u8]) -> Result<(), GivenError>
     Ok(())
 }
 
-/// The words after the program's name, one after the other, all of them and each whole. One that is no text of UTF-8, or has more than 4096
-/// bytes, is refused. Which they are no contract says, since that of `Env::arg` does not tell what an argument is.
+/// Returns the words after the program's name, one after the other, all of them and each whole. One that is no text of UTF-8, or has more
+/// than 4096 bytes, is refused. Which they are no contract says, since that of `Env::arg` does not tell what an argument is.
 pub fn all_words<E: Env>(alloc: Global, env: &E) -> Result<Vec<String>, GivenError>
     ensures at_most { IfOk result (λ words. All (λ text. length (string_bytes text) ≤ WORD_LIMIT) words.items) }
 {

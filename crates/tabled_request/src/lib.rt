@@ -21,6 +21,6 @@ pub use given::{GivenError, all_words};
 pub use numerals::number_of;
 pub use options::OptionName;
 pub use request::{FrameColor, Request, Shows};
-pub use sides::{Side, all_sides};
+pub use sides::{ColumnSide, all_sides};
 pub use surroundings::{Surroundings, told_by};
 pub use words::{read_words, word_at};

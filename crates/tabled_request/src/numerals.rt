@@ -33,7 +33,7 @@ pub(crate) fn number_in(bytes: &[u8]) -> Option<usize>
     Some(value_of(bytes))
 }
 
-/// The number that a word writes, if it is of digits alone. A number of more than 999,999,999 counts as that.
+/// Returns the number that a word writes, if it is of digits alone. A number of more than 999,999,999 counts as that.
 pub fn number_of(word: &str) -> Option<usize>
     ensures value { result ≡ number_of word.now }
     ensures at_most { IfSome result (λ number. number ≤ MOST) }

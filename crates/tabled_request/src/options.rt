@@ -59,7 +59,7 @@ pub enum OptionName {
 }
 
 impl OptionName {
-    /// All options.
+    /// Returns all options.
     pub fn all() -> [OptionName; 25]
         ensures { result ≡ all_options }
     {
@@ -92,7 +92,7 @@ impl OptionName {
         ]
     }
 
-    /// The word that names the option.
+    /// Returns the word that names the option.
     #[tactic(auto, unfolding(crate::specs::Options::name_of))]
     pub fn name(self) -> &'static str
         ensures { result.now ≡ name_of self }
@@ -126,7 +126,7 @@ impl OptionName {
         }
     }
 
-    /// Whether the word after it is its value.
+    /// Returns whether the word after it is its value.
     pub fn takes_value(self) -> bool
         ensures { result ≡ takes_value self }
     {
@@ -159,7 +159,7 @@ impl OptionName {
         }
     }
 
-    /// The option that a word names, if it names one.
+    /// Returns the option that a word names, if it names one.
     pub fn from_name(word: &str) -> Option<OptionName>
         ensures { result ≡ option_named word.now }
     {

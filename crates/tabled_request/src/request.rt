@@ -30,7 +30,7 @@ pub enum FrameColor {
 }
 
 impl FrameColor {
-    /// The color of this name, in small letters.
+    /// Returns the color of this name, in small letters.
     pub fn from_name(name: &str) -> Option<FrameColor>
         ensures { result ≡ color_named name.now }
     {
@@ -98,7 +98,7 @@ pub struct Request {
 }
 
 impl Request {
-    /// What no words ask for.
+    /// Returns what no words ask for.
     pub fn of_no_words() -> Request
         ensures { result ≡ first_request }
     {

@@ -12,7 +12,7 @@ use tabled_numbers::{column_count, is_numeric};
 
 /// Where the cells of a column stand.
 #[derive(Clone, Copy, Debug, PartialEq, Eq)]
-pub enum Side {
+pub enum ColumnSide {
     /// At the left.
     Left,
     /// In the middle.
@@ -42,32 +42,32 @@ fn below_header(rows: &[Vec<String>], has_header: bool) -> &[Vec<String>]
 }
 
 /// Where the cells of a column stand: as the words say, and else at the right where they are numbers.
-fn side_of(request: Request, words: &[String], rows: &[Vec<String>], col: usize) -> Side
+fn side_of(request: Request, words: &[String], rows: &[Vec<String>], col: usize) -> ColumnSide
     ensures { result ≡ side_of request (map string_bytes words.now) (cells_of rows.now) col }
 {
     if is_named(words, request.left, col) {
-        return Side::Left;
+        return ColumnSide::Left;
     }
     if is_named(words, request.center, col) {
-        return Side::Center;
+        return ColumnSide::Center;
     }
     if is_named(words, request.right, col) {
-        return Side::Right;
+        return ColumnSide::Right;
     }
     if request.finds_numbers && is_numeric(below_header(rows, request.has_header), col) {
-        return Side::Right;
+        return ColumnSide::Right;
     }
-    Side::Left
+    ColumnSide::Left
 }
 
-/// Where the cells of each column stand: as the words say, and else at the right where those below the header are numbers or empty, one at
-/// least a number. Of the words that name a column, that for the left side comes first, then that for the middle.
+/// Returns where the cells of each column stand: as the words say, and else at the right where those below the header are numbers or empty,
+/// one at least a number. Of the words that name a column, that for the left side comes first, then that for the middle.
 pub fn all_sides(
     alloc: Global,
     request: Request,
     words: &[String],
     rows: &[Vec<String>],
-) -> Result<Vec<Side>, AllocError>
+) -> Result<Vec<ColumnSide>, AllocError>
     ensures { IfOk result (λ sides. sides.items ≡ sides_of request (map string_bytes words.now) (cells_of rows.now)) }
 {
     let mut all = Vec::new(alloc);

@@ -126,8 +126,8 @@ fn value<'a, E: Env>(env: &E, name: &str, room: &'a mut [u8; VALUE_LIMIT]) -> Op
     }
 }
 
-/// What the surroundings say. The terminal takes UTF-8 where the first of `LC_ALL`, `LC_CTYPE` and `LANG` that is set and not empty has
-/// `utf8` or `utf-8` in it, in large or small letters; colors are not wanted where `NO_COLOR` is set and not empty; and it has as many
+/// Returns what the surroundings say. The terminal takes UTF-8 where the first of `LC_ALL`, `LC_CTYPE` and `LANG` that is set and not empty
+/// has `utf8` or `utf-8` in it, in large or small letters; colors are not wanted where `NO_COLOR` is set and not empty; and it has as many
 /// columns as the number in `COLUMNS` says, from 1 on. Of a value of more than 256 bytes it is known that it is not empty.
 pub fn told_by<E: Env>(env: &E) -> Surroundings {
     told(Variables {

@@ -186,8 +186,8 @@ impl Reading {
     }
 }
 
-/// What words ask for. Refused with the first word that is wrong: one that begins with a dash and names no option, one that is no value of
-/// the option before it, a second file, or an option at the end whose value is missing.
+/// Returns what words ask for. Refused with the first word that is wrong: one that begins with a dash and names no option, one that is no
+/// value of the option before it, a second file, or an option at the end whose value is missing.
 pub fn read_words(words: &[String]) -> Result<Request, WordsError>
     ensures { result ≡ request_of (map string_bytes words.now) }
 {
@@ -204,7 +204,7 @@ pub fn read_words(words: &[String]) -> Result<Request, WordsError>
     }
 }
 
-/// The word that an option names by its number, if it does.
+/// Returns the word that an option names by its number, if it does.
 pub fn word_at(words: &[String], number: Option<usize>) -> Option<&str>
     ensures { option_map (λ word. word.now) result ≡ word_at (map string_bytes words.now) number }
 {

@@ -118,7 +118,7 @@ fn no_lists(alloc: Global, limit: usize) -> Result<Vec<Vec<Ask>>, AllocError>
     Ok(lists)
 }
 
-/// Those of some that ask over as many sizes each, by how many these are.
+/// The asks of some over as many sizes each, by how many these are.
 fn by_count(alloc: Global, asks: &[Ask], limit: usize) -> Result<Vec<Vec<Ask>>, AllocError>
     ensures { IfOk result (λ lists. map (λ list. list.items) lists.items ≡ map (over_count asks.now) (range_with_len 0 limit)) }
 {

@@ -10,9 +10,9 @@ use std::alloc::{AllocError, Global};
 /// A cell that is shown, and where what it takes ends: before which row and which column, as far as the table goes.
 #[derive(Clone, Copy, Debug, PartialEq, Eq)]
 pub struct Host {
-    /// Its row.
+    /// The row of the host, counted from 0.
     pub row: usize,
-    /// Its column.
+    /// The column of the host, counted from 0.
     pub col: usize,
     /// The row before which it ends.
     pub bottom: usize,
@@ -28,7 +28,7 @@ const NONE: Host = Host {
     right: 0,
 };
 
-/// No hosts, for so many columns: there is no row above the first one.
+/// Returns a row of no hosts, for so many columns: there is no row above the first one.
 pub fn no_hosts(alloc: Global, cols: usize) -> Result<Vec<Host>, AllocError>
     ensures count { IfOk result (λ hosts. length hosts.items ≡ cols) }
     ensures none { IfOk result (λ hosts. hosts.items ≡ replicate cols NONE) }

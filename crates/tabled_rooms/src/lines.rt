@@ -30,7 +30,7 @@ pub(crate) fn sum_of(first: usize, second: usize) -> Result<usize, AllocError>
     first.checked_add(second).ok_or(AllocError)
 }
 
-/// Which line of a table begins each row, where the lines below the top line have the numbers from 0 on: first row 0, and last
+/// Returns which line of a table begins each row, where the lines below the top line have the numbers from 0 on: first row 0, and last
 /// one past the last row. Refused where no number says how high the table is.
 pub fn first_lines(
     alloc: Global,

@@ -204,7 +204,7 @@ fn find_sizes<S: CellSpans, M: CellSizes>(
     Ok(())
 }
 
-/// How wide each column is, and how high each row, where these are the vertical and the horizontal lines that are drawn.
+/// Returns how wide each column is, and how high each row, where these are the vertical and the horizontal lines that are drawn.
 pub fn spanned_sizes<S: CellSpans, M: CellSizes>(
     alloc: Global,
     spans: &S,

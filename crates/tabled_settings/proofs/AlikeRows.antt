@@ -6,7 +6,7 @@ use Rattle.std.proofs.lemmas.Bool.Decides.{nat_tests}
 use Rattle.tabled_object.specs.declared.entity.Entity.{Entity}
 use Rattle.tabled_object.specs.declared.entity.Entity.TheVariants.{Global, Column, Row, Cell}
 use Rattle.tabled_object.specs.Entities.{covers, position}
-use Rattle.tabled_settings.specs.declared.kinds.Kinds.{Kinds}
+use Rattle.tabled_settings.specs.declared.kinds.EntityKinds.{EntityKinds}
 use Rattle.tabled_settings.specs.declared.kinds.NumberRange.{NumberRange}
 use Rattle.tabled_settings.specs.AlikeRows.{CoverAlike, IsRowAlike}
 use Rattle.tabled_settings.specs.Kinds.{has_some, is_between, is_marked, may_vary, AreMarked}
@@ -18,7 +18,7 @@ nothing_between : (numbers : NumberRange) (n : ℕ) → has_some numbers ≡ fal
 nothing_between numbers n h = grind (arith, nat_tests, h)
 
 -- an entity that is marked covers all of these cells or none
-module _ (kinds : Kinds) (row c col : ℕ) (alike : may_vary kinds row ≡ false) where
+module _ (kinds : EntityKinds) (row c col : ℕ) (alike : may_vary kinds row ≡ false) where
   parts : (has_some kinds.columns ≡ false) × (is_between kinds.cells row ≡ false)
   parts = or_parts (has_some kinds.columns) (is_between kinds.cells row) alike
 
@@ -45,7 +45,7 @@ module _ (kinds : Kinds) (row c col : ℕ) (alike : may_vary kinds row ≡ false
       λ i. cond (covers_alike event.0 (λ which unmarked. (each which unmarked).0) i) (event ∷ rest i) (rest i)
 
 -- so the same events cover each cell of the row, where none is kept too
-pub cover_alike : {T : Type 0} (kinds : Kinds) (row : ℕ) (events : List (EntityEvent T)) → AreMarked kinds events → may_vary kinds row ≡ false → CoverAlike events row
+pub cover_alike : {T : Type 0} (kinds : EntityKinds) (row : ℕ) (events : List (EntityEvent T)) → AreMarked kinds events → may_vary kinds row ≡ false → CoverAlike events row
 cover_alike kinds row events marked alike col other = covering_alike kinds row col other alike events marked
 
 pub none_alike : {T : Type 0} (row : ℕ) (events : List (EntityEvent T)) → events ≡ [] → CoverAlike events row

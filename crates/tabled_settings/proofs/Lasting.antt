@@ -1,11 +1,11 @@
 -- What the calls of the last events leave, slot by slot.
-use Rattle.std.proofs.Common.{◌≡◌, ℕ, ◌+◌, ◌<◌, ◌≤◌, Bool, true, false, cond, not, ◌||◌, ◌&&◌, ◌==◌, Option, Some, None, List, [], ◌∷◌, ◌++◌, length, take, drop, get_or, filter, refl, sym, ap, ◌∙◌, subst, arith, take-append-drop, IsTrue, ◌↔◌}
+use Rattle.std.proofs.Common.{◌≡◌, ℕ, ◌+◌, ◌<◌, Bool, true, false, cond, not, ◌||◌, ◌&&◌, ◌==◌, Option, Some, None, List, [], ◌∷◌, ◌++◌, length, take, drop, get_or, filter, refl, sym, ap, ◌∙◌, subst, take-append-drop}
 use Rattle.std.specs.List.{last_or}
 use Rattle.std.specs.BTreeMap.{BTreeMap, Updates}
-use Rattle.std.proofs.lemmas.List.{take_more, drop_more, take_all, nil_from_length}
+use Rattle.std.proofs.lemmas.List.{take_more, drop_more}
 use Rattle.std.proofs.lemmas.List.Elements.{filter_map-append}
 use Rattle.std.proofs.lemmas.List.Folds.{list_any-append}
-use Rattle.std.proofs.lemmas.Bool.{eqb-true, or_parts}
+use Rattle.std.proofs.lemmas.Bool.{or_parts}
 use mathlib.Core.Bool.{or-false}
 use Rattle.tabled_object.specs.declared.entity.Entity.{Entity}
 use Rattle.tabled_object.specs.declared.entity.Entity.TheVariants.{Global, Column, Row, Cell}
@@ -13,11 +13,11 @@ use Rattle.tabled_object.specs.declared.position.Position.{Position}
 use Rattle.tabled_object.specs.Entities.{covers}
 use Rattle.tabled_settings.specs.Setting.{EntityEvent, covering, same_entity}
 use Rattle.tabled_settings.specs.Live.{without, has_event}
-use Rattle.tabled_settings.specs.Slots.{standing, place, emptied, event_at, later_of, IsOnce, entity_cmp, HasPlaces, HasFewHoles}
+use Rattle.tabled_settings.specs.Slots.{standing, place, emptied, event_at, later_of, IsOnce, entity_cmp, HasPlaces}
 use Rattle.tabled_settings.specs.SameLaws.{entity_equiv}
 use Rattle.tabled_settings.proofs.Entities.{equal_entities, entity_itself, found_entity}
 use Rattle.tabled_settings.specs.Kinds.{is_marked, may_cover, AreMarked}
-use Rattle.tabled_settings.specs.declared.kinds.Kinds.{Kinds}
+use Rattle.tabled_settings.specs.declared.kinds.EntityKinds.{EntityKinds}
 use Rattle.tabled_settings.proofs.Placing.{Tells, place-none, place-push, place-emptied, standing-emptied, standing-push, standing-push_hole, length-emptied, IsOnce-filter, IsOnce-push, none_left, none_filtered, none_before, filter_all, place_or, place_alike, last_at}
 
 pub entities_told : Tells same_entity
@@ -79,7 +79,7 @@ last_by_three slots cell no_global =
     ∙ place_or (same_entity (Cell cell.row cell.col)) (λ e. same_entity (Row cell.row) e || same_entity (Column cell.col) e) slots))
 
 -- none, where no entity that covers the cell is marked
-pub last_unmarked : {T : Type 0} (kinds : Kinds) (slots : List (Option (EntityEvent T))) (cell : Position) → AreMarked kinds (standing slots) → may_cover kinds cell ≡ false → has_event Global (standing slots) ≡ false
+pub last_unmarked : {T : Type 0} (kinds : EntityKinds) (slots : List (Option (EntityEvent T))) (cell : Position) → AreMarked kinds (standing slots) → may_cover kinds cell ≡ false → has_event Global (standing slots) ≡ false
     → last_or None (covering (standing slots) cell) ≡ None
 last_unmarked kinds slots cell marked unmarked no_global =
     let each = or_parts (is_marked kinds (Column cell.col)) (is_marked kinds (Row cell.row) || is_marked kinds (Cell cell.row cell.col)) unmarked in
@@ -87,20 +87,6 @@ last_unmarked kinds slots cell marked unmarked no_global =
     let none : (entity : Entity) → is_marked kinds entity ≡ false → place (same_entity entity) slots ≡ None = λ entity unmarked. place-none (same_entity entity) slots (marked entity unmarked) in
     last_by_three slots cell no_global
     ∙ (λ i. event_at slots (later_of (none (Cell cell.row cell.col) others.1 i) (later_of (none (Row cell.row) others.0 i) (none (Column cell.col) each.0 i))))
-
--- ---- none at all
-
--- few holes are none where no event stands
-pub nothing_stands : {A : Type 0} (slots : List (Option A)) → HasFewHoles slots → standing slots ≡ [] → slots ≡ []
-nothing_stands [] few none = refl
-nothing_stands (slot ∷ slots) few none = absurd (let zero_stand : length (standing (slot ∷ slots)) ≡ 0 = ap length none in omega arith)
-
--- so whether there is an event is told by whether there is a slot
-pub told_nothing : {A : Type 0} (slots : List (Option A)) (events : List A) (count : ℕ) (told : Bool) → count ≡ length slots → told ≡ (count == 0) → HasFewHoles slots → standing slots ≡ events → IsTrue told ↔ (events ≡ [])
-told_nothing slots events count told all asked few stand = (
-  λ said. sym stand ∙ ap standing (nil_from_length slots (sym all ∙ eqb-true count 0 (sym asked ∙ said))),
-  λ none. asked ∙ ap (λ n. n == 0) (all ∙ ap length (nothing_stands slots few (stand ∙ none))),
-)
 
 -- ---- copies
 
@@ -121,9 +107,6 @@ module _ {V : Type 0} (slots : List (Option (Entity × V))) (at : ℕ) (slot : O
       ap standing (seen_more ∙ ap (λ s. take at slots ++ s ∷ []) there) ∙ standing-push (take at slots) event
       ∙ ap (λ es. es ++ event ∷ []) (sym (filter_all (same_entity event.0) (standing (take at slots))
       (none_before entities_told (standing (take at slots)) event (standing (drop (at + 1) slots)) (subst (IsOnce same_entity) stand once))))
-
-pub copied_all : {V : Type 0} (slots : List (Option (Entity × V))) (at : ℕ) → length slots ≤ at → standing (take at slots) ≡ standing slots
-copied_all slots at past = ap standing (take_all at slots past)
 
 -- ---- all cells
 

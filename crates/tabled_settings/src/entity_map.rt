@@ -40,7 +40,7 @@ impl<T> EntityMap<T> {
     ghost use Rattle.tabled_settings.specs.AlikeRows.{IsRowAlike};
     ghost use Rattle.tabled_settings.specs.Live.{at_first, after, value_at};
 
-    /// A map in which every cell has the default.
+    /// Makes a map in which every cell has the default.
     pub fn new(alloc: Global, default: T) -> Self
         ensures { result ≡ at_first default }
     {
@@ -81,7 +81,7 @@ impl<T> EntityMap<T> {
         Ok(())
     }
 
-    /// The value of a cell.
+    /// Returns the value of a cell.
     #[inline(always)]
     pub fn get(&self, position: Position) -> &T
         ensures { result.now ≡ value_at self.now position }
@@ -93,7 +93,7 @@ impl<T> EntityMap<T> {
         }
     }
 
-    /// What was written last for all cells, or the default where that was removed or nothing was written. A cell has it
+    /// Returns what was written last for all cells, or the default where that was removed or nothing was written. A cell has it
     /// unless an entity that covers the cell had an event since then.
     #[inline(always)]
     pub fn global(&self) -> &T
@@ -105,15 +105,16 @@ impl<T> EntityMap<T> {
         }
     }
 
-    /// Whether no entity but `Global` had an event since the last one of `Global`.
+    /// Returns whether no entity but `Global` had an event since the last one of `Global`.
     pub fn is_empty(&self) -> bool
         ensures { IsTrue result ↔ (self.now.since ≡ []) }
     {
         self.since.is_empty()
     }
 
-    /// Whether each cell of a row is known to have the same value, whatever its column: where no entity but `Global` had an event since the
-    /// last one of `Global`, or none but `Global` and rows, and cells of other rows. It takes as long for a large map as for a small one.
+    /// Returns whether each cell of a row is known to have the same value, whatever its column: where no entity but `Global` had an event
+    /// since the last one of `Global`, or none but `Global` and rows, and cells of other rows. It takes as long for a large map as for a
+    /// small one.
     pub fn is_row_alike(&self, row: usize) -> bool
         ensures alike { IsTrue result → IsRowAlike self.now row }
         ensures none { self.now.since ≡ [] → IsTrue result }

@@ -15,7 +15,7 @@ pub struct Indent {
 }
 
 impl Indent {
-    /// That many columns or lines, filled with that character.
+    /// Makes room of so many columns or lines, filled with a character.
     pub const fn new(size: usize, fill: char) -> Self
         ensures { result ≡ record { size = size; fill = fill } }
     {

@@ -50,7 +50,7 @@ impl NumberRange {
 /// The entities that may have an event: the rows, the columns, and the rows of cells. One that is not marked has none, and is not looked
 /// for. A mark stays until all events are taken away.
 #[derive(Clone, Copy, Debug)]
-pub(crate) struct Kinds {
+pub(crate) struct EntityKinds {
     rows: NumberRange,
     columns: NumberRange,
     cells: NumberRange,
@@ -58,14 +58,14 @@ pub(crate) struct Kinds {
     last_column: usize,
 }
 
-impl Kinds {
+impl EntityKinds {
     ghost use Rattle.tabled_settings.specs.Kinds.{no_kinds, is_marked, may_cover, may_vary, with_kind, with_kinds};
 
     /// None of them.
     pub(crate) const fn none() -> Self
         ensures { result ≡ no_kinds }
     {
-        Kinds {
+        EntityKinds {
             rows: NumberRange::none(),
             columns: NumberRange::none(),
             cells: NumberRange::none(),

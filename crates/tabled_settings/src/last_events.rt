@@ -11,7 +11,7 @@ ghost use Rattle.tabled_settings.specs.Same.{same_event};
 mod both;
 mod lists;
 
-use crate::kinds::Kinds;
+use crate::kinds::EntityKinds;
 use crate::places;
 use crate::slots::{self, Slot};
 use std::alloc::Global;
@@ -30,7 +30,7 @@ pub(crate) struct LastEvents<T> {
     /// are put in order, and those of columns.
     places: BTreeMap<Entity, usize>,
     /// Of which entities there may be events.
-    kinds: Kinds,
+    kinds: EntityKinds,
 }
 
 impl<T> Model for LastEvents<T> {
@@ -54,7 +54,7 @@ impl<T> LastEvents<T> {
         LastEvents {
             slots: Vec::new(alloc),
             places: BTreeMap::new(alloc),
-            kinds: Kinds::none(),
+            kinds: EntityKinds::none(),
         }
     }
 

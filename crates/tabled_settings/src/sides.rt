@@ -30,7 +30,7 @@ impl<T: Copy> Clone for Sides<T> {
 }
 
 impl<T> Sides<T> {
-    /// The sides with these values.
+    /// Makes the sides with these values.
     pub const fn new(left: T, right: T, top: T, bottom: T) -> Self
         ensures { result ≡ record { left = left; right = right; top = top; bottom = bottom } }
     {
@@ -42,7 +42,7 @@ impl<T> Sides<T> {
         }
     }
 
-    /// The sides with one value on all of them.
+    /// Makes the sides with one value on all of them.
     pub const fn filled(value: T) -> Self
     where
         T: Copy,

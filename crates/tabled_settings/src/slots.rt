@@ -9,7 +9,7 @@ ghost use Rattle.tabled_settings.specs.Slots.{standing, passes, place, entity_cm
 ghost use Rattle.tabled_settings.specs.Kinds.{AreMarked};
 ghost use Rattle.tabled_settings.specs.Same.{same_event};
 
-use crate::kinds::Kinds;
+use crate::kinds::EntityKinds;
 use std::collections::BTreeMap;
 use tabled_object::Entity;
 
@@ -85,7 +85,7 @@ pub(crate) fn number<T>(slots: &[Slot<T>], places: &mut BTreeMap<Entity, usize>)
 pub(crate) fn place_of<T>(
     slots: &[Slot<T>],
     places: &BTreeMap<Entity, usize>,
-    kinds: &Kinds,
+    kinds: &EntityKinds,
     entity: Entity,
 ) -> Option<usize>
     requires once { IsOnce same_entity (standing slots.now) }

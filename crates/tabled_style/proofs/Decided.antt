@@ -1,15 +1,15 @@
 -- A configuration to which a style was applied keeps what the style writes, whatever it kept before.
 use Rattle.std.proofs.Common.{◌≡◌, ℕ, Bool, true, false, cond, Option, None, List, [], ◌∷◌, ◌++◌, refl, ap, subst, ◌∙◌}
-use Rattle.tabled_grid.specs.Event as grid
-use Rattle.tabled_grid.specs.declared.event.Event.TheVariants.{Erase as erase}
-use Rattle.tabled_grid.specs.declared.event.Region.TheVariants.{All as every_site}
-use Rattle.tabled_grid.specs.declared.event.Event.{Event}
-use Rattle.tabled_grid.specs.declared.site.Site.{Site}
-use Rattle.tabled_grid.specs.State.{state_at, class_record_set}
-use Rattle.tabled_grid.specs.Value.{value, sign_or, first_sign, inside, sites}
-use Rattle.tabled_grid.specs.declared.place.Place.{Place}
-use Rattle.tabled_grid.proofs.Replay.{replay-nil, replay_cleared}
-use Rattle.tabled_grid.proofs.DrawnLemmas.{value-shown}
+use Rattle.tabled_places.specs.Event as grid
+use Rattle.tabled_places.specs.declared.event.Event.TheVariants.{Erase as erase}
+use Rattle.tabled_places.specs.declared.event.Region.TheVariants.{All as every_site}
+use Rattle.tabled_places.specs.declared.event.Event.{Event}
+use Rattle.tabled_places.specs.declared.site.Site.{Site}
+use Rattle.tabled_places.specs.State.{state_at, class_record_set}
+use Rattle.tabled_places.specs.Value.{value, sign_or, first_sign, inside, sites}
+use Rattle.tabled_places.specs.declared.place.Place.{Place}
+use Rattle.tabled_places.proofs.Replay.{replay-nil, replay_cleared}
+use Rattle.tabled_places.proofs.DrawnLemmas.{value-shown}
 use Rattle.tabled_configuration.specs.Configuration.{Configuration, Changes, borders_replaced, horizontal_lines_put, vertical_lines_put}
 use Rattle.tabled_configuration.proofs.ConfigurationLemmas.{characters_of-both, colors_of-both}
 use Rattle.tabled_style.specs.Shown.{StyleShown}

@@ -1,14 +1,14 @@
 -- Lines that are put into a style and inherited again.
 use Rattle.std.proofs.Common.{◌≡◌, ℕ, Option, None, Some, refl, ap, ◌∙◌}
-use Rattle.tabled_grid.specs.declared.borders.Borders.{Borders}
-use Rattle.tabled_grid.specs.declared.lines.HorizontalLine.{HorizontalLine}
-use Rattle.tabled_grid.specs.declared.lines.VerticalLine.{VerticalLine}
-use Rattle.tabled_grid.specs.declared.place.Rank.{Rank}
-use Rattle.tabled_grid.specs.declared.place.Rank.TheVariants.{First as first, Inner as inner, Last as last}
-use Rattle.tabled_grid.specs.Site.{horizontal_meeting, vertical_meeting}
-use Rattle.tabled_grid.specs.Borders.{horizontal_of, vertical_of, put_horizontal, put_vertical}
-use Rattle.tabled_grid.specs.CustomLines.{no_horizontal, no_vertical, put_horizontal_meeting, put_vertical_meeting}
-use Rattle.tabled_grid.proofs.SixLines.{horizontal_of-put, vertical_of-put, horizontal_of-put_vertical, vertical_of-put_horizontal, put_horizontal_meeting-same, put_vertical_meeting-same}
+use Rattle.tabled_places.specs.declared.borders.Borders.{Borders}
+use Rattle.tabled_places.specs.declared.lines.HorizontalLine.{HorizontalLine}
+use Rattle.tabled_places.specs.declared.lines.VerticalLine.{VerticalLine}
+use Rattle.tabled_places.specs.declared.place.Rank.{Rank}
+use Rattle.tabled_places.specs.declared.place.Rank.TheVariants.{First as first, Inner as inner, Last as last}
+use Rattle.tabled_places.specs.Site.{horizontal_meeting, vertical_meeting}
+use Rattle.tabled_places.specs.Borders.{horizontal_of, vertical_of, put_horizontal, put_vertical}
+use Rattle.tabled_places.specs.CustomLines.{no_horizontal, no_vertical, put_horizontal_meeting, put_vertical_meeting}
+use Rattle.tabled_places.proofs.SixLines.{horizontal_of-put, vertical_of-put, horizontal_of-put_vertical, vertical_of-put_horizontal, put_horizontal_meeting-same, put_vertical_meeting-same}
 use Rattle.tabled_style.specs.Shown.{StyleShown}
 use Rattle.tabled_style.specs.LineCalls.{space_where, spaced_vertical, spaced_horizontal, followed_vertical, followed_horizontal, settled_horizontal, settled_vertical, with_line_horizontal, with_line_vertical}
 

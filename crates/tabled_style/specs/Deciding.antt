@@ -1,7 +1,7 @@
 -- What a table shows after a style.
 use Rattle.std.specs.Prelude.{ℕ, List, ◌++◌}
-use Rattle.tabled_grid.specs.declared.event.Event.{Event}
-use Rattle.tabled_grid.specs.State.{class_record_set}
+use Rattle.tabled_places.specs.declared.event.Event.{Event}
+use Rattle.tabled_places.specs.State.{class_record_set}
 use Rattle.tabled_configuration.specs.Configuration.{horizontal_lines_put, vertical_lines_put}
 use Rattle.tabled_style.specs.Shown.{StyleShown}
 

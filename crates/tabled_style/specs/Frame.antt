@@ -2,7 +2,7 @@
 use Rattle.std.specs.Prelude.{ℕ, Bool, ◌&&◌, [], ◌∷◌, is_some}
 use Rattle.std.specs.List.{list_any}
 use Rattle.tabled_border.specs.declared.border.Border.{Border}
-use Rattle.tabled_grid.specs.CustomLines.{no_horizontal, no_vertical}
+use Rattle.tabled_places.specs.CustomLines.{no_horizontal, no_vertical}
 use Rattle.tabled_style.specs.Shown.{StyleShown}
 use Rattle.tabled_style.specs.Lines.{each_line, over_horizontal, over_vertical}
 use Rattle.tabled_style.specs.LineCalls.{space_where}

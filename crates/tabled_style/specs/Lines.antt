@@ -1,8 +1,8 @@
 -- Custom lines.
 use Rattle.std.specs.Prelude.{ℕ, Some, List, map}
 use Rattle.std.specs.Option.{option_or}
-use Rattle.tabled_grid.specs.declared.lines.HorizontalLine.{HorizontalLine}
-use Rattle.tabled_grid.specs.declared.lines.VerticalLine.{VerticalLine}
+use Rattle.tabled_places.specs.declared.lines.HorizontalLine.{HorizontalLine}
+use Rattle.tabled_places.specs.declared.lines.VerticalLine.{VerticalLine}
 
 -- a line with all its characters given
 abbrev pub full_horizontal : ℕ → ℕ → ℕ → ℕ → HorizontalLine ℕ

@@ -1,11 +1,11 @@
 -- The ready styles.
 use Rattle.std.specs.Prelude.{ℕ, Option, None, Some, [], ◌∷◌, codes, slice_index}
 use Prim.Native.String.{String}
-use Rattle.tabled_grid.specs.declared.borders.Borders.{Borders}
-use Rattle.tabled_grid.specs.declared.lines.HorizontalLine.{HorizontalLine}
-use Rattle.tabled_grid.specs.declared.place.Rank.TheVariants.{First as first, Inner as inner, Last as last}
-use Rattle.tabled_grid.specs.Borders.{put_horizontal}
-use Rattle.tabled_grid.specs.CustomLines.{no_horizontal, no_borders}
+use Rattle.tabled_places.specs.declared.borders.Borders.{Borders}
+use Rattle.tabled_places.specs.declared.lines.HorizontalLine.{HorizontalLine}
+use Rattle.tabled_places.specs.declared.place.Rank.TheVariants.{First as first, Inner as inner, Last as last}
+use Rattle.tabled_places.specs.Borders.{put_horizontal}
+use Rattle.tabled_places.specs.CustomLines.{no_horizontal, no_borders}
 use Rattle.tabled_style.specs.Shown.{StyleShown}
 use Rattle.tabled_style.specs.Lines.{full_horizontal}
 

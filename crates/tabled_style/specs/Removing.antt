@@ -1,11 +1,11 @@
 -- The calls that drop sides, inner lines and the frame.
 use Rattle.std.specs.Prelude.{ℕ, None}
-use Rattle.tabled_grid.specs.declared.borders.Borders.{Borders}
-use Rattle.tabled_grid.specs.declared.lines.HorizontalLine.{HorizontalLine}
-use Rattle.tabled_grid.specs.declared.lines.VerticalLine.{VerticalLine}
-use Rattle.tabled_grid.specs.declared.place.Rank.{Rank}
-use Rattle.tabled_grid.specs.Borders.{put_horizontal, put_vertical}
-use Rattle.tabled_grid.specs.CustomLines.{no_horizontal, no_vertical, put_horizontal_meeting, put_vertical_meeting}
+use Rattle.tabled_places.specs.declared.borders.Borders.{Borders}
+use Rattle.tabled_places.specs.declared.lines.HorizontalLine.{HorizontalLine}
+use Rattle.tabled_places.specs.declared.lines.VerticalLine.{VerticalLine}
+use Rattle.tabled_places.specs.declared.place.Rank.{Rank}
+use Rattle.tabled_places.specs.Borders.{put_horizontal, put_vertical}
+use Rattle.tabled_places.specs.CustomLines.{no_horizontal, no_vertical, put_horizontal_meeting, put_vertical_meeting}
 use Rattle.tabled_style.specs.Shown.{StyleShown}
 use Rattle.tabled_style.specs.Lines.{each_line}
 

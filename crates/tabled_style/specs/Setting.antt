@@ -1,10 +1,10 @@
 -- The calls that set characters. What the style has is read before the call.
 use Rattle.std.specs.Prelude.{ℕ, Bool, Option, Some, if◌then◌else◌}
-use Rattle.tabled_grid.specs.declared.borders.Borders.{Borders}
-use Rattle.tabled_grid.specs.declared.place.Rank.{Rank}
-use Rattle.tabled_grid.specs.declared.place.Rank.TheVariants.{First as first, Inner as inner, Last as last}
-use Rattle.tabled_grid.specs.Borders.{has_horizontal, has_vertical, horizontal_of, vertical_of, put_horizontal, put_vertical}
-use Rattle.tabled_grid.specs.CustomLines.{put_horizontal_meeting, put_vertical_meeting}
+use Rattle.tabled_places.specs.declared.borders.Borders.{Borders}
+use Rattle.tabled_places.specs.declared.place.Rank.{Rank}
+use Rattle.tabled_places.specs.declared.place.Rank.TheVariants.{First as first, Inner as inner, Last as last}
+use Rattle.tabled_places.specs.Borders.{has_horizontal, has_vertical, horizontal_of, vertical_of, put_horizontal, put_vertical}
+use Rattle.tabled_places.specs.CustomLines.{put_horizontal_meeting, put_vertical_meeting}
 use Rattle.tabled_style.specs.Shown.{StyleShown}
 use Rattle.tabled_style.specs.Lines.{each_line}
 

@@ -1,9 +1,9 @@
 -- What a style shows: its class record and its custom lines.
 use Rattle.std.specs.Prelude.{ℕ, List}
 use Rattle.tabled_border.specs.declared.border.Border.{Border}
-use Rattle.tabled_grid.specs.declared.borders.Borders.{Borders}
-use Rattle.tabled_grid.specs.declared.lines.HorizontalLine.{HorizontalLine}
-use Rattle.tabled_grid.specs.declared.lines.VerticalLine.{VerticalLine}
+use Rattle.tabled_places.specs.declared.borders.Borders.{Borders}
+use Rattle.tabled_places.specs.declared.lines.HorizontalLine.{HorizontalLine}
+use Rattle.tabled_places.specs.declared.lines.VerticalLine.{VerticalLine}
 
 -- the class record, and the custom lines in their order, each with the index of the line that it stands for
 pub record StyleShown : Type 0 where

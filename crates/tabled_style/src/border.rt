@@ -47,7 +47,7 @@ impl<T, B, L, R> Model for Border<T, B, L, R> {
 impl Border<(), (), (), ()> {
     ghost use Rattle.tabled_border.specs.Border.{no_border};
 
-    /// A border with nothing given.
+    /// Makes a border with nothing given.
     pub fn new() -> Self
         ensures { result ≡ no_border }
     {
@@ -56,7 +56,7 @@ impl Border<(), (), (), ()> {
 }
 
 impl Border<On, On, On, On> {
-    /// A border with all sides and corners given.
+    /// Makes a border with all sides and corners given.
     ///
     /// `Border::full('t', 'b', 'l', 'r', '1', '2', '3', '4')`:
     ///
@@ -89,7 +89,7 @@ impl Border<On, On, On, On> {
         ))
     }
 
-    /// A border with this character on all sides and corners: `full` with it eight times.
+    /// Makes a border with this character on all sides and corners: `full` with it eight times.
     ///
     /// `Border::filled('#')`:
     ///
@@ -104,7 +104,7 @@ impl Border<On, On, On, On> {
         Border::full(c, c, c, c, c, c, c, c)
     }
 
-    /// What takes a border away.
+    /// Returns what takes a border away.
     ///
     /// `Border::empty()` on a whole table of the style `ascii`:
     ///
@@ -121,7 +121,7 @@ impl Border<On, On, On, On> {
 impl<T, B, L, R> Border<T, B, L, R> {
     ghost use Rattle.tabled_style.specs.Shown.{frame_of};
 
-    /// The frame of a style: its sides and its corners.
+    /// Makes the frame of a style: its sides and its corners.
     ///
     /// `Border::inherit(Style::rounded())`:
     ///
@@ -225,7 +225,7 @@ impl<T, B, L, R> Border<T, B, L, R> {
         Border::update(self.border)
     }
 
-    /// The sides and corners.
+    /// Returns the sides and corners.
     pub fn into_inner(self) -> GridBorder<char>
         ensures { result ≡ self }
     {
@@ -234,7 +234,7 @@ impl<T, B, L, R> Border<T, B, L, R> {
 }
 
 impl<B, L, R> Border<On, B, L, R> {
-    /// The upper side. `into_inner` shows whether it is set.
+    /// Returns the upper side. `into_inner` shows whether it is set.
     pub fn get_top(&self) -> char
         requires { IsSome self.now.top }
         ensures { self.now.top ≡ Some result }
@@ -244,7 +244,7 @@ impl<B, L, R> Border<On, B, L, R> {
 }
 
 impl<T, L, R> Border<T, On, L, R> {
-    /// The lower side. `into_inner` shows whether it is set.
+    /// Returns the lower side. `into_inner` shows whether it is set.
     pub fn get_bottom(&self) -> char
         requires { IsSome self.now.bottom }
         ensures { self.now.bottom ≡ Some result }
@@ -254,7 +254,7 @@ impl<T, L, R> Border<T, On, L, R> {
 }
 
 impl<T, B, R> Border<T, B, On, R> {
-    /// The left side. `into_inner` shows whether it is set.
+    /// Returns the left side. `into_inner` shows whether it is set.
     pub fn get_left(&self) -> char
         requires { IsSome self.now.left }
         ensures { self.now.left ≡ Some result }
@@ -264,7 +264,7 @@ impl<T, B, R> Border<T, B, On, R> {
 }
 
 impl<T, B, L> Border<T, B, L, On> {
-    /// The right side. `into_inner` shows whether it is set.
+    /// Returns the right side. `into_inner` shows whether it is set.
     pub fn get_right(&self) -> char
         requires { IsSome self.now.right }
         ensures { self.now.right ≡ Some result }
@@ -290,7 +290,7 @@ impl<B, R> Border<On, B, On, R> {
         self
     }
 
-    /// The upper left corner. `into_inner` shows whether it is set.
+    /// Returns the upper left corner. `into_inner` shows whether it is set.
     pub fn get_corner_top_left(&self) -> char
         requires { IsSome self.now.left_top_corner }
         ensures { self.now.left_top_corner ≡ Some result }
@@ -316,7 +316,7 @@ impl<B, L> Border<On, B, L, On> {
         self
     }
 
-    /// The upper right corner. `into_inner` shows whether it is set.
+    /// Returns the upper right corner. `into_inner` shows whether it is set.
     pub fn get_corner_top_right(&self) -> char
         requires { IsSome self.now.right_top_corner }
         ensures { self.now.right_top_corner ≡ Some result }
@@ -342,7 +342,7 @@ impl<T, R> Border<T, On, On, R> {
         self
     }
 
-    /// The lower left corner. `into_inner` shows whether it is set.
+    /// Returns the lower left corner. `into_inner` shows whether it is set.
     pub fn get_corner_bottom_left(&self) -> char
         requires { IsSome self.now.left_bottom_corner }
         ensures { self.now.left_bottom_corner ≡ Some result }
@@ -368,7 +368,7 @@ impl<T, L> Border<T, On, L, On> {
         self
     }
 
-    /// The lower right corner. `into_inner` shows whether it is set.
+    /// Returns the lower right corner. `into_inner` shows whether it is set.
     pub fn get_corner_bottom_right(&self) -> char
         requires { IsSome self.now.right_bottom_corner }
         ensures { self.now.right_bottom_corner ≡ Some result }

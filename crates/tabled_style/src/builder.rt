@@ -95,7 +95,7 @@ impl<T, B, L, R, H, V, const HN: usize, const VN: usize> Style<T, B, L, R, H, V,
         }
     }
 
-    /// The same style under other markers.
+    /// The style as it is, under other markers.
     fn marked<Top, Bottom, Left, Right, Horizontal, Vertical>(
         self,
     ) -> Style<Top, Bottom, Left, Right, Horizontal, Vertical, HN, VN>
@@ -104,21 +104,21 @@ impl<T, B, L, R, H, V, const HN: usize, const VN: usize> Style<T, B, L, R, H, V,
         Style::new(self.borders, self.horizontals, self.verticals)
     }
 
-    /// The class record.
+    /// Returns the class record.
     pub fn get_borders(&self) -> Borders<char>
         ensures { result ≡ self.now.borders }
     {
         self.borders
     }
 
-    /// The custom horizontal lines, each with its index.
+    /// Returns the custom horizontal lines, each with its index.
     pub fn get_horizontals(&self) -> &[(usize, HLine<char>)]
         ensures { result.now ≡ self.now.horizontals }
     {
         self.horizontals.as_slice()
     }
 
-    /// The custom vertical lines, each with its index.
+    /// Returns the custom vertical lines, each with its index.
     pub fn get_verticals(&self) -> &[(usize, VLine<char>)]
         ensures { result.now ≡ self.now.verticals }
     {

@@ -32,7 +32,7 @@ pub struct HorizontalLine<L, R, I> {
 
 impl<L, R, I> Model for HorizontalLine<L, R, I> {
     ghost use Rattle.std.specs.Prelude.{ℕ};
-    ghost use Rattle.tabled_grid.specs.declared.lines.HorizontalLine.{HorizontalLine};
+    ghost use Rattle.tabled_places.specs.declared.lines.HorizontalLine.{HorizontalLine};
 
     ghost Value = { HorizontalLine ℕ };
 
@@ -42,7 +42,7 @@ impl<L, R, I> Model for HorizontalLine<L, R, I> {
 }
 
 impl HorizontalLine<(), (), ()> {
-    /// A line with this character along its edges, and nothing at its crossings.
+    /// Makes a line with this character along its edges, and nothing at its crossings.
     ///
     /// `HorizontalLine::new('=')`:
     ///
@@ -57,17 +57,17 @@ impl HorizontalLine<(), (), ()> {
 }
 
 impl<L, R, I> HorizontalLine<L, R, I> {
-    ghost use Rattle.tabled_grid.specs.CustomLines.{no_horizontal};
-    ghost use Rattle.tabled_grid.specs.Borders.{horizontal_of};
+    ghost use Rattle.tabled_places.specs.CustomLines.{no_horizontal};
+    ghost use Rattle.tabled_places.specs.Borders.{horizontal_of};
 
-    /// A line with nothing set.
+    /// Makes a line with nothing set.
     pub fn empty() -> Self
         ensures { result ≡ no_horizontal }
     {
         HorizontalLine::update(Line::empty())
     }
 
-    /// The line that a style draws between rows.
+    /// Makes the line that a style draws between rows.
     ///
     /// `HorizontalLine::inherit(Style::modern())`:
     ///
@@ -82,7 +82,7 @@ impl<L, R, I> HorizontalLine<L, R, I> {
         HorizontalLine::update(style.get_borders().horizontal_line(Rank::Inner))
     }
 
-    /// The line that a style draws above the first row.
+    /// Makes the line that a style draws above the first row.
     ///
     /// `HorizontalLine::inherit_top(Style::modern())`:
     ///
@@ -97,7 +97,7 @@ impl<L, R, I> HorizontalLine<L, R, I> {
         HorizontalLine::update(style.get_borders().horizontal_line(Rank::First))
     }
 
-    /// The line that a style draws below the last row.
+    /// Makes the line that a style draws below the last row.
     ///
     /// `HorizontalLine::inherit_bottom(Style::modern())`:
     ///
@@ -180,7 +180,7 @@ impl<L, R, I> HorizontalLine<L, R, I> {
         HorizontalLine::update(self.line)
     }
 
-    /// The character along the edges. `into_inner` shows whether it is set.
+    /// Returns the character along the edges. `into_inner` shows whether it is set.
     pub fn get_horizontal(&self) -> char
         requires { IsSome self.now.main }
         ensures { self.now.main ≡ Some result }
@@ -188,7 +188,7 @@ impl<L, R, I> HorizontalLine<L, R, I> {
         self.line.main.unwrap()
     }
 
-    /// The line's four characters.
+    /// Returns the line's four characters.
     pub fn into_inner(&self) -> Line<char>
         ensures { result ≡ self.now }
     {
@@ -197,7 +197,7 @@ impl<L, R, I> HorizontalLine<L, R, I> {
 }
 
 impl HorizontalLine<On, On, On> {
-    /// A line of these four characters: along its edges, at its crossings between, and at its two ends.
+    /// Makes a line of these four characters: along its edges, at its crossings between, and at its two ends.
     ///
     /// `HorizontalLine::full('=', '*', '<', '>')`:
     ///
@@ -210,7 +210,7 @@ impl HorizontalLine<On, On, On> {
         HorizontalLine::update(Line::new(Some(main), Some(intersection), Some(left), Some(right)))
     }
 
-    /// A line of this character alone.
+    /// Makes a line of this character alone.
     ///
     /// `HorizontalLine::filled('=')`:
     ///
@@ -225,7 +225,7 @@ impl HorizontalLine<On, On, On> {
 }
 
 impl<L, R> HorizontalLine<L, R, On> {
-    /// The character at the crossings between. `into_inner` shows whether it is set.
+    /// Returns the character at the crossings between. `into_inner` shows whether it is set.
     pub fn get_intersection(&self) -> char
         requires { IsSome self.now.intersection }
         ensures { self.now.intersection ≡ Some result }
@@ -249,7 +249,7 @@ impl<L, R> HorizontalLine<L, R, On> {
 }
 
 impl<R, I> HorizontalLine<On, R, I> {
-    /// The character at the left end. `into_inner` shows whether it is set.
+    /// Returns the character at the left end. `into_inner` shows whether it is set.
     pub fn get_left(&self) -> char
         requires { IsSome self.now.left }
         ensures { self.now.left ≡ Some result }
@@ -273,7 +273,7 @@ impl<R, I> HorizontalLine<On, R, I> {
 }
 
 impl<L, I> HorizontalLine<L, On, I> {
-    /// The character at the right end. `into_inner` shows whether it is set.
+    /// Returns the character at the right end. `into_inner` shows whether it is set.
     pub fn get_right(&self) -> char
         requires { IsSome self.now.right }
         ensures { self.now.right ≡ Some result }
@@ -298,7 +298,7 @@ impl<L, I> HorizontalLine<L, On, I> {
 
 /// Nothing is set.
 impl<L, R, I> Default for HorizontalLine<L, R, I> {
-    ghost use Rattle.tabled_grid.specs.CustomLines.{no_horizontal};
+    ghost use Rattle.tabled_places.specs.CustomLines.{no_horizontal};
 
     ghost is_default = { λ line. line ≡ no_horizontal };
 

@@ -61,7 +61,7 @@ pub enum ReadyStyle {
 }
 
 impl ReadyStyle {
-    /// All ready styles, in the order of their variants.
+    /// Returns all ready styles, in the order of their variants.
     pub fn all() -> [ReadyStyle; 13]
         ensures { result ≡ all_ready }
     {
@@ -82,7 +82,7 @@ impl ReadyStyle {
         ]
     }
 
-    /// The name of the style: that of the call of [`Style`] that makes it.
+    /// Returns the name of the style: that of the call of [`Style`] that makes it.
     #[tactic(auto, unfolding(crate::specs::Named::name_of))]
     pub fn name(self) -> &'static str
         ensures { result.now ≡ name_of self }
@@ -104,7 +104,7 @@ impl ReadyStyle {
         }
     }
 
-    /// The style of this name, letter by letter; none where no ready style has it.
+    /// Returns the style of this name, letter by letter; none where no ready style has it.
     pub fn from_name(name: &str) -> Option<ReadyStyle>
         ensures value { result ≡ style_named name.now }
         ensures named { IfSome result (λ style. name_of style ≡ name.now) }
@@ -115,7 +115,7 @@ impl ReadyStyle {
             .find(|style| style.name() == name)
     }
 
-    /// The class record of the style.
+    /// Returns the class record of the style.
     #[tactic(auto, unfolding(crate::specs::Named::shown))]
     pub fn borders(self) -> Borders<char>
         ensures { result ≡ (shown self).borders }

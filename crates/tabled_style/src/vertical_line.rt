@@ -32,7 +32,7 @@ pub struct VerticalLine<T, B, I> {
 
 impl<T, B, I> Model for VerticalLine<T, B, I> {
     ghost use Rattle.std.specs.Prelude.{ℕ};
-    ghost use Rattle.tabled_grid.specs.declared.lines.VerticalLine.{VerticalLine};
+    ghost use Rattle.tabled_places.specs.declared.lines.VerticalLine.{VerticalLine};
 
     ghost Value = { VerticalLine ℕ };
 
@@ -42,7 +42,7 @@ impl<T, B, I> Model for VerticalLine<T, B, I> {
 }
 
 impl VerticalLine<(), (), ()> {
-    /// A line with this character along its edges, and nothing at its crossings.
+    /// Makes a line with this character along its edges, and nothing at its crossings.
     ///
     /// `VerticalLine::new('#')`:
     ///
@@ -59,17 +59,17 @@ impl VerticalLine<(), (), ()> {
 }
 
 impl<T, B, I> VerticalLine<T, B, I> {
-    ghost use Rattle.tabled_grid.specs.CustomLines.{no_vertical};
-    ghost use Rattle.tabled_grid.specs.Borders.{vertical_of};
+    ghost use Rattle.tabled_places.specs.CustomLines.{no_vertical};
+    ghost use Rattle.tabled_places.specs.Borders.{vertical_of};
 
-    /// A line with nothing set.
+    /// Makes a line with nothing set.
     pub fn empty() -> Self
         ensures { result ≡ no_vertical }
     {
         VerticalLine::update(Line::empty())
     }
 
-    /// The line that a style draws between columns.
+    /// Makes the line that a style draws between columns.
     ///
     /// `VerticalLine::inherit(Style::modern())`:
     ///
@@ -86,7 +86,7 @@ impl<T, B, I> VerticalLine<T, B, I> {
         VerticalLine::update(style.get_borders().vertical_line(Rank::Inner))
     }
 
-    /// The line that a style draws before the first column.
+    /// Makes the line that a style draws before the first column.
     ///
     /// `VerticalLine::inherit_left(Style::modern())`:
     ///
@@ -103,7 +103,7 @@ impl<T, B, I> VerticalLine<T, B, I> {
         VerticalLine::update(style.get_borders().vertical_line(Rank::First))
     }
 
-    /// The line that a style draws after the last column.
+    /// Makes the line that a style draws after the last column.
     ///
     /// `VerticalLine::inherit_right(Style::modern())`:
     ///
@@ -190,7 +190,7 @@ impl<T, B, I> VerticalLine<T, B, I> {
         VerticalLine::update(self.line)
     }
 
-    /// The character along the edges. `into_inner` shows whether it is set.
+    /// Returns the character along the edges. `into_inner` shows whether it is set.
     pub fn get_vertical(&self) -> char
         requires { IsSome self.now.main }
         ensures { self.now.main ≡ Some result }
@@ -198,7 +198,7 @@ impl<T, B, I> VerticalLine<T, B, I> {
         self.line.main.unwrap()
     }
 
-    /// The line's four characters.
+    /// Returns the line's four characters.
     pub fn into_inner(&self) -> Line<char>
         ensures { result ≡ self.now }
     {
@@ -207,7 +207,7 @@ impl<T, B, I> VerticalLine<T, B, I> {
 }
 
 impl VerticalLine<On, On, On> {
-    /// A line of these four characters: along its edges, at its crossings between, and at its two ends.
+    /// Makes a line of these four characters: along its edges, at its crossings between, and at its two ends.
     ///
     /// `VerticalLine::full('#', '*', '<', '>')`:
     ///
@@ -224,7 +224,7 @@ impl VerticalLine<On, On, On> {
         VerticalLine::update(Line::new(Some(main), Some(intersection), Some(top), Some(bottom)))
     }
 
-    /// A line of this character alone.
+    /// Makes a line of this character alone.
     ///
     /// `VerticalLine::filled('#')`:
     ///
@@ -241,7 +241,7 @@ impl VerticalLine<On, On, On> {
 }
 
 impl<T, B> VerticalLine<T, B, On> {
-    /// The character at the crossings between. `into_inner` shows whether it is set.
+    /// Returns the character at the crossings between. `into_inner` shows whether it is set.
     pub fn get_intersection(&self) -> char
         requires { IsSome self.now.intersection }
         ensures { self.now.intersection ≡ Some result }
@@ -269,7 +269,7 @@ impl<T, B> VerticalLine<T, B, On> {
 }
 
 impl<B, I> VerticalLine<On, B, I> {
-    /// The character at the upper end. `into_inner` shows whether it is set.
+    /// Returns the character at the upper end. `into_inner` shows whether it is set.
     pub fn get_top(&self) -> char
         requires { IsSome self.now.top }
         ensures { self.now.top ≡ Some result }
@@ -295,7 +295,7 @@ impl<B, I> VerticalLine<On, B, I> {
 }
 
 impl<T, I> VerticalLine<T, On, I> {
-    /// The character at the lower end. `into_inner` shows whether it is set.
+    /// Returns the character at the lower end. `into_inner` shows whether it is set.
     pub fn get_bottom(&self) -> char
         requires { IsSome self.now.bottom }
         ensures { self.now.bottom ≡ Some result }
@@ -322,7 +322,7 @@ impl<T, I> VerticalLine<T, On, I> {
 
 /// Nothing is set.
 impl<T, B, I> Default for VerticalLine<T, B, I> {
-    ghost use Rattle.tabled_grid.specs.CustomLines.{no_vertical};
+    ghost use Rattle.tabled_places.specs.CustomLines.{no_vertical};
 
     ghost is_default = { λ line. line ≡ no_vertical };
 

@@ -10,12 +10,12 @@ use Rattle.std.specs.Cmp.{second_so}
 use Rattle.tabled_settings.specs.declared.indent.Indent.{Indent}
 use Rattle.tabled_settings.specs.declared.sides.Sides.{Sides}
 use Rattle.tabled_configuration.specs.Configuration.{ConfigEvent, characters_of}
-use Rattle.tabled_printing.specs.Texts.{Table, texts, pieces, width_of_text}
+use Rattle.tabled_width.specs.Texts.{Table, texts, pieces, width_of_text}
 use Rattle.tabled_printing.specs.Along.{is_empty}
 use Rattle.tabled_printing.specs.Picture.{Look}
 use Rattle.tabled_printing.specs.Columns.{HasNarrowBorders, is_narrow_write}
 use Rattle.tabled_printing.proofs.NarrowLemmas.{borders_narrow}
-use Rattle.tabled_printing.proofs.Tiles.{Tile}
+use Rattle.tabled_width.proofs.Tiles.{Tile}
 use Rattle.tabled_cells.specs.Placements.{placement_at}
 use Rattle.tabled_cells.specs.Trimmed.{lines_shown}
 use Rattle.tabled_cells.proofs.Fits.{padding_unset, placed_at_tile, starts_with_spaces}
@@ -25,10 +25,10 @@ use Rattle.tabled_painting.specs.PaintedTable.{Cells, painted_cells, painted_tab
 use Rattle.tabled_painting.specs.Widths.{text_width, StandsStraightIn}
 use Rattle.tabled_painting.proofs.Even.{table_even, table_straight}
 use Rattle.tabled_painting.proofs.Plain.{plain_cell}
-use Rattle.tabled_text.specs.Sizes.{greatest, cell, column_count, column_widths, row_heights, width_asked}
-use Rattle.tabled_text.specs.Cells.{cells_set, margin_set, cell_colors, leaves_sizes, sets_no_padding, sets_no_spans}
+use Rattle.tabled_measure.specs.Sizes.{greatest, cell, column_count, column_widths, row_heights, width_asked}
+use Rattle.tabled_measure.specs.Cells.{cells_set, margin_set, cell_colors, leaves_sizes, sets_no_padding, sets_no_spans}
 use Rattle.tabled_text.specs.TextTable.{look_of, painted_alone, text_of}
-use Rattle.tabled_text.proofs.Measuring.{column_room, row_room}
+use Rattle.tabled_measure.proofs.Measuring.{column_room, row_room}
 use Rattle.tabled_text.proofs.SpanLemmas.{text_without}
 
 -- ---- what cells say is text

@@ -4,8 +4,8 @@ use Rattle.std.proofs.lemmas.List.{map-append, take_more}
 use Rattle.std.specs.List.{sum_by}
 use Rattle.std.proofs.lemmas.Bool.Decides.{nat_tests}
 use Rattle.tabled_object.specs.Entities.{below, position}
-use Rattle.tabled_grid.specs.declared.place.LineOf.{LineOf}
-use Rattle.tabled_grid.specs.Drawn.{drawn}
+use Rattle.tabled_places.specs.declared.place.LineOf.{LineOf}
+use Rattle.tabled_places.specs.Drawn.{drawn}
 use Rattle.tabled_settings.specs.declared.cell_settings.CellSettings.{CellSettings}
 use Rattle.tabled_settings.specs.declared.indent.Indent.{Indent}
 use Rattle.tabled_settings.specs.declared.sides.Sides.{Sides}
@@ -16,15 +16,15 @@ use Rattle.tabled_rooms.proofs.CellRooms.{greatest_at, greatest_within}
 use Rattle.tabled_configuration.specs.Configuration.{Configuration, ConfigEvent, Shows, all_writes, characters_of}
 use Rattle.tabled_printing.specs.Along.{is_empty}
 use Rattle.tabled_printing.specs.Picture.{Look, look}
-use Rattle.tabled_printing.specs.Texts.{Table}
+use Rattle.tabled_width.specs.Texts.{Table}
 use Rattle.tabled_printing.proofs.LookLemmas.{own_look}
 use Rattle.tabled_painting.specs.Widths.{text_width}
 use Rattle.tabled_printing.specs.Columns.{line_width}
-use Rattle.tabled_text.specs.Cells.{cells_set, margin_set}
+use Rattle.tabled_measure.specs.Cells.{cells_set, margin_set}
 use Rattle.tabled_width.specs.Shares.{used}
 use Rattle.tabled_width.proofs.Sharing.{used-append}
 use Rattle.tabled_text.specs.Fitted.{frame_width, padding_across}
-use Rattle.tabled_text.specs.Sizes.{column_count}
+use Rattle.tabled_measure.specs.Sizes.{column_count}
 
 pub not_empty : (table : Table) → 0 < column_count table → is_empty (length table, column_count table) ≡ false
 not_empty [] some = absurd (omega (arith, some))

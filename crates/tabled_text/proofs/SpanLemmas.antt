@@ -13,7 +13,7 @@ use Rattle.tabled_configuration.specs.Configuration as borders
 use Rattle.tabled_configuration.specs.Configuration.{Configuration, ConfigEvent, all_writes, is_sized_by_texts}
 use Rattle.tabled_configuration.specs.Colored.{Changes, Colored, Shows}
 use Rattle.tabled_printing.specs.Picture.{Look, look}
-use Rattle.tabled_printing.specs.Texts.{Table}
+use Rattle.tabled_width.specs.Texts.{Table}
 use Rattle.tabled_printing.proofs.LookLemmas.{own_look}
 use Rattle.tabled_rooms.specs.Hosts.{Counts}
 use Rattle.tabled_rooms.specs.Sizes.{spanned_widths, spanned_heights}
@@ -26,8 +26,8 @@ use Rattle.tabled_cells.specs.Trimmed.{lines_shown}
 use Rattle.tabled_painting.proofs.AloneLemmas.{alone_table, one_each}
 use Rattle.tabled_painting.proofs.Plain.{plain_cell}
 use Rattle.tabled_painting.proofs.SpannedPlain.{spanned_table_same}
-use Rattle.tabled_text.specs.Sizes.{column_count, column_widths, row_heights, width_with_padding, height_with_padding}
-use Rattle.tabled_text.specs.Cells.{cell_colors, leaves_sizes, sets_no_padding, sets_no_spans, settings_set}
+use Rattle.tabled_measure.specs.Sizes.{column_count, column_widths, row_heights, width_with_padding, height_with_padding}
+use Rattle.tabled_measure.specs.Cells.{cell_colors, leaves_sizes, sets_no_padding, sets_no_spans, settings_set}
 use Rattle.tabled_text.specs.TextTable.{heights_read, heights_with_spans, look_of, look_printed, look_with_spans, painted, painted_alone, text_of, widths_read, widths_with_spans}
 
 -- ---- the one or the other

@@ -7,20 +7,21 @@ use Rattle.std.proofs.lemmas.Bool.Decides.{nat_tests}
 use Rattle.std.proofs.lemmas.List.Splits.{length-slice_split}
 use Rattle.std.specs.Cmp.{second_so}
 use Rattle.tabled_object.specs.Entities.{below, position}
-use Rattle.tabled_grid.specs.declared.place.LineOf.{LineOf}
-use Rattle.tabled_grid.specs.Drawn.{drawn}
+use Rattle.tabled_places.specs.declared.place.LineOf.{LineOf}
+use Rattle.tabled_places.specs.Drawn.{drawn}
 use Rattle.tabled_settings.specs.declared.indent.Indent.{Indent}
 use Rattle.tabled_settings.specs.declared.sides.Sides.{Sides}
 use Rattle.tabled_settings.specs.Live.{value_at}
 use Rattle.tabled_settings.proofs.Paddings.{no_padding_at}
 use Rattle.tabled_layout.specs.declared.table_settings.TableSettings.{TableSettings}
 use Rattle.tabled_configuration.specs.Configuration.{ConfigEvent, characters_of}
-use Rattle.tabled_printing.specs.Texts.{Table}
+use Rattle.tabled_width.specs.Texts.{Table}
 use Rattle.tabled_printing.specs.Along.{is_empty}
 use Rattle.tabled_printing.specs.Picture.{Look}
-use Rattle.tabled_printing.specs.Columns.{HasNarrowBorders, IsRectangle, is_narrow, is_narrow_write}
+use Rattle.tabled_width.specs.Narrow.{IsRectangle, is_narrow}
+use Rattle.tabled_printing.specs.Columns.{HasNarrowBorders, is_narrow_write}
 use Rattle.tabled_printing.proofs.NarrowLemmas.{borders_narrow}
-use Rattle.tabled_printing.proofs.Tiles.{Tile}
+use Rattle.tabled_width.proofs.Tiles.{Tile}
 use Rattle.tabled_rooms.specs.Hosts.{Counts, host}
 use Rattle.tabled_rooms.specs.Rooms.{one_if}
 use Rattle.tabled_rooms.specs.Sizes.{is_shown}
@@ -36,9 +37,9 @@ use Rattle.tabled_painting.specs.PaintedSpans.{columns_spanned, rows_spanned, ro
 use Rattle.tabled_painting.specs.Widths.{text_width}
 use Rattle.tabled_painting.proofs.Plain.{plain_cell}
 use Rattle.tabled_painting.proofs.SpannedEven.{spanned_even}
-use Rattle.tabled_text.specs.Sizes.{cell, column_count, padded_width, width_with_padding, height_with_padding}
-use Rattle.tabled_text.specs.Changed.{CellsArePrintable}
-use Rattle.tabled_text.specs.Cells.{settings_set, cells_set, margin_set, cell_colors, leaves_sizes, sets_no_padding, sets_no_spans, KeepsApart, StandApart, StartsWithSpace}
+use Rattle.tabled_measure.specs.Sizes.{cell, column_count, padded_width, width_with_padding, height_with_padding}
+use Rattle.tabled_measure.specs.Changed.{CellsArePrintable}
+use Rattle.tabled_measure.specs.Cells.{settings_set, cells_set, margin_set, cell_colors, leaves_sizes, sets_no_padding, sets_no_spans, KeepsApart, StandApart, StartsWithSpace}
 use Rattle.tabled_text.specs.TextTable.{look_of, look_with_spans, look_printed, text_of, widths_with_spans, heights_with_spans}
 use Rattle.tabled_text.proofs.Even.{some_places, text_even}
 use Rattle.tabled_text.proofs.SpanLemmas.{text_spanned}

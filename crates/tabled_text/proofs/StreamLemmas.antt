@@ -2,8 +2,8 @@
 use Rattle.std.proofs.Common.{◌≡◌, ℕ, zero, suc, ◌+◌, ◌*◌, ◌≤◌, Option, Some, None, List, ◌++◌, length, length-append, encode_utf8, sym, ap, subst, ◌∙◌, arith}
 use Rattle.std.specs.Io.KnownBytes.{Appends, Keeps}
 use Rattle.std.proofs.lemmas.Str.{len_utf8_bounds, length-encode}
-use Rattle.tabled_printing.specs.Texts.{times}
-use Rattle.tabled_printing.proofs.TimesLemmas.{times_both}
+use Rattle.tabled_width.specs.Texts.{times}
+use Rattle.tabled_width.proofs.TimesLemmas.{times_both}
 use Rattle.tabled_text.specs.declared.stream.Stream.{Stream}
 use Rattle.tabled_text.specs.Streams.{KeepsStream, StreamGains, held, stream_both}
 

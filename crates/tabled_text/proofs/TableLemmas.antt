@@ -1,8 +1,8 @@
 -- What a table knows of its texts, by others that they are equal to.
 use Rattle.std.proofs.Common.{◌≡◌, None, List, ℕ, sym, ap, ◌∙◌}
-use Rattle.tabled_printing.specs.Texts.{Table}
-use Rattle.tabled_text.specs.Cells.{AreUtf8}
-use Rattle.tabled_text.specs.Sizes.{column_widths, row_heights, unequal_row}
+use Rattle.tabled_width.specs.Texts.{Table}
+use Rattle.tabled_measure.specs.Cells.{AreUtf8}
+use Rattle.tabled_measure.specs.Sizes.{column_widths, row_heights, unequal_row}
 
 abbrev pub IsMeasured : List ℕ → List ℕ → Table → Type 0
 IsMeasured widths heights table = (unequal_row table ≡ None) × (widths ≡ column_widths table) × (heights ≡ row_heights table) × AreUtf8 table

@@ -10,38 +10,37 @@ use Rattle.std.proofs.lemmas.Bool.Decides.{nat_tests}
 use Rattle.std.proofs.lemmas.Option.{slice_get-get_or}
 use Rattle.std.proofs.lemmas.List.{length-map, get_or-map, get_or_default}
 use Rattle.tabled_object.specs.Entities.{below, position}
-use Rattle.tabled_grid.specs.Drawn.{drawn}
-use Rattle.tabled_grid.specs.declared.place.LineOf.{LineOf}
+use Rattle.tabled_places.specs.Drawn.{drawn}
+use Rattle.tabled_places.specs.declared.place.LineOf.{LineOf}
 use Rattle.tabled_settings.specs.Live.{value_at}
 use Rattle.tabled_configuration.specs.Configuration.{ConfigEvent, characters_of}
 use Rattle.tabled_layout.specs.declared.margin.Margin.{Margin}
 use Rattle.tabled_printing.specs.Along.{is_empty}
 use Rattle.tabled_printing.specs.Columns.{line_width}
 use Rattle.tabled_printing.specs.Picture.{Look, look}
-use Rattle.tabled_printing.specs.Texts.{Table, pieces, width_of_text}
+use Rattle.tabled_width.specs.Texts.{Table, pieces, width_of_text, LinesFit}
 use Rattle.tabled_painting.specs.Widths.{text_width}
 use Rattle.tabled_width.specs.declared.limit.Overflow.{Overflow}
 use Rattle.tabled_width.specs.declared.limit.Overflow.TheVariants.{Wrap, WrapWords, Truncate}
 use Rattle.tabled_width.specs.Limited.{ends_printable, limited}
 use Rattle.tabled_width.specs.Shares.{used, shared}
-use Rattle.tabled_width.specs.Texts.{LinesFit}
 use Rattle.tabled_width.proofs.LimitedLaws.{limited_fits, printable_can_fit}
 use Rattle.tabled_width.proofs.TextLaws.{wrapped_same, words_same, truncated_same}
 use Rattle.tabled_width.proofs.Sharing.{shares_fit, length_shared, step_small, step_great}
 use Rattle.tabled_rooms.proofs.CellRooms.{alone_within, greatest_at}
 use Rattle.tabled_painting.specs.PaintedSpans.{columns_spanned, rows_spanned}
-use Rattle.tabled_text.specs.Cells.{settings_set, cells_set, margin_set, leaves_sizes, sets_no_spans, sets_no_padding}
-use Rattle.tabled_text.specs.Changed.{CellsArePrintable, texts_of_columns, within}
+use Rattle.tabled_measure.specs.Cells.{settings_set, cells_set, margin_set, leaves_sizes, sets_no_spans, sets_no_padding}
+use Rattle.tabled_measure.specs.Changed.{CellsArePrintable, texts_of_columns, within}
 use Rattle.tabled_text.specs.Fitted.{IsFitted, CanShare, frame_width, least_width, padding_across, shares, texts_asked}
-use Rattle.tabled_text.specs.Sizes.{cell, column_count, column_widths, row_heights, unequal_row, width_asked, padded_width, width_with_padding}
+use Rattle.tabled_measure.specs.Sizes.{cell, column_count, column_widths, row_heights, unequal_row, width_asked, padded_width, width_with_padding}
 use Rattle.tabled_text.specs.TextTable.{look_of, look_with_spans, look_printed, widths_with_spans, heights_with_spans}
-use Rattle.tabled_text.proofs.ChangedLemmas.{cells_at, counts_stay, length_cells, place_at, same_columns}
-use Rattle.tabled_text.proofs.EqualRows.{all_equal}
-use Rattle.tabled_text.proofs.Measuring.{column_room, greatest_most}
+use Rattle.tabled_measure.proofs.ChangedLemmas.{cells_at, counts_stay, length_cells, place_at, same_columns}
+use Rattle.tabled_measure.proofs.EqualRows.{all_equal}
+use Rattle.tabled_measure.proofs.Measuring.{column_room, greatest_most}
 use Rattle.tabled_cells.proofs.Fits.{greatest_bound}
 use Rattle.tabled_text.proofs.Frames.{across_unset}
 use Rattle.tabled_text.proofs.ShareSums.{sum_bound}
-use Rattle.tabled_text.proofs.Widths.{count_widths, width-at}
+use Rattle.tabled_measure.proofs.Widths.{count_widths, width-at}
 
 -- ---- columns within their shares
 

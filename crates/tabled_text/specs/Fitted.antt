@@ -7,14 +7,14 @@ use Rattle.tabled_settings.specs.declared.sides.Sides.{Sides}
 use Rattle.tabled_settings.specs.Live.{value_at}
 use Rattle.tabled_configuration.specs.Configuration.{ConfigEvent}
 use Rattle.tabled_printing.specs.Picture.{look}
-use Rattle.tabled_printing.specs.Texts.{Table}
+use Rattle.tabled_width.specs.Texts.{Table}
 use Rattle.tabled_painting.specs.Widths.{text_width}
 use Rattle.tabled_width.specs.declared.limit.Overflow.{Overflow}
 use Rattle.tabled_width.specs.Limited.{CanFit}
 use Rattle.tabled_width.specs.Shares.{used, IsCap, shared}
-use Rattle.tabled_text.specs.Sizes.{greatest, cell, column_count, column_widths}
-use Rattle.tabled_text.specs.Cells.{cells_set, margin_set}
-use Rattle.tabled_text.specs.Changed.{cells_changed, texts_of_columns}
+use Rattle.tabled_measure.specs.Sizes.{greatest, cell, column_count, column_widths}
+use Rattle.tabled_measure.specs.Cells.{cells_set, margin_set}
+use Rattle.tabled_measure.specs.Changed.{cells_changed, texts_of_columns}
 
 -- how many terminal columns the padding of a column takes, in a table of so many rows: as many as at both sides of the cell that has most
 unfoldable pub padding_across : CellSettings → ℕ → ℕ → ℕ

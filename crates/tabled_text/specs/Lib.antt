@@ -1,12 +1,6 @@
-pub mod Sizes
-pub mod Cells
 pub mod Refusal
 pub mod TextTable
-pub mod Changed
 pub mod Fitted
-pub mod Edited
-pub mod EditedColumns
-pub mod Numeric
 pub mod Panels
 pub mod Streams
 pub mod TableViews

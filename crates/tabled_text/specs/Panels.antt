@@ -4,8 +4,8 @@ use Rattle.tabled_object.specs.Entities.{position}
 use Rattle.tabled_configuration.specs.Colored.{Changes, Colored}
 use Rattle.tabled_configuration.specs.Configuration.{by_column_span}
 use Rattle.tabled_correction.specs.Correction.{correction_events}
-use Rattle.tabled_printing.specs.Texts.{Table}
-use Rattle.tabled_text.specs.Sizes.{column_count}
+use Rattle.tabled_width.specs.Texts.{Table}
+use Rattle.tabled_measure.specs.Sizes.{column_count}
 
 -- how many columns such a row spans: all, and one in a table without rows
 abbrev pub panel_columns : Table → ℕ

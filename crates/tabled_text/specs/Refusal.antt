@@ -2,8 +2,8 @@
 use Rattle.std.specs.Prelude.{◌≡◌, ℕ, Option, Some, List, [], length, slice_index_or}
 use Rattle.std.specs.List.{AllZip}
 use Rattle.tabled_rows.specs.Spelled.{IsRow}
-use Rattle.tabled_printing.specs.Texts.{Table}
-use Rattle.tabled_text.specs.Sizes.{column_count, unequal_row}
+use Rattle.tabled_width.specs.Texts.{Table}
+use Rattle.tabled_measure.specs.Sizes.{column_count, unequal_row}
 use Rattle.std.specs.declared.io.ErrorKind.{ErrorKind}
 use Rattle.std.specs.declared.io.ErrorKind.TheVariants as io
 use Rattle.tabled_text.specs.declared.table_error.TableError.{TableError}

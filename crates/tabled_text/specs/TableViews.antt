@@ -2,11 +2,11 @@
 use Rattle.std.specs.Prelude.{◌≡◌, ℕ, Bool, List, length}
 use Rattle.std.specs.List.{All}
 use Rattle.tabled_object.specs.declared.dimension.FixedDimension.{FixedDimension}
-use Rattle.tabled_printing.specs.Texts.{Table}
+use Rattle.tabled_width.specs.Texts.{Table}
 use Rattle.tabled_painting.specs.Pages.{text_of_lines}
 use Rattle.tabled_painting.specs.PaintedSpans.{painted_by}
-use Rattle.tabled_painting.specs.TextsBy.{texts_by}
-use Rattle.tabled_text.specs.Sizes.{column_count, AreSizesOf}
+use Rattle.tabled_cells.specs.TextsBy.{texts_by}
+use Rattle.tabled_measure.specs.Sizes.{column_count, AreSizesOf}
 use Rattle.tabled_text.specs.TextTable.{heights_read, widths_read}
 use Rattle.tabled_text.specs.declared.table_view.TableView.{TableView}
 

@@ -2,24 +2,26 @@
 use Rattle.std.specs.Prelude.{◌≡◌, ℕ, true, if◌then◌else◌, List, length, map, slice_index}
 use Rattle.std.specs.Coded.{Coded, codes}
 use Rattle.std.specs.FinMap as finmap
+use Rattle.std.specs.List.{join_with_byte}
 use Rattle.std.specs.declared.vec.Vec.{Vec}
+use Rattle.tabled_object.specs.Entities.{below}
 use Rattle.tabled_object.specs.declared.dimension.FixedDimension.{FixedDimension}
 use Rattle.tabled_object.specs.declared.records.Shape.{Shape}
 use Rattle.tabled_configuration.specs.Colored.{Colored}
 use Rattle.tabled_configuration.specs.Configuration.{Configuration, ConfigEvent, all_writes, characters_of, is_sized_by_texts}
-use Rattle.tabled_grid.specs.Drawn.{drawn}
-use Rattle.tabled_grid.specs.declared.place.LineOf.{LineOf}
+use Rattle.tabled_places.specs.Drawn.{drawn}
+use Rattle.tabled_places.specs.declared.place.LineOf.{LineOf}
 use Rattle.tabled_layout.specs.declared.table_settings.TableSettings.{TableSettings}
 use Rattle.tabled_rooms.specs.Sizes.{spanned_widths, spanned_heights}
 use Rattle.tabled_printing.specs.Picture.{Look, look}
-use Rattle.tabled_painting.specs.Painted.{Painted}
+use Rattle.tabled_painting.specs.Painted.{Painted, plain}
 use Rattle.tabled_painting.specs.PaintedTable.{painted_table, painted_cells, plain_text}
 use Rattle.tabled_painting.specs.PaintedSpans.{columns_spanned, painted_as_set, rows_spanned}
-use Rattle.tabled_printing.specs.Texts.{Table}
+use Rattle.tabled_width.specs.Texts.{Table}
 use Rattle.tabled_printing.specs.Pieces.{lent}
 use denote.Ref.{Bor}
-use Rattle.tabled_text.specs.Sizes.{column_count, column_widths, row_heights, width_with_padding, height_with_padding}
-use Rattle.tabled_text.specs.Cells.{cells_set, margin_set, cell_colors, settings_set, leaves_sizes}
+use Rattle.tabled_measure.specs.Sizes.{column_count, column_widths, row_heights, width_with_padding, height_with_padding}
+use Rattle.tabled_measure.specs.Cells.{cells_set, margin_set, cell_colors, settings_set, leaves_sizes}
 
 -- the text of each cell, the sizes, and the configuration
 pub record Drawing : Type 0 where
@@ -91,3 +93,9 @@ pub record AreRead (drawing : Drawing) (sizes : FixedDimension) : Type 0 where
   pub widths : sizes.widths.items ≡ widths_read drawing.config.spanned drawing.texts
   pub heights : sizes.heights.items ≡ heights_read drawing.config.spanned drawing.texts
   pub kept : is_sized_by_texts drawing.config.spanned ≡ true → sizes ≡ drawing.sizes
+
+-- the text of each cell as it is shown where none spans and no padding is set: its lines, joined by line feeds
+unfoldable pub cell_texts : List ConfigEvent → Table → Table
+cell_texts es table =
+    let lines = painted_cells (cells_set es) (cell_colors es) (column_widths table) (row_heights table) table in
+    map (λ r. map (λ c. join_with_byte 10 (map (λ k. plain (lines r c k)) (below (slice_index (row_heights table) r)))) (below (column_count table))) (below (length table))

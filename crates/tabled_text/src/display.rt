@@ -34,7 +34,7 @@ pub struct InColor<'a, T: AsStr + Drop = String> {
 }
 
 impl<T: AsStr + Drop> Table<T> {
-    /// The table as it displays itself in color, so that `println!(rt; "{}", table.in_color())?` prints what `to_ansi` gives.
+    /// Returns the table as it displays itself in color, so that `println!(rt; "{}", table.in_color())?` prints what `to_ansi` gives.
     pub fn in_color(&self) -> InColor<'_, T>
         ensures { result.table ≡ self.entry }
     {

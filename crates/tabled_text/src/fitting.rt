@@ -4,9 +4,9 @@ ghost use Rattle.std.specs.Prelude.{◌≡◌, ◌<◌, ◌+◌, ◌-◌, List, 
 ghost use Rattle.std.specs.List.{sum_by};
 ghost use Rattle.tabled_object.specs.Entities.{below};
 ghost use Rattle.tabled_configuration.specs.Configuration.{ConfigEvent, Shows, all_writes, characters_of};
-ghost use Rattle.tabled_grid.specs.Drawn.{drawn};
-ghost use Rattle.tabled_grid.specs.declared.place.LineOf.{LineOf as Line};
-ghost use Rattle.tabled_printing.specs.Texts.{Table};
+ghost use Rattle.tabled_places.specs.Drawn.{drawn};
+ghost use Rattle.tabled_places.specs.declared.place.LineOf.{LineOf as Line};
+ghost use Rattle.tabled_width.specs.Texts.{Table};
 ghost use Rattle.tabled_width.specs.Shares.{used};
 ghost use Rattle.tabled_text.specs.Fitted.{frame_width, padding_across};
 ghost use Rattle.tabled_text.specs.TextTable.{shape_of};

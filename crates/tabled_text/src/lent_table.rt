@@ -16,11 +16,11 @@ impl<'a> LentTable<'a> {
     ghost use Rattle.std.specs.Prelude.{◌≡◌, ◌⊎◌, [], Err, IfOk, IsOkUnless, MatchOption};
     ghost use Rattle.tabled_configuration.specs.Colored.{Shows};
     ghost use Rattle.tabled_text.specs.Refusal.{unequal};
-    ghost use Rattle.tabled_text.specs.Sizes.{unequal_row};
+    ghost use Rattle.tabled_measure.specs.Sizes.{unequal_row};
     ghost use Rattle.tabled_text.specs.TextTable.{lent_rows};
     ghost use Rattle.tabled_text.specs.declared.table_error.TableError.{TableError as Refusal};
 
-    /// A table of these rows of texts, which are lent and not copied. Refused as by `from_rows`.
+    /// Makes a table of these rows of texts, which are lent and not copied. Refused as by `from_rows`.
     ///
     /// `LentTable::new(alloc, &[&["a", "b"], &["c", "d"]])?` prints what a `TextTable` does.
     pub fn new(alloc: Global, rows: &[&[&'a str]]) -> Result<Self, TableError>

@@ -3,14 +3,9 @@
 //! `docs/DEFINITIONS.md` explains the words of the contracts.
 #![tactic(auto)]
 
-mod changing;
 mod display;
-mod edited;
 mod fitting;
 mod lent_table;
-mod measure;
-mod numeric;
-mod spanned;
 mod stream;
 mod table;
 mod table_error;

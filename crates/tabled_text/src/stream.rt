@@ -5,9 +5,9 @@ ghost use Rattle.std.specs.Char.{encode_utf8};
 ghost use Rattle.std.specs.List.{All};
 ghost use Rattle.std.specs.String.{string_capacity};
 ghost use Rattle.std.specs.Io.KnownBytes.{Appends};
-ghost use Rattle.tabled_printing.specs.Texts.{times};
+ghost use Rattle.tabled_width.specs.Texts.{times};
 ghost use Rattle.tabled_painting.specs.TablePages.{text_of_page};
-ghost use Rattle.tabled_painting.specs.TextsBy.{texts_by};
+ghost use Rattle.tabled_cells.specs.TextsBy.{texts_by};
 ghost use Rattle.tabled_text.specs.declared.stream.TheConstants.{ROOM};
 ghost use Rattle.tabled_text.specs.declared.table_error.TableError.{TableError as Refusal};
 
@@ -16,7 +16,7 @@ use std::alloc::Global;
 use std::convert::{AsStr, Infallible};
 use std::io;
 use tabled_painting::{Output, TablePage};
-use tabled_printing::piece_of;
+use tabled_width::piece_of;
 
 /// How many bytes wait at most before they are written.
 const ROOM: usize = 65_536;

@@ -2,7 +2,7 @@
 
 ghost use Rattle.std.specs.Prelude.{◌≡◌, [], length, slice_index_or, IfOk};
 ghost use Rattle.tabled_configuration.specs.Colored.{Shows};
-ghost use Rattle.tabled_painting.specs.TextsBy.{texts_by};
+ghost use Rattle.tabled_cells.specs.TextsBy.{texts_by};
 ghost use Rattle.tabled_text.specs.Refusal.{unequal as refusal_of};
 
 mod columns;
@@ -11,12 +11,12 @@ mod printing;
 
 use crate::TableError;
 use crate::fitting::{frame_width, least_for_texts};
-use crate::measure::{sizes_of, unequal_row};
 use std::alloc::Global;
 use std::convert::AsStr;
 use std::marker::Model;
 use tabled_border::OutOfMemory;
 use tabled_configuration::{CellOption, ColoredConfig, SpannedConfig, TableOption, modify};
+use tabled_measure::measure::{sizes_of, unequal_row};
 use tabled_numbers::column_count;
 use tabled_object::{FixedDimension, Object, Shape};
 
@@ -36,8 +36,8 @@ use tabled_object::{FixedDimension, Object, Shape};
 /// ╰───┴───╯     #####───╯
 /// ```
 ///
-/// A [`TextTable`](crate::TextTable) has texts of its own, which can be edited; a [`LentTable`](crate::LentTable) is lent its texts, and copies
-/// none.
+/// A [`TextTable`](crate::TextTable) has texts of its own, which can be edited; a [`LentTable`](crate::LentTable) is lent its texts, and
+/// copies none.
 #[derive(Debug)]
 pub struct Table<T: AsStr + Drop> {
     pub(crate) cells: Vec<Vec<T>>,
@@ -61,9 +61,9 @@ impl<T: AsStr + Drop> Drop for Table<T> {
 
 impl<T: AsStr + Drop> Model for Table<T> {
     ghost use Rattle.std.specs.Prelude.{◌≡◌, None};
-    ghost use Rattle.tabled_painting.specs.TextsBy.{texts_by};
-    ghost use Rattle.tabled_text.specs.Cells.{AreUtf8};
-    ghost use Rattle.tabled_text.specs.Sizes.{column_widths, row_heights, unequal_row};
+    ghost use Rattle.tabled_cells.specs.TextsBy.{texts_by};
+    ghost use Rattle.tabled_measure.specs.Cells.{AreUtf8};
+    ghost use Rattle.tabled_measure.specs.Sizes.{column_widths, row_heights, unequal_row};
     ghost use Rattle.tabled_text.specs.TextTable.{Drawing, drawing_code};
 
     ghost Value = { Drawing };
@@ -87,17 +87,17 @@ impl<T: AsStr + Drop> Table<T> {
     ghost use Rattle.tabled_configuration.specs.Configuration as borders;
     ghost use Rattle.tabled_object.specs.declared.dimension.FixedDimension.{FixedDimension};
     ghost use Rattle.tabled_configuration.specs.Options.{MakesInTurn};
-    ghost use Rattle.tabled_painting.specs.TextsBy.{texts_by};
+    ghost use Rattle.tabled_cells.specs.TextsBy.{texts_by};
     ghost use Rattle.tabled_text.specs.Fitted.{least_width};
     ghost use Rattle.tabled_text.specs.Refusal.{unequal};
     ghost use Rattle.tabled_text.specs.declared.table_error.TableError.{TableError as Refusal};
-    ghost use Rattle.tabled_text.specs.Sizes.{column_count, column_widths, row_heights, unequal_row};
+    ghost use Rattle.tabled_measure.specs.Sizes.{column_count, column_widths, row_heights, unequal_row};
     ghost use Rattle.tabled_text.specs.TextTable.{AreRead, shape_of};
     ghost use Rattle.tabled_text.specs.contracts.table.Table.{the_row};
     ghost use Rattle.tabled_configuration.specs.contracts.colored_config.ColoredConfig.{the_row as config_row};
 
-    /// A table of these rows of texts, which are taken as they are. Refused where a row has more or fewer cells than row 0, with the number of
-    /// the first such row and both counts, or where memory is refused.
+    /// Makes a table of these rows of texts, which are taken as they are. Refused where a row has more or fewer cells than row 0, with the
+    /// number of the first such row and both counts, or where memory is refused.
     ///
     /// `LentTable::from_rows(alloc, vec![in alloc; vec![in alloc; "a", "b"]?, vec![in alloc; "c", "d"]?]?)?` prints what
     /// `TextTable::new(alloc, &[&["a", "b"], &["c", "d"]])?` does.
@@ -178,7 +178,8 @@ impl<T: AsStr + Drop> Table<T> {
     }
 
     /// Applies an option to the whole table: its configuration changes by the option's events and by nothing else. An option that reads
-    /// sizes, as a text on a line does, reads those with which the table would be printed now. Where memory is refused the table is as it was.
+    /// sizes, as a text on a line does, reads those with which the table would be printed now. Where memory is refused the table is as it
+    /// was.
     pub fn apply<P>(&mut self, option: P) -> Result<(), OutOfMemory>
     where
         P: TableOption<Shape, ColoredConfig, FixedDimension> + Drop,
@@ -212,14 +213,14 @@ impl<T: AsStr + Drop> Table<T> {
         modify(alloc, &mut shape, &mut *self.config, object, option)
     }
 
-    /// The configuration that options change.
+    /// Returns the configuration that options change.
     pub fn config(&self) -> &ColoredConfig
         ensures { result.now ≡ self.now.config }
     {
         &self.config
     }
 
-    /// The configuration, to be changed by its own calls.
+    /// Returns the configuration, to be changed by its own calls.
     pub fn config_mut(&mut self) -> &mut ColoredConfig
         ensures* writes_back { sem 𝓛 (Lends (the_row T.row T.AsStr) config_row self.entry result (λ config. record self.old { config = config })) }
         ensures value { result.now ≡ self.old.config }
@@ -227,7 +228,7 @@ impl<T: AsStr + Drop> Table<T> {
         &mut *self.config
     }
 
-    /// How many rows and columns the table has.
+    /// Returns how many rows and columns the table has.
     pub fn shape(&self) -> Shape
         ensures { result ≡ shape_of self.now.texts }
     {
@@ -237,7 +238,7 @@ impl<T: AsStr + Drop> Table<T> {
         }
     }
 
-    /// How wide the columns are and how high the rows, with the spaces around cells, where no cell spans and no padding is set.
+    /// Returns how wide the columns are and how high the rows, with the spaces around cells, where no cell spans and no padding is set.
     pub fn sizes(&self) -> &FixedDimension
         ensures value { result.now ≡ self.now.sizes }
         ensures widths { result.now.widths.items ≡ column_widths self.now.texts }
@@ -246,14 +247,14 @@ impl<T: AsStr + Drop> Table<T> {
         &self.sizes
     }
 
-    /// The texts of the cells, row by row, as they were given.
+    /// Returns the texts of the cells, row by row, as they were given.
     pub fn texts(&self) -> &[Vec<T>]
         ensures { texts_by T.text result.now ≡ self.now.texts }
     {
         self.cells.as_slice()
     }
 
-    /// The texts of the cells, row by row, handed over.
+    /// Returns the texts of the cells, row by row, handed over.
     pub fn into_rows(self) -> Vec<Vec<T>>
         ensures { texts_by T.text result.items ≡ self.texts }
     {
@@ -267,9 +268,9 @@ impl<T: AsStr + Drop> Table<T> {
         cells
     }
 
-    /// The least total that `fit_with` keeps the table within, with this least width of a column, where each character takes one column of
-    /// the terminal: what its padding, its vertical lines and its margin take, and for each column `least`, or what its texts ask for, if
-    /// that is less. For `fit` that is `least_width(1)`, and so is `least_width(0)`. Where it can't be counted it is `usize::MAX`.
+    /// Returns the least total that `fit_with` keeps the table within, with this least width of a column, where each character takes one
+    /// column of the terminal: what its padding, its vertical lines and its margin take, and for each column `least`, or what its texts ask
+    /// for, if that is less. For `fit` that is `least_width(1)`, and so is `least_width(0)`. Where it can't be counted it is `usize::MAX`.
     pub fn least_width(&self, least: usize) -> usize
         ensures { (es : List ConfigEvent) → borders.Shows es self.now.config.spanned → result ≡ min (least_width (max least 1) es self.now.texts) usize.MAX }
     {

@@ -10,12 +10,12 @@ ghost use Rattle.tabled_text.specs.TextTable.{heights_with_spans, widths_with_sp
 ghost use Rattle.tabled_text.specs.declared.table_error.TableError.{TableError as Refusal};
 
 use crate::TableError;
-use crate::spanned::TextSizes;
 use crate::stream::write_page;
 use std::convert::AsStr;
 use std::io;
 use tabled_border::OutOfMemory;
 use tabled_configuration::ColoredConfig;
+use tabled_measure::spanned::TextSizes;
 use tabled_object::FixedDimension;
 use tabled_painting::{TablePage, sizes_of_spanned};
 
@@ -70,7 +70,7 @@ impl<'a, T: AsStr> TableView<'a, T> {
         Ok(Some(sizes))
     }
 
-    /// Its page, where it has places, in color or without colors.
+    /// The page of the table, where it has places, in color or without colors.
     fn page<'b>(
         &'b self,
         other: &'b Option<FixedDimension>,
@@ -88,7 +88,7 @@ impl<'a, T: AsStr> TableView<'a, T> {
         TablePage::new(self.config, sizes, self.shape, with_colors)
     }
 
-    /// Its text, in color or without colors.
+    /// The text of the table, in color or without colors.
     pub(crate) fn text(&self, with_colors: bool) -> Result<String, OutOfMemory>
         requires { IsTable T.text self.now }
         ensures { IfOk result (λ text. string_bytes text ≡ text_viewed T.text self.now with_colors) }

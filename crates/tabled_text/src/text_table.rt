@@ -1,7 +1,7 @@
 //! A table of texts of its own.
 
 ghost use Rattle.std.specs.Prelude.{◌≡◌, map, string_bytes, IfOk};
-ghost use Rattle.tabled_printing.specs.Texts.{texts};
+ghost use Rattle.tabled_width.specs.Texts.{texts};
 ghost use Rattle.tabled_text.specs.TextTable.{lent_rows};
 
 mod edited_columns;
@@ -29,11 +29,11 @@ impl TextTable {
     ghost use Rattle.std.specs.Prelude.{◌≡◌, ◌⊎◌, [], Err, IfOk, MatchOption, IsOkUnless};
     ghost use Rattle.tabled_configuration.specs.Colored.{Shows};
     ghost use Rattle.tabled_text.specs.Refusal.{unequal};
-    ghost use Rattle.tabled_text.specs.Sizes.{unequal_row};
+    ghost use Rattle.tabled_measure.specs.Sizes.{unequal_row};
     ghost use Rattle.tabled_text.specs.TextTable.{lent_rows};
     ghost use Rattle.tabled_text.specs.declared.table_error.TableError.{TableError as Refusal};
 
-    /// A table of these rows of texts, which are copied. Refused as by `from_rows`.
+    /// Makes a table of these rows of texts, which are copied. Refused as by `from_rows`.
     ///
     /// `TextTable::new(alloc, &[&["a", "b"], &["c", "d"]])?`, to which no option was applied, has no borders:
     ///

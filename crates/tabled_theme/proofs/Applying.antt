@@ -1,7 +1,7 @@
 -- A theme applied: its lines and its class record, and then its class colors.
 use Rattle.std.proofs.Common.{◌≡◌, [], subst}
-use Rattle.tabled_grid.specs.declared.borders.Borders.{Borders}
-use Rattle.tabled_grid.specs.State.{class_record_set}
+use Rattle.tabled_places.specs.declared.borders.Borders.{Borders}
+use Rattle.tabled_places.specs.State.{class_record_set}
 use Rattle.tabled_border.specs.Texts.{Texts}
 use Rattle.tabled_configuration.specs.Configuration.{Configuration, Changes, by_colors, cell_color_event, cell_colors_of}
 use Rattle.tabled_configuration.proofs.ConfigurationLemmas.{both_passed_over}

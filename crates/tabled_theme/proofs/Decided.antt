@@ -5,26 +5,26 @@ use Rattle.std.specs.FinMap as map
 use Rattle.std.proofs.lemmas.List.Elements.{filter_map-append}
 use Rattle.tabled_border.specs.Texts.{Texts}
 use Rattle.tabled_color.specs.Shade.{texts_of, owned_shade}
-use Rattle.tabled_grid.specs.declared.borders.Borders.{Borders}
-use Rattle.tabled_grid.specs.declared.place.LineOf.{LineOf}
-use Rattle.tabled_grid.specs.declared.place.Place.{Place}
-use Rattle.tabled_grid.specs.declared.event.Event.{Event}
-use Rattle.tabled_grid.specs.declared.event.Event.TheVariants.{Erase as erase}
-use Rattle.tabled_grid.specs.declared.event.Region.TheVariants.{All as every_site, Level as level_sites}
-use Rattle.tabled_grid.specs.declared.event.Written.TheVariants.{Sign as sign}
-use Rattle.tabled_grid.specs.Event as grid
-use Rattle.tabled_grid.specs.declared.site.Class.{Class}
-use Rattle.tabled_grid.specs.declared.site.Direction.TheVariants.{Horizontal, Vertical}
-use Rattle.tabled_grid.specs.declared.site.Site.{Site}
-use Rattle.tabled_grid.specs.declared.site.Site.TheVariants.{Class as of_class, Line as of_line}
-use Rattle.tabled_grid.specs.Site.{class_value}
-use Rattle.tabled_grid.specs.State.{state_at, class_record_set, class_writes, classes}
-use Rattle.tabled_grid.specs.Value.{value}
-use Rattle.tabled_grid.specs.Drawn.{Drawn}
-use Rattle.tabled_grid.proofs.DrawnLemmas.{Drawn-shown}
-use Rattle.tabled_grid.specs.CustomLines.{no_borders}
-use Rattle.tabled_grid.proofs.PuttingBack.{of_signs, same_classes, same_horizontal, same_vertical}
-use Rattle.tabled_grid.proofs.Replay.{replay_cleared}
+use Rattle.tabled_places.specs.declared.borders.Borders.{Borders}
+use Rattle.tabled_places.specs.declared.place.LineOf.{LineOf}
+use Rattle.tabled_places.specs.declared.place.Place.{Place}
+use Rattle.tabled_places.specs.declared.event.Event.{Event}
+use Rattle.tabled_places.specs.declared.event.Event.TheVariants.{Erase as erase}
+use Rattle.tabled_places.specs.declared.event.Region.TheVariants.{All as every_site, Level as level_sites}
+use Rattle.tabled_places.specs.declared.event.Written.TheVariants.{Sign as sign}
+use Rattle.tabled_places.specs.Event as grid
+use Rattle.tabled_places.specs.declared.site.Class.{Class}
+use Rattle.tabled_places.specs.declared.site.Direction.TheVariants.{Horizontal, Vertical}
+use Rattle.tabled_places.specs.declared.site.Site.{Site}
+use Rattle.tabled_places.specs.declared.site.Site.TheVariants.{Class as of_class, Line as of_line}
+use Rattle.tabled_places.specs.Site.{class_value}
+use Rattle.tabled_places.specs.State.{state_at, class_record_set, class_writes, classes}
+use Rattle.tabled_places.specs.Value.{value}
+use Rattle.tabled_places.specs.Drawn.{Drawn}
+use Rattle.tabled_places.proofs.DrawnLemmas.{Drawn-shown}
+use Rattle.tabled_places.specs.CustomLines.{no_borders}
+use Rattle.tabled_places.proofs.PuttingBack.{of_signs, same_classes, same_horizontal, same_vertical}
+use Rattle.tabled_places.proofs.Replay.{replay_cleared}
 use Rattle.tabled_configuration.specs.Configuration.{Configuration, Changes, character_event, color_event, characters_of, colors_of, by_colors, borders_replaced, horizontal_lines_put, vertical_lines_put}
 use Rattle.tabled_configuration.proofs.ConfigurationLemmas.{characters_of-both, colors_of-both}
 use Rattle.tabled_style.specs.Shown.{StyleShown}

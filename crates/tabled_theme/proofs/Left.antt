@@ -3,28 +3,28 @@ use Rattle.std.proofs.Common.{◌≡◌, ℕ, false, ◌==◌, ◌||◌, None, L
 use Rattle.std.specs.Cmp.{nat_cmp_total, unsigned_tied}
 use Rattle.std.specs.FinMap as map
 use Rattle.std.proofs.lemmas.List.{append-nil, reverse-append}
-use Rattle.tabled_grid.specs.declared.place.LineOf.{LineOf}
-use Rattle.tabled_grid.specs.declared.offset.Offset.{Offset}
-use Rattle.tabled_grid.specs.declared.lines.HorizontalLine.{HorizontalLine}
-use Rattle.tabled_grid.specs.declared.lines.VerticalLine.{VerticalLine}
-use Rattle.tabled_grid.specs.declared.borders.Borders.{Borders}
-use Rattle.tabled_grid.specs.Keys.{spot_cmp, edge_place_cmp}
-use Rattle.tabled_grid.specs.declared.site.Direction.TheVariants.{Horizontal, Vertical}
-use Rattle.tabled_grid.specs.declared.site.Class.{Class}
-use Rattle.tabled_grid.specs.declared.site.Part.{Part}
-use Rattle.tabled_grid.specs.declared.site.Site.{Site}
-use Rattle.tabled_grid.specs.declared.site.Site.TheVariants.{Default as the_default, Class as of_class, Line as of_line, Cell as at_spot, Offset as at_offset}
-use Rattle.tabled_grid.specs.Site.{level, same_site, class_value}
-use Rattle.tabled_grid.specs.declared.event.Event.{Event}
-use Rattle.tabled_grid.specs.declared.event.Written.TheVariants.{Sign as sign}
-use Rattle.tabled_grid.specs.declared.event.Region.TheVariants.{Level as level_sites, Line as line_sites}
-use Rattle.tabled_grid.specs.Event.{within, covered, replay, Shows}
-use Rattle.tabled_grid.specs.Lines.{horizontal_line_set, vertical_line_set}
-use Rattle.tabled_grid.specs.State.{State, state_at, class_writes, classes, class_record_set, entry_events, edge_place, horizontal_part, vertical_part}
-use Rattle.tabled_grid.proofs.Replay.{replay_uncovered, replay_cleared}
-use Rattle.tabled_grid.proofs.Blocks.{replay_skip, replay_rest, uncovered_both, uncovered_entries, replay_entries}
-use Rattle.tabled_grid.proofs.ClassWrites.{replay_classes, uncovered_other}
-use Rattle.tabled_grid.proofs.LineWrites.{replay-horizontal_line_set, replay-vertical_line_set, covered-horizontal_line_set, covered-vertical_line_set, number_sym}
+use Rattle.tabled_places.specs.declared.place.LineOf.{LineOf}
+use Rattle.tabled_object.specs.declared.offset.Offset.{Offset}
+use Rattle.tabled_places.specs.declared.lines.HorizontalLine.{HorizontalLine}
+use Rattle.tabled_places.specs.declared.lines.VerticalLine.{VerticalLine}
+use Rattle.tabled_places.specs.declared.borders.Borders.{Borders}
+use Rattle.tabled_places.specs.Keys.{spot_cmp, edge_place_cmp}
+use Rattle.tabled_places.specs.declared.site.Direction.TheVariants.{Horizontal, Vertical}
+use Rattle.tabled_places.specs.declared.site.Class.{Class}
+use Rattle.tabled_places.specs.declared.site.Part.{Part}
+use Rattle.tabled_places.specs.declared.site.Site.{Site}
+use Rattle.tabled_places.specs.declared.site.Site.TheVariants.{Default as the_default, Class as of_class, Line as of_line, Cell as at_spot, Offset as at_offset}
+use Rattle.tabled_places.specs.Site.{level, same_site, class_value}
+use Rattle.tabled_places.specs.declared.event.Event.{Event}
+use Rattle.tabled_places.specs.declared.event.Written.TheVariants.{Sign as sign}
+use Rattle.tabled_places.specs.declared.event.Region.TheVariants.{Level as level_sites, Line as line_sites}
+use Rattle.tabled_places.specs.Event.{within, covered, replay, Shows}
+use Rattle.tabled_places.specs.Lines.{horizontal_line_set, vertical_line_set}
+use Rattle.tabled_places.specs.State.{State, state_at, class_writes, classes, class_record_set, entry_events, edge_place, horizontal_part, vertical_part}
+use Rattle.tabled_places.proofs.Replay.{replay_uncovered, replay_cleared}
+use Rattle.tabled_places.proofs.Blocks.{replay_skip, replay_rest, uncovered_both, uncovered_entries, replay_entries}
+use Rattle.tabled_places.proofs.ClassWrites.{replay_classes, uncovered_other}
+use Rattle.tabled_places.proofs.LineWrites.{replay-horizontal_line_set, replay-vertical_line_set, covered-horizontal_line_set, covered-vertical_line_set, number_sym}
 use Rattle.tabled_configuration.specs.Configuration.{horizontal_lines_put, vertical_lines_put}
 use Rattle.tabled_style.specs.Shown.{StyleShown}
 use Rattle.tabled_style.specs.Deciding.{written_by}

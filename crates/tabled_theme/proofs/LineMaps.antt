@@ -9,8 +9,8 @@ use Rattle.std.proofs.lemmas.List.{append-nil, reverse-append}
 use Rattle.std.specs.List.Sorted.{IsStrictlySortedBy}
 use Rattle.std.specs.Map.{keys_of}
 use Rattle.std.specs.Cmp.Lexicographic.{pointwise}
-use Rattle.tabled_grid.specs.Table.{table}
-use Rattle.tabled_grid.proofs.Ascending.{same-table, entries-table}
+use Rattle.tabled_kept.specs.Table.{table}
+use Rattle.tabled_kept.proofs.Ascending.{same-table, entries-table}
 use Rattle.tabled_theme.specs.Lines.{last_under, shown_line, lines_put}
 use Rattle.tabled_theme.specs.Same.{same_lines}
 

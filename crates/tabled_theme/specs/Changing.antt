@@ -2,11 +2,11 @@
 use Rattle.std.specs.Prelude.{ℕ, Option}
 use Rattle.std.specs.FinMap.{FinMap, empty}
 use Rattle.std.specs.Ordering.{nat_cmp}
-use Rattle.tabled_grid.specs.declared.lines.HorizontalLine.{HorizontalLine}
-use Rattle.tabled_grid.specs.declared.lines.VerticalLine.{VerticalLine}
-use Rattle.tabled_grid.specs.declared.place.Rank.TheVariants.{Inner as inner}
-use Rattle.tabled_grid.specs.declared.site.Class.{Class}
-use Rattle.tabled_grid.specs.Borders.{with_class}
+use Rattle.tabled_places.specs.declared.lines.HorizontalLine.{HorizontalLine}
+use Rattle.tabled_places.specs.declared.lines.VerticalLine.{VerticalLine}
+use Rattle.tabled_places.specs.declared.place.Rank.TheVariants.{Inner as inner}
+use Rattle.tabled_places.specs.declared.site.Class.{Class}
+use Rattle.tabled_places.specs.Borders.{with_class}
 use Rattle.tabled_color.specs.Shade.{Shade}
 use Rattle.tabled_style.specs.Removing.{horizontal_dropped, vertical_dropped}
 use Rattle.tabled_theme.specs.Shown.{ThemeShown}

@@ -1,7 +1,7 @@
 -- What a theme does to a configuration.
 use Rattle.std.specs.Prelude.{◌≡◌, ℕ, List, ◌++◌}
-use Rattle.tabled_grid.specs.declared.borders.Borders.{Borders}
-use Rattle.tabled_grid.specs.State.{class_record_set}
+use Rattle.tabled_places.specs.declared.borders.Borders.{Borders}
+use Rattle.tabled_places.specs.State.{class_record_set}
 use Rattle.tabled_border.specs.Texts.{Texts}
 use Rattle.tabled_color.specs.Shade.{texts_of}
 use Rattle.tabled_configuration.specs.Configuration.{ConfigEvent, by_colors, borders_replaced}

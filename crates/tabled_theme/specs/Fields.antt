@@ -1,7 +1,7 @@
 -- The fields of a record: one of them, all of them, and the frame.
 use Rattle.std.specs.Prelude.{option_map}
 use Rattle.tabled_border.specs.declared.border.Border.{Border}
-use Rattle.tabled_grid.specs.declared.borders.Borders.{Borders}
+use Rattle.tabled_places.specs.declared.borders.Borders.{Borders}
 
 module _ {T : Type 0} where
   -- the frame of a record: its sides and its corners

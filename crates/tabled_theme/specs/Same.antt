@@ -4,7 +4,7 @@ use Rattle.std.specs.Cmp.{IsPartialEquivalence, IsEquivalence, on_per, and_per, 
 use Rattle.std.specs.Cmp.Lexicographic.{lists_per, lists_equiv}
 use Rattle.std.specs.FinMap.{FinMap, entries}
 use Rattle.std.specs.Ordering.{nat_cmp}
-use Rattle.tabled_grid.specs.Same.{same_map}
+use Rattle.tabled_kept.specs.Same.{same_map}
 
 -- the same indices, and under each the same line
 abbrev pub same_lines : {L : Type 0} → (L → L → Bool) → FinMap nat_cmp L → FinMap nat_cmp L → Bool

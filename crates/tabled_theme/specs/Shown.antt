@@ -5,10 +5,10 @@ use Rattle.std.specs.Coded.{Coded, codes}
 use Rattle.std.specs.FinMap as map
 use Rattle.std.specs.FinMap.{FinMap}
 use Rattle.std.specs.Ordering.{nat_cmp}
-use Rattle.tabled_grid.specs.declared.borders.Borders.{Borders}
-use Rattle.tabled_grid.specs.declared.lines.HorizontalLine.{HorizontalLine}
-use Rattle.tabled_grid.specs.declared.lines.VerticalLine.{VerticalLine}
-use Rattle.tabled_grid.specs.CustomLines.{no_borders}
+use Rattle.tabled_places.specs.declared.borders.Borders.{Borders}
+use Rattle.tabled_places.specs.declared.lines.HorizontalLine.{HorizontalLine}
+use Rattle.tabled_places.specs.declared.lines.VerticalLine.{VerticalLine}
+use Rattle.tabled_places.specs.CustomLines.{no_borders}
 use Rattle.tabled_border.specs.Texts.{Texts}
 use Rattle.tabled_color.specs.Shade.{Shade, owned_shade}
 use Rattle.tabled_configuration.specs.Configuration.{Configuration}

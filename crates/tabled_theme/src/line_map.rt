@@ -28,7 +28,7 @@ impl<L> Model for LineMap<L> {
     ghost use Rattle.std.specs.Coded.{codes};
     ghost use Rattle.std.specs.FinMap as map;
     ghost use Rattle.std.specs.Ordering.{nat_cmp};
-    ghost use Rattle.tabled_grid.specs.Table.{table};
+    ghost use Rattle.tabled_kept.specs.Table.{table};
 
     ghost Value = { map.FinMap nat_cmp L };
 
@@ -38,7 +38,7 @@ impl<L> Model for LineMap<L> {
 }
 
 impl<L> LineMap<L> {
-    ghost use Rattle.tabled_grid.specs.Table.{table};
+    ghost use Rattle.tabled_kept.specs.Table.{table};
 
     /// No lines.
     pub(crate) fn new(alloc: Global) -> Self
@@ -133,7 +133,7 @@ impl<L: Keep> Keep for LineMap<L> {
     }
 }
 
-/// The same indices, and under each an equal line.
+/// Two are equal that have the same indices, and under each an equal line.
 impl<L: PartialEq> PartialEq for LineMap<L> {
     ghost use Rattle.tabled_theme.specs.Same.{same_lines, lines_per};
 

@@ -1,7 +1,7 @@
 //! A theme: what a style draws, to be changed field by field.
 
 ghost use Rattle.std.specs.Prelude.{◌≡◌, [], IfOk, IsOk};
-ghost use Rattle.tabled_grid.specs.CustomLines.{no_borders};
+ghost use Rattle.tabled_places.specs.CustomLines.{no_borders};
 ghost use Rattle.tabled_theme.specs.Shown.{of_borders, of_style, of_configuration};
 
 mod characters;
@@ -90,14 +90,14 @@ impl Model for Theme {
 }
 
 impl Theme {
-    /// A theme with nothing set. It keeps the allocator for the lines that are put later.
+    /// Makes a theme with nothing set. It keeps the allocator for the lines that are put later.
     pub fn new(alloc: Global) -> Self
         ensures { result ≡ of_borders no_borders }
     {
         Theme::from_borders(alloc, Borders::empty())
     }
 
-    /// A theme of a class record alone.
+    /// Makes a theme of a class record alone.
     ///
     /// `Theme::from_borders(alloc, Style::rounded().get_borders())`, which leaves the custom line of that style out:
     ///
@@ -120,7 +120,7 @@ impl Theme {
         }
     }
 
-    /// What a style draws. Its custom lines lie beneath: of two at one index the later one counts.
+    /// Makes the theme of what a style draws. Its custom lines lie beneath: of two at one index the later one counts.
     /// Without custom lines it takes no memory and returns Ok.
     pub fn from_style<T, B, L, R, H, V, const HN: usize, const VN: usize>(
         alloc: Global,
@@ -141,7 +141,7 @@ impl Theme {
         })
     }
 
-    /// What the class level and the custom lines of a configuration draw. The lines are lines that were set; each color
+    /// Makes the theme of what the class level and the custom lines of a configuration draw. The lines are lines that were set; each color
     /// is a copy that owns its texts.
     pub fn from_config(alloc: Global, cfg: &ColoredConfig) -> Result<Self, OutOfMemory>
         ensures { IfOk result (λ theme. theme ≡ of_configuration cfg.now.spanned) }

@@ -5,8 +5,8 @@
 ghost use Rattle.std.specs.Prelude.{◌≡◌, [], ◌∷◌, codes};
 ghost use Rattle.tabled_uses.specs.Examples as table;
 ghost use Rattle.tabled_uses.specs.Examples.{text_of, as_lines, places_of};
-ghost use Rattle.tabled_grid.specs.declared.place.LineOf.{LineOf};
-ghost use Rattle.tabled_grid.specs.declared.place.Place.{Place};
+ghost use Rattle.tabled_places.specs.declared.place.LineOf.{LineOf};
+ghost use Rattle.tabled_places.specs.declared.place.Place.{Place};
 
 /// A place has the character of the highest level that has one there; a drawn line shows a space where none is.
 pub fn places_and_levels()

@@ -2,12 +2,12 @@
 //! equation between what the definitions give a table of `specs/Lettered.antt` and what it must have.
 
 ghost use Rattle.std.specs.Prelude.{◌≡◌, [], ◌∷◌, codes};
-ghost use Rattle.tabled_grid.specs.declared.offset.Offset.{Offset};
-ghost use Rattle.tabled_grid.specs.declared.site.Direction.TheVariants.{Horizontal};
-ghost use Rattle.tabled_grid.specs.declared.site.Spot.TheVariants.{Crossing};
-ghost use Rattle.tabled_grid.specs.declared.site.Site.TheVariants.{Cell as at_spot, Offset as at_offset};
-ghost use Rattle.tabled_grid.specs.declared.event.Event.TheVariants.{Write as write};
-ghost use Rattle.tabled_grid.specs.declared.event.Written.TheVariants.{Sign as sign};
+ghost use Rattle.tabled_object.specs.declared.offset.Offset.{Offset};
+ghost use Rattle.tabled_places.specs.declared.site.Direction.TheVariants.{Horizontal};
+ghost use Rattle.tabled_places.specs.declared.site.Spot.TheVariants.{Crossing};
+ghost use Rattle.tabled_places.specs.declared.site.Site.TheVariants.{Cell as at_spot, Offset as at_offset};
+ghost use Rattle.tabled_places.specs.declared.event.Event.TheVariants.{Write as write};
+ghost use Rattle.tabled_places.specs.declared.event.Written.TheVariants.{Sign as sign};
 ghost use Rattle.tabled_uses.specs.Examples.{text_of, as_lines};
 ghost use Rattle.tabled_uses.specs.Lettered as table;
 

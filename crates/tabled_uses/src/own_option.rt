@@ -1,7 +1,7 @@
 //! An option that a user of the library writes: the checker proves it without a line of proof.
 
 ghost use Rattle.std.specs.Prelude.{None};
-ghost use Rattle.tabled_grid.specs.Calls.{default_set};
+ghost use Rattle.tabled_places.specs.Calls.{default_set};
 ghost use Rattle.tabled_configuration.specs.Configuration.{by_characters};
 
 use crate::recipes::people;

@@ -4,7 +4,8 @@ use crate::tables::{ONE, apply, apply_to, config, crossing, has_color, is_plain,
 use std::alloc::Global;
 use tabled_color::{BorderColor, Color};
 use tabled_config::{ColoredConfig, Colors};
-use tabled_grid::{ANSIBuf, AlignmentHorizontal, Entity, Offset, OutOfMemory, Place, Position};
+use tabled_grid::{ANSIBuf, Entity, Offset, OutOfMemory, Place, Position};
+use tabled_settings::AlignmentHorizontal;
 use tabled_style::Style;
 
 const RED: &str = "\u{1b}[31m";

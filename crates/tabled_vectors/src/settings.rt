@@ -4,8 +4,10 @@ use crate::tables::{FOUR, ONE, Table, apply, apply_made, begins, config, let_go}
 use std::alloc::Global;
 use tabled_color::Color;
 use tabled_config::{ColoredConfig, CompactConfig, TableOption};
-use tabled_grid::{Borders, Combine, Indent, Offset, OutOfMemory, Position, Rows, Shape, Sides};
-use tabled_options::{Alignment, Colorization, Justification, MarginColor, Shadow, TrimStrategy};
+use tabled_formatting::{Alignment, Justification, MarginColor, Shadow, TrimStrategy};
+use tabled_grid::{Borders, Combine, Offset, OutOfMemory, Position, Rows, Shape};
+use tabled_options::Colorization;
+use tabled_settings::{Indent, Sides};
 use tabled_style::Style;
 
 const X: &str = "\u{1b}[31m";

@@ -7,11 +7,13 @@ use crate::tables::{
 use std::alloc::Global;
 use tabled_color::Color;
 use tabled_config::{ColoredConfig, TableOption};
+use tabled_formatting::Alignment;
 use tabled_grid::{
-    AlignmentHorizontal, Columns, Combine, FirstColumn, FirstRow, FixedDimension, Offset,
-    OutOfMemory, Row, Rows, Shape, VerticalLine,
+    Columns, Combine, FirstColumn, FirstRow, FixedDimension, Offset, OutOfMemory, Row, Rows, Shape,
+    VerticalLine,
 };
-use tabled_options::{Alignment, LineChar, LineText};
+use tabled_options::{LineChar, LineText};
+use tabled_settings::AlignmentHorizontal;
 use tabled_style::Style;
 use tabled_theme::Theme;
 

@@ -11,13 +11,13 @@ use Rattle.tabled_configuration.specs.Options.{MakesInTurn}
 use Rattle.tabled_configuration.proofs.InTurn.{all_unread, by_all_events}
 use Rattle.tabled_formatting.specs.Formatting.{alignment_set}
 use Rattle.tabled_formatting.specs.declared.alignment.Alignment.{Alignment}
-use Rattle.tabled_request.specs.declared.sides.Side.{Side}
+use Rattle.tabled_request.specs.declared.sides.ColumnSide.{ColumnSide}
 use Rattle.tabled_border.specs.declared.border.Border.{Border}
 use Rattle.tabled_color.specs.Shade.{Shade}
 use Rattle.tabled_color.specs.BorderColors.{border_texts, full_border}
 use Rattle.tabled_color.specs.Coloring.{entity_colored}
-use Rattle.tabled_printing.specs.Texts.{Table}
-use Rattle.tabled_text.specs.Sizes.{column_count}
+use Rattle.tabled_width.specs.Texts.{Table}
+use Rattle.tabled_measure.specs.Sizes.{column_count}
 use Rattle.tabled_request.specs.declared.request.FrameColor.{FrameColor}
 use Rattle.tabled_viewing.specs.Colors.{aligned, aligned_column, frame_colored, shade_of}
 
@@ -37,7 +37,7 @@ column_set alignment given index col made old new is at by =
     (in_turn (alignment_set alignment) (Column index ∷ []) made old new by)
 
 -- one column more
-aligned-append : (col : ℕ) (first : List Side) (here : Side)
+aligned-append : (col : ℕ) (first : List ColumnSide) (here : ColumnSide)
     → aligned col (first ++ here ∷ []) ≡ aligned col first ++ aligned_column here (col + length first)
 unfolding aligned
 aligned-append col [] here =
@@ -49,11 +49,11 @@ aligned-append col (side ∷ first) here =
     ∙ ap (λ n. (aligned_column side col ++ aligned (col + 1) first) ++ aligned_column here n)
     (let same : col + 1 + length first ≡ col + suc (length first) = omega arith in same)
 
-pub one_column_more : (sides : List Side) (col : ℕ) (d : Side) (old between new : Colored) → col < length sides
+pub one_column_more : (sides : List ColumnSide) (col : ℕ) (d : ColumnSide) (old between new : Colored) → col < length sides
     → Changes (aligned 0 (take col sides)) old between → Changes (aligned_column (get_or sides col d) col) between new
     → Changes (aligned 0 (take (col + 1) sides)) old new
 one_column_more sides col d old between new inside before last =
-    let here : Side = get_or sides col d in
+    let here : ColumnSide = get_or sides col d in
     let next : col + 1 ≡ suc col = omega arith in
     let front : take (col + 1) sides ≡ take col sides ++ here ∷ [] =
     ap (λ n. take n sides) next ∙ take-suc sides col d inside in
@@ -63,7 +63,7 @@ one_column_more sides col d old between new inside before last =
     ∙ ap (λ n. aligned 0 (take col sides) ++ aligned_column here n) count))
     (both_change (aligned 0 (take col sides)) (aligned_column here col) old between new before last)
 
-pub no_column : (old : Colored) (sides : List Side) → Changes (aligned 0 (take 0 sides)) old old
+pub no_column : (old : Colored) (sides : List ColumnSide) → Changes (aligned 0 (take 0 sides)) old old
 unfolding aligned
 no_column old sides = none_change old
 

@@ -2,8 +2,8 @@
 use Rattle.std.proofs.Common.{◌≡◌, ◌≢◌, ℕ, ◌≤◌, Bool, true, false, if◌then◌else◌, List, [], ◌∷◌, length, Option, Some, None, option_map, Result, Ok, Err, IsErrAnd, IfErr, ◌⊎◌, inl, inr, refl, sym, ap, ◌∙◌, arith}
 use Rattle.std.specs.Prelude.{MatchOption, IsOkUnless}
 use Rattle.std.specs.Option.{option_or}
-use Rattle.tabled_printing.specs.Texts.{Table}
-use Rattle.tabled_text.specs.Sizes.{unequal_row}
+use Rattle.tabled_width.specs.Texts.{Table}
+use Rattle.tabled_measure.specs.Sizes.{unequal_row}
 use Rattle.tabled_text.specs.Refusal as refusal
 use Rattle.tabled_text.specs.declared.table_error.TableError.{TableError}
 use Rattle.tabled_text.specs.declared.table_error.TableError.TheVariants as table

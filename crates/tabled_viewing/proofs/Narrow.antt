@@ -5,11 +5,11 @@ use Rattle.std.proofs.lemmas.Bool.{and_parts}
 use Rattle.std.proofs.lemmas.List.Folds.{list_all-append}
 use Rattle.unicode_width.proofs.Computing.{unicode_width}
 use Rattle.tabled_border.specs.Texts.{Texts}
-use Rattle.tabled_grid.specs.declared.event.Event.{Event}
-use Rattle.tabled_grid.specs.declared.event.Event.TheVariants.{Erase as erase}
-use Rattle.tabled_grid.specs.declared.event.Region.TheVariants.{All as every_site}
-use Rattle.tabled_grid.specs.Lines.{horizontal_line_set}
-use Rattle.tabled_grid.specs.State.{class_record_set, class_writes, classes}
+use Rattle.tabled_places.specs.declared.event.Event.{Event}
+use Rattle.tabled_places.specs.declared.event.Event.TheVariants.{Erase as erase}
+use Rattle.tabled_places.specs.declared.event.Region.TheVariants.{All as every_site}
+use Rattle.tabled_places.specs.Lines.{horizontal_line_set}
+use Rattle.tabled_places.specs.State.{class_record_set, class_writes, classes}
 use Rattle.tabled_configuration.specs.Configuration.{by_characters, by_colors, characters_of, borders_replaced, horizontal_lines_put, vertical_lines_put}
 use Rattle.tabled_printing.specs.Columns.{is_narrow_write, WritesNarrow}
 use Rattle.tabled_style.specs.declared.ready_style.ReadyStyle.{ReadyStyle}

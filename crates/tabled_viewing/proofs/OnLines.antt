@@ -5,24 +5,24 @@ use Rattle.std.proofs.lemmas.List.Elements.{filter_map-append}
 use Rattle.tabled_border.specs.Texts.{Texts}
 use Rattle.tabled_object.specs.declared.dimension.FixedDimension.{FixedDimension}
 use Rattle.tabled_object.specs.declared.object.rows.Row.{Row}
-use Rattle.tabled_grid.specs.declared.event.Event.{Event}
-use Rattle.tabled_grid.specs.declared.event.Event.TheVariants.{Erase as erase}
-use Rattle.tabled_grid.specs.declared.event.Region.TheVariants.{All as every_site}
-use Rattle.tabled_grid.specs.declared.place.Place.{Place}
-use Rattle.tabled_grid.specs.State.{class_record_set}
+use Rattle.tabled_places.specs.declared.event.Event.{Event}
+use Rattle.tabled_places.specs.declared.event.Event.TheVariants.{Erase as erase}
+use Rattle.tabled_places.specs.declared.event.Region.TheVariants.{All as every_site}
+use Rattle.tabled_places.specs.declared.place.Place.{Place}
+use Rattle.tabled_places.specs.State.{class_record_set}
 use Rattle.tabled_color.specs.Shade.{texts_of}
 use Rattle.tabled_settings.specs.Padding.{keeps_first_padding}
 use Rattle.tabled_layout.specs.TableSettings.{settings_after, first_settings}
 use Rattle.tabled_configuration.specs.Configuration.{ConfigEvent, Configuration, Shows, all_writes, setting_event, settings_of, by_characters, by_colors, borders_replaced, horizontal_lines_put, vertical_lines_put, is_sized_by_texts}
 use Rattle.tabled_printing.specs.Picture.{Look, look}
-use Rattle.tabled_printing.specs.Texts.{Table}
+use Rattle.tabled_width.specs.Texts.{Table}
 use Rattle.tabled_printing.proofs.LookLemmas.{own_look}
 use Rattle.tabled_style.specs.declared.ready_style.ReadyStyle.{ReadyStyle}
 use Rattle.tabled_style.specs.Named.{shown, ready_applied}
 use Rattle.tabled_options.specs.LineText.{Lettering, characters_written, colors_written, places_taken, text_events}
 use Rattle.tabled_options.specs.NamedLine.{row_line}
-use Rattle.tabled_text.specs.Cells.{settings_set, leaves_sizes}
-use Rattle.tabled_text.specs.Sizes.{column_count, column_widths, row_heights}
+use Rattle.tabled_measure.specs.Cells.{settings_set, leaves_sizes}
+use Rattle.tabled_measure.specs.Sizes.{column_count, column_widths, row_heights}
 use Rattle.tabled_text.specs.TextTable.{AreRead, Drawing, look_of, widths_with_spans, heights_with_spans}
 use Rattle.tabled_text.proofs.SpanLemmas.{spans_shown}
 use Rattle.tabled_request.specs.declared.request.Request.{Request}

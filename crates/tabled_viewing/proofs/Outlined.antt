@@ -9,23 +9,24 @@ use Rattle.std.specs.declared.vec.Vec.{Vec}
 use Rattle.unicode_width.proofs.Computing.{unicode_width}
 use Rattle.tabled_object.specs.declared.entity.Entity.{Entity}
 use Rattle.tabled_object.specs.Listing.{listed}
-use Rattle.tabled_grid.specs.declared.event.Event.{Event}
-use Rattle.tabled_grid.specs.declared.event.Event.TheVariants.{Write as write}
-use Rattle.tabled_grid.specs.declared.event.Written.TheVariants.{Sign as sign}
-use Rattle.tabled_grid.specs.declared.site.Direction.TheVariants.{Horizontal, Vertical}
-use Rattle.tabled_grid.specs.declared.site.Site.TheVariants.{Cell as at_spot}
-use Rattle.tabled_grid.specs.declared.site.Spot.{Spot}
-use Rattle.tabled_grid.specs.declared.site.Spot.TheVariants.{Edge, Crossing}
+use Rattle.tabled_places.specs.declared.event.Event.{Event}
+use Rattle.tabled_places.specs.declared.event.Event.TheVariants.{Write as write}
+use Rattle.tabled_places.specs.declared.event.Written.TheVariants.{Sign as sign}
+use Rattle.tabled_places.specs.declared.site.Direction.TheVariants.{Horizontal, Vertical}
+use Rattle.tabled_places.specs.declared.site.Site.TheVariants.{Cell as at_spot}
+use Rattle.tabled_places.specs.declared.site.Spot.{Spot}
+use Rattle.tabled_places.specs.declared.site.Spot.TheVariants.{Edge, Crossing}
 use Rattle.tabled_configuration.specs.ChangeLaws.{none_change}
 use Rattle.tabled_configuration.specs.Colored.{Changes, Colored}
 use Rattle.tabled_configuration.specs.Configuration.{ConfigEvent, character_event, characters_of, setting_event, settings_of}
 use Rattle.tabled_highlight.specs.Highlighting.{Highlighting, highlight_events}
 use Rattle.tabled_highlight.specs.Outline.{CellSet, Outlining, across_value, crossing_value, down_value, every_spot, lower_left, lower_right, outline, outline_value, upper_left, upper_right}
-use Rattle.tabled_printing.specs.Columns.{WritesNarrow, is_narrow, is_narrow_write}
-use Rattle.tabled_printing.specs.Texts.{Table}
+use Rattle.tabled_width.specs.Narrow.{is_narrow}
+use Rattle.tabled_printing.specs.Columns.{WritesNarrow, is_narrow_write}
+use Rattle.tabled_width.specs.Texts.{Table}
 use Rattle.tabled_style.specs.Border.{full_border}
 use Rattle.tabled_style.specs.declared.ready_style.ReadyStyle.{ReadyStyle}
-use Rattle.tabled_text.specs.Sizes.{column_count}
+use Rattle.tabled_measure.specs.Sizes.{column_count}
 use Rattle.tabled_request.specs.declared.request.Request.{Request}
 use Rattle.tabled_request.specs.Words.{word_at}
 use Rattle.tabled_viewing.specs.Outlines.{chosen, draws_boxes, line_of, outlined, outlines, touch_of}

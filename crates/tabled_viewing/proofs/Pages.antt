@@ -1,18 +1,19 @@
 -- The page of rows: of their table, or nothing where there is none.
 use Rattle.std.proofs.Common.{◌≡◌, ℕ, ◌<◌, ◌≤◌, Bool, true, false, Some, List, [], ◌∷◌, ◌++◌, length, ap, ◌∙◌, append_assoc, append-nil, arith}
-use Rattle.tabled_printing.specs.Texts.{Table, pieces}
+use Rattle.tabled_width.specs.Texts.{Table, pieces}
 use Rattle.std.specs.List.{list_all}
 use Rattle.tabled_configuration.specs.Configuration.{ConfigEvent, characters_of}
-use Rattle.tabled_printing.specs.Columns.{IsRectangle, WritesNarrow, is_narrow_write}
+use Rattle.tabled_width.specs.Narrow.{IsRectangle}
+use Rattle.tabled_printing.specs.Columns.{WritesNarrow, is_narrow_write}
 use Rattle.tabled_painting.specs.Widths.{text_width}
-use Rattle.tabled_text.specs.Cells.{leaves_sizes, margin_set}
-use Rattle.tabled_text.specs.Changed.{CellsArePrintable}
+use Rattle.tabled_measure.specs.Cells.{leaves_sizes, margin_set}
+use Rattle.tabled_measure.specs.Changed.{CellsArePrintable}
 use Rattle.tabled_text.specs.Fitted.{least_width}
 use Rattle.tabled_text.specs.TextTable.{look_of}
 use Rattle.tabled_style.specs.declared.ready_style.ReadyStyle.{ReadyStyle}
 use Rattle.tabled_request.specs.declared.request.Request.{Request}
 use Rattle.tabled_request.specs.declared.surroundings.Surroundings.{Surroundings}
-use Rattle.tabled_request.specs.declared.sides.Side.{Side}
+use Rattle.tabled_request.specs.declared.sides.ColumnSide.{ColumnSide}
 use Rattle.tabled_request.specs.Sides.{sides_of}
 use Rattle.tabled_viewing.specs.Asked.{is_colored, width_asked}
 use Rattle.tabled_viewing.specs.Captions.{beside, caption}
@@ -37,7 +38,7 @@ around_text above text below before after first last = (λ i. first i ++ text ++
 -- the page of a table, by what was done to it one after the other
 module _ (request : Request) (style : ReadyStyle) (words : List (List ℕ)) (around : Surroundings) (texts : Table) where
   -- the parts of a page, each by the table and the events that it was made by
-  pub page_by_parts : (table first second third : Table) (sides : List Side) (in_color : Bool) (above below text whole : List ℕ)
+  pub page_by_parts : (table first second third : Table) (sides : List ColumnSide) (in_color : Bool) (above below text whole : List ℕ)
       → IsWithin request.cuts_off (width_asked request around) (framed request style words texts) texts table
       → first ≡ table → second ≡ table → third ≡ table → sides ≡ sides_of request words texts → in_color ≡ is_colored request around
       → above ≡ beside (draws_above style) table (caption request words request.title)
@@ -57,7 +58,7 @@ module _ (request : Request) (style : ReadyStyle) (words : List (List ℕ)) (aro
   }
 
   -- it fits its width, where its table in its style does
-  pub page_fits : (table first second third : Table) (sides : List Side) (in_color : Bool) (above below lent text whole : List ℕ)
+  pub page_fits : (table first second third : Table) (sides : List ColumnSide) (in_color : Bool) (above below lent text whole : List ℕ)
       → ((width : ℕ) → width_asked request around ≡ Some width → CellsArePrintable texts → least_width 1 (framed request style words texts) texts ≤ width
       → text_width (look_of (framed request style words texts) table) (margin_set (framed request style words texts)) ≤ width)
       → third ≡ table → in_color ≡ is_colored request around

@@ -6,40 +6,40 @@ use Rattle.std.proofs.lemmas.Bool.{and_from, and_parts}
 use Rattle.std.proofs.lemmas.Bool.Decides.{nat_tests}
 use Rattle.std.proofs.lemmas.List.Elements.{filter_map-append}
 use Rattle.tabled_border.specs.Texts.{Texts}
-use Rattle.tabled_grid.specs.declared.event.Event.{Event}
-use Rattle.tabled_grid.specs.declared.place.LineOf.{LineOf}
-use Rattle.tabled_grid.specs.Drawn as grid
-use Rattle.tabled_grid.specs.Event.{replay}
-use Rattle.tabled_grid.specs.Value.{value}
+use Rattle.tabled_places.specs.declared.event.Event.{Event}
+use Rattle.tabled_places.specs.declared.place.LineOf.{LineOf}
+use Rattle.tabled_places.specs.Drawn as grid
+use Rattle.tabled_places.specs.Event.{replay}
+use Rattle.tabled_places.specs.Value.{value}
 use Rattle.tabled_settings.specs.Padding.{keeps_first_padding}
 use Rattle.tabled_layout.specs.TableSettings.{settings_after, first_settings}
 use Rattle.tabled_layout.specs.declared.table_settings.TableSettings.{TableSettings}
 use Rattle.tabled_configuration.specs.Configuration.{ConfigEvent, character_event, color_event, setting_event, characters_of, colors_of, settings_of}
 use Rattle.tabled_printing.specs.Columns.{WritesNarrow, is_narrow_write}
 use Rattle.tabled_printing.specs.Picture.{Look, edge_size}
-use Rattle.tabled_printing.specs.Texts.{Table, width_of_text}
+use Rattle.tabled_width.specs.Texts.{Table, width_of_text}
 use Rattle.tabled_painting.specs.Widths.{text_width}
 use Rattle.tabled_style.specs.declared.ready_style.ReadyStyle.{ReadyStyle}
-use Rattle.tabled_text.specs.Cells.{margin_set, settings_set, leaves_sizes}
-use Rattle.tabled_text.specs.Sizes.{column_count, column_widths, row_heights}
+use Rattle.tabled_measure.specs.Cells.{margin_set, settings_set, leaves_sizes}
+use Rattle.tabled_measure.specs.Sizes.{column_count, column_widths, row_heights}
 use Rattle.tabled_text.specs.TextTable.{look_of}
 use Rattle.tabled_request.specs.declared.request.Request.{Request}
-use Rattle.tabled_request.specs.declared.sides.Side.{Side}
-use Rattle.tabled_request.specs.declared.sides.Side.TheVariants as side
+use Rattle.tabled_request.specs.declared.sides.ColumnSide.{ColumnSide}
+use Rattle.tabled_request.specs.declared.sides.ColumnSide.TheVariants as side
 use Rattle.tabled_viewing.specs.Captions.{caption, on_line}
 use Rattle.tabled_viewing.specs.Colors.{aligned, aligned_column, colored_if}
 use Rattle.tabled_viewing.specs.View.{captioned, draws_above, draws_below}
 
 -- ---- alignments are no borders, no spans, no padding and no margin
 
-no_characters : (col : ℕ) (sides : List Side) → characters_of (aligned col sides) ≡ []
+no_characters : (col : ℕ) (sides : List ColumnSide) → characters_of (aligned col sides) ≡ []
 unfolding aligned
 no_characters col [] = refl
 no_characters col (side.Left ∷ sides) = no_characters (col + 1) sides
 no_characters col (side.Center ∷ sides) = no_characters (col + 1) sides
 no_characters col (side.Right ∷ sides) = no_characters (col + 1) sides
 
-no_colors : (col : ℕ) (sides : List Side) → colors_of (aligned col sides) ≡ []
+no_colors : (col : ℕ) (sides : List ColumnSide) → colors_of (aligned col sides) ≡ []
 unfolding aligned
 no_colors col [] = refl
 no_colors col (side.Left ∷ sides) = no_colors (col + 1) sides
@@ -53,7 +53,7 @@ record SameSizes (old new : TableSettings) : Type 0 where
   rows : new.row_spans ≡ old.row_spans
   padding : new.cells.padding ≡ old.cells.padding
 
-same_sizes : (settings : TableSettings) (col : ℕ) (sides : List Side) → SameSizes settings (settings_after settings (settings_of (aligned col sides)))
+same_sizes : (settings : TableSettings) (col : ℕ) (sides : List ColumnSide) → SameSizes settings (settings_after settings (settings_of (aligned col sides)))
 unfolding aligned
 same_sizes settings col [] = record { margin = refl; columns = refl; rows = refl; padding = refl }
 same_sizes settings col (side.Left ∷ sides) = same_sizes settings (col + 1) sides
@@ -76,7 +76,7 @@ look_by characters colors (rows, cols) widths heights = record {
   color = λ place. value (replay colors) (rows, cols) (edge_size widths heights place) place;
 }
 
-module _ (before : List ConfigEvent) (sides : List Side) where
+module _ (before : List ConfigEvent) (sides : List ColumnSide) where
   abbrev after : List ConfigEvent
   after = before ++ aligned 0 sides
 
@@ -109,7 +109,7 @@ module _ (before : List ConfigEvent) (sides : List Side) where
 
 -- ---- all events, where there is no caption and no color
 
-pub plain_events : (request : Request) (style : ReadyStyle) (words : List (List ℕ)) (before : List ConfigEvent) (sides : List Side) (in_color : Bool) (first second : Table) → request.title ≡ None → request.footer ≡ None → in_color ≡ false
+pub plain_events : (request : Request) (style : ReadyStyle) (words : List (List ℕ)) (before : List ConfigEvent) (sides : List ColumnSide) (in_color : Bool) (first second : Table) → request.title ≡ None → request.footer ≡ None → in_color ≡ false
     → (captioned request style words before first ++ aligned 0 sides) ++ colored_if in_color request second ≡ before ++ aligned 0 sides
 plain_events request style words before sides in_color first second untitled unfooted plain =
     (λ i. (((before ++ on_line (draws_above style) before first 0 (caption request words (untitled i)))

@@ -5,13 +5,13 @@ use Rattle.unicode_width.specs.Width.{char_width}
 use Rattle.tabled_clean.specs.Steering.{cleaned}
 use Rattle.tabled_object.specs.declared.object.rows.Row.{Row}
 use Rattle.tabled_settings.specs.declared.alignment.AlignmentHorizontal.TheVariants.{Center}
-use Rattle.tabled_grid.specs.declared.offset.Offset.{Offset}
+use Rattle.tabled_object.specs.declared.offset.Offset.{Offset}
 use Rattle.tabled_configuration.specs.Configuration.{ConfigEvent}
-use Rattle.tabled_printing.specs.Texts.{Table}
+use Rattle.tabled_width.specs.Texts.{Table}
 use Rattle.tabled_formatting.specs.declared.alignment.Alignment.TheVariants.{Horizontal}
 use Rattle.tabled_options.specs.LineText.{Lettering, text_events}
 use Rattle.tabled_options.specs.NamedLine.{row_line}
-use Rattle.tabled_text.specs.Sizes.{column_widths}
+use Rattle.tabled_measure.specs.Sizes.{column_widths}
 use Rattle.tabled_text.specs.TextTable.{look_of}
 use Rattle.tabled_request.specs.Words.{word_at}
 use Rattle.tabled_request.specs.declared.request.Request.{Request}

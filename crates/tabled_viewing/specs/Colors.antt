@@ -15,22 +15,22 @@ use Rattle.tabled_colorization.specs.Turns.{colorization}
 use Rattle.tabled_colorization.specs.declared.pattern.Pattern.TheVariants.{Rows}
 use Rattle.tabled_formatting.specs.Formatting.{alignment_set}
 use Rattle.tabled_formatting.specs.declared.alignment.Alignment.TheVariants.{Horizontal}
-use Rattle.tabled_printing.specs.Texts.{Table}
-use Rattle.tabled_text.specs.Sizes.{column_count}
+use Rattle.tabled_width.specs.Texts.{Table}
+use Rattle.tabled_measure.specs.Sizes.{column_count}
 use Rattle.tabled_request.specs.declared.request.Request.{Request}
 use Rattle.tabled_request.specs.declared.request.FrameColor.{FrameColor}
 use Rattle.tabled_request.specs.declared.request.FrameColor.TheVariants as color
-use Rattle.tabled_request.specs.declared.sides.Side.{Side}
-use Rattle.tabled_request.specs.declared.sides.Side.TheVariants as side
+use Rattle.tabled_request.specs.declared.sides.ColumnSide.{ColumnSide}
+use Rattle.tabled_request.specs.declared.sides.ColumnSide.TheVariants as side
 
 -- the cells of a column put at a side: at the left they stand where nothing is set
-abbrev pub aligned_column : Side → ℕ → List ConfigEvent
+abbrev pub aligned_column : ColumnSide → ℕ → List ConfigEvent
 aligned_column side.Left col = []
 aligned_column side.Center col = alignment_set (Horizontal horizontal.Center) (Column col)
 aligned_column side.Right col = alignment_set (Horizontal horizontal.Right) (Column col)
 
 -- the cells of columns put at their sides, from the column of that number on
-unfoldable pub aligned : ℕ → List Side → List ConfigEvent
+unfoldable pub aligned : ℕ → List ColumnSide → List ConfigEvent
 aligned col [] = []
 aligned col (here ∷ more) = aligned_column here col ++ aligned (col + 1) more
 

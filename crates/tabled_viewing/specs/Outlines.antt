@@ -12,8 +12,8 @@ use Rattle.tabled_style.specs.Border.{full_border}
 use Rattle.tabled_style.specs.declared.ready_style.ReadyStyle.{ReadyStyle}
 use Rattle.tabled_style.specs.declared.ready_style.ReadyStyle.TheVariants as ready
 use Rattle.tabled_highlight.specs.Highlighting.{highlight_events}
-use Rattle.tabled_printing.specs.Texts.{Table}
-use Rattle.tabled_text.specs.Sizes.{cell, column_count}
+use Rattle.tabled_width.specs.Texts.{Table}
+use Rattle.tabled_measure.specs.Sizes.{cell, column_count}
 use Rattle.tabled_request.specs.Cells.{names_cell}
 use Rattle.tabled_request.specs.Words.{word_at}
 use Rattle.tabled_request.specs.declared.request.Request.{Request}

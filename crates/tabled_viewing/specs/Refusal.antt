@@ -12,8 +12,8 @@ use Rattle.tabled_request.specs.declared.options.OptionName.TheVariants.{Style}
 use Rattle.tabled_request.specs.declared.request.Request.{Request}
 use Rattle.tabled_request.specs.declared.surroundings.Surroundings.{Surroundings}
 use Rattle.tabled_style.specs.declared.ready_style.ReadyStyle.{ReadyStyle}
-use Rattle.tabled_printing.specs.Texts.{Table}
-use Rattle.tabled_text.specs.Sizes.{column_count, unequal_row}
+use Rattle.tabled_width.specs.Texts.{Table}
+use Rattle.tabled_measure.specs.Sizes.{column_count, unequal_row}
 use Rattle.tabled_viewing.specs.declared.error.ViewError.{ViewError}
 use Rattle.tabled_viewing.specs.declared.error.ViewError.TheVariants.{Given, Words, OpenFailed, Input, UnequalRows, OutOfMemory, WriteFailed}
 use Rattle.tabled_viewing.specs.Asked.{cells_asked, style_asked}

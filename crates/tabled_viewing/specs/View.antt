@@ -6,11 +6,11 @@ use Rattle.tabled_width.specs.declared.limit.Overflow.{Overflow}
 use Rattle.tabled_width.specs.declared.limit.Overflow.TheVariants.{Wrap, WrapWords, Truncate}
 use Rattle.tabled_configuration.specs.Configuration.{ConfigEvent, borders_replaced}
 use Rattle.tabled_painting.specs.PaintedTable.{colored_text}
-use Rattle.tabled_printing.specs.Texts.{Table, pieces, width_of_text}
+use Rattle.tabled_width.specs.Texts.{Table, pieces, width_of_text}
 use Rattle.tabled_style.specs.declared.ready_style.ReadyStyle.{ReadyStyle}
 use Rattle.tabled_style.specs.Named.{shown, ready_applied}
 use Rattle.tabled_builder.specs.Records.{filled}
-use Rattle.tabled_text.specs.Changed.{CellsArePrintable, cells_changed, each_text}
+use Rattle.tabled_measure.specs.Changed.{CellsArePrintable, cells_changed, each_text}
 use Rattle.tabled_text.specs.Fitted.{IsFitted, frame_width, least_width}
 use Rattle.tabled_text.specs.TextTable.{painted, text_of}
 use Rattle.tabled_input.specs.Input.{rows_in}

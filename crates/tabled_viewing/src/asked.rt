@@ -13,7 +13,7 @@ use tabled_input::Cells;
 use tabled_request::{OptionName, Request, Shows, Surroundings, WordsError, read_words, word_at};
 use tabled_style::ReadyStyle;
 
-/// What the words ask for. Refused with the first word that is wrong.
+/// Returns what the words ask for. Refused with the first word that is wrong.
 pub fn understood(words: &[String]) -> Result<Request, ViewError>
     ensures request { IfOk result (λ request. request_of (map string_bytes words.now) ≡ Ok request) }
     ensures refused { IfErr result (λ e. (refusal : Wrong) × (e ≡ refusals.Words refusal) × (request_of (map string_bytes words.now) ≡ Err refusal)) }
@@ -22,7 +22,7 @@ pub fn understood(words: &[String]) -> Result<Request, ViewError>
     Ok(request)
 }
 
-/// Whether the program is asked about itself, and needs no input.
+/// Returns whether the program is asked about itself, and needs no input.
 pub fn is_about_itself(request: Request) -> bool
     ensures { result ≡ is_about_itself request.shows }
 {

@@ -13,23 +13,23 @@ use tabled_color::{BorderColor, Color};
 use tabled_colorization::Colorization;
 use tabled_formatting::Alignment;
 use tabled_object::{Columns, Rows, Segment};
-use tabled_request::{FrameColor, Request, Side};
+use tabled_request::{ColumnSide, FrameColor, Request};
 use tabled_text::TextTable;
 
 /// Puts the cells of a column at a side; at the left they stand where nothing is set.
-fn align_column(table: &mut TextTable, col: usize, side: Side) -> Result<(), OutOfMemory>
+fn align_column(table: &mut TextTable, col: usize, side: ColumnSide) -> Result<(), OutOfMemory>
     ensures config { OnOk result (Changes (aligned_column side col) table.old.config table.new.config) }
     ensures texts { table.new.texts ≡ table.old.texts }
 {
     match side {
-        Side::Left => Ok(()),
-        Side::Center => table.apply_to(&Columns::one(col), &Alignment::center()),
-        Side::Right => table.apply_to(&Columns::one(col), &Alignment::right()),
+        ColumnSide::Left => Ok(()),
+        ColumnSide::Center => table.apply_to(&Columns::one(col), &Alignment::center()),
+        ColumnSide::Right => table.apply_to(&Columns::one(col), &Alignment::right()),
     }
 }
 
 /// Puts the cells of each column where they stand.
-fn align(table: &mut TextTable, sides: &[Side]) -> Result<(), OutOfMemory>
+fn align(table: &mut TextTable, sides: &[ColumnSide]) -> Result<(), OutOfMemory>
     ensures config { OnOk result (Changes (aligned 0 sides.now) table.old.config table.new.config) }
     ensures texts { table.new.texts ≡ table.old.texts }
 {
@@ -158,7 +158,7 @@ pub(crate) fn place_and_color(
     table: &mut TextTable,
     alloc: Global,
     request: Request,
-    sides: &[Side],
+    sides: &[ColumnSide],
     is_colored: bool,
 ) -> Result<(), OutOfMemory>
     ensures config { (before : List ConfigEvent) → Shows before table.old.config

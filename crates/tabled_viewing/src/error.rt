@@ -27,7 +27,7 @@ pub enum ViewError {
     Input {
         refusal: InputError,
     },
-    /// This row, counted from 0, has more or fewer cells than the first.
+    /// The row of this number, counted from 0, has more or fewer cells than the first.
     UnequalRows {
         row: usize,
         cells: usize,
@@ -42,8 +42,8 @@ pub enum ViewError {
 impl ViewError {
     ghost use Rattle.tabled_viewing.specs.Refusal.{status_of};
 
-    /// The status that the program ends with: 2 for its words, 3 for rows of unlike length, 4 for an input that is no text or no CSV, 5 for
-    /// one that is too long, and 1 for a failure.
+    /// Returns the status that the program ends with: 2 for its words, 3 for rows of unlike length, 4 for an input that is no text or no CSV,
+    /// 5 for one that is too long, and 1 for a failure.
     pub fn status(&self) -> u8
         ensures { result ≡ status_of self.now }
     {

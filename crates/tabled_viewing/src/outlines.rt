@@ -2,7 +2,7 @@
 
 ghost use Rattle.std.specs.Prelude.{◌≡◌, [], Some, None, map, option_map, string_bytes, IfOk, OnOk};
 ghost use Rattle.tabled_configuration.specs.Colored.{Changes};
-ghost use Rattle.tabled_printing.specs.Texts.{texts};
+ghost use Rattle.tabled_width.specs.Texts.{texts};
 ghost use Rattle.tabled_request.specs.Cells.{named_cells};
 ghost use Rattle.tabled_viewing.specs.Outlines.{chooses, chosen, draws_boxes, line_of, outlined, outlines, text_at, touch_of};
 
@@ -17,9 +17,9 @@ use tabled_text::TextTable;
 /// How a word chooses cells.
 #[derive(Clone, Copy, Debug, PartialEq, Eq)]
 enum Choosing {
-    /// It names them by their rows and columns.
+    /// The word names cells by their rows and columns.
     ByPlace,
-    /// It is their text.
+    /// The word is the text of the cells.
     ByText,
 }
 

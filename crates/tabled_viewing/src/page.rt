@@ -5,9 +5,10 @@ ghost use Rattle.std.specs.Io.KnownBytes.{Appends};
 ghost use Rattle.tabled_configuration.specs.Colored.{Shows};
 ghost use Rattle.tabled_configuration.specs.Configuration.{ConfigEvent};
 ghost use Rattle.tabled_painting.specs.Widths.{text_width};
-ghost use Rattle.tabled_printing.specs.Columns.{IsRectangle, WritesNarrow};
-ghost use Rattle.tabled_printing.specs.Texts.{Table, texts};
-ghost use Rattle.tabled_text.specs.Cells.{leaves_sizes, margin_set};
+ghost use Rattle.tabled_width.specs.Narrow.{IsRectangle};
+ghost use Rattle.tabled_printing.specs.Columns.{WritesNarrow};
+ghost use Rattle.tabled_width.specs.Texts.{Table, texts};
+ghost use Rattle.tabled_measure.specs.Cells.{leaves_sizes, margin_set};
 ghost use Rattle.tabled_text.specs.TextTable.{look_of, text_of};
 ghost use Rattle.tabled_text.specs.declared.table_error.TableError.TheVariants as table_refusals;
 ghost use Rattle.tabled_request.specs.Sides.{sides_of};
@@ -24,7 +25,7 @@ use crate::error::ViewError;
 use std::alloc::{AllocError, Global};
 use std::io::Write;
 use tabled_border::OutOfMemory;
-use tabled_request::{Request, Side, Surroundings, all_sides};
+use tabled_request::{ColumnSide, Request, Surroundings, all_sides};
 use tabled_style::ReadyStyle;
 use tabled_text::{TableError, TextTable};
 
@@ -34,7 +35,7 @@ fn sides_of(
     alloc: Global,
     request: Request,
     words: &[String],
-) -> Result<Vec<Side>, AllocError>
+) -> Result<Vec<ColumnSide>, AllocError>
     ensures { IfOk result (λ sides. sides.items ≡ sides_of request (map string_bytes words.now) table.now.texts) }
 {
     all_sides(alloc, request, words, table.texts())
@@ -104,7 +105,7 @@ fn print<W: Write>(
     table.print_between(before, after, output)
 }
 
-/// The same, whose refusal is one of the program. Nothing is written where memory is refused.
+/// Writes a table as it is printed; a refusal is one of the program. Nothing is written where memory is refused.
 fn write_table<W: Write>(
     table: &TextTable,
     is_colored: bool,

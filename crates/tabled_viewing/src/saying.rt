@@ -243,7 +243,7 @@ fn write_failed(alloc: Global) -> Result<String, OutOfMemory>
     )?)
 }
 
-/// What a refusal says, in one line, over these words: what is wrong, and what helps.
+/// Returns what a refusal says, in one line, over these words: what is wrong, and what helps.
 pub fn said(
     alloc: Global,
     words: &[String],

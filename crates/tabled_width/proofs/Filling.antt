@@ -7,14 +7,14 @@ use Rattle.std.proofs.lemmas.List.{take_at, length-append}
 use Rattle.std.proofs.lemmas.Str.{IsCharBoundary-from_take}
 use Rattle.tabled_width.specs.Texts.{fits, width_of_text}
 use Rattle.tabled_width.specs.Clusters.{clusters}
-use Rattle.tabled_width.specs.Rows.{Part, close, parts_of, joined, before, rows, going_on, line_rows, word_rows, words}
+use Rattle.tabled_width.specs.Rows.{Chunk, close, parts_of, joined, before, rows, going_on, line_rows, word_rows, words}
 use Rattle.tabled_width.specs.CutOff.{beginning, cut_off}
 
-pub step_fits : (width : ℕ) (row : List ℕ) (part : Part) (parts : List Part) → fits width (joined row part) ≡ true → rows width row (part ∷ parts) ≡ rows width (joined row part) parts
+pub step_fits : (width : ℕ) (row : List ℕ) (part : Chunk) (parts : List Chunk) → fits width (joined row part) ≡ true → rows width row (part ∷ parts) ≡ rows width (joined row part) parts
 unfolding rows
 step_fits width row part parts e = ap (λ b. if b then rows width (joined row part) parts else before row (rows width part.text parts)) e
 
-pub step_full : (width : ℕ) (row : List ℕ) (part : Part) (parts : List Part) → fits width (joined row part) ≡ false → rows width row (part ∷ parts) ≡ before row (rows width part.text parts)
+pub step_full : (width : ℕ) (row : List ℕ) (part : Chunk) (parts : List Chunk) → fits width (joined row part) ≡ false → rows width row (part ∷ parts) ≡ before row (rows width part.text parts)
 unfolding rows
 step_full width row part parts e = ap (λ b. if b then rows width (joined row part) parts else before row (rows width part.text parts)) e
 
@@ -32,7 +32,7 @@ some_before : (row : List ℕ) (rs : List (List ℕ)) → ((first : List ℕ) ×
 some_before [] rs some = some
 some_before (b ∷ bs) rs some = (b ∷ bs, rs, refl)
 
-some_if : (width : ℕ) (row : List ℕ) (part : Part) (parts : List Part) (b : Bool) → fits width (joined row part) ≡ b
+some_if : (width : ℕ) (row : List ℕ) (part : Chunk) (parts : List Chunk) (b : Bool) → fits width (joined row part) ≡ b
     → ((row : List ℕ) → (first : List ℕ) × (more : List (List ℕ)) × (rows width row parts ≡ first ∷ more))
     → (first : List ℕ) × (more : List (List ℕ)) × (rows width row (part ∷ parts) ≡ first ∷ more)
 some_if width row part parts true e some =
@@ -42,7 +42,7 @@ some_if width row part parts false e some =
     let next = some_before row (rows width part.text parts) (some part.text) in
     (next.0, next.1, step_full width row part parts e ∙ next.2)
 
-pub some_rows : (width : ℕ) (row : List ℕ) (parts : List Part) → (first : List ℕ) × (more : List (List ℕ)) × (rows width row parts ≡ first ∷ more)
+pub some_rows : (width : ℕ) (row : List ℕ) (parts : List Chunk) → (first : List ℕ) × (more : List (List ℕ)) × (rows width row parts ≡ first ∷ more)
 some_rows width row [] = (row, [], step_end width row)
 some_rows width row (part ∷ parts) = some_if width row part parts (fits width (joined row part)) refl (λ next. some_rows width next parts)
 
@@ -54,16 +54,16 @@ pub above : (taken width : ℕ) (text : List ℕ) → taken ≡ width_of_text te
 above taken width text e lt = grind (arith, nat_tests)
 
 -- the part stands on the row
-pub put_here : (written row there : List ℕ) (width : ℕ) (part : Part) → there ≡ joined row part → fits width there ≡ true
-    → (parts : List Part) → going_on written width there parts ≡ going_on written width row (part ∷ parts)
+pub put_here : (written row there : List ℕ) (width : ℕ) (part : Chunk) → there ≡ joined row part → fits width there ≡ true
+    → (parts : List Chunk) → going_on written width there parts ≡ going_on written width row (part ∷ parts)
 put_here written row there width part is fit parts =
     ap (λ bs. going_on written width bs parts) is
     ∙ ap (λ rs. written ++ join_with_byte 10 rs) (sym (step_fits width row part parts (ap (fits width) (sym is) ∙ fit)))
 
 -- the part stands on the next row
-pub put_next : (written new row after : List ℕ) (width : ℕ) (part : Part) → fits width (joined row part) ≡ false → after ≡ part.text
+pub put_next : (written new row after : List ℕ) (width : ℕ) (part : Chunk) → fits width (joined row part) ≡ false → after ≡ part.text
     → ((first : List ℕ) (more : List (List ℕ)) → new ++ join_with_byte 10 (first ∷ more) ≡ written ++ join_with_byte 10 (before row (first ∷ more)))
-    → (parts : List Part) → going_on new width after parts ≡ going_on written width row (part ∷ parts)
+    → (parts : List Chunk) → going_on new width after parts ≡ going_on written width row (part ∷ parts)
 put_next written new row after width part full begun ended parts =
     let next = some_rows width part.text parts in
     ap (λ bs. going_on new width bs parts) begun
@@ -93,7 +93,7 @@ pub line_long : (width : ℕ) (line : List ℕ) → fits width line ≡ false �
 unfolding line_rows
 line_long width line e = ap (λ b. if b then line ∷ [] else rows width [] (map close (clusters line))) e
 
-pub rows_end : (written row out goal : List ℕ) (width : ℕ) (parts : List Part) → going_on written width row parts ≡ goal → parts ≡ [] → out ≡ written ++ row → out ≡ goal
+pub rows_end : (written row out goal : List ℕ) (width : ℕ) (parts : List Chunk) → going_on written width row parts ≡ goal → parts ≡ [] → out ≡ written ++ row → out ≡ goal
 rows_end written row out goal width parts so_far none is =
     is ∙ ap (λ rs. written ++ join_with_byte 10 rs) (sym (step_end width row)) ∙ ap (going_on written width row) (sym none) ∙ so_far
 

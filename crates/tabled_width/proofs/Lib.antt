@@ -15,3 +15,7 @@ pub mod TextLaws
 pub mod TabLemmas
 pub mod LimitedLaws
 pub mod Sharing
+pub mod Ranges
+pub mod Tiles
+pub mod TimesLemmas
+pub mod PieceTexts

@@ -12,7 +12,7 @@ use Rattle.tabled_width.specs.declared.limit.Overflow.{Overflow}
 use Rattle.tabled_width.specs.declared.limit.Overflow.TheVariants.{Wrap, WrapWords, Truncate}
 use Rattle.tabled_width.specs.Texts.{LinesFit, is_printable, pieces}
 use Rattle.tabled_width.specs.Limited.{CanFit, IsPrintableText, ends_printable, limited}
-use Rattle.tabled_width.specs.Rows.{Part, WordsFit, words, words_from}
+use Rattle.tabled_width.specs.Rows.{Chunk, WordsFit, words, words_from}
 use Rattle.tabled_width.proofs.Printing.{printable_ascii}
 use Rattle.tabled_width.proofs.PrintableRows.{each_fits}
 use Rattle.tabled_width.proofs.TextLaws.{wrapped_fits, wrapped_words_fits, truncated_fits}
@@ -42,11 +42,11 @@ split_printable test (b ∷ bytes) h =
     by_test true here all = All-cons Printable [] (slice_split test bytes) refl all
     by_test false here all = onto_printable b (slice_split test bytes) here all
 
-words_printable : (gap : ℕ) (parts : List (List ℕ)) → All Printable parts → All (λ (word : Part). Printable word.text) (words_from gap parts)
-words_printable gap [] all = All-nil (λ (word : Part). Printable word.text)
+words_printable : (gap : ℕ) (parts : List (List ℕ)) → All Printable parts → All (λ (word : Chunk). Printable word.text) (words_from gap parts)
+words_printable gap [] all = All-nil (λ (word : Chunk). Printable word.text)
 words_printable gap ([] ∷ parts) all = words_printable (gap + 1) parts (All-tail Printable [] parts all)
 words_printable gap ((b ∷ bytes) ∷ parts) all =
-    All-cons (λ (word : Part). Printable word.text) (record { gap = gap; text = b ∷ bytes }) (words_from 1 parts) (All-head Printable (b ∷ bytes) parts all)
+    All-cons (λ (word : Chunk). Printable word.text) (record { gap = gap; text = b ∷ bytes }) (words_from 1 parts) (All-head Printable (b ∷ bytes) parts all)
     (words_printable 1 parts (All-tail Printable (b ∷ bytes) parts all))
 
 words_fit : (width : ℕ) (line : List ℕ) → 1 ≤ width → Printable line → WordsFit width line

@@ -9,7 +9,7 @@ use Rattle.unicode_width.specs.Width.{str_width}
 use Rattle.std.proofs.Math.Dec.{leb-zero}
 use Rattle.tabled_width.specs.Texts.{fits}
 use Rattle.tabled_width.specs.Clusters.{clusters}
-use Rattle.tabled_width.specs.Rows.{close, joined, before, rows, line_rows, Part}
+use Rattle.tabled_width.specs.Rows.{close, joined, before, rows, line_rows, Chunk}
 use Rattle.tabled_width.specs.CutOff.{beginning, suffix_shown, cut_off}
 use Rattle.tabled_width.proofs.ClusterLemmas.{concat_clusters}
 use Rattle.tabled_width.proofs.Filling.{step_fits, step_full, step_end, line_long}
@@ -48,7 +48,7 @@ unfolding str_width
 nothing_fits width = ap (λ cs. nat_le (str_width false cs) width) chars-nil ∙ leb-zero width
 
 -- what a part has
-abbrev pub PartStands : ℕ → (List ℕ → Type 0) → Part → Type 0
+abbrev pub PartStands : ℕ → (List ℕ → Type 0) → Chunk → Type 0
 PartStands width Alone part = Stands width Alone part.text
 
 module _ (width : ℕ) (Alone : List ℕ → Type 0) where
@@ -56,7 +56,7 @@ module _ (width : ℕ) (Alone : List ℕ → Type 0) where
   before_stands [] rs here all = all
   before_stands (b ∷ bs) rs here all = All-cons (Stands width Alone) (b ∷ bs) rs here all
 
-  pub parts_stand : (row : List ℕ) (ps : List Part) → Stands width Alone row → All (PartStands width Alone) ps → All (Stands width Alone) (rows width row ps)
+  pub parts_stand : (row : List ℕ) (ps : List Chunk) → Stands width Alone row → All (PartStands width Alone) ps → All (Stands width Alone) (rows width row ps)
   unfolding rows
   parts_stand row [] here all = All-cons (Stands width Alone) row [] here (All-nil (Stands width Alone))
   parts_stand row (p ∷ ps) here all = by (fits width (joined row p)) refl (λ r there. parts_stand r ps there (All-tail (PartStands width Alone) p ps all))

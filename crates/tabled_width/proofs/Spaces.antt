@@ -7,13 +7,13 @@ use Rattle.std.proofs.lemmas.List.Elements.{All-nil, All-cons, All-head, All-tai
 use Rattle.std.proofs.lemmas.List.Splits.{join_with_byte-slice_split}
 use Rattle.tabled_width.specs.Texts.{fits}
 use Rattle.tabled_width.specs.Clusters.{clusters}
-use Rattle.tabled_width.specs.Rows.{Part, close, joined, before, rows, spaced, parts_of, words_from, words, word_rows, IsSpacedOut}
+use Rattle.tabled_width.specs.Rows.{Chunk, close, joined, before, rows, spaced, parts_of, words_from, words, word_rows, IsSpacedOut}
 use Rattle.tabled_width.proofs.ClusterLemmas.{concat_clusters}
 use Rattle.tabled_width.proofs.Filling.{step_fits, step_full, step_end}
 use Rattle.tabled_width.proofs.PieceFacts.{Lacks, all_texts}
 
 -- the spaces and texts of parts, one after another
-abbrev written_out : List Part → List ℕ
+abbrev written_out : List Chunk → List ℕ
 written_out [] = []
 written_out (p ∷ ps) = replicate p.gap 32 ++ (p.text ++ written_out ps)
 
@@ -46,7 +46,7 @@ row_before (b ∷ bs) rs line is = (0, line, refl, is)
 one_row : (row : List ℕ) → IsSpacedOut (row ∷ []) row
 one_row row = (0, [], sym (append-nil row), (0, refl))
 
-rows_spaced : (width : ℕ) (row : List ℕ) (ps : List Part) → IsSpacedOut (rows width row ps) (row ++ written_out ps)
+rows_spaced : (width : ℕ) (row : List ℕ) (ps : List Chunk) → IsSpacedOut (rows width row ps) (row ++ written_out ps)
 rows_spaced width row [] =
     subst (λ rs. IsSpacedOut rs (row ++ [])) (sym (step_end width row)) (subst (IsSpacedOut (row ∷ [])) (sym (append-nil row)) (one_row row))
 rows_spaced width row (p ∷ ps) = by (fits width (joined row p)) refl (λ r. rows_spaced width r ps)
@@ -63,7 +63,7 @@ rows_spaced width row (p ∷ ps) = by (fits width (joined row p)) refl (λ r. ro
 
 -- ---- the parts of words
 
-written_append : (ps qs : List Part) → written_out (ps ++ qs) ≡ written_out ps ++ written_out qs
+written_append : (ps qs : List Chunk) → written_out (ps ++ qs) ≡ written_out ps ++ written_out qs
 written_append [] qs = refl
 written_append (p ∷ ps) qs =
     ap (λ bs. replicate p.gap 32 ++ (p.text ++ bs)) (written_append ps qs)
@@ -79,10 +79,10 @@ written_spaced gap [] some = absurd (omega arith)
 written_spaced gap (u ∷ us) some = ap (λ bs. replicate gap 32 ++ (u ++ bs)) (written_close us)
 
 -- a word is a text of some bytes
-abbrev IsWord : Part → Type 0
+abbrev IsWord : Chunk → Type 0
 IsWord word = IsUtf8 word.text × (0 < length word.text)
 
-written_word : (width : ℕ) (word : Part) → IsWord word → written_out (parts_of width word) ≡ replicate word.gap 32 ++ word.text
+written_word : (width : ℕ) (word : Chunk) → IsWord word → written_out (parts_of width word) ≡ replicate word.gap 32 ++ word.text
 written_word width word is = by (fits width word.text) refl
   where
     whole : concat (clusters word.text) ≡ word.text
@@ -94,7 +94,7 @@ written_word width word is = by (fits width word.text) refl
         written_spaced word.gap (clusters word.text) (let some = is.1 in omega (arith, some, ap length whole))
         ∙ ap (λ bs. replicate word.gap 32 ++ bs) whole
 
-written_words : (width : ℕ) (ws : List Part) → All IsWord ws → written_out (flat_map (parts_of width) ws) ≡ written_out ws
+written_words : (width : ℕ) (ws : List Chunk) → All IsWord ws → written_out (flat_map (parts_of width) ws) ≡ written_out ws
 written_words width [] all = refl
 written_words width (w ∷ ws) all =
     written_append (parts_of width w) (flat_map (parts_of width) ws)
@@ -134,7 +134,7 @@ pub line_spaced : (width : ℕ) (line : List ℕ) → IsUtf8 line → IsSpacedOu
 unfolding word_rows
 line_spaced width line text = by (fits width line) refl
   where
-    parts : List Part
+    parts : List Chunk
     parts = flat_map (parts_of width) (words line)
 
     cut : (k : ℕ) × (join_with_byte 32 (slice_split (λ byte. byte == 32) line) ≡ written_out (words line) ++ replicate k 32)

@@ -4,7 +4,7 @@ use Rattle.std.specs.List.{All, flat_map}
 use Rattle.std.proofs.lemmas.List.Elements.{All-nil, All-cons, All-head, All-tail, All-append}
 use Rattle.tabled_width.specs.Texts.{fits}
 use Rattle.tabled_width.specs.Clusters.{clusters}
-use Rattle.tabled_width.specs.Rows.{Part, close, rows, spaced, words, parts_of, word_rows}
+use Rattle.tabled_width.specs.Rows.{Chunk, close, rows, spaced, words, parts_of, word_rows}
 use Rattle.tabled_width.proofs.RowLaws.{Stands, PartStands, parts_stand, close_stand, nothing_fits}
 
 -- ---- each row fits, or is one cluster of a word
@@ -16,14 +16,14 @@ module _ (width : ℕ) (Alone : List ℕ → Type 0) where
       All-cons (PartStands width Alone) (record { gap = gap; text = u }) (map close us) (inr (All-head Alone u us all)) (close_stand width Alone us (All-tail Alone u us all))
 
   -- whatever stands alone, if each cluster of each word may
-  word_stands : (word : Part) → All Alone (clusters word.text) → All (PartStands width Alone) (parts_of width word)
+  word_stands : (word : Chunk) → All Alone (clusters word.text) → All (PartStands width Alone) (parts_of width word)
   word_stands word all = by (fits width word.text) refl
     where
       by : (b : Bool) → fits width word.text ≡ b → All (PartStands width Alone) (if b then word ∷ [] else spaced word.gap (clusters word.text))
       by true e = All-cons (PartStands width Alone) word [] (inl e) (All-nil (PartStands width Alone))
       by false e = spaced_stand word.gap (clusters word.text) all
 
-  pub words_stand : (ws : List Part) → All (λ word. All Alone (clusters word.text)) ws → All (PartStands width Alone) (flat_map (parts_of width) ws)
+  pub words_stand : (ws : List Chunk) → All (λ word. All Alone (clusters word.text)) ws → All (PartStands width Alone) (flat_map (parts_of width) ws)
   words_stand [] all = All-nil (PartStands width Alone)
   words_stand (w ∷ ws) all =
       All-append (PartStands width Alone) (parts_of width w) (flat_map (parts_of width) ws)

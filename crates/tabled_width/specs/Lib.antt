@@ -6,3 +6,4 @@ pub mod CutOff
 pub mod Tabs
 pub mod Shares
 pub mod Limited
+pub mod Narrow

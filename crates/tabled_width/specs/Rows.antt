@@ -5,16 +5,16 @@ use Rattle.tabled_width.specs.Texts.{pieces, fits}
 use Rattle.tabled_width.specs.Clusters.{clusters}
 
 -- a part of a line that is not cut, and how many spaces stand before it
-pub record Part : Type 0 where
+pub record Chunk : Type 0 where
   pub gap : ℕ
   pub text : List ℕ
 
 -- a part with no spaces before it
-abbrev pub close : List ℕ → Part
+abbrev pub close : List ℕ → Chunk
 close text = record { gap = 0; text = text }
 
 -- a row that goes on with a part
-abbrev pub joined : List ℕ → Part → List ℕ
+abbrev pub joined : List ℕ → Chunk → List ℕ
 joined row part = row ++ (replicate part.gap 32 ++ part.text)
 
 -- a row before others, left out where nothing stands on it
@@ -24,13 +24,13 @@ before (b ∷ bs) rows = (b ∷ bs) ∷ rows
 
 -- a row followed by parts: it takes each as long as it then fits; the part that it has no room for begins the next row, without
 -- the spaces before it
-unfoldable pub rows : ℕ → List ℕ → List Part → List (List ℕ)
+unfoldable pub rows : ℕ → List ℕ → List Chunk → List (List ℕ)
 rows width row [] = row ∷ []
 rows width row (part ∷ parts) =
     if fits width (joined row part) then rows width (joined row part) parts else before row (rows width part.text parts)
 
 -- what is written already, and then the rows of a row that parts follow, each but the last with a line feed
-abbrev pub going_on : List ℕ → ℕ → List ℕ → List Part → List ℕ
+abbrev pub going_on : List ℕ → ℕ → List ℕ → List Chunk → List ℕ
 going_on written width row parts = written ++ join_with_byte 10 (rows width row parts)
 
 -- ---- wrapped between clusters
@@ -50,22 +50,22 @@ AreFull width all (row ∷ next ∷ more) =
 -- ---- wrapped at spaces
 
 -- the words of a line that was cut at its spaces, each with the spaces before it, of which `gap` stand before the first piece
-abbrev pub words_from : ℕ → List (List ℕ) → List Part
+abbrev pub words_from : ℕ → List (List ℕ) → List Chunk
 words_from gap [] = []
 words_from gap ([] ∷ more) = words_from (gap + 1) more
 words_from gap ((b ∷ bs) ∷ more) = record { gap = gap; text = b ∷ bs } ∷ words_from 1 more
 
 -- the words of a line, each with the spaces before it; spaces after the last are left out
-abbrev pub words : List ℕ → List Part
+abbrev pub words : List ℕ → List Chunk
 words line = words_from 0 (slice_split (λ byte. byte == 32) line)
 
 -- clusters of which the first has the spaces before it
-abbrev pub spaced : ℕ → List (List ℕ) → List Part
+abbrev pub spaced : ℕ → List (List ℕ) → List Chunk
 spaced gap [] = []
 spaced gap (text ∷ texts) = record { gap = gap; text = text } ∷ map close texts
 
 -- what of a word is not cut: all of it if it fits alone, else each of its clusters
-abbrev pub parts_of : ℕ → Part → List Part
+abbrev pub parts_of : ℕ → Chunk → List Chunk
 parts_of width word = if fits width word.text then word ∷ [] else spaced word.gap (clusters word.text)
 
 -- the rows of a line that is cut at its spaces

@@ -1,5 +1,8 @@
 -- Texts: bytes that are cut at line feeds, and how many columns they take on a terminal.
-use Rattle.std.specs.Prelude.{◌≡◌, ℕ, Bool, true, false, ◌&&◌, ◌==◌, nat_le, List, [], ◌∷◌, chars}
+use Rattle.std.specs.Prelude.{◌≡◌, ℕ, Bool, true, false, ◌&&◌, ◌==◌, nat_le, List, [], ◌∷◌, ◌++◌, chars, map, length, take, replicate, encode_utf8_all, MatchResult, Result}
+use Rattle.std.specs.String.{string_bytes}
+use Rattle.std.specs.declared.string.String.{String}
+use Rattle.std.specs.declared.vec.Vec.{Vec}
 use Rattle.std.specs.List.{All, slice_split}
 use Rattle.unicode_width.specs.Width.{str_width}
 
@@ -27,3 +30,21 @@ is_printable byte = nat_le 32 byte && nat_le byte 126
 abbrev pub begins_with : ℕ → List ℕ → Bool
 begins_with character [] = false
 begins_with character (first ∷ more) = first == character
+
+-- a table's texts: the bytes of each cell, row by row
+abbrev pub Table : Type 0
+Table = List (List (List ℕ))
+
+-- the bytes of each cell of rows of texts
+abbrev pub texts : {Z W : Type 0} → List (Vec (String Z) W) → Table
+texts rows = map (λ row. map string_bytes row.items) rows
+
+-- a character, the given number of times
+abbrev pub times : ℕ → ℕ → List ℕ
+times count character = encode_utf8_all (replicate count character)
+
+-- where a call succeeds, the new text is the old one followed by these bytes; where it is refused, the new text still begins
+-- with the old one
+abbrev pub Appends : {T E Z : Type 0} → Result T E → String Z → String Z → List ℕ → Type 0
+Appends result old new bytes =
+    MatchResult result (λ _. string_bytes new ≡ string_bytes old ++ bytes) (λ _. take (length (string_bytes old)) (string_bytes new) ≡ string_bytes old)

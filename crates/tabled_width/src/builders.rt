@@ -14,7 +14,7 @@ use tabled_border::OutOfMemory;
 pub struct Width;
 
 impl Width {
-    /// A line that is wider goes on in further rows, cut between its clusters.
+    /// Returns a line that is wider goes on in further rows, cut between its clusters.
     ///
     /// `Width::wrap(4).limited(alloc, "a long text")?` is `"a lo\nng t\next"`.
     pub fn wrap(width: usize) -> Wrap
@@ -27,7 +27,7 @@ impl Width {
         }
     }
 
-    /// A line that is wider is cut off, with nothing after it.
+    /// Returns a line that is wider is cut off, with nothing after it.
     ///
     /// `Width::truncate(6).suffix("..").limited(alloc, "a long text")?` is `"a lo.."`.
     pub fn truncate(width: usize) -> Truncate<'static>
@@ -48,7 +48,7 @@ pub struct Wrap {
 }
 
 impl Wrap {
-    /// The same, with lines that are cut at their spaces.
+    /// Returns this limit with lines that are cut at their spaces.
     pub fn keep_words(self) -> Wrap
         ensures width { result.width ≡ self.width }
         ensures keeps_words { result.keeps_words ≡ true }
@@ -59,7 +59,7 @@ impl Wrap {
         }
     }
 
-    /// What is done with a line that takes more columns.
+    /// Returns what is done with a line that takes more columns.
     pub fn overflow(&self) -> Overflow<'static>
         ensures { result ≡ overflow_of self.now.keeps_words }
     {
@@ -91,7 +91,7 @@ pub struct Truncate<'a> {
 }
 
 impl Truncate<'_> {
-    /// The same with another suffix.
+    /// Returns this limit with another suffix, the text that follows where something is cut off.
     pub fn suffix<'b>(self, suffix: &'b str) -> Truncate<'b>
         ensures width { result.width ≡ self.entry.width }
         ensures suffix { result.suffix.now ≡ suffix.now }
@@ -118,7 +118,7 @@ impl TextLimit for Truncate<'_> {
 pub struct Height;
 
 impl Height {
-    /// A text of more lines keeps its first ones, with nothing after them.
+    /// Returns a text of more lines keeps its first ones, with nothing after them.
     ///
     /// `Height::limit(2).suffix("…").limited(alloc, "a\nb\nc")?` is `"a\nb…"`.
     pub fn limit(count: usize) -> HeightLimit<'static>
@@ -139,7 +139,7 @@ pub struct HeightLimit<'a> {
 }
 
 impl HeightLimit<'_> {
-    /// The same with another suffix.
+    /// Returns this limit with another suffix, the text that follows where something is cut off.
     pub fn suffix<'b>(self, suffix: &'b str) -> HeightLimit<'b>
         ensures count { result.count ≡ self.entry.count }
         ensures suffix { result.suffix.now ≡ suffix.now }

@@ -85,7 +85,7 @@ fn after_cluster(first: char, rest: &str) -> &str
     left
 }
 
-/// The first cluster of a line and what follows it; `None` where the line is empty.
+/// Returns the first cluster of a line and what follows it; `None` where the line is empty.
 ///
 /// A cluster is a character with what belongs to it: characters that take no columns of their own, such as accents, variation
 /// selectors and U+200D; the skin tone of an emoji; what follows U+200D; and of a flag the second regional indicator. A character

@@ -82,7 +82,7 @@ fn push_cut_off(
     Ok(())
 }
 
-/// A text whose lines are cut off at so many terminal columns. A line that fits stays as it is; of another so many of its first
+/// Returns a text whose lines are cut off at so many terminal columns. A line that fits stays as it is; of another so many of its first
 /// clusters stay as fit with the suffix, which follows them (`first_cluster` says what a cluster is).
 ///
 /// Where the suffix does not fit alone, it is cut off itself in the same way, so that every line fits: a width of 0 leaves nothing

@@ -7,7 +7,7 @@ use crate::lines::cut_at;
 use std::alloc::Global;
 use tabled_border::OutOfMemory;
 
-/// A text of at most so many lines: one of more lines keeps its first ones, and the suffix follows the last of these. A text of no
+/// Returns a text of at most so many lines: one of more lines keeps its first ones, and the suffix follows the last of these. A text of no
 /// more lines stays as it is; a count of 0 leaves nothing, not even the suffix.
 ///
 /// The suffix can make its line wider: cut the text off afterwards, where a width is to be kept. A suffix with a line feed makes

@@ -10,16 +10,16 @@ use tabled_border::OutOfMemory;
 /// What is done with a line that takes more terminal columns than it may.
 #[derive(Clone, Copy, Debug)]
 pub enum Overflow<'a> {
-    /// It goes on in further rows, cut between its clusters.
+    /// The line goes on in further rows, cut between its clusters.
     Wrap,
-    /// It goes on in further rows, cut at its spaces; a word that is wider than a row is cut between its clusters.
+    /// The line goes on in further rows, cut at its spaces; a word that is wider than a row is cut between its clusters.
     WrapWords,
-    /// It is cut off, and this text follows it.
+    /// The line is cut off, and this text follows it.
     Truncate(&'a str),
 }
 
 impl Overflow<'_> {
-    /// A text of which no line takes more than so many terminal columns, but for a cluster alone that is wider. Only memory can be
+    /// Returns a text of which no line takes more than so many terminal columns, but for a cluster alone that is wider. Only memory can be
     /// refused.
     pub fn limited(&self, alloc: Global, text: &str, width: usize) -> Result<String, OutOfMemory>
         ensures { IfOk result (λ found. string_bytes found ≡ limited self.now width text.now) }

@@ -6,7 +6,7 @@ ghost use Rattle.tabled_width.specs.Texts.{fits, is_printable, width_of_text};
 
 use unicode_width::UnicodeWidthStr;
 
-/// Whether a text has printable characters of ASCII alone, so that it is one line, and each of its bytes takes one column.
+/// Returns whether a text has printable characters of ASCII alone, so that it is one line, and each of its bytes takes one column.
 pub fn is_printable(text: &str) -> bool
     ensures { result ≡ list_all is_printable text.now }
 {
@@ -18,7 +18,7 @@ pub fn is_printable(text: &str) -> bool
     all
 }
 
-/// How many terminal columns a line takes. A tab or another control character takes one.
+/// Returns how many terminal columns a line takes. A tab or another control character takes one.
 pub fn width_of(line: &str) -> usize
     ensures { result ≡ width_of_text line.now }
 {
@@ -29,7 +29,7 @@ pub fn width_of(line: &str) -> usize
     }
 }
 
-/// Whether a line takes at most so many terminal columns.
+/// Returns whether a line takes at most so many terminal columns.
 pub fn fits(width: usize, line: &str) -> bool
     ensures { result ≡ fits width line.now }
 {

@@ -3,7 +3,7 @@
 ghost use Rattle.std.specs.Prelude.{◌≡◌, ℕ, ◌+◌, ◌<◌, ◌≤◌, ◌^◌, nat_le, ◌++◌, List, [], ◌∷◌, map, string_bytes, IfOk, OnOk, IsTrue, replicate};
 ghost use Rattle.std.specs.List.{flat_map, join_with_byte, list_all};
 ghost use Rattle.tabled_width.specs.Clusters.{clusters};
-ghost use Rattle.tabled_width.specs.Rows.{Part, before, close, going_on, line_rows, parts_of, rows, words_from, word_rows};
+ghost use Rattle.tabled_width.specs.Rows.{Chunk, before, close, going_on, line_rows, parts_of, rows, words_from, word_rows};
 ghost use Rattle.tabled_width.specs.Rows as spec;
 ghost use Rattle.tabled_width.specs.Measured.{IsMeasured};
 ghost use Rattle.tabled_width.specs.Texts.{is_printable, width_of_text};
@@ -27,18 +27,18 @@ pub(crate) fn push_spaces(row: &mut String, count: usize) -> Result<(), OutOfMem
 
 /// A row that is being filled, and how many columns its text takes.
 #[derive(Drop)]
-struct Row {
+struct FilledRow {
     text: String,
     width: usize,
 }
 
-impl Row {
+impl FilledRow {
     /// A row on which nothing stands.
-    fn new(alloc: Global) -> Row
+    fn new(alloc: Global) -> FilledRow
         ensures text { string_bytes result.text ≡ [] }
         ensures width { result.width ≡ 0 }
     {
-        Row {
+        FilledRow {
             text: String::new(alloc),
             width: 0,
         }
@@ -55,7 +55,7 @@ impl Row {
 }
 
 /// Ends the row, if something stands on it, and begins the next one with a part, which takes so many columns.
-fn begin(out: &mut String, row: &mut Row, part: &str, width: usize) -> Result<(), OutOfMemory>
+fn begin(out: &mut String, row: &mut FilledRow, part: &str, width: usize) -> Result<(), OutOfMemory>
     requires { width ≡ width_of_text part.now }
     ensures rows { (first : List ℕ) (more : List (List ℕ)) → OnOk result (string_bytes out.new ++ join_with_byte 10 (first ∷ more)
         ≡ string_bytes out.old ++ join_with_byte 10 (before (string_bytes row.old.text) (first ∷ more))) }
@@ -83,14 +83,14 @@ fn has_room(width: usize, taken: usize, gap: usize, asked: usize) -> bool
 /// measured again.
 fn put_apart(
     out: &mut String,
-    row: &mut Row,
+    row: &mut FilledRow,
     width: usize,
     gap: usize,
     part: &str,
 ) -> Result<(), OutOfMemory>
     requires some { 0 < gap }
     requires measured { IsMeasured row.old }
-    ensures rows { (parts : List Part) → OnOk result (going_on (string_bytes out.new) width (string_bytes row.new.text) parts
+    ensures rows { (parts : List Chunk) → OnOk result (going_on (string_bytes out.new) width (string_bytes row.new.text) parts
         ≡ going_on (string_bytes out.old) width (string_bytes row.old.text) (record { gap = gap; text = part.now } ∷ parts)) }
     ensures measured { OnOk result (IsMeasured row.new) }
 {
@@ -107,8 +107,13 @@ fn put_apart(
 
 /// Goes on with a part that has no spaces before it: on the row if it then fits, else on the next. It may join the row, which is measured
 /// again.
-fn put_close(out: &mut String, row: &mut Row, width: usize, part: &str) -> Result<(), OutOfMemory>
-    ensures rows { (parts : List Part) → OnOk result (going_on (string_bytes out.new) width (string_bytes row.new.text) parts
+fn put_close(
+    out: &mut String,
+    row: &mut FilledRow,
+    width: usize,
+    part: &str,
+) -> Result<(), OutOfMemory>
+    ensures rows { (parts : List Chunk) → OnOk result (going_on (string_bytes out.new) width (string_bytes row.new.text) parts
         ≡ going_on (string_bytes out.old) width (string_bytes row.old.text) (close part.now ∷ parts)) }
     ensures measured { OnOk result (IsMeasured row.new) }
 {
@@ -127,13 +132,13 @@ fn put_close(out: &mut String, row: &mut Row, width: usize, part: &str) -> Resul
 /// Goes on with a part that has so many spaces before it: on the row if it then fits, else on the next.
 fn put(
     out: &mut String,
-    row: &mut Row,
+    row: &mut FilledRow,
     width: usize,
     gap: usize,
     part: &str,
 ) -> Result<(), OutOfMemory>
     requires { IsMeasured row.old }
-    ensures rows { (parts : List Part) → OnOk result (going_on (string_bytes out.new) width (string_bytes row.new.text) parts
+    ensures rows { (parts : List Chunk) → OnOk result (going_on (string_bytes out.new) width (string_bytes row.new.text) parts
         ≡ going_on (string_bytes out.old) width (string_bytes row.old.text) (record { gap = gap; text = part.now } ∷ parts)) }
     ensures measured { OnOk result (IsMeasured row.new) }
 {
@@ -147,7 +152,7 @@ fn put(
 /// Writes the rows of a line, which is cut between its clusters.
 fn push_clusters(
     out: &mut String,
-    row: &mut Row,
+    row: &mut FilledRow,
     width: usize,
     line: &str,
 ) -> Result<(), OutOfMemory>
@@ -180,7 +185,12 @@ fn push_printable(out: &mut String, width: usize, line: &str) -> Result<(), OutO
 }
 
 /// Writes the rows of a line: itself if it fits, else its clusters in rows.
-fn push_line(out: &mut String, row: &mut Row, width: usize, line: &str) -> Result<(), OutOfMemory>
+fn push_line(
+    out: &mut String,
+    row: &mut FilledRow,
+    width: usize,
+    line: &str,
+) -> Result<(), OutOfMemory>
     ensures { OnOk result (string_bytes out.new ≡ string_bytes out.old ++ join_with_byte 10 (line_rows width line.now)) }
 {
     if fits(width, line) {
@@ -198,13 +208,13 @@ fn push_line(out: &mut String, row: &mut Row, width: usize, line: &str) -> Resul
 /// Goes on with a word that has so many spaces before it: whole if it fits alone, else cluster by cluster.
 fn put_word(
     out: &mut String,
-    row: &mut Row,
+    row: &mut FilledRow,
     width: usize,
     gap: usize,
     word: &str,
 ) -> Result<(), OutOfMemory>
     requires { IsMeasured row.old }
-    ensures rows { (parts : List Part) → OnOk result (going_on (string_bytes out.new) width (string_bytes row.new.text) parts
+    ensures rows { (parts : List Chunk) → OnOk result (going_on (string_bytes out.new) width (string_bytes row.new.text) parts
         ≡ going_on (string_bytes out.old) width (string_bytes row.old.text) (parts_of width (record { gap = gap; text = word.now }) ++ parts)) }
     ensures measured { OnOk result (IsMeasured row.new) }
 {
@@ -225,7 +235,7 @@ fn put_word(
 /// Goes on with a piece between spaces, and counts the spaces before the next.
 fn put_piece(
     out: &mut String,
-    row: &mut Row,
+    row: &mut FilledRow,
     width: usize,
     gap: usize,
     piece: &str,
@@ -246,7 +256,12 @@ fn put_piece(
 }
 
 /// Writes the rows of a line, which is cut at its spaces.
-fn push_words(out: &mut String, row: &mut Row, width: usize, line: &str) -> Result<(), OutOfMemory>
+fn push_words(
+    out: &mut String,
+    row: &mut FilledRow,
+    width: usize,
+    line: &str,
+) -> Result<(), OutOfMemory>
     ensures { OnOk result (string_bytes out.new ≡ string_bytes out.old ++ join_with_byte 10 (word_rows width line.now)) }
 {
     if fits(width, line) {
@@ -265,7 +280,7 @@ fn push_words(out: &mut String, row: &mut Row, width: usize, line: &str) -> Resu
     Ok(())
 }
 
-/// A text whose lines are cut into rows of at most so many terminal columns. A line that fits stays as it is. Another is cut
+/// Returns a text whose lines are cut into rows of at most so many terminal columns. A line that fits stays as it is. Another is cut
 /// before each cluster with which its row would be too wide (`first_cluster` says what a cluster is); nothing is lost.
 ///
 /// A cluster that is wider than a row stands on one alone, so a width of 0 gives one cluster a row, and only then is a row wider
@@ -277,7 +292,7 @@ pub fn wrapped(alloc: Global, text: &str, width: usize) -> Result<String, OutOfM
     ensures { IfOk result (λ found. string_bytes found ≡ spec.wrapped width text.now) }
 {
     let mut out = String::with_capacity(alloc, text.len())?;
-    let mut row = Row::new(alloc);
+    let mut row = FilledRow::new(alloc);
     let mut rest = text;
     while let Some((line, more)) = cut_at(rest, '\n') {
         push_line(&mut out, &mut row, width, line)?;
@@ -288,7 +303,7 @@ pub fn wrapped(alloc: Global, text: &str, width: usize) -> Result<String, OutOfM
     Ok(out)
 }
 
-/// A text whose lines are cut into rows of at most so many terminal columns, at spaces. A line that fits stays as it is. In
+/// Returns a text whose lines are cut into rows of at most so many terminal columns, at spaces. A line that fits stays as it is. In
 /// another a row takes each word with the spaces before it, as long as it then fits; the word for which there is no room begins
 /// the next row, and the spaces before it are left out, as are those after the last word. A word that is wider than a row is cut
 /// as by `wrapped`, from the row on that there is.
@@ -300,7 +315,7 @@ pub fn wrapped_words(alloc: Global, text: &str, width: usize) -> Result<String, 
     ensures { IfOk result (λ found. string_bytes found ≡ spec.wrapped_words width text.now) }
 {
     let mut out = String::with_capacity(alloc, text.len())?;
-    let mut row = Row::new(alloc);
+    let mut row = FilledRow::new(alloc);
     let mut rest = text;
     while let Some((line, more)) = cut_at(rest, '\n') {
         push_words(&mut out, &mut row, width, line)?;

@@ -64,7 +64,7 @@ fn shared_out(
     Ok(shares)
 }
 
-/// How many terminal columns each column of a table gets of the room that there is for all. Where not all get what they ask for,
+/// Returns how many terminal columns each column of a table gets of the room that there is for all. Where not all get what they ask for,
 /// each gets what it asks for up to a cap, the greatest for which there is room, and what is left over goes one by one to the first
 /// columns that ask for more. Each gets `least` of them, or what it asks for, if that is less, even where there is no room for that.
 ///

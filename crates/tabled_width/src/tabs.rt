@@ -35,9 +35,9 @@ fn push_at_stops(out: &mut String, every: usize, line: &str) -> Result<(), OutOf
     Ok(())
 }
 
-/// A text with spaces in the place of its tabs: as many as there are columns up to the next stop of the line, where the line begins at a
-/// stop and a further one stands each `every` columns of the terminal, as `width_of` counts them. At least one space stands for each tab;
-/// where `every` is 0 there are no stops, and tabs are left out.
+/// Returns a text with spaces in the place of its tabs: as many as there are columns up to the next stop of the line, where the line begins
+/// at a stop and a further one stands each `every` columns of the terminal, as `width_of` counts them. At least one space stands for each
+/// tab; where `every` is 0 there are no stops, and tabs are left out.
 ///
 /// `tabs_expanded(alloc, "a\tbc\td", 4)?` is `"a   bc  d"`. Only memory can be refused.
 pub fn tabs_expanded(alloc: Global, text: &str, every: usize) -> Result<String, OutOfMemory>

@@ -1,3 +1,5 @@
 //! How the texts of cells stand in them.
 
-pub use tabled_formatting::{AlignmentStrategy, Justification, TrimStrategy};
+pub use tabled_formatting::{
+    AlignmentStrategy, Justification, OfMargin, OfPadding, SideColors, TrimStrategy,
+};

@@ -3,8 +3,8 @@
 ghost use Rattle.std.specs.Prelude.{◌≡◌, ◌==◌, ◌||◌, ◌++◌, Some, None, if◌then◌else◌, OnOk, OnErr, IfOk, option_copied};
 ghost use Rattle.tabled_object.specs.declared.entity.Entity.TheVariants as cells;
 ghost use Rattle.tabled_settings.specs.Setting.{is_global};
-ghost use Rattle.tabled_grid.specs.Calls.{spot_of, edge_of, crossing_of};
-ghost use Rattle.tabled_grid.specs.Writes.{writes_made};
+ghost use Rattle.tabled_places.specs.Calls.{spot_of, edge_of, crossing_of};
+ghost use Rattle.tabled_places.specs.Writes.{writes_made};
 ghost use Rattle.tabled_configuration.specs.Configuration.{by_colors};
 ghost use Rattle.tabled_configuration.specs.Configuration as borders;
 ghost use Rattle.tabled_configuration.specs.Colored.{Changes};

@@ -1,9 +1,9 @@
 //! Many writes at once, of characters and of colors.
 
 ghost use Rattle.std.specs.Prelude.{◌≡◌, ◌||◌, OnOk, OnErr, IsTrue};
-ghost use Rattle.tabled_grid.specs.Calls.{writes_anew};
-ghost use Rattle.tabled_grid.specs.State.{state_at};
-ghost use Rattle.tabled_grid.specs.Writes.{writes_made};
+ghost use Rattle.tabled_places.specs.Calls.{writes_anew};
+ghost use Rattle.tabled_places.specs.State.{state_at};
+ghost use Rattle.tabled_places.specs.Writes.{writes_made};
 ghost use Rattle.tabled_configuration.specs.Configuration.{Changes, writes_applied};
 
 use super::SpannedConfig;

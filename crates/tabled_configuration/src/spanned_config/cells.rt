@@ -2,9 +2,9 @@
 
 ghost use Rattle.std.specs.Prelude.{◌≡◌, [], OnOk, OnErr, IsOk, IsTrue, option_copied, filter};
 ghost use Rattle.tabled_object.specs.Entities.{cells_of, is_inside};
-ghost use Rattle.tabled_grid.specs.Calls.{border_set, border_erased, writes_anew};
-ghost use Rattle.tabled_grid.specs.CellBorder.{border_shown};
-ghost use Rattle.tabled_grid.specs.State.{state_at};
+ghost use Rattle.tabled_places.specs.Calls.{border_set, border_erased, writes_anew};
+ghost use Rattle.tabled_places.specs.CellBorder.{border_shown};
+ghost use Rattle.tabled_places.specs.State.{state_at};
 ghost use Rattle.tabled_configuration.specs.Configuration.{Changes, by_characters, by_colors};
 ghost use Rattle.tabled_configuration.specs.Options.{entity_bordered};
 
@@ -59,7 +59,7 @@ impl SpannedConfig {
         self.characters.set_entity_border(entity, shape, border)
     }
 
-    /// The characters that show at the sides and corners of a cell in a table of `shape.0` rows and
+    /// Returns the characters that show at the sides and corners of a cell in a table of `shape.0` rows and
     /// `shape.1` columns, offset characters aside. A cell outside has none.
     pub fn get_border(&self, pos: Position, shape: (usize, usize)) -> Border<char>
         ensures { result ≡ border_shown (state_at self.now.characters) shape pos }
@@ -118,7 +118,7 @@ impl SpannedConfig {
         self.colors.set_border(pos, border)
     }
 
-    /// The colors that show at the sides and corners of a cell in a table of `shape.0` rows and `shape.1`
+    /// Returns the colors that show at the sides and corners of a cell in a table of `shape.0` rows and `shape.1`
     /// columns, offset colors aside. A cell outside has none.
     pub fn get_border_color(&self, pos: Position, shape: (usize, usize)) -> Border<&ANSIBuf>
         ensures { record {

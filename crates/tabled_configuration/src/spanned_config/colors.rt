@@ -1,9 +1,9 @@
 //! Border colors, level by level.
 
 ghost use Rattle.std.specs.Prelude.{◌≡◌, option_copied};
-ghost use Rattle.tabled_grid.specs.Calls.{default_erased, cell_erased, spot_of};
+ghost use Rattle.tabled_places.specs.Calls.{default_erased, cell_erased, spot_of};
 ghost use Rattle.std.specs.FinMap.{get};
-ghost use Rattle.tabled_grid.specs.State.{class_record_set};
+ghost use Rattle.tabled_places.specs.State.{class_record_set};
 ghost use Rattle.tabled_configuration.specs.Configuration.{Changes, by_colors, all_but_offsets, default_color_set};
 
 use super::{SpannedConfig, erase_below_offsets};
@@ -28,7 +28,7 @@ impl SpannedConfig {
         self.colors.set_class(colors);
     }
 
-    /// The record of class colors.
+    /// Returns the record of class colors.
     pub fn get_color_borders(&self) -> &Borders<ANSIBuf>
         ensures { result.now ≡ self.now.colors.class_record }
     {
@@ -55,7 +55,7 @@ impl SpannedConfig {
         self.colors.erase_cells();
     }
 
-    /// The default border color, if one is set.
+    /// Returns the default border color, if one is set.
     pub fn get_border_color_default(&self) -> Option<&ANSIBuf>
         ensures { option_copied result ≡ self.now.colors.default_value }
     {
@@ -69,7 +69,7 @@ impl SpannedConfig {
         self.colors.erase_default();
     }
 
-    /// The color that is kept at the cell level of one edge or one crossing, whatever other levels have; for an edge
+    /// Returns the color that is kept at the cell level of one edge or one crossing, whatever other levels have; for an edge
     /// `at` is not read.
     pub fn get_char_color(&self, place: Place) -> Option<&ANSIBuf>
         ensures { option_copied result ≡ get self.now.colors.cells (spot_of place) }

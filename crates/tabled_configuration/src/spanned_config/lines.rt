@@ -3,12 +3,12 @@
 ghost use Rattle.std.specs.Prelude.{◌≡◌, None, OnOk, OnErr, IfOk, option_copied};
 ghost use Rattle.std.specs.Ordering.{nat_cmp};
 ghost use Rattle.std.specs.FinMap as map;
-ghost use Rattle.tabled_grid.specs.Table.{table};
-ghost use Rattle.tabled_grid.specs.declared.site.Site.TheVariants.{Line as of_line};
-ghost use Rattle.tabled_grid.specs.declared.site.Part.TheVariants.{Mark as mark};
-ghost use Rattle.tabled_grid.specs.Calls.{line_set_horizontal, line_set_vertical, line_removed};
-ghost use Rattle.tabled_grid.specs.State.{state_at};
-ghost use Rattle.tabled_grid.specs.declared.place.LineOf.{LineOf as Line};
+ghost use Rattle.tabled_kept.specs.Table.{table};
+ghost use Rattle.tabled_places.specs.declared.site.Site.TheVariants.{Line as of_line};
+ghost use Rattle.tabled_places.specs.declared.site.Part.TheVariants.{Mark as mark};
+ghost use Rattle.tabled_places.specs.Calls.{line_set_horizontal, line_set_vertical, line_removed};
+ghost use Rattle.tabled_places.specs.State.{state_at};
+ghost use Rattle.tabled_places.specs.declared.place.LineOf.{LineOf as Line};
 ghost use Rattle.tabled_configuration.specs.Configuration.{Changes, by_characters};
 
 use super::SpannedConfig;
@@ -41,14 +41,14 @@ impl SpannedConfig {
         self.characters.insert_hline(line, fields)
     }
 
-    /// The custom horizontal line that stands at index `line`, if one does.
+    /// Returns the custom horizontal line that stands at index `line`, if one does.
     pub fn get_horizontal_line(&self, line: usize) -> Option<&HorizontalLine<char>>
         ensures { option_copied result ≡ map.get self.now.characters.horizontal_lines line }
     {
         self.characters.get_hline(line)
     }
 
-    /// The custom horizontal lines, each with the index at which it stands, in rising order. They are lent, so no
+    /// Returns the custom horizontal lines, each with the index at which it stands, in rising order. They are lent, so no
     /// memory is asked for.
     pub fn horizontal_lines(&self) -> HorizontalLines<'_, char>
         ensures { result ≡ map.entries self.now.characters.horizontal_lines }
@@ -56,7 +56,7 @@ impl SpannedConfig {
         self.characters.iter_hlines()
     }
 
-    /// A copy of all custom horizontal lines, each under the index at which it stands.
+    /// Returns a copy of all custom horizontal lines, each under the index at which it stands.
     pub fn get_horizontal_lines(&self) -> Result<BTreeMap<usize, HorizontalLine<char>>, OutOfMemory>
         ensures { IfOk result (λ lines. table nat_cmp lines.entries ≡ self.now.characters.horizontal_lines) }
     {
@@ -103,14 +103,14 @@ impl SpannedConfig {
         self.characters.insert_vline(line, fields)
     }
 
-    /// The custom vertical line that stands at index `line`, if one does.
+    /// Returns the custom vertical line that stands at index `line`, if one does.
     pub fn get_vertical_line(&self, line: usize) -> Option<&VerticalLine<char>>
         ensures { option_copied result ≡ map.get self.now.characters.vertical_lines line }
     {
         self.characters.get_vline(line)
     }
 
-    /// The custom vertical lines, each with the index at which it stands, in rising order. They are lent, so no
+    /// Returns the custom vertical lines, each with the index at which it stands, in rising order. They are lent, so no
     /// memory is asked for.
     pub fn vertical_lines(&self) -> VerticalLines<'_, char>
         ensures { result ≡ map.entries self.now.characters.vertical_lines }
@@ -118,7 +118,7 @@ impl SpannedConfig {
         self.characters.iter_vlines()
     }
 
-    /// A copy of all custom vertical lines, each under the index at which it stands.
+    /// Returns a copy of all custom vertical lines, each under the index at which it stands.
     pub fn get_vertical_lines(&self) -> Result<BTreeMap<usize, VerticalLine<char>>, OutOfMemory>
         ensures { IfOk result (λ lines. table nat_cmp lines.entries ≡ self.now.characters.vertical_lines) }
     {

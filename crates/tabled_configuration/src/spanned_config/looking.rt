@@ -2,10 +2,10 @@
 //! raises the one that is lent.
 
 ghost use Rattle.std.specs.Prelude.{◌≡◌, ◌↔◌, ◌<◌, IsTrue, option_copied};
-ghost use Rattle.tabled_grid.specs.Drawn.{Drawn};
-ghost use Rattle.tabled_grid.specs.Probing.{IsRaised};
-ghost use Rattle.tabled_grid.specs.State.{state_at};
-ghost use Rattle.tabled_grid.specs.Value.{plain_value, value};
+ghost use Rattle.tabled_places.specs.Drawn.{Drawn};
+ghost use Rattle.tabled_kept.specs.Probing.{IsRaised};
+ghost use Rattle.tabled_places.specs.State.{state_at};
+ghost use Rattle.tabled_places.specs.Value.{plain_value, value};
 
 use super::SpannedConfig;
 use tabled_border::ANSIBuf;
@@ -13,7 +13,7 @@ use tabled_grid::{Layers, LineOf, Place};
 use tabled_kept::Meter;
 
 impl<M: Meter> SpannedConfig<M> {
-    /// Whether a line is drawn, of the lines 0 to `count` of its direction. At most six readings are made, and five where `count`
+    /// Returns whether a line is drawn, of the lines 0 to `count` of its direction. At most six readings are made, and five where `count`
     /// is not 0.
     #[inline(always)]
     pub fn draws(&self, line: LineOf, count: usize, probes: &mut M) -> bool
@@ -24,7 +24,7 @@ impl<M: Meter> SpannedConfig<M> {
         self.characters.draws(line, count, probes)
     }
 
-    /// The character that shows at a place of a table of `shape.0` rows and `shape.1` columns. `size` is
+    /// Returns the character that shows at a place of a table of `shape.0` rows and `shape.1` columns. `size` is
     /// the width of a horizontal edge's column or the height of a vertical edge's row; for a crossing
     /// it is not read. A place outside the table has none. At most six readings are made.
     pub fn char_at(
@@ -40,7 +40,7 @@ impl<M: Meter> SpannedConfig<M> {
         self.characters.at(place, shape, size, probes).copied()
     }
 
-    /// The color that shows at a place of a table of `shape.0` rows and `shape.1` columns. `size` is
+    /// Returns the color that shows at a place of a table of `shape.0` rows and `shape.1` columns. `size` is
     /// the width of a horizontal edge's column or the height of a vertical edge's row; for a crossing
     /// it is not read. A place outside the table has none. At most six readings are made.
     pub fn color_at(
@@ -56,7 +56,7 @@ impl<M: Meter> SpannedConfig<M> {
         self.colors.at(place, shape, size, probes)
     }
 
-    /// The same as `plain_char_at`, with its readings counted: at most five are made.
+    /// Returns what `plain_char_at` does, and counts its readings: at most five are made.
     pub fn read_plain_char(
         &self,
         place: Place,
@@ -69,7 +69,7 @@ impl<M: Meter> SpannedConfig<M> {
         self.characters.read_plain(place, shape, probes).copied()
     }
 
-    /// The color of an edge or a crossing without its offset colors, with its readings counted: at most five are made. `at`
+    /// Returns the color of an edge or a crossing without its offset colors, with its readings counted: at most five are made. `at`
     /// of an edge is not read.
     pub fn read_plain_color(
         &self,
@@ -83,14 +83,14 @@ impl<M: Meter> SpannedConfig<M> {
         self.colors.read_plain(place, shape, probes)
     }
 
-    /// What is kept of the characters of borders, level by level.
+    /// Returns what is kept of the characters of borders, level by level.
     pub fn characters(&self) -> &Layers<char, M>
         ensures { result.now ≡ self.now.characters }
     {
         &self.characters
     }
 
-    /// What is kept of the colors of borders.
+    /// Returns what is kept of the colors of borders.
     pub fn colors(&self) -> &Layers<ANSIBuf, M>
         ensures { result.now ≡ self.now.colors }
     {

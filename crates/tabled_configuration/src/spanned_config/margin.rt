@@ -19,7 +19,7 @@ impl SpannedConfig {
         self.settings.margin.size = margin;
     }
 
-    /// How wide the margin is on each side, and what fills it: no room and a space where nothing was set.
+    /// Returns how wide the margin is on each side, and what fills it: no room and a space where nothing was set.
     pub fn get_margin(&self) -> &Sides<Indent>
         ensures { result.now ≡ self.now.settings.margin.size }
     {
@@ -33,7 +33,7 @@ impl SpannedConfig {
         self.settings.margin.offset = offset;
     }
 
-    /// Where on its side each part of the margin begins: at the start where nothing was set.
+    /// Returns where on its side each part of the margin begins: at the start where nothing was set.
     pub fn get_margin_offset(&self) -> &Sides<Offset>
         ensures { result.now ≡ self.now.settings.margin.offset }
     {
@@ -47,7 +47,7 @@ impl SpannedConfig {
         drop(mem::replace(&mut self.settings.margin.color, color));
     }
 
-    /// The color of each part of the margin: none where nothing was set.
+    /// Returns the color of each part of the margin: none where nothing was set.
     pub fn get_margin_color(&self) -> &Sides<Option<ANSIBuf>>
         ensures { result.now ≡ self.now.settings.margin.color }
     {

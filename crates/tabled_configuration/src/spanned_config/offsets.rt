@@ -1,12 +1,12 @@
 //! Characters and colors at numbered places of an edge.
 
 ghost use Rattle.std.specs.Prelude.{◌≡◌, None, OnOk, OnErr, option_copied};
-ghost use Rattle.tabled_grid.specs.declared.site.Direction.TheVariants.{Horizontal, Vertical};
-ghost use Rattle.tabled_grid.specs.declared.site.Site.TheVariants.{Offset as at_offset};
-ghost use Rattle.tabled_grid.specs.Calls.{edge_offset, offset_erased, offsets_erased};
+ghost use Rattle.tabled_places.specs.declared.site.Direction.TheVariants.{Horizontal, Vertical};
+ghost use Rattle.tabled_places.specs.declared.site.Site.TheVariants.{Offset as at_offset};
+ghost use Rattle.tabled_places.specs.Calls.{edge_offset, offset_erased, offsets_erased};
 ghost use Rattle.std.specs.FinMap.{get};
-ghost use Rattle.tabled_grid.specs.State.{state_at, edge_place};
-ghost use Rattle.tabled_grid.specs.declared.place.Place.{Place as Spot};
+ghost use Rattle.tabled_places.specs.State.{state_at, edge_place};
+ghost use Rattle.tabled_places.specs.declared.place.Place.{Place as Spot};
 ghost use Rattle.tabled_configuration.specs.Configuration.{Changes, by_characters, by_colors};
 
 use super::SpannedConfig;
@@ -112,7 +112,7 @@ impl SpannedConfig {
         self.colors.set_offset(vertical_at(pos), offset, color)
     }
 
-    /// The character that is kept at a numbered place of the edge of horizontal line `pos.row` over column `pos.col`,
+    /// Returns the character that is kept at a numbered place of the edge of horizontal line `pos.row` over column `pos.col`,
     /// counted from its start or back from its end, whatever other levels have.
     pub fn get_horizontal_char(&self, pos: Position, offset: Offset) -> Option<char>
         ensures { result ≡ get self.now.characters.horizontal_offsets (edge_place pos.row pos.col offset) }
@@ -137,7 +137,7 @@ impl SpannedConfig {
         self.characters.erase_at(Target::Horizontal(pos, offset));
     }
 
-    /// The character that is kept at a numbered place of the edge of vertical line `pos.col` beside row `pos.row`,
+    /// Returns the character that is kept at a numbered place of the edge of vertical line `pos.col` beside row `pos.row`,
     /// counted from its start or back from its end, whatever other levels have.
     pub fn get_vertical_char(&self, pos: Position, offset: Offset) -> Option<char>
         ensures { result ≡ get self.now.characters.vertical_offsets (edge_place pos.row pos.col offset) }
@@ -155,7 +155,7 @@ impl SpannedConfig {
         self.characters.erase_at(Target::Vertical(pos, offset));
     }
 
-    /// The color that is kept at a numbered place of the edge of horizontal line `pos.row` over column `pos.col`,
+    /// Returns the color that is kept at a numbered place of the edge of horizontal line `pos.row` over column `pos.col`,
     /// counted from its start or back from its end, whatever other levels have.
     pub fn get_horizontal_char_color(&self, pos: Position, offset: Offset) -> Option<&ANSIBuf>
         ensures { option_copied result ≡ get self.now.colors.horizontal_offsets (edge_place pos.row pos.col offset) }
@@ -171,7 +171,7 @@ impl SpannedConfig {
         self.colors.erase_at(Target::Horizontal(pos, offset));
     }
 
-    /// The color that is kept at a numbered place of the edge of vertical line `pos.col` beside row `pos.row`,
+    /// Returns the color that is kept at a numbered place of the edge of vertical line `pos.col` beside row `pos.row`,
     /// counted from its start or back from its end, whatever other levels have.
     pub fn get_vertical_char_color(&self, pos: Position, offset: Offset) -> Option<&ANSIBuf>
         ensures { option_copied result ≡ get self.now.colors.vertical_offsets (edge_place pos.row pos.col offset) }

@@ -5,8 +5,8 @@ ghost use Rattle.tabled_settings.specs.CellSettings.{first_settings};
 ghost use Rattle.tabled_settings.specs.Live.{value_at};
 ghost use Rattle.tabled_settings.specs.Padding as padding;
 ghost use Rattle.std.specs.FinMap as map;
-ghost use Rattle.tabled_grid.specs.Value.{plain_value};
-ghost use Rattle.tabled_grid.specs.State.{state_at};
+ghost use Rattle.tabled_places.specs.Value.{plain_value};
+ghost use Rattle.tabled_places.specs.State.{state_at};
 ghost use Rattle.tabled_configuration.specs.AlikeRows.{AreCellsAlike};
 ghost use Rattle.tabled_configuration.specs.Configuration.{has_no_padding, is_sized_by_texts};
 
@@ -16,15 +16,15 @@ use tabled_object::Position;
 use tabled_settings::{Indent, Sides};
 
 impl SpannedConfig {
-    /// The character of an edge or a crossing without its offset characters. `at` of an edge is not read.
+    /// Returns the character of an edge or a crossing without its offset characters. `at` of an edge is not read.
     pub fn plain_char_at(&self, place: Place, shape: (usize, usize)) -> Option<char>
         ensures { result ≡ plain_value (state_at self.now.characters) shape place }
     {
         self.characters.plain_at(place, shape).copied()
     }
 
-    /// Whether each cell of a row is known to have the same padding, justification and trims, whatever its column. It takes as long where
-    /// much is set as where little is.
+    /// Returns whether each cell of a row is known to have the same padding, justification and trims, whatever its column. It takes as long
+    /// where much is set as where little is.
     pub fn is_row_alike(&self, row: usize) -> bool
         ensures alike { IsTrue result → AreCellsAlike self.now.settings.cells row }
         ensures none { self.now.settings.cells ≡ first_settings → IsTrue result }
@@ -38,16 +38,16 @@ impl SpannedConfig {
             && cells.trim_vertical.is_row_alike(row)
     }
 
-    /// Whether a cell has the padding of one where none was set: one column of spaces at its left and at its right, and no line above or
-    /// below.
+    /// Returns whether a cell has the padding of one where none was set: one column of spaces at its left and at its right, and no line above
+    /// or below.
     pub fn has_first_padding(&self, cell: Position) -> bool
         ensures { result ≡ padding.is_first_padding (value_at self.now.settings.cells.padding cell) }
     {
         is_first_padding(self.settings.cells.padding.get(cell))
     }
 
-    /// Whether no padding is set: each cell has one column of spaces at its left and at its right, and no line above or below. So it is
-    /// where nothing was set, or that for all cells after all else.
+    /// Returns whether no padding is set: each cell has one column of spaces at its left and at its right, and no line above or below. So it
+    /// is where nothing was set, or that for all cells after all else.
     pub fn has_no_padding(&self) -> bool
         ensures { result ≡ has_no_padding self.now }
     {
@@ -55,15 +55,15 @@ impl SpannedConfig {
         padding.is_empty() && is_first_padding(padding.global())
     }
 
-    /// Whether a cell spans several columns or rows, or padding is set, so that the columns and rows of a table are not as large as its
-    /// texts alone ask.
+    /// Returns whether a cell spans several columns or rows, or padding is set, so that the columns and rows of a table are not as large as
+    /// its texts alone ask.
     pub fn has_spans_or_padding(&self) -> bool
         ensures { result ≡ not (is_sized_by_texts self.now) }
     {
         self.has_spans() || !self.has_no_padding()
     }
 
-    /// Whether a custom horizontal line of characters, or one of colors, stands at an index.
+    /// Returns whether a custom horizontal line of characters, or one of colors, stands at an index.
     pub fn has_custom_line(&self, line: usize) -> bool
         ensures { result ≡ (is_some (map.get self.now.characters.horizontal_lines line) || is_some (map.get self.now.colors.horizontal_lines line)) }
     {

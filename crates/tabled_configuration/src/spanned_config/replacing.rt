@@ -1,8 +1,8 @@
 //! All borders replaced at once.
 
 ghost use Rattle.std.specs.Prelude.{◌≡◌, [], ◌++◌, OnOk, OnErr, IfOk, IsOk};
-ghost use Rattle.tabled_grid.specs.Event as grid;
-ghost use Rattle.tabled_grid.specs.State.{state_at, class_record_set};
+ghost use Rattle.tabled_places.specs.Event as grid;
+ghost use Rattle.tabled_places.specs.State.{state_at, class_record_set};
 ghost use Rattle.tabled_configuration.specs.Configuration.{Changes, borders_replaced, horizontal_lines_put, vertical_lines_put};
 
 use super::{SpannedConfig, erase_all};

@@ -31,7 +31,7 @@ impl SpannedConfig {
             .insert(entity, alignment)
     }
 
-    /// Where the text of a cell stands between its left and its right side: at the left where nothing was set.
+    /// Returns where the text of a cell stands between its left and its right side: at the left where nothing was set.
     pub fn get_alignment_horizontal(&self, position: Position) -> AlignmentHorizontal
         ensures { result ≡ value_at self.now.settings.cells.alignment_horizontal position }
     {
@@ -55,7 +55,7 @@ impl SpannedConfig {
             .insert(entity, alignment)
     }
 
-    /// Where the text of a cell stands between its upper and its lower side: at the top where nothing was set.
+    /// Returns where the text of a cell stands between its upper and its lower side: at the top where nothing was set.
     pub fn get_alignment_vertical(&self, position: Position) -> AlignmentVertical
         ensures { result ≡ value_at self.now.settings.cells.alignment_vertical position }
     {
@@ -72,7 +72,7 @@ impl SpannedConfig {
         self.settings.cells.trim_horizontal.insert(entity, trim)
     }
 
-    /// Whether spaces at the left and the right of a cell's text are dropped before it is aligned: not where nothing was set.
+    /// Returns whether spaces at the left and the right of a cell's text are dropped before it is aligned: not where nothing was set.
     pub fn get_trim_horizontal(&self, position: Position) -> bool
         ensures { result ≡ value_at self.now.settings.cells.trim_horizontal position }
     {
@@ -89,7 +89,7 @@ impl SpannedConfig {
         self.settings.cells.trim_vertical.insert(entity, trim)
     }
 
-    /// Whether empty lines above and below a cell's text are dropped before it is aligned: not where nothing was set.
+    /// Returns whether empty lines above and below a cell's text are dropped before it is aligned: not where nothing was set.
     pub fn get_trim_vertical(&self, position: Position) -> bool
         ensures { result ≡ value_at self.now.settings.cells.trim_vertical position }
     {
@@ -106,7 +106,7 @@ impl SpannedConfig {
         self.settings.cells.line_alignment.insert(entity, each_line)
     }
 
-    /// Whether each line of a cell's text is aligned by itself: not where nothing was set.
+    /// Returns whether each line of a cell's text is aligned by itself: not where nothing was set.
     pub fn get_line_alignment(&self, position: Position) -> bool
         ensures { result ≡ value_at self.now.settings.cells.line_alignment position }
     {
@@ -123,7 +123,7 @@ impl SpannedConfig {
         self.settings.cells.justification.insert(entity, character)
     }
 
-    /// The character that fills a cell beside its text: a space where nothing was set.
+    /// Returns the character that fills a cell beside its text: a space where nothing was set.
     pub fn get_justification(&self, position: Position) -> char
         ensures { result ≡ value_at self.now.settings.cells.justification position }
     {
@@ -147,7 +147,7 @@ impl SpannedConfig {
             .insert(entity, color)
     }
 
-    /// The color of the characters that fill a cell beside its text: none where nothing was set.
+    /// Returns the color of the characters that fill a cell beside its text: none where nothing was set.
     pub fn get_justification_color(&self, position: Position) -> Option<&ANSIBuf>
         ensures { option_copied result ≡ value_at self.now.settings.cells.justification_color position }
     {
@@ -169,7 +169,7 @@ impl SpannedConfig {
         self.settings.cells.padding.insert(entity, padding)
     }
 
-    /// How much padding a cell has on each side, and what fills it, lent: a space at its left and at its right, and no line above or
+    /// Returns how much padding a cell has on each side, and what fills it, lent: a space at its left and at its right, and no line above or
     /// below, where nothing was set.
     pub fn get_padding(&self, position: Position) -> &Sides<Indent>
         ensures { result.now ≡ value_at self.now.settings.cells.padding position }
@@ -191,7 +191,7 @@ impl SpannedConfig {
         self.settings.cells.padding_color.insert(entity, colors)
     }
 
-    /// The color of a cell's padding on each side, lent: none where nothing was set.
+    /// Returns the color of a cell's padding on each side, lent: none where nothing was set.
     pub fn get_padding_color(&self, position: Position) -> &Sides<Option<ANSIBuf>>
         ensures { result.now ≡ value_at self.now.settings.cells.padding_color position }
     {

@@ -4,7 +4,7 @@
 //! where any cell spans; tables of texts are.
 
 ghost use Rattle.std.specs.Prelude.{◌≡◌, ◌<◌, ◌||◌, not, flat_map, IsOk, OnOk, OnErr};
-ghost use Rattle.tabled_grid.specs.Table.{table};
+ghost use Rattle.tabled_kept.specs.Table.{table};
 ghost use Rattle.tabled_layout.specs.Spans.{position_cmp};
 ghost use Rattle.tabled_layout.specs.Covering.{covered_by_column_span, covered_by_row_span, covered_by_both_spans, has_span};
 ghost use Rattle.tabled_configuration.specs.Configuration.{Changes, by_column_span, by_row_span, has_no_spans};
@@ -61,21 +61,21 @@ impl SpannedConfig {
         self.settings.row_spans.set_all(alloc, cells, rows)
     }
 
-    /// The cells that span several columns, each with their number, in the order of their rows and then of their columns.
+    /// Returns the cells that span several columns, each with their number, in the order of their rows and then of their columns.
     pub fn get_column_spans(&self) -> &BTreeMap<Position, usize>
         ensures { table position_cmp result.now.entries ≡ self.now.settings.column_spans }
     {
         self.settings.column_spans.as_map()
     }
 
-    /// The cells that span several rows, each with their number, in the order of their rows and then of their columns.
+    /// Returns the cells that span several rows, each with their number, in the order of their rows and then of their columns.
     pub fn get_row_spans(&self) -> &BTreeMap<Position, usize>
         ensures { table position_cmp result.now.entries ≡ self.now.settings.row_spans }
     {
         self.settings.row_spans.as_map()
     }
 
-    /// Whether a cell is covered by a column span: it stands in the row of a cell that spans several columns, at its right
+    /// Returns whether a cell is covered by a column span: it stands in the row of a cell that spans several columns, at its right
     /// and within these. It is looked for among all column spans.
     pub fn is_cell_covered_by_column_span(&self, position: Position) -> bool
         ensures { result ≡ covered_by_column_span self.now.settings.column_spans position }
@@ -83,7 +83,7 @@ impl SpannedConfig {
         self.settings.column_spans.cover_in_row(position)
     }
 
-    /// Whether a cell is covered by a row span: it stands in the column of a cell that spans several rows, below it and
+    /// Returns whether a cell is covered by a row span: it stands in the column of a cell that spans several rows, below it and
     /// within these. It is looked for among all row spans.
     pub fn is_cell_covered_by_row_span(&self, position: Position) -> bool
         ensures { result ≡ covered_by_row_span self.now.settings.row_spans position }
@@ -91,7 +91,7 @@ impl SpannedConfig {
         self.settings.row_spans.cover_in_column(position)
     }
 
-    /// Whether a cell is covered by both spans of one cell: it stands both below that and at its right, within its rows and
+    /// Returns whether a cell is covered by both spans of one cell: it stands both below that and at its right, within its rows and
     /// within its columns. It is looked for among all column spans.
     pub fn is_cell_covered_by_both_spans(&self, position: Position) -> bool
         ensures { result ≡ covered_by_both_spans self.now.settings.column_spans self.now.settings.row_spans position }
@@ -101,7 +101,7 @@ impl SpannedConfig {
             .cover_with(&self.settings.row_spans, position)
     }
 
-    /// Whether one of the first `count` cells of a row spans several columns or several rows.
+    /// Returns whether one of the first `count` cells of a row spans several columns or several rows.
     pub fn has_span_in_row(&self, row: usize, count: usize) -> bool
         ensures { result ≡ (has_span self.now.settings.column_spans row count || has_span self.now.settings.row_spans row count) }
     {
@@ -109,7 +109,7 @@ impl SpannedConfig {
             || self.settings.row_spans.has_some(row, count)
     }
 
-    /// Whether any cell spans several columns or several rows.
+    /// Returns whether any cell spans several columns or several rows.
     pub fn has_spans(&self) -> bool
         ensures { result ≡ not (has_no_spans self.now) }
     {

@@ -1,10 +1,10 @@
 //! The border of one cell: its sides and corners, written, erased and read together.
 
 ghost use Rattle.std.specs.Prelude.{◌≡◌, [], ◌∷◌, OnOk, OnErr, IsTrue, option_copied, option_map, option_and_then};
-ghost use Rattle.tabled_grid.specs.Calls.{border_set};
-ghost use Rattle.tabled_grid.specs.Writes.{writes_made};
-ghost use Rattle.tabled_grid.specs.declared.writes.Target.{Target};
-ghost use Rattle.tabled_grid.specs.CellBorder.{next_line, side_horizontal, side_vertical, corner, border_places, border_shown};
+ghost use Rattle.tabled_places.specs.Calls.{border_set};
+ghost use Rattle.tabled_places.specs.Writes.{writes_made};
+ghost use Rattle.tabled_places.specs.declared.writes.Target.{Target};
+ghost use Rattle.tabled_places.specs.CellBorder.{next_line, side_horizontal, side_vertical, corner, border_places, border_shown};
 
 use super::Layers;
 use super::writes::Group;
@@ -14,10 +14,10 @@ use crate::{Border, OutOfMemory, Place, Position, Target, Write};
 type Four<T> = ((Write<T>, Write<T>), (Write<T>, Write<T>));
 
 impl<T> Layers<T> {
-    ghost use Rattle.tabled_grid.specs.Event.{Changes};
-    ghost use Rattle.tabled_grid.specs.Value.{plain_value};
-    ghost use Rattle.tabled_grid.specs.State.{state_at};
-    ghost use Rattle.tabled_grid.specs.Calls.{writes_anew, border_erased, places_erased};
+    ghost use Rattle.tabled_places.specs.Event.{Changes};
+    ghost use Rattle.tabled_places.specs.Value.{plain_value};
+    ghost use Rattle.tabled_places.specs.State.{state_at};
+    ghost use Rattle.tabled_places.specs.Calls.{writes_anew, border_erased, places_erased};
 
     /// Writes what the border gives at the cell level of a cell's sides and corners, whatever the shape of the table. What it does
     /// not give stays as it is, and past the last number of a line nothing is written. Where memory is refused nothing changes;
@@ -60,9 +60,9 @@ impl<T> Layers<T> {
         }
     }
 
-    /// What shows at the sides and the corners of a cell in a table of `shape.0` rows and `shape.1` columns,
+    /// Returns what shows at the sides and the corners of a cell in a table of `shape.0` rows and `shape.1` columns,
     /// without the offsets: each as `plain_at` returns it. A cell outside has nothing.
-    #[tactic(auto, unfolding(crate::specs::CellBorder::border_shown))]
+    #[tactic(auto, unfolding(tabled_places::specs::CellBorder::border_shown))]
     pub fn get_border(&self, pos: Position, shape: (usize, usize)) -> Border<&T>
         ensures { record {
           top = option_copied result.top;

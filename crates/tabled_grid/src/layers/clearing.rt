@@ -2,12 +2,13 @@
 
 use super::Layers;
 use super::entity_border::is_inside;
+use crate::spots::{crossing_at, edge_at};
 use crate::{Entity, EntityIterator, LineOf};
 
 impl<T> Layers<T> {
-    ghost use Rattle.tabled_grid.specs.Event.{Changes};
-    ghost use Rattle.tabled_grid.specs.State.{state_at};
-    ghost use Rattle.tabled_grid.specs.Calls.{borders_erased, entity_border_erased, spots_erased, line_spots, frame_erased};
+    ghost use Rattle.tabled_places.specs.Event.{Changes};
+    ghost use Rattle.tabled_places.specs.State.{state_at};
+    ghost use Rattle.tabled_places.specs.Calls.{borders_erased, entity_border_erased, spots_erased, line_spots, frame_erased};
 
     /// Erases the cell level of the sides and corners of each cell that the entity names in a table of `shape.0` rows and `shape.1`
     /// columns, also of those that it shares with cells beside it. Cells outside are passed over.
@@ -57,9 +58,9 @@ impl<T> Layers<T> {
         ensures { Changes (spots_erased (line_spots line length)) (state_at self.old) (state_at self.new) }
     {
         for at in 0..length {
-            self.erase_spot(line.edge(at));
-            self.erase_spot(line.crossing(at));
+            self.erase_spot(edge_at(line, at));
+            self.erase_spot(crossing_at(line, at));
         }
-        self.erase_spot(line.crossing(length));
+        self.erase_spot(crossing_at(line, length));
     }
 }

@@ -3,11 +3,11 @@
 ghost use Rattle.std.specs.Prelude.{◌≡◌, IfOk};
 
 use super::Layers;
-use crate::keys::EdgePlace;
 use crate::line_numbers::KeptNumbers;
 use crate::{Borders, HorizontalLine, Keep, LineOf, OutOfMemory, Spot, VerticalLine};
 use std::alloc::Global;
 use tabled_kept::{CountedMap, One};
+use tabled_places::EdgePlace;
 
 /// What is kept under the index of a custom line.
 type Lines<V> = CountedMap<usize, V>;

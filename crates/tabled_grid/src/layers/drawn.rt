@@ -2,12 +2,12 @@
 
 ghost use Rattle.std.specs.Prelude.{◌≡◌, ◌↔◌, ◌<◌, ◌≤◌, false, IsTrue, None};
 ghost use Rattle.std.specs.Ordering.{nat_cmp};
-ghost use Rattle.tabled_grid.specs.Drawn.{number};
-ghost use Rattle.tabled_grid.specs.Keys.{line_cmp};
-ghost use Rattle.tabled_grid.specs.Probing.{IsCounted, IsRaised};
-ghost use Rattle.tabled_grid.specs.Reading.{across_drawn, line_drawn};
-ghost use Rattle.tabled_grid.specs.State.{class_draws as class_drawn};
-ghost use Rattle.tabled_grid.specs.Table.{table};
+ghost use Rattle.tabled_places.specs.Drawn.{number};
+ghost use Rattle.tabled_places.specs.Keys.{line_cmp};
+ghost use Rattle.tabled_kept.specs.Probing.{IsCounted, IsRaised};
+ghost use Rattle.tabled_grid.specs.Counted.{across_drawn, line_drawn};
+ghost use Rattle.tabled_places.specs.State.{class_draws as class_drawn};
+ghost use Rattle.tabled_kept.specs.Table.{table};
 
 use super::Layers;
 use crate::line_numbers::KeptNumbers;
@@ -16,10 +16,10 @@ use tabled_kept::{CountedMap, Meter, One};
 
 /// Written for every type of meters, as the other look-ups are.
 impl<T, M: Meter> Layers<T, M> {
-    ghost use Rattle.tabled_grid.specs.Drawn.{Drawn};
-    ghost use Rattle.tabled_grid.specs.State.{state_at};
+    ghost use Rattle.tabled_places.specs.Drawn.{Drawn};
+    ghost use Rattle.tabled_places.specs.State.{state_at};
 
-    /// Whether a line is drawn, of the lines 0 to `count` of its direction. At most six readings are made, and five where `count`
+    /// Returns whether a line is drawn, of the lines 0 to `count` of its direction. At most six readings are made, and five where `count`
     /// is not 0.
     #[inline(always)]
     pub fn draws(&self, line: LineOf, count: usize, probes: &mut M) -> bool

@@ -2,8 +2,8 @@
 
 ghost use Rattle.std.specs.Prelude.{◌≡◌, ◌++◌, [], OnOk, OnErr, IfOk, IsOk, filter};
 ghost use Rattle.tabled_object.specs.Entities.{cells_of, is_inside};
-ghost use Rattle.tabled_grid.specs.Calls.{borders_of, entity_border_set};
-ghost use Rattle.tabled_grid.specs.Writes.{writes_made};
+ghost use Rattle.tabled_places.specs.Calls.{borders_of, entity_border_set};
+ghost use Rattle.tabled_places.specs.Writes.{writes_made};
 
 use super::Layers;
 use super::cell_border::writes_around;
@@ -11,7 +11,7 @@ use super::writes::Group;
 use crate::{Border, Entity, EntityIterator, Keep, OutOfMemory, Position, Probes, Write};
 use std::alloc::Global;
 
-/// The writes of a border around each cell that the entity names in a table of `shape.0` rows and `shape.1` columns, row by row: of
+/// Returns the writes of a border around each cell that the entity names in a table of `shape.0` rows and `shape.1` columns, row by row: of
 /// what two cells share the later one counts. Cells outside are passed over; without a cell inside no memory is asked for.
 pub fn border_writes<T: Keep>(
     alloc: Global,
@@ -47,9 +47,9 @@ fn add_borders<T: Keep>(
 }
 
 impl<T> Layers<T> {
-    ghost use Rattle.tabled_grid.specs.Event.{Changes};
-    ghost use Rattle.tabled_grid.specs.State.{state_at, HasNoCells};
-    ghost use Rattle.tabled_grid.specs.Calls.{border_set};
+    ghost use Rattle.tabled_places.specs.Event.{Changes};
+    ghost use Rattle.tabled_places.specs.State.{state_at, HasNoCells};
+    ghost use Rattle.tabled_places.specs.Calls.{border_set};
 
     /// Writes what the border gives at the cell level of the sides and corners of each cell that the entity names in a table of
     /// `shape.0` rows and `shape.1` columns, row by row: for what two cells share the later one counts. Cells outside are passed

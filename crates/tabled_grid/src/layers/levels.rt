@@ -2,19 +2,19 @@
 
 ghost use Rattle.std.specs.Prelude.{◌≡◌, ◌↔◌, ℕ, None, IsFalse};
 ghost use Rattle.std.specs.FinMap as map;
-ghost use Rattle.tabled_grid.specs.declared.offset.Offset.{Offset as End};
-ghost use Rattle.tabled_grid.specs.Keys.{edge_place_cmp};
-ghost use Rattle.tabled_grid.specs.Table.{table};
-ghost use Rattle.tabled_grid.specs.Probing.{IsCounted, IsRaised};
-ghost use Rattle.tabled_grid.specs.State.{edge_place, HasNoCells, HasNoCellsOn, HasNoOffsetsAt};
+ghost use Rattle.tabled_object.specs.declared.offset.Offset.{Offset as End};
+ghost use Rattle.tabled_places.specs.Keys.{edge_place_cmp};
+ghost use Rattle.tabled_kept.specs.Table.{table};
+ghost use Rattle.tabled_kept.specs.Probing.{IsCounted, IsRaised};
+ghost use Rattle.tabled_places.specs.State.{edge_place, HasNoCells, HasNoCellsOn, HasNoOffsetsAt};
 
 use super::Layers;
-use crate::keys::EdgePlace;
 use crate::{Direction, LineOf, Offset};
 use tabled_kept::{CountedMap, Meter};
+use tabled_places::EdgePlace;
 
 impl<T, M: Meter> Layers<T, M> {
-    /// Whether something is kept at an offset of an edge of a vertical line, from its start or its end: one reading.
+    /// Returns whether something is kept at an offset of an edge of a vertical line, from its start or its end: one reading.
     pub fn has_vertical_offsets(&self, probes: &mut M) -> bool
         ensures value { IsFalse result ↔ (self.now.vertical_offsets ≡ map.empty) }
         ensures probes { IsRaised 1 (M.made probes.old) (M.made probes.new) }
@@ -22,7 +22,7 @@ impl<T, M: Meter> Layers<T, M> {
         !self.vertical_offsets.is_empty(probes)
     }
 
-    /// Whether something is kept for an edge or a crossing by itself: one reading.
+    /// Returns whether something is kept for an edge or a crossing by itself: one reading.
     pub fn has_cells(&self, probes: &mut M) -> bool
         ensures value { IsFalse result ↔ HasNoCells self.now }
         ensures probes { IsRaised 1 (M.made probes.old) (M.made probes.new) }
@@ -30,7 +30,7 @@ impl<T, M: Meter> Layers<T, M> {
         !self.cells.is_empty(probes)
     }
 
-    /// Whether something is kept for an edge or a crossing of a line by itself: one reading.
+    /// Returns whether something is kept for an edge or a crossing of a line by itself: one reading.
     pub fn has_cells_on(&self, line: LineOf, probes: &mut M) -> bool
         ensures value { IsFalse result ↔ HasNoCellsOn line self.now }
         ensures probes { IsRaised 1 (M.made probes.old) (M.made probes.new) }
@@ -38,8 +38,8 @@ impl<T, M: Meter> Layers<T, M> {
         self.on_lines.read(line, probes).copied().unwrap_or(0) > 0
     }
 
-    /// Whether something is kept at an offset of an edge of that direction in a row: on the horizontal line of that number, or beside that
-    /// row of cells. One reading.
+    /// Returns whether something is kept at an offset of an edge of that direction in a row: on the horizontal line of that number, or beside
+    /// that row of cells. One reading.
     pub fn has_offsets_at(&self, direction: Direction, row: usize, probes: &mut M) -> bool
         ensures value { IsFalse result ↔ HasNoOffsetsAt direction row self.now }
         ensures probes { IsRaised 1 (M.made probes.old) (M.made probes.new) }
@@ -50,7 +50,7 @@ impl<T, M: Meter> Layers<T, M> {
         }
     }
 
-    /// Whether a custom vertical line stands at some index: one reading.
+    /// Returns whether a custom vertical line stands at some index: one reading.
     pub fn has_vlines(&self, probes: &mut M) -> bool
         ensures value { IsFalse result ↔ (self.now.vertical_lines ≡ map.empty) }
         ensures probes { IsRaised 1 (M.made probes.old) (M.made probes.new) }

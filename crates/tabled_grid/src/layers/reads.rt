@@ -3,49 +3,52 @@
 ghost use Rattle.std.specs.Prelude.{◌≡◌, ◌<◌, IfOk, option_copied, option_and_then};
 ghost use Rattle.std.specs.Ordering.{nat_cmp};
 ghost use Rattle.std.specs.FinMap as map;
-ghost use Rattle.tabled_grid.specs.Table.{table};
-ghost use Rattle.tabled_grid.specs.Probing.{IsCounted, IsRaised};
-ghost use Rattle.tabled_grid.specs.Reading.{direction_of};
-ghost use Rattle.tabled_grid.specs.Site.{Horizontal as horizontal, Vertical as vertical, rank, edges, crossings, class_value};
-ghost use Rattle.tabled_grid.specs.Drawn.{number};
+ghost use Rattle.tabled_kept.specs.Table.{table};
+ghost use Rattle.tabled_kept.specs.Probing.{IsCounted, IsRaised};
+ghost use Rattle.tabled_places.specs.Reading.{direction_of};
+ghost use Rattle.tabled_places.specs.declared.site.Direction.TheVariants.{Horizontal as horizontal, Vertical as vertical};
+ghost use Rattle.tabled_places.specs.Site.{rank, class_value};
+ghost use Rattle.tabled_places.specs.declared.site.Class.TheVariants.{Edges as edges, Crossings as crossings};
+ghost use Rattle.tabled_places.specs.Drawn.{number};
 
 use super::Layers;
 use crate::custom_lines::CustomLine;
-use crate::keys::EdgePlace;
+use crate::spots::edge_at;
 use crate::{
     Borders, HorizontalLine, HorizontalLines, Keep, LineOf, Offset, OutOfMemory, Place, Probes,
     Rank, Spot, Target, VerticalLine, VerticalLines,
 };
 use std::collections::BTreeMap;
 use tabled_kept::{CountedMap, Meter, One};
+use tabled_places::{EdgePlace, crossing_of, edges_of, has_spot};
 
 impl<T> Layers<T> {
-    ghost use Rattle.tabled_grid.specs.Value.{plain_value};
-    ghost use Rattle.tabled_grid.specs.State.{state_at};
-    ghost use Rattle.tabled_grid.specs.Writes.{kept_at};
+    ghost use Rattle.tabled_places.specs.Value.{plain_value};
+    ghost use Rattle.tabled_places.specs.State.{state_at};
+    ghost use Rattle.tabled_places.specs.Writes.{kept_at};
 
-    /// The class record.
+    /// Returns the class record.
     pub fn get_class(&self) -> &Borders<T>
         ensures { result.now ≡ self.now.class_record }
     {
         self.class_record.get()
     }
 
-    /// The custom horizontal line that stands at an index, if one does.
+    /// Returns the custom horizontal line that stands at an index, if one does.
     pub fn get_hline(&self, line: usize) -> Option<&HorizontalLine<T>>
         ensures { option_copied result ≡ map.get self.now.horizontal_lines line }
     {
         self.horizontal_lines.read(line, &mut Probes::new())
     }
 
-    /// The custom vertical line that stands at an index, if one does.
+    /// Returns the custom vertical line that stands at an index, if one does.
     pub fn get_vline(&self, line: usize) -> Option<&VerticalLine<T>>
         ensures { option_copied result ≡ map.get self.now.vertical_lines line }
     {
         self.vertical_lines.read(line, &mut Probes::new())
     }
 
-    /// The custom horizontal lines, each with the index at which it stands, in rising order. They are lent, so no
+    /// Returns the custom horizontal lines, each with the index at which it stands, in rising order. They are lent, so no
     /// memory is asked for.
     pub fn iter_hlines(&self) -> HorizontalLines<'_, T>
         ensures { result ≡ map.entries self.now.horizontal_lines }
@@ -53,7 +56,7 @@ impl<T> Layers<T> {
         self.horizontal_lines.iter()
     }
 
-    /// The custom vertical lines, each with the index at which it stands, in rising order. They are lent, so no
+    /// Returns the custom vertical lines, each with the index at which it stands, in rising order. They are lent, so no
     /// memory is asked for.
     pub fn iter_vlines(&self) -> VerticalLines<'_, T>
         ensures { result ≡ map.entries self.now.vertical_lines }
@@ -61,14 +64,14 @@ impl<T> Layers<T> {
         self.vertical_lines.iter()
     }
 
-    /// The default, if one is set.
+    /// Returns the default, if one is set.
     pub fn get_default(&self) -> Option<&T>
         ensures { option_copied result ≡ self.now.default_value }
     {
         self.default_value.get().as_ref()
     }
 
-    /// What is kept at a target: at the cell level of a place, whose `at` is not read for an edge, or at a numbered
+    /// Returns what is kept at a target: at the cell level of a place, whose `at` is not read for an edge, or at a numbered
     /// place of an edge. What other levels keep there plays no part.
     pub fn kept_at(&self, target: Target) -> Option<&T>
         ensures { option_copied result ≡ kept_at self.now target }
@@ -87,7 +90,7 @@ impl<T> Layers<T> {
         }
     }
 
-    /// A copy of all custom horizontal lines, each under the index at which it stands. Its memory comes from
+    /// Returns a copy of all custom horizontal lines, each under the index at which it stands. Its memory comes from
     /// the allocator that the store keeps.
     pub fn hlines(&self) -> Result<BTreeMap<usize, HorizontalLine<T>>, OutOfMemory>
     where
@@ -97,7 +100,7 @@ impl<T> Layers<T> {
         self.horizontal_lines.copy(self.alloc)
     }
 
-    /// A copy of all custom vertical lines, each under the index at which it stands. Its memory comes from
+    /// Returns a copy of all custom vertical lines, each under the index at which it stands. Its memory comes from
     /// the allocator that the store keeps.
     pub fn vlines(&self) -> Result<BTreeMap<usize, VerticalLine<T>>, OutOfMemory>
     where
@@ -107,7 +110,7 @@ impl<T> Layers<T> {
         self.vertical_lines.copy(self.alloc)
     }
 
-    /// What an edge or a crossing shows without its offsets, in a table of `shape.0` rows and `shape.1`
+    /// Returns what an edge or a crossing shows without its offsets, in a table of `shape.0` rows and `shape.1`
     /// columns: what is kept at the highest level below them that has something there. `at` of an edge
     /// is not read, so an edge of length 0 has a value too. An edge or a crossing outside has nothing.
     pub fn plain_at(&self, place: Place, shape: (usize, usize)) -> Option<&T>
@@ -120,11 +123,11 @@ impl<T> Layers<T> {
 /// Look-ups, for every type of meters: they can make none, so each reading raises the one that is lent, and what is read without
 /// one can't be called here.
 impl<T, M: Meter> Layers<T, M> {
-    ghost use Rattle.tabled_grid.specs.Value.{value, plain_value};
-    ghost use Rattle.tabled_grid.specs.State.{state_at};
-    ghost use Rattle.tabled_grid.specs.Reading.{pick, main_of, offset_of, plain_edge, plain_crossing, edge_shown};
+    ghost use Rattle.tabled_places.specs.Value.{value, plain_value};
+    ghost use Rattle.tabled_places.specs.State.{state_at};
+    ghost use Rattle.tabled_places.specs.Reading.{pick, main_of, offset_of, plain_edge, plain_crossing, edge_shown};
 
-    /// What shows at a place of a table of `shape.0` rows and `shape.1` columns: what is kept at the highest level that has
+    /// Returns what shows at a place of a table of `shape.0` rows and `shape.1` columns: what is kept at the highest level that has
     /// something there. `size` is the width of a horizontal edge's column or the height of a vertical edge's row; for a crossing it
     /// is not read. A place outside the table has nothing. At most six readings are made.
     pub fn at(&self, place: Place, shape: (usize, usize), size: usize, probes: &mut M) -> Option<&T>
@@ -146,12 +149,12 @@ impl<T, M: Meter> Layers<T, M> {
         }
     }
 
-    /// The same as `plain_at`, with its readings counted: at most five are made.
+    /// Returns what `plain_at` does, and counts its readings: at most five are made.
     pub fn read_plain(&self, place: Place, shape: (usize, usize), probes: &mut M) -> Option<&T>
         ensures value { option_copied result ≡ plain_value (state_at self.now) shape place }
         ensures probes { IsRaised 5 (M.made probes.old) (M.made probes.new) }
     {
-        if !place.has_spot(shape) {
+        if !has_spot(place, shape) {
             return None;
         }
         let (rows, cols) = shape;
@@ -220,7 +223,7 @@ impl<T, M: Meter> Layers<T, M> {
         ensures value { option_copied result ≡ plain_edge self.now line.0 line.1 at }
         ensures probes { IsRaised 4 (M.made probes.old) (M.made probes.new) }
     {
-        let cell = self.cells.read(line.0.edge(at), probes);
+        let cell = self.cells.read(edge_at(line.0, at), probes);
         if cell.is_some() {
             return cell;
         }
@@ -336,11 +339,7 @@ fn class_edges<'a, T, M: Meter>(
     ensures counted { IsCounted (M.made probes.old) (M.made probes.new) }
     ensures raised { IsRaised 1 (M.made probes.old) (M.made probes.new) }
 {
-    let class = class.read(probes);
-    match line {
-        LineOf::Horizontal(row) => class.at_horizontal(row, count),
-        LineOf::Vertical(col) => class.at_vertical(col, count),
-    }
+    edges_of(class.read(probes), line, count)
 }
 
 /// What the class record has for a crossing: one reading.
@@ -355,5 +354,5 @@ fn class_crossing<'a, T, M: Meter>(
     ensures counted { IsCounted (M.made probes.old) (M.made probes.new) }
     ensures raised { IsRaised 1 (M.made probes.old) (M.made probes.new) }
 {
-    class.read(probes).at_crossing(row, col, shape.0, shape.1)
+    crossing_of(class.read(probes), row, col, shape)
 }

@@ -3,20 +3,21 @@
 //! A list of writes is its own way back: once a write is made, its entry has what stood there before. So a refusal
 //! walks back over the list, which takes no memory.
 
-ghost use Rattle.tabled_grid.specs.State.{edge_place};
+ghost use Rattle.tabled_places.specs.State.{edge_place};
 ghost use Rattle.std.specs.Prelude.{◌≡◌, [], ◌∷◌, OnOk, OnErr, IfOk, IsTrue, option_map};
 
 use super::Layers;
 use crate::cells::{put_cell, take_cell};
-use crate::keys::EdgePlace;
 use crate::{Offset, OutOfMemory, Position, Spot, Target, Write};
+use tabled_places::EdgePlace;
 
 /// Writes that are made together, whole or not at all, and what then puts them back.
 pub(super) trait Group<T> {
-    ghost use Rattle.tabled_grid.specs.Event.{Event, Changes};
-    ghost use Rattle.tabled_grid.specs.State.{State, state_at};
-    ghost use Rattle.tabled_grid.specs.Calls.{writes_anew};
-    ghost use Rattle.tabled_grid.specs.Writes.{writes_made, Stays};
+    ghost use Rattle.tabled_places.specs.declared.event.Event.{Event};
+    ghost use Rattle.tabled_places.specs.Event.{Changes};
+    ghost use Rattle.tabled_places.specs.State.{State, state_at};
+    ghost use Rattle.tabled_places.specs.Calls.{writes_anew};
+    ghost use Rattle.tabled_places.specs.Writes.{writes_made, Stays};
     ghost use Rattle.std.specs.Prelude.{List, ◌++◌};
 
     /// The events of the writes, in their order.
@@ -44,7 +45,7 @@ pub(super) trait Group<T> {
 
 /// One write; once made it has what stood there before, or no target where nothing was written.
 impl<T: Drop> Group<T> for Write<T> {
-    ghost use Rattle.tabled_grid.specs.Writes.{writes_made, PutsBack};
+    ghost use Rattle.tabled_places.specs.Writes.{writes_made, PutsBack};
 
     ghost events = { λ entry. writes_made (entry ∷ []) };
 
@@ -80,7 +81,7 @@ impl<T: Drop> Group<T> for Write<T> {
 /// One group, and then another.
 impl<T, A: Group<T>, B: Group<T> + Drop> Group<T> for (A, B) {
     ghost use Rattle.std.specs.Prelude.{◌++◌};
-    ghost use Rattle.tabled_grid.specs.State.{State};
+    ghost use Rattle.tabled_places.specs.State.{State};
 
     ghost events = { λ groups. A.events groups.0 ++ B.events groups.1 };
 
@@ -111,7 +112,7 @@ impl<T, A: Group<T>, B: Group<T> + Drop> Group<T> for (A, B) {
 
 /// A list of writes, in its order; they are put back from its end.
 impl<T: Drop> Group<T> for Vec<Write<T>> {
-    ghost use Rattle.tabled_grid.specs.Writes.{writes_made, PutsBackAll};
+    ghost use Rattle.tabled_places.specs.Writes.{writes_made, PutsBackAll};
 
     ghost events = { λ writes. writes_made writes.items };
 
@@ -146,11 +147,14 @@ impl<T: Drop> Group<T> for Vec<Write<T>> {
 }
 
 impl<T> Layers<T> {
-    ghost use Rattle.tabled_grid.specs.Event.{sign, write, erase, one_site, Changes};
-    ghost use Rattle.tabled_grid.specs.Site.{at_spot};
-    ghost use Rattle.tabled_grid.specs.State.{State, state_at};
-    ghost use Rattle.tabled_grid.specs.Calls.{writes_anew};
-    ghost use Rattle.tabled_grid.specs.Writes.{site_of, writes_made, PutsBackAt};
+    ghost use Rattle.tabled_places.specs.declared.event.Written.TheVariants.{Sign as sign};
+    ghost use Rattle.tabled_places.specs.declared.event.Event.TheVariants.{Write as write, Erase as erase};
+    ghost use Rattle.tabled_places.specs.declared.event.Region.TheVariants.{One as one_site};
+    ghost use Rattle.tabled_places.specs.Event.{Changes};
+    ghost use Rattle.tabled_places.specs.declared.site.Site.TheVariants.{Cell as at_spot};
+    ghost use Rattle.tabled_places.specs.State.{State, state_at};
+    ghost use Rattle.tabled_places.specs.Calls.{writes_anew};
+    ghost use Rattle.tabled_places.specs.Writes.{site_of, writes_made, PutsBackAt};
 
     /// Makes the writes of a list, in its order: of two at one site the later one counts. Where memory is refused
     /// nothing changes; where something stood at each of their sites, none is asked for.
@@ -247,10 +251,10 @@ fn edge_place(pos: Position, offset: Offset) -> EdgePlace
 }
 
 impl<A: Drop> Layers<A> {
-    ghost use Rattle.tabled_grid.specs.Event.{Changes};
-    ghost use Rattle.tabled_grid.specs.State.{state_at};
-    ghost use Rattle.tabled_grid.specs.Calls.{writes_anew};
-    ghost use Rattle.tabled_grid.specs.Writes.{writes_made};
+    ghost use Rattle.tabled_places.specs.Event.{Changes};
+    ghost use Rattle.tabled_places.specs.State.{state_at};
+    ghost use Rattle.tabled_places.specs.Calls.{writes_anew};
+    ghost use Rattle.tabled_places.specs.Writes.{writes_made};
     ghost use Rattle.std.specs.Prelude.{◌||◌};
 
     /// Makes the writes of two lists, one in this store and one in another, whole or not at all over both: where memory

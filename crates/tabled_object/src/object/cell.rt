@@ -18,7 +18,7 @@ pub struct Cell {
 }
 
 impl Cell {
-    /// The cell of that row and column.
+    /// Makes the cell of that row and column.
     pub fn new(row: usize, col: usize) -> Self
         ensures row { result.row ≡ row }
         ensures col { result.col ≡ col }

@@ -13,19 +13,19 @@ use tabled_border::OutOfMemory;
 pub struct Columns;
 
 impl Columns {
-    /// The column of that number, counted from 0.
+    /// Returns the column of that number, counted from 0.
     pub fn one(index: usize) -> Column
         ensures { result.index ≡ index }
     {
         Column { index }
     }
 
-    /// The first column.
+    /// Returns the first column.
     pub fn first() -> FirstColumn {
         FirstColumn
     }
 
-    /// The last column.
+    /// Returns the last column.
     pub fn last() -> LastColumn {
         LastColumn
     }
@@ -78,7 +78,7 @@ impl Combine for FirstColumn {}
 pub struct LastColumn;
 
 impl LastColumn {
-    /// The column that has the given number of columns at its right.
+    /// Returns the column that has the given number of columns at its right.
     pub fn offset(self, offset: usize) -> LastColumnOffset
         ensures { result.offset ≡ offset }
     {

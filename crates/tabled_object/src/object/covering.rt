@@ -9,7 +9,7 @@ use std::alloc::Global;
 use std::collections::BTreeSet;
 use tabled_border::OutOfMemory;
 
-/// The entities that an object lists, each once. Memory may be refused for them.
+/// Returns the entities that an object lists, each once. Memory may be refused for them.
 pub fn listed_entities<R, O>(
     alloc: Global,
     records: &R,
@@ -25,7 +25,7 @@ where
     Ok(entities)
 }
 
-/// Whether an entity of the set covers the cell: four look-ups.
+/// Returns whether an entity of the set covers the cell: four look-ups.
 pub fn is_covered(entities: &BTreeSet<Entity>, cell: Position) -> bool
     ensures { result ≡ covered entities.now.keys cell }
 {

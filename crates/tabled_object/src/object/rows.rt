@@ -13,19 +13,19 @@ use tabled_border::OutOfMemory;
 pub struct Rows;
 
 impl Rows {
-    /// The row of that number, counted from 0.
+    /// Returns the row of that number, counted from 0.
     pub fn one(index: usize) -> Row
         ensures { result.index ≡ index }
     {
         Row { index }
     }
 
-    /// The first row.
+    /// Returns the first row.
     pub fn first() -> FirstRow {
         FirstRow
     }
 
-    /// The last row.
+    /// Returns the last row.
     pub fn last() -> LastRow {
         LastRow
     }
@@ -78,7 +78,7 @@ impl Combine for FirstRow {}
 pub struct LastRow;
 
 impl LastRow {
-    /// The row that has the given number of rows below it.
+    /// Returns the row that has the given number of rows below it.
     pub fn offset(self, offset: usize) -> LastRowOffset
         ensures { result.offset ≡ offset }
     {

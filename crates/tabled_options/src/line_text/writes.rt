@@ -1,9 +1,9 @@
 //! What a text writes where it takes places.
 
 ghost use Rattle.std.specs.Prelude.{◌≡◌, [], ◌∷◌, IfOk, option_map, option_copied};
-ghost use Rattle.tabled_grid.specs.declared.event.Event.TheVariants.{Write as event};
-ghost use Rattle.tabled_grid.specs.declared.event.Written.TheVariants.{Sign as sign};
-ghost use Rattle.tabled_grid.specs.Writes.{site_of, writes_made};
+ghost use Rattle.tabled_places.specs.declared.event.Event.TheVariants.{Write as event};
+ghost use Rattle.tabled_places.specs.declared.event.Written.TheVariants.{Sign as sign};
+ghost use Rattle.tabled_places.specs.Writes.{site_of, writes_made};
 ghost use Rattle.tabled_color.specs.Shade.{texts_of};
 ghost use Rattle.tabled_options.specs.LineText.{written_site, characters_written, colors_written};
 ghost use Rattle.tabled_options.specs.Laying.{looked};

@@ -31,7 +31,7 @@ impl<T> EntityMap<T> {
         Ok(())
     }
 
-    /// The same, where no event is one of all cells.
+    /// Writes a list of events, none of which is one of all cells.
     fn put_list(
         &mut self,
         alloc: Global,
@@ -81,7 +81,7 @@ impl<T> EntityMap<T> {
         Ok(())
     }
 
-    /// The same, where no event is one of all cells.
+    /// Writes a list of events to three maps at once, none of which is one of all cells.
     fn put_three<U, V>(
         &mut self,
         alloc: Global,

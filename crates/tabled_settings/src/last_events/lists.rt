@@ -7,7 +7,7 @@ ghost use Rattle.tabled_settings.specs.Kinds.{AreMarked};
 ghost use Rattle.tabled_settings.specs.Slots.{standing, IsHeld, IsNoted};
 
 use super::LastEvents;
-use crate::kinds::Kinds;
+use crate::kinds::EntityKinds;
 use crate::places;
 use crate::slots::{self, Slot};
 use std::alloc::Global;
@@ -49,7 +49,7 @@ impl<T: Drop> Noted<T> {
         self,
         slots: &mut Vec<Slot<T>>,
         places: &mut BTreeMap<Entity, usize>,
-        kinds: &mut Kinds,
+        kinds: &mut EntityKinds,
     )
         requires room { vec_len slots.old + length self.events.items ≤ vec_capacity slots.old }
         requires noted { IsNoted places.old slots.old.items self.events.items self.before.items }

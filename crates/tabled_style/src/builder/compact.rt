@@ -1,71 +1,39 @@
 //! A style as an option on compact configurations.
 
-ghost use Rattle.std.specs.Prelude.{◌≡◌, [], ◌∷◌, None, IsOk, OnOk, OnErr};
+ghost use Rattle.tabled_configuration.specs.declared.resizing.Resizes.TheVariants as resizing;
 
 use super::Style;
-use tabled_border::OutOfMemory;
 use tabled_compact::{CompactConfig, CompactMultilineConfig};
-use tabled_configuration::TableOption;
-use tabled_object::Entity;
+use tabled_configuration::{Resizes, SetCompact};
 
-impl<T, B, L, R, H, V, const HN: usize, const VN: usize, Data, Dims> TableOption<
-    Data,
-    CompactConfig,
-    Dims,
-> for Style<T, B, L, R, H, V, HN, VN> {
-    ghost makes = { λ style records dims old. record old { borders = style.borders } ∷ [] };
+/// Sets the class record: custom lines are left out.
+impl<T, B, L, R, H, V, const HN: usize, const VN: usize> SetCompact<CompactConfig>
+    for Style<T, B, L, R, H, V, HN, VN> {
+    ghost sets = { λ style old. record old { borders = style.borders } };
 
-    ghost hinted = { λ style. None };
+    ghost resizes = { resizing.Never };
 
-    /// Sets the class record, and nothing else: custom lines are left out. It takes no memory and returns Ok.
-    fn change(
-        self,
-        _records: &mut Data,
-        cfg: &mut CompactConfig,
-        _dims: &mut Dims,
-    ) -> Result<(), OutOfMemory>
-        ensures always { IsOk result }
-        ensures ok { OnOk result (cfg.new ≡ record cfg.old { borders = self.borders }) }
-        ensures err { OnErr result (cfg.new ≡ cfg.old) }
-        ensures records { _records.new ≡ _records.old }
-        ensures sizes { _dims.new ≡ _dims.old }
-    {
+    fn set_compact(&self, cfg: &mut CompactConfig) {
         *cfg = cfg.set_borders(self.borders);
-        Ok(())
     }
 
-    fn hint_change(&self) -> Option<Entity> {
-        None
+    fn resizes() -> Resizes {
+        Resizes::Never
     }
 }
 
-impl<T, B, L, R, H, V, const HN: usize, const VN: usize, Data, Dims> TableOption<
-    Data,
-    CompactMultilineConfig,
-    Dims,
-> for Style<T, B, L, R, H, V, HN, VN> {
-    ghost makes = { λ style records dims old. record old { borders = style.borders } ∷ [] };
+/// Sets the class record: custom lines are left out.
+impl<T, B, L, R, H, V, const HN: usize, const VN: usize> SetCompact<CompactMultilineConfig>
+    for Style<T, B, L, R, H, V, HN, VN> {
+    ghost sets = { λ style old. record old { borders = style.borders } };
 
-    ghost hinted = { λ style. None };
+    ghost resizes = { resizing.Never };
 
-    /// Sets the class record, and nothing else: custom lines are left out. It takes no memory and returns Ok.
-    fn change(
-        self,
-        _records: &mut Data,
-        cfg: &mut CompactMultilineConfig,
-        _dims: &mut Dims,
-    ) -> Result<(), OutOfMemory>
-        ensures always { IsOk result }
-        ensures ok { OnOk result (cfg.new ≡ record cfg.old { borders = self.borders }) }
-        ensures err { OnErr result (cfg.new ≡ cfg.old) }
-        ensures records { _records.new ≡ _records.old }
-        ensures sizes { _dims.new ≡ _dims.old }
-    {
+    fn set_compact(&self, cfg: &mut CompactMultilineConfig) {
         cfg.set_borders(self.borders);
-        Ok(())
     }
 
-    fn hint_change(&self) -> Option<Entity> {
-        None
+    fn resizes() -> Resizes {
+        Resizes::Never
     }
 }

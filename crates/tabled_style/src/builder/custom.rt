@@ -2,7 +2,7 @@
 
 ghost use Rattle.std.specs.Prelude.{◌≡◌, ⊤, length};
 ghost use Rattle.tabled_style.specs.Lines.{each_line, over_horizontal, over_vertical};
-ghost use Rattle.tabled_grid.specs.CustomLines.{put_horizontal_meeting, put_vertical_meeting};
+ghost use Rattle.tabled_places.specs.CustomLines.{put_horizontal_meeting, put_vertical_meeting};
 
 use crate::{HorizontalLine, VerticalLine};
 use std::alloc::AllocError;
@@ -12,7 +12,7 @@ use tabled_grid::{HorizontalLine as HLine, Rank, VerticalLine as VLine};
 /// A custom line of one direction, and what calls do to it.
 pub(super) trait CustomLine: Copy {
     ghost use Rattle.std.specs.Prelude.{◌≡◌, ℕ, Option};
-    ghost use Rattle.tabled_grid.specs.declared.place.Rank.{Rank};
+    ghost use Rattle.tabled_places.specs.declared.place.Rank.{Rank};
 
     /// A line with the given characters of another in place of its own.
     ghost over: { Self → Self → Self };

@@ -95,7 +95,7 @@ impl Style<(), (), (), (), (), (), 0, 0> {
         plain(Borders::empty())
     }
 
-    /// A space between columns, and nothing else.
+    /// Returns a space between columns, and nothing else.
     ///
     /// ```text
     ///  Tree    Height   Cones
@@ -309,7 +309,7 @@ impl Style<(), (), (), (), (), (), 0, 0> {
         ruled(borders, open_line('=', ' '))
     }
 
-    /// A frame of dashes and bars with dots and apostrophes as corners, and bars between columns.
+    /// Returns a frame of dashes and bars with dots and apostrophes as corners, and bars between columns.
     ///
     /// ```text
     /// .------------------------.

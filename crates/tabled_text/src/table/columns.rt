@@ -2,12 +2,12 @@
 
 ghost use Rattle.std.specs.Prelude.{◌≡◌, OnOk, OnErr};
 ghost use Rattle.tabled_configuration.specs.Colored.{Changes};
-ghost use Rattle.tabled_text.specs.Numeric.{at_right, numeric_columns};
+ghost use Rattle.tabled_measure.specs.Numeric.{at_right, numeric_columns};
 
 use super::Table;
-use crate::numeric::{numeric_columns, set_at_right};
 use std::convert::AsStr;
 use tabled_border::OutOfMemory;
+use tabled_measure::numeric::{numeric_columns, set_at_right};
 
 impl<T: AsStr + Drop> Table<T> {
     /// Sets the texts of columns of numbers at the right: each cell of such a column below the first `headings` rows is a number, as

@@ -1,8 +1,8 @@
 //! A table of copies of the texts of another.
 
 ghost use Rattle.std.specs.Prelude.{◌≡◌, IfOk};
-ghost use Rattle.tabled_painting.specs.TextsBy.{texts_by};
-ghost use Rattle.tabled_printing.specs.Texts.{texts};
+ghost use Rattle.tabled_cells.specs.TextsBy.{texts_by};
+ghost use Rattle.tabled_width.specs.Texts.{texts};
 
 use super::Table;
 use crate::TextTable;
@@ -14,8 +14,8 @@ use tabled_border::{Keep, OutOfMemory};
 use tabled_configuration::ColoredConfig;
 
 impl<T: AsStr + Drop> Table<T> {
-    /// A table of copies of these texts, for which all is set that is set for this one: what edits texts, such as `fit` and `clean`, is there
-    /// for it also where these are lent.
+    /// Returns a table of copies of these texts, for which all is set that is set for this one: what edits texts, such as `fit` and `clean`,
+    /// is there for it also where these are lent.
     ///
     /// `table.copied()?` of a `LentTable` in the style `ascii`, after `push_row(row![in alloc; "e", "f"]?)?`:
     ///

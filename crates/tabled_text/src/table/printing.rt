@@ -19,16 +19,17 @@ impl<T: AsStr + Drop> Table<T> {
     ghost use Rattle.tabled_painting.specs.PaintedTable.{plain_text, colored_text};
     ghost use Rattle.tabled_painting.specs.Widths.{StandsStraightIn, text_width};
     ghost use Rattle.tabled_printing.specs.Along.{is_empty};
-    ghost use Rattle.tabled_printing.specs.Columns.{IsRectangle, WritesNarrow};
-    ghost use Rattle.tabled_printing.specs.Texts.{pieces};
-    ghost use Rattle.tabled_text.specs.Cells.{StandApart, margin_set, leaves_sizes};
-    ghost use Rattle.tabled_text.specs.Sizes.{cell, column_count, unequal_row};
+    ghost use Rattle.tabled_width.specs.Narrow.{IsRectangle};
+    ghost use Rattle.tabled_printing.specs.Columns.{WritesNarrow};
+    ghost use Rattle.tabled_width.specs.Texts.{pieces};
+    ghost use Rattle.tabled_measure.specs.Cells.{StandApart, margin_set, leaves_sizes};
+    ghost use Rattle.tabled_measure.specs.Sizes.{cell, column_count, unequal_row};
     ghost use Rattle.tabled_text.specs.TableViews.{IsTable, texts_viewed};
     ghost use Rattle.tabled_text.specs.TextTable.{look_of, look_printed, painted, text_of};
     ghost use Rattle.tabled_text.specs.declared.table_error.TableError.{TableError as Refusal};
 
-    /// The text of the table without colors: its cells as they are set for each, its borders, and its margin around them. A cell that spans
-    /// several columns or rows is shown in the room of all of them. Only memory can be refused.
+    /// Returns the text of the table without colors: its cells as they are set for each, its borders, and its margin around them. A cell that
+    /// spans several columns or rows is shown in the room of all of them. Only memory can be refused.
     ///
     /// Where only narrow characters were written, and the padding of each cell begins with a space, as it does where none is set, or its text
     /// is of printable ASCII, the text is a rectangle: each of its lines takes as many columns of a terminal as the others. Where no cell
@@ -67,7 +68,7 @@ impl<T: AsStr + Drop> Table<T> {
         Ok(())
     }
 
-    /// The text of the table in color, as terminals show it: the same characters as in `to_text`, each between the two texts of
+    /// Returns the text of the table in color, as terminals show it: the same characters as in `to_text`, each between the two texts of
     /// its color. Where the color changes along a line the text that ends the last one is written and then the text that begins
     /// the next, and at the end of a line the text that ends its last color; where there is no color nothing is written. Without
     /// these texts it is a rectangle where `to_text` says that its text is one. Refused as `to_text` is.

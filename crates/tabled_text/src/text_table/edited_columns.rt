@@ -1,16 +1,16 @@
 //! Columns that are put into a table, and taken out.
 
 ghost use Rattle.std.specs.Prelude.{◌≡◌, ◌<◌, true, false, Err, min, length, map, option_map, string_bytes, IfOk, OnOk, OnErr, IsOkUnless};
-ghost use Rattle.tabled_text.specs.EditedColumns.{column_at, column_goes_in, with_column, without_column};
-ghost use Rattle.tabled_text.specs.Sizes.{cell, column_count};
+ghost use Rattle.tabled_measure.specs.EditedColumns.{column_at, column_goes_in, with_column, without_column};
+ghost use Rattle.tabled_measure.specs.Sizes.{cell, column_count};
 ghost use Rattle.tabled_text.specs.declared.table_error.TableError.{TableError as Refusal};
 
 use super::TextTable;
 use crate::TableError;
-use crate::edited::{put_into, take_column};
-use crate::measure::{heights_with, measure_heights, width_of_texts};
 use std::mem;
 use tabled_border::OutOfMemory;
+use tabled_measure::edited::{put_into, take_column};
+use tabled_measure::measure::{heights_with, measure_heights, width_of_texts};
 use tabled_object::Shape;
 
 impl TextTable {
@@ -94,7 +94,7 @@ impl TextTable {
     ///  age
     ///  30
     /// ```
-    #[tactic(auto, using(crate::proofs::ColumnLemmas::without_past, crate::proofs::ColumnLemmas::column_past))]
+    #[tactic(auto, using(tabled_measure::proofs::ColumnLemmas::without_past, tabled_measure::proofs::ColumnLemmas::column_past))]
     pub fn remove_column(&mut self, index: usize) -> Result<Option<Vec<String>>, OutOfMemory>
         ensures texts { OnOk result (self.new.texts ≡ without_column index self.old.texts) }
         ensures column { IfOk result (λ column. option_map (λ cells. map string_bytes cells.items) column ≡ column_at index self.old.texts) }

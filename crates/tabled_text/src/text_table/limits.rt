@@ -5,20 +5,20 @@ ghost use Rattle.tabled_configuration.specs.Configuration.{ConfigEvent, Shows};
 ghost use Rattle.tabled_clean.specs.Steering.{cleaned};
 ghost use Rattle.tabled_painting.specs.Widths.{text_width};
 ghost use Rattle.tabled_width.specs.Tabs.{tabs_expanded};
-ghost use Rattle.tabled_text.specs.Cells.{margin_set, sets_no_spans};
-ghost use Rattle.tabled_text.specs.Changed.{CellsAreClean, cells_changed, each_text, texts_of_cells};
+ghost use Rattle.tabled_measure.specs.Cells.{margin_set, sets_no_spans};
+ghost use Rattle.tabled_measure.specs.Changed.{CellsAreClean, cells_changed, each_text, texts_of_cells};
 ghost use Rattle.tabled_text.specs.Fitted.{CanShare, IsFitted, frame_width, least_width};
-ghost use Rattle.tabled_text.specs.Sizes.{column_count};
+ghost use Rattle.tabled_measure.specs.Sizes.{column_count};
 ghost use Rattle.tabled_text.specs.TextTable.{look_printed};
 
 use super::TextTable;
-use crate::changing::{
-    Change, Cleaning, ExpandedTabs, LimitedCells, LimitedColumns, are_clean, changed_rows,
-};
 use crate::fitting::{room_for_texts, texts_asked};
-use crate::measure::sizes_of;
 use std::mem;
 use tabled_border::OutOfMemory;
+use tabled_measure::changing::{
+    Change, Cleaning, ExpandedTabs, LimitedCells, LimitedColumns, are_clean, changed_rows,
+};
+use tabled_measure::measure::sizes_of;
 use tabled_object::{Object, Shape, listed_entities};
 use tabled_width::{Overflow, TextLimit, shares_of};
 
@@ -114,9 +114,9 @@ impl TextTable {
         self.fit_with(total, 1, how)
     }
 
-    /// The same as `fit`, where each column keeps at least `least` columns of the terminal for its texts, or what these ask for, if that is
-    /// less; so the others share what is left of it. `least_width(least)` tells the least total
-    /// that the table is then kept within. A `least` of 0 is one of 1.
+    /// Fits the table as `fit` does, where each column keeps at least `least` columns of the terminal for its texts, or what these ask for,
+    /// if that is less; so the others share what is left of it. `least_width(least)` tells the least total that the table is then kept
+    /// within. A `least` of 0 is one of 1.
     ///
     /// `table.fit_with(15, 6, Overflow::WrapWords)?`, where the cells were `green tea` and `leaves in hot water`:
     ///

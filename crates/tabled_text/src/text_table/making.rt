@@ -3,7 +3,7 @@
 ghost use Rattle.std.specs.Prelude.{◌≡◌, ◌⊎◌, [], ◌∷◌, map, IfErr, IfOk};
 ghost use Rattle.std.specs.List.{AllZip};
 ghost use Rattle.tabled_configuration.specs.Colored.{Shows};
-ghost use Rattle.tabled_printing.specs.Texts.{texts};
+ghost use Rattle.tabled_width.specs.Texts.{texts};
 ghost use Rattle.tabled_rows.specs.Spelled.{IsRow};
 ghost use Rattle.tabled_text.specs.Refusal.{AreUnequal};
 ghost use Rattle.tabled_text.specs.declared.table_error.TableError.{TableError as Refusal};
@@ -27,8 +27,9 @@ fn rows_of<T: Tabled>(alloc: Global, values: &[T]) -> Result<Vec<Vec<String>>, O
 }
 
 impl TextTable {
-    /// A table of values, each of which is a row, below the texts that stand above their cells. Refused as by `from_rows`: where a value
-    /// has more or fewer texts than stand above its cells, with the number of its row, where that of what stands above is 0, and both counts.
+    /// Makes a table of values, each of which is a row, below the texts that stand above their cells. Refused as by `from_rows`: where a
+    /// value has more or fewer texts than stand above its cells, with the number of its row, where that of what stands above is 0, and both
+    /// counts.
     ///
     /// `TextTable::of(alloc, &[("tea", 95), ("coffee", 7)])?` with `Style::psql()`; tuples have the numbers of their fields above them:
     ///

@@ -5,7 +5,7 @@ ghost use Rattle.std.specs.List.{insert};
 ghost use Rattle.tabled_object.specs.Entities.{position};
 ghost use Rattle.tabled_configuration.specs.Colored.{Changes};
 ghost use Rattle.tabled_configuration.specs.Configuration.{by_column_span};
-ghost use Rattle.tabled_text.specs.Edited.{goes_in};
+ghost use Rattle.tabled_measure.specs.Edited.{goes_in};
 ghost use Rattle.tabled_text.specs.Panels.{IsSpannedBy, panel, panel_columns};
 ghost use Rattle.tabled_text.specs.declared.table_error.TableError.{TableError as Refusal};
 

@@ -2,15 +2,15 @@
 
 ghost use Rattle.std.specs.Prelude.{◌≡◌, ◌≤◌, true, false, Err, min, length, map, option_map, slice_get, string_bytes, IfOk, OnOk, OnErr, IsOkUnless};
 ghost use Rattle.std.specs.List.{insert, remove};
-ghost use Rattle.tabled_text.specs.Sizes.{column_count};
-ghost use Rattle.tabled_text.specs.Edited.{goes_in};
+ghost use Rattle.tabled_measure.specs.Sizes.{column_count};
+ghost use Rattle.tabled_measure.specs.Edited.{goes_in};
 ghost use Rattle.tabled_text.specs.declared.table_error.TableError.{TableError as Refusal};
 
 use super::TextTable;
 use crate::TableError;
-use crate::measure::{sizes_of, sizes_with};
 use std::mem;
 use tabled_border::OutOfMemory;
+use tabled_measure::measure::{sizes_of, sizes_with};
 use tabled_object::Shape;
 
 impl TextTable {

@@ -1,12 +1,12 @@
 //! Texts of single cells.
 
 ghost use Rattle.std.specs.Prelude.{◌≡◌, ◌<◌, [], length, option_map, slice_index_or, string_bytes, IfOk, OnOk, OnErr};
-ghost use Rattle.tabled_text.specs.Edited.{text_at, text_set};
-ghost use Rattle.tabled_text.specs.Sizes.{cell, column_count};
+ghost use Rattle.tabled_measure.specs.Edited.{text_at, text_set};
+ghost use Rattle.tabled_measure.specs.Sizes.{cell, column_count};
 
 use super::TextTable;
-use crate::edited::{Replaced, replace_in};
 use tabled_border::OutOfMemory;
+use tabled_measure::edited::{Replaced, replace_in};
 use tabled_object::Position;
 
 impl TextTable {
@@ -20,7 +20,7 @@ impl TextTable {
     ///  name         age
     ///  Christopher  30
     /// ```
-    #[tactic(auto, using(crate::proofs::TextLemmas::text_past, crate::proofs::TextLemmas::none_past, crate::proofs::TextLemmas::text_there))]
+    #[tactic(auto, using(tabled_measure::proofs::TextLemmas::text_past, tabled_measure::proofs::TextLemmas::none_past, tabled_measure::proofs::TextLemmas::text_there))]
     pub fn set_text(
         &mut self,
         position: Position,

@@ -1,10 +1,10 @@
 //! The characters of a theme's class record, one field at a time.
 
 ghost use Rattle.std.specs.Prelude.{◌≡◌, Some, None};
-ghost use Rattle.tabled_grid.specs.declared.site.Class.TheVariants.{Edges as edges, Crossings as crossings};
-ghost use Rattle.tabled_grid.specs.declared.site.Direction.TheVariants.{Horizontal, Vertical};
-ghost use Rattle.tabled_grid.specs.declared.place.Rank.TheVariants.{First as first, Inner as inner, Last as last};
-ghost use Rattle.tabled_grid.specs.Site.{class_value};
+ghost use Rattle.tabled_places.specs.declared.site.Class.TheVariants.{Edges as edges, Crossings as crossings};
+ghost use Rattle.tabled_places.specs.declared.site.Direction.TheVariants.{Horizontal, Vertical};
+ghost use Rattle.tabled_places.specs.declared.place.Rank.TheVariants.{First as first, Inner as inner, Last as last};
+ghost use Rattle.tabled_places.specs.Site.{class_value};
 ghost use Rattle.tabled_theme.specs.Changing.{with_character};
 
 use super::Theme;
@@ -139,105 +139,105 @@ impl Theme {
         self.characters.vertical = Some(c);
     }
 
-    /// The character of the edges of the first horizontal line.
+    /// Returns the character of the edges of the first horizontal line.
     pub fn get_borders_top(&self) -> Option<char>
         ensures { result ≡ class_value (edges Horizontal first) self.now.characters }
     {
         self.characters.top
     }
 
-    /// The character of the edges of the last horizontal line.
+    /// Returns the character of the edges of the last horizontal line.
     pub fn get_borders_bottom(&self) -> Option<char>
         ensures { result ≡ class_value (edges Horizontal last) self.now.characters }
     {
         self.characters.bottom
     }
 
-    /// The character of the edges of the first vertical line.
+    /// Returns the character of the edges of the first vertical line.
     pub fn get_borders_left(&self) -> Option<char>
         ensures { result ≡ class_value (edges Vertical first) self.now.characters }
     {
         self.characters.left
     }
 
-    /// The character of the edges of the last vertical line.
+    /// Returns the character of the edges of the last vertical line.
     pub fn get_borders_right(&self) -> Option<char>
         ensures { result ≡ class_value (edges Vertical last) self.now.characters }
     {
         self.characters.right
     }
 
-    /// The character of the upper left corner.
+    /// Returns the character of the upper left corner.
     pub fn get_borders_corner_top_left(&self) -> Option<char>
         ensures { result ≡ class_value (crossings first first) self.now.characters }
     {
         self.characters.top_left
     }
 
-    /// The character of the upper right corner.
+    /// Returns the character of the upper right corner.
     pub fn get_borders_corner_top_right(&self) -> Option<char>
         ensures { result ≡ class_value (crossings first last) self.now.characters }
     {
         self.characters.top_right
     }
 
-    /// The character of the lower left corner.
+    /// Returns the character of the lower left corner.
     pub fn get_borders_corner_bottom_left(&self) -> Option<char>
         ensures { result ≡ class_value (crossings last first) self.now.characters }
     {
         self.characters.bottom_left
     }
 
-    /// The character of the lower right corner.
+    /// Returns the character of the lower right corner.
     pub fn get_borders_corner_bottom_right(&self) -> Option<char>
         ensures { result ≡ class_value (crossings last last) self.now.characters }
     {
         self.characters.bottom_right
     }
 
-    /// The character of the crossings on the first horizontal line, the corners aside.
+    /// Returns the character of the crossings on the first horizontal line, the corners aside.
     pub fn get_borders_intersection_top(&self) -> Option<char>
         ensures { result ≡ class_value (crossings first inner) self.now.characters }
     {
         self.characters.top_intersection
     }
 
-    /// The character of the crossings on the last horizontal line, the corners aside.
+    /// Returns the character of the crossings on the last horizontal line, the corners aside.
     pub fn get_borders_intersection_bottom(&self) -> Option<char>
         ensures { result ≡ class_value (crossings last inner) self.now.characters }
     {
         self.characters.bottom_intersection
     }
 
-    /// The character of the crossings on the first vertical line, the corners aside.
+    /// Returns the character of the crossings on the first vertical line, the corners aside.
     pub fn get_borders_intersection_left(&self) -> Option<char>
         ensures { result ≡ class_value (crossings inner first) self.now.characters }
     {
         self.characters.left_intersection
     }
 
-    /// The character of the crossings on the last vertical line, the corners aside.
+    /// Returns the character of the crossings on the last vertical line, the corners aside.
     pub fn get_borders_intersection_right(&self) -> Option<char>
         ensures { result ≡ class_value (crossings inner last) self.now.characters }
     {
         self.characters.right_intersection
     }
 
-    /// The character of the crossings of inner lines.
+    /// Returns the character of the crossings of inner lines.
     pub fn get_borders_intersection(&self) -> Option<char>
         ensures { result ≡ class_value (crossings inner inner) self.now.characters }
     {
         self.characters.intersection
     }
 
-    /// The character of the edges of the inner horizontal lines.
+    /// Returns the character of the edges of the inner horizontal lines.
     pub fn get_borders_horizontal(&self) -> Option<char>
         ensures { result ≡ class_value (edges Horizontal inner) self.now.characters }
     {
         self.characters.horizontal
     }
 
-    /// The character of the edges of the inner vertical lines.
+    /// Returns the character of the edges of the inner vertical lines.
     pub fn get_borders_vertical(&self) -> Option<char>
         ensures { result ≡ class_value (edges Vertical inner) self.now.characters }
     {

@@ -1,10 +1,10 @@
 //! The class colors of a theme, one field at a time.
 
 ghost use Rattle.std.specs.Prelude.{◌≡◌, Some, None, option_copied};
-ghost use Rattle.tabled_grid.specs.declared.site.Class.TheVariants.{Edges as edges, Crossings as crossings};
-ghost use Rattle.tabled_grid.specs.declared.site.Direction.TheVariants.{Horizontal, Vertical};
-ghost use Rattle.tabled_grid.specs.declared.place.Rank.TheVariants.{First as first, Inner as inner, Last as last};
-ghost use Rattle.tabled_grid.specs.Site.{class_value};
+ghost use Rattle.tabled_places.specs.declared.site.Class.TheVariants.{Edges as edges, Crossings as crossings};
+ghost use Rattle.tabled_places.specs.declared.site.Direction.TheVariants.{Horizontal, Vertical};
+ghost use Rattle.tabled_places.specs.declared.place.Rank.TheVariants.{First as first, Inner as inner, Last as last};
+ghost use Rattle.tabled_places.specs.Site.{class_value};
 ghost use Rattle.tabled_theme.specs.Changing.{with_color};
 
 use super::Theme;
@@ -137,105 +137,105 @@ impl Theme {
         put(&mut self.colors.vertical, Some(color));
     }
 
-    /// The color of the edges of the first horizontal line.
+    /// Returns the color of the edges of the first horizontal line.
     pub fn get_colors_top(&self) -> Option<&Color>
         ensures { option_copied result ≡ class_value (edges Horizontal first) self.now.colors }
     {
         self.colors.top.as_ref()
     }
 
-    /// The color of the edges of the last horizontal line.
+    /// Returns the color of the edges of the last horizontal line.
     pub fn get_colors_bottom(&self) -> Option<&Color>
         ensures { option_copied result ≡ class_value (edges Horizontal last) self.now.colors }
     {
         self.colors.bottom.as_ref()
     }
 
-    /// The color of the edges of the first vertical line.
+    /// Returns the color of the edges of the first vertical line.
     pub fn get_colors_left(&self) -> Option<&Color>
         ensures { option_copied result ≡ class_value (edges Vertical first) self.now.colors }
     {
         self.colors.left.as_ref()
     }
 
-    /// The color of the edges of the last vertical line.
+    /// Returns the color of the edges of the last vertical line.
     pub fn get_colors_right(&self) -> Option<&Color>
         ensures { option_copied result ≡ class_value (edges Vertical last) self.now.colors }
     {
         self.colors.right.as_ref()
     }
 
-    /// The color of the upper left corner.
+    /// Returns the color of the upper left corner.
     pub fn get_colors_corner_top_left(&self) -> Option<&Color>
         ensures { option_copied result ≡ class_value (crossings first first) self.now.colors }
     {
         self.colors.top_left.as_ref()
     }
 
-    /// The color of the upper right corner.
+    /// Returns the color of the upper right corner.
     pub fn get_colors_corner_top_right(&self) -> Option<&Color>
         ensures { option_copied result ≡ class_value (crossings first last) self.now.colors }
     {
         self.colors.top_right.as_ref()
     }
 
-    /// The color of the lower left corner.
+    /// Returns the color of the lower left corner.
     pub fn get_colors_corner_bottom_left(&self) -> Option<&Color>
         ensures { option_copied result ≡ class_value (crossings last first) self.now.colors }
     {
         self.colors.bottom_left.as_ref()
     }
 
-    /// The color of the lower right corner.
+    /// Returns the color of the lower right corner.
     pub fn get_colors_corner_bottom_right(&self) -> Option<&Color>
         ensures { option_copied result ≡ class_value (crossings last last) self.now.colors }
     {
         self.colors.bottom_right.as_ref()
     }
 
-    /// The color of the crossings on the first horizontal line, the corners aside.
+    /// Returns the color of the crossings on the first horizontal line, the corners aside.
     pub fn get_colors_intersection_top(&self) -> Option<&Color>
         ensures { option_copied result ≡ class_value (crossings first inner) self.now.colors }
     {
         self.colors.top_intersection.as_ref()
     }
 
-    /// The color of the crossings on the last horizontal line, the corners aside.
+    /// Returns the color of the crossings on the last horizontal line, the corners aside.
     pub fn get_colors_intersection_bottom(&self) -> Option<&Color>
         ensures { option_copied result ≡ class_value (crossings last inner) self.now.colors }
     {
         self.colors.bottom_intersection.as_ref()
     }
 
-    /// The color of the crossings on the first vertical line, the corners aside.
+    /// Returns the color of the crossings on the first vertical line, the corners aside.
     pub fn get_colors_intersection_left(&self) -> Option<&Color>
         ensures { option_copied result ≡ class_value (crossings inner first) self.now.colors }
     {
         self.colors.left_intersection.as_ref()
     }
 
-    /// The color of the crossings on the last vertical line, the corners aside.
+    /// Returns the color of the crossings on the last vertical line, the corners aside.
     pub fn get_colors_intersection_right(&self) -> Option<&Color>
         ensures { option_copied result ≡ class_value (crossings inner last) self.now.colors }
     {
         self.colors.right_intersection.as_ref()
     }
 
-    /// The color of the crossings of inner lines.
+    /// Returns the color of the crossings of inner lines.
     pub fn get_colors_intersection(&self) -> Option<&Color>
         ensures { option_copied result ≡ class_value (crossings inner inner) self.now.colors }
     {
         self.colors.intersection.as_ref()
     }
 
-    /// The color of the edges of the inner horizontal lines.
+    /// Returns the color of the edges of the inner horizontal lines.
     pub fn get_colors_horizontal(&self) -> Option<&Color>
         ensures { option_copied result ≡ class_value (edges Horizontal inner) self.now.colors }
     {
         self.colors.horizontal.as_ref()
     }
 
-    /// The color of the edges of the inner vertical lines.
+    /// Returns the color of the edges of the inner vertical lines.
     pub fn get_colors_vertical(&self) -> Option<&Color>
         ensures { option_copied result ≡ class_value (edges Vertical inner) self.now.colors }
     {

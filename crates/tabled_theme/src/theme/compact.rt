@@ -1,64 +1,37 @@
 //! A theme as an option on compact configurations.
 
-ghost use Rattle.std.specs.Prelude.{◌≡◌, [], ◌∷◌, Some, IsOk, OnOk, OnErr};
-ghost use Rattle.tabled_object.specs.declared.entity.Entity.TheVariants as cells;
+ghost use Rattle.tabled_configuration.specs.declared.resizing.Resizes.TheVariants as resizing;
 
 use super::Theme;
-use tabled_border::OutOfMemory;
 use tabled_compact::{CompactConfig, CompactMultilineConfig};
-use tabled_configuration::TableOption;
-use tabled_object::Entity;
+use tabled_configuration::{Resizes, SetCompact};
 
-impl<Data, Dims> TableOption<Data, CompactConfig, Dims> for Theme {
-    ghost makes = { λ theme records dims old. record old { borders = theme.characters } ∷ [] };
+/// Sets the class record: lines and colors are left out.
+impl SetCompact<CompactConfig> for Theme {
+    ghost sets = { λ theme old. record old { borders = theme.characters } };
 
-    ghost hinted = { λ theme. Some cells.Global };
+    ghost resizes = { resizing.Always };
 
-    /// Sets the class record, and nothing else: lines and colors are left out. It takes no memory and returns Ok.
-    fn change(
-        self,
-        _records: &mut Data,
-        cfg: &mut CompactConfig,
-        _dims: &mut Dims,
-    ) -> Result<(), OutOfMemory>
-        ensures always { IsOk result }
-        ensures ok { OnOk result (cfg.new ≡ record cfg.old { borders = self.characters }) }
-        ensures err { OnErr result (cfg.new ≡ cfg.old) }
-        ensures records { _records.new ≡ _records.old }
-        ensures sizes { _dims.new ≡ _dims.old }
-    {
+    fn set_compact(&self, cfg: &mut CompactConfig) {
         *cfg = cfg.set_borders(self.characters);
-        Ok(())
     }
 
-    fn hint_change(&self) -> Option<Entity> {
-        Some(Entity::Global)
+    fn resizes() -> Resizes {
+        Resizes::Always
     }
 }
 
-impl<Data, Dims> TableOption<Data, CompactMultilineConfig, Dims> for Theme {
-    ghost makes = { λ theme records dims old. record old { borders = theme.characters } ∷ [] };
+/// Sets the class record: lines and colors are left out.
+impl SetCompact<CompactMultilineConfig> for Theme {
+    ghost sets = { λ theme old. record old { borders = theme.characters } };
 
-    ghost hinted = { λ theme. Some cells.Global };
+    ghost resizes = { resizing.Always };
 
-    /// Sets the class record, and nothing else: lines and colors are left out. It takes no memory and returns Ok.
-    fn change(
-        self,
-        _records: &mut Data,
-        cfg: &mut CompactMultilineConfig,
-        _dims: &mut Dims,
-    ) -> Result<(), OutOfMemory>
-        ensures always { IsOk result }
-        ensures ok { OnOk result (cfg.new ≡ record cfg.old { borders = self.characters }) }
-        ensures err { OnErr result (cfg.new ≡ cfg.old) }
-        ensures records { _records.new ≡ _records.old }
-        ensures sizes { _dims.new ≡ _dims.old }
-    {
+    fn set_compact(&self, cfg: &mut CompactMultilineConfig) {
         cfg.set_borders(self.characters);
-        Ok(())
     }
 
-    fn hint_change(&self) -> Option<Entity> {
-        Some(Entity::Global)
+    fn resizes() -> Resizes {
+        Resizes::Always
     }
 }

@@ -3,7 +3,7 @@
 ghost use Rattle.std.specs.Prelude.{◌≡◌, OnOk, OnErr, None, option_copied};
 ghost use Rattle.std.specs.FinMap as map;
 ghost use Rattle.std.specs.Ordering.{nat_cmp};
-ghost use Rattle.tabled_grid.specs.Table.{table};
+ghost use Rattle.tabled_kept.specs.Table.{table};
 ghost use Rattle.tabled_theme.specs.Lines.{shown_line};
 ghost use Rattle.tabled_theme.specs.Changing.{with_horizontals_set, with_verticals_set, without_horizontals, without_verticals};
 
@@ -77,14 +77,14 @@ impl Theme {
         self.set_verticals.insert(index, line)
     }
 
-    /// The horizontal line that shows at an index: the one that was set, else the one beneath.
+    /// Returns the horizontal line that shows at an index: the one that was set, else the one beneath.
     pub fn get_horizontal_line(&self, index: usize) -> Option<&HorizontalLine<char>>
         ensures { option_copied result ≡ shown_line self.now.set.horizontals self.now.beneath.horizontals index }
     {
         shown(&self.set_horizontals, &self.horizontals_beneath, index)
     }
 
-    /// The vertical line that shows at an index: the one that was set, else the one beneath.
+    /// Returns the vertical line that shows at an index: the one that was set, else the one beneath.
     pub fn get_vertical_line(&self, index: usize) -> Option<&VerticalLine<char>>
         ensures { option_copied result ≡ shown_line self.now.set.verticals self.now.beneath.verticals index }
     {

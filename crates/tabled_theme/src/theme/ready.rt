@@ -10,7 +10,7 @@ use tabled_border::OutOfMemory;
 use tabled_style::{ReadyStyle, Style};
 
 impl Theme {
-    /// What a ready style draws, as `from_style` has it.
+    /// Makes the theme of what a ready style draws, as `from_style` has it.
     #[tactic(auto, unfolding(tabled_style::specs::Named::shown))]
     pub fn from_ready(alloc: Global, style: ReadyStyle) -> Result<Self, OutOfMemory>
         ensures { IfOk result (λ theme. theme ≡ of_style (shown style)) }

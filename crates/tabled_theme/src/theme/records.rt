@@ -2,9 +2,9 @@
 
 ghost use Rattle.std.specs.Prelude.{◌≡◌, option_copied};
 ghost use Rattle.std.specs.Borrow.{Lends, sem};
-ghost use Rattle.tabled_grid.specs.Borders.{has_horizontal, has_vertical};
-ghost use Rattle.tabled_grid.specs.CustomLines.{no_borders};
-ghost use Rattle.tabled_grid.specs.contracts.borders.Borders.{the_row as borders_row};
+ghost use Rattle.tabled_places.specs.Borders.{has_horizontal, has_vertical};
+ghost use Rattle.tabled_places.specs.CustomLines.{no_borders};
+ghost use Rattle.tabled_places.specs.contracts.borders.Borders.{the_row as borders_row};
 ghost use Rattle.tabled_color.specs.contracts.color.Color.{the_row as color_row};
 ghost use denote.Text.{Char};
 ghost use Rattle.tabled_theme.specs.contracts.theme.Theme.{the_row};
@@ -42,21 +42,21 @@ impl Theme {
         drop(mem::replace(&mut self.colors, colors));
     }
 
-    /// The class record.
+    /// Returns the class record.
     pub fn get_borders(&self) -> &Borders<char>
         ensures { result.now ≡ self.now.characters }
     {
         &self.characters
     }
 
-    /// The class colors.
+    /// Returns the class colors.
     pub fn get_borders_colors(&self) -> &Borders<Color>
         ensures { result.now ≡ self.now.colors }
     {
         &self.colors
     }
 
-    /// The class record, to be changed. What is written there is this theme's.
+    /// Returns the class record, to be changed. What is written there is this theme's.
     pub fn get_borders_mut(&mut self) -> &mut Borders<char>
         ensures* writes_back { sem 𝓛 (Lends the_row (borders_row Char) self.entry result (λ borders. record self.old { characters = borders })) }
         ensures value { result.now ≡ self.old.characters }
@@ -64,7 +64,7 @@ impl Theme {
         &mut self.characters
     }
 
-    /// The class colors, to be changed. What is written there is this theme's.
+    /// Returns the class colors, to be changed. What is written there is this theme's.
     pub fn get_colors_mut(&mut self) -> &mut Borders<Color>
         ensures* writes_back { sem 𝓛 (Lends the_row (borders_row color_row) self.entry result (λ colors. record self.old { colors = colors })) }
         ensures value { result.now ≡ self.old.colors }
@@ -132,7 +132,7 @@ impl Theme {
         self.set_colors(put_frame(colors, frame));
     }
 
-    /// The four sides and the four corners of the class record.
+    /// Returns the four sides and the four corners of the class record.
     pub fn get_frame(&self) -> Border<char>
         ensures { result ≡ frame_of self.now.characters }
     {
@@ -148,7 +148,7 @@ impl Theme {
         }
     }
 
-    /// The colors of the four sides and the four corners.
+    /// Returns the colors of the four sides and the four corners.
     pub fn get_frame_colors(&self) -> Border<&Color>
         ensures { record {
           top = option_copied result.top;
@@ -173,42 +173,42 @@ impl Theme {
         }
     }
 
-    /// Whether horizontal line 0 has something in the class record: its edges or one of its crossings.
+    /// Returns whether horizontal line 0 has something in the class record: its edges or one of its crossings.
     pub fn borders_has_top(&self) -> bool
         ensures { result ≡ has_horizontal Rank.First self.now.characters }
     {
         self.characters.has_top()
     }
 
-    /// Whether the last horizontal line has something in the class record.
+    /// Returns whether the last horizontal line has something in the class record.
     pub fn borders_has_bottom(&self) -> bool
         ensures { result ≡ has_horizontal Rank.Last self.now.characters }
     {
         self.characters.has_bottom()
     }
 
-    /// Whether vertical line 0 has something in the class record.
+    /// Returns whether vertical line 0 has something in the class record.
     pub fn borders_has_left(&self) -> bool
         ensures { result ≡ has_vertical Rank.First self.now.characters }
     {
         self.characters.has_left()
     }
 
-    /// Whether the last vertical line has something in the class record.
+    /// Returns whether the last vertical line has something in the class record.
     pub fn borders_has_right(&self) -> bool
         ensures { result ≡ has_vertical Rank.Last self.now.characters }
     {
         self.characters.has_right()
     }
 
-    /// Whether the horizontal lines between have something in the class record.
+    /// Returns whether the horizontal lines between have something in the class record.
     pub fn borders_has_horizontal(&self) -> bool
         ensures { result ≡ has_horizontal Rank.Inner self.now.characters }
     {
         self.characters.has_horizontal()
     }
 
-    /// Whether the vertical lines between have something in the class record.
+    /// Returns whether the vertical lines between have something in the class record.
     pub fn borders_has_vertical(&self) -> bool
         ensures { result ≡ has_vertical Rank.Inner self.now.characters }
     {

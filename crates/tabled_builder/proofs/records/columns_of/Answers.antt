@@ -4,7 +4,7 @@ use Rattle.std.proofs.lemmas.Iterator.{YieldsList-from_map, YieldsList-from_slic
 use Rattle.std.proofs.lemmas.Iterator.Adapters.{option_map_id}
 use Rattle.std.proofs.lemmas.Iterator.Consumers.{max_from_yields_List}
 use Rattle.tabled_cells.specs.Placed.{greatest}
-use Rattle.tabled_text.proofs.Measuring.{greatest_found}
+use Rattle.tabled_measure.proofs.Measuring.{greatest_found}
 use Rattle.tabled_builder.proofs.RecordLemmas.{lengths}
 use Rattle.tabled_builder.proofs.records.columns_of.Goals as goal
 

@@ -2,7 +2,7 @@
 use Rattle.std.proofs.Common.{◌≡◌, ◌≤◌, ◌+◌, drop, length, take}
 use denote.Text.{Utf8}
 use denote.Shadow.{shadow}
-use Rattle.tabled_printing.specs.Texts.{pieces}
+use Rattle.tabled_width.specs.Texts.{pieces}
 use Rattle.tabled_cells.specs.Trimmed.{is_blank, without_last}
 use Rattle.tabled_cells.proofs.trim.count_to_last.Given as goal
 

@@ -2,7 +2,7 @@
 use Rattle.std.proofs.Common.{◌≡◌, length}
 use denote.Text.{Utf8}
 use denote.Shadow.{shadow}
-use Rattle.tabled_printing.specs.Texts.{pieces}
+use Rattle.tabled_width.specs.Texts.{pieces}
 use Rattle.tabled_cells.specs.Trimmed.{without_first, is_blank}
 use Rattle.tabled_cells.proofs.trim.from_first.Given as goal
 

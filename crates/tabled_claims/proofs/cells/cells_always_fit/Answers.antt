@@ -5,8 +5,8 @@ use Rattle.std.proofs.lemmas.Str.{chars-append}
 use Rattle.unicode_width.specs.Width.{str_width}
 use Rattle.tabled_cells.specs.Placements.{placement_at}
 use Rattle.tabled_cells.specs.Trimmed.{lines_shown}
-use Rattle.tabled_printing.specs.Texts.{width_of_text}
-use Rattle.tabled_printing.proofs.Tiles.{Lacks}
+use Rattle.tabled_width.specs.Texts.{width_of_text}
+use Rattle.tabled_width.proofs.Tiles.{Lacks}
 use Rattle.tabled_cells.proofs.Fits.{placed_at_lacks, placed_at_tile, placed_at_wide, settings_lack, starts_with_spaces}
 use Rattle.tabled_painting.proofs.Plain.{plain_cell}
 use Rattle.tabled_claims.proofs.cells.cells_always_fit.Goals as goal

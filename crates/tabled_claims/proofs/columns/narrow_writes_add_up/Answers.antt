@@ -1,6 +1,7 @@
 use Rattle.std.proofs.Common.{ap}
 use Rattle.std.specs.List.{list_all}
-use Rattle.tabled_printing.specs.Columns.{is_narrow, is_narrow_write}
+use Rattle.tabled_width.specs.Narrow.{is_narrow}
+use Rattle.tabled_printing.specs.Columns.{is_narrow_write}
 use Rattle.tabled_claims.proofs.Characters.{drawn_both}
 use Rattle.tabled_claims.proofs.columns.narrow_writes_add_up.Goals as goal
 

@@ -1,4 +1,4 @@
-use Rattle.tabled_printing.specs.Columns.{is_narrow}
+use Rattle.tabled_width.specs.Narrow.{is_narrow}
 use Rattle.tabled_claims.proofs.Characters.{style_writes}
 use Rattle.tabled_claims.proofs.columns.style_writes_narrow.Goals as goal
 

@@ -1,4 +1,4 @@
-use Rattle.tabled_printing.specs.Columns.{is_narrow}
+use Rattle.tabled_width.specs.Narrow.{is_narrow}
 use Rattle.tabled_claims.proofs.Characters.{line_char_writes, text_writes}
 use Rattle.tabled_claims.proofs.columns.text_on_a_line_writes_narrow.Goals as goal
 

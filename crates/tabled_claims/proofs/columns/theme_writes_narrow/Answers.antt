@@ -1,4 +1,4 @@
-use Rattle.tabled_printing.specs.Columns.{is_narrow}
+use Rattle.tabled_width.specs.Narrow.{is_narrow}
 use Rattle.tabled_claims.proofs.Characters.{theme_writes}
 use Rattle.tabled_claims.proofs.columns.theme_writes_narrow.Goals as goal
 

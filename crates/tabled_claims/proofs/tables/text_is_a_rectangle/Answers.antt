@@ -1,5 +1,5 @@
-use Rattle.tabled_text.specs.Sizes.{column_count}
-use Rattle.tabled_text.proofs.EqualRows.{all_equal}
+use Rattle.tabled_measure.specs.Sizes.{column_count}
+use Rattle.tabled_measure.proofs.EqualRows.{all_equal}
 use Rattle.tabled_text.proofs.SpannedEven.{apart_unset, printable_apart, printed_even, stand_apart}
 use Rattle.tabled_claims.proofs.tables.text_is_a_rectangle.Goals as goal
 

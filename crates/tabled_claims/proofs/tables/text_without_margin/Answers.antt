@@ -2,9 +2,9 @@
 use Rattle.std.proofs.Common.{ap, ◌∙◌}
 use Rattle.std.specs.List.{join_with_byte}
 use Rattle.tabled_painting.specs.PaintedTable.{painted_cells, plain_text}
-use Rattle.tabled_text.specs.Sizes.{column_widths, row_heights}
-use Rattle.tabled_text.specs.Cells.{cells_set, margin_set, cell_colors, cell_texts}
-use Rattle.tabled_text.specs.TextTable.{look_of, painted_alone}
+use Rattle.tabled_measure.specs.Sizes.{column_widths, row_heights}
+use Rattle.tabled_measure.specs.Cells.{cells_set, margin_set, cell_colors}
+use Rattle.tabled_text.specs.TextTable.{cell_texts, look_of, painted_alone}
 use Rattle.tabled_text.proofs.SpanLemmas.{text_without}
 use Rattle.tabled_claims.proofs.CellTexts.{characters_around, cells_show}
 use Rattle.tabled_claims.proofs.tables.text_without_margin.Goals as goal

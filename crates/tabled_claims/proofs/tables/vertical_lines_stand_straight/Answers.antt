@@ -1,5 +1,5 @@
-use Rattle.tabled_text.specs.Sizes.{column_count}
-use Rattle.tabled_text.proofs.EqualRows.{all_equal}
+use Rattle.tabled_measure.specs.Sizes.{column_count}
+use Rattle.tabled_measure.proofs.EqualRows.{all_equal}
 use Rattle.tabled_text.proofs.Even.{text_straight}
 use Rattle.tabled_claims.proofs.tables.vertical_lines_stand_straight.Goals as goal
 

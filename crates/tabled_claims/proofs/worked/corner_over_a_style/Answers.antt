@@ -1,10 +1,10 @@
 -- What the two options leave at the crossing.
 use Rattle.std.proofs.Common.{[], refl, sym, subst}
 use Rattle.tabled_object.specs.Entities.{rectangle}
-use Rattle.tabled_grid.specs.Calls.{borders_of, places_set}
-use Rattle.tabled_grid.specs.Event.{replay}
-use Rattle.tabled_grid.specs.State.{class_record_set, class_writes, classes}
-use Rattle.tabled_grid.specs.Value.{value}
+use Rattle.tabled_places.specs.Calls.{borders_of, places_set}
+use Rattle.tabled_places.specs.Event.{replay}
+use Rattle.tabled_places.specs.State.{class_record_set, class_writes, classes}
+use Rattle.tabled_places.specs.Value.{value}
 use Rattle.tabled_configuration.specs.Colored.{Shows}
 use Rattle.tabled_configuration.specs.Configuration.{borders_replaced, horizontal_lines_put, vertical_lines_put}
 use Rattle.tabled_configuration.specs.Options.{entity_bordered}

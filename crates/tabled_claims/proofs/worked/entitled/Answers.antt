@@ -2,7 +2,7 @@
 use Rattle.std.proofs.Common.{◌≡◌, true, sym, subst}
 use Rattle.std.specs.List.{list_all}
 use Rattle.tabled_grid.proofs.Seen.{on_ok}
-use Rattle.tabled_printing.specs.Columns.{is_narrow}
+use Rattle.tabled_width.specs.Narrow.{is_narrow}
 use Rattle.tabled_claims.specs.Clean.{is_quiet}
 use Rattle.tabled_claims.proofs.PlainTables.{plainly_after, title_narrow, title_quiet}
 use Rattle.tabled_claims.proofs.Characters.{text_writes}

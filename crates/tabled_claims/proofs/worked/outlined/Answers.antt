@@ -3,7 +3,7 @@ use Rattle.std.proofs.Common.{◌≡◌, true, refl, sym, subst}
 use Rattle.std.specs.Prelude.{IfSome}
 use Rattle.tabled_clean.specs.Steering.{steers}
 use Rattle.tabled_grid.proofs.Seen.{on_ok}
-use Rattle.tabled_printing.specs.Columns.{is_narrow}
+use Rattle.tabled_width.specs.Narrow.{is_narrow}
 use Rattle.tabled_claims.specs.Characters.{passes_border, passes_if_given}
 use Rattle.tabled_claims.specs.Clean.{is_quiet}
 use Rattle.tabled_claims.proofs.PlainTables.{plainly_after}

@@ -1,7 +1,7 @@
 -- The text of a table that shows narrow writes alone, of which none steers, and whose cells were cleaned.
 use Rattle.std.proofs.Common.{sym, ap, subst, ◌∙◌}
 use Rattle.tabled_clean.specs.Steering.{is_clean}
-use Rattle.tabled_text.specs.Changed.{CellsAreClean}
+use Rattle.tabled_measure.specs.Changed.{CellsAreClean}
 use Rattle.tabled_claims.proofs.CleanTexts.{quiet_clean}
 use Rattle.tabled_claims.proofs.CleanPictures.{text_quiet}
 use Rattle.tabled_text.proofs.SpannedEven.{apart_alone, stand_apart}

@@ -1,6 +1,6 @@
 use Rattle.std.proofs.Common.{refl}
 use Rattle.std.proofs.Math.Seq.{take-suc}
-use Rattle.tabled_grid.specs.Writes.{writes_made}
+use Rattle.tabled_places.specs.Writes.{writes_made}
 use Rattle.tabled_correction.proofs.Adding.{crossing_pushed}
 use Rattle.tabled_correction.proofs.border_correction.push_all.Goals as goal
 

@@ -1,6 +1,6 @@
 -- The crossings so far.
 use Rattle.std.proofs.Common.{◌≡◌, ◌++◌, map, take}
-use Rattle.tabled_grid.specs.Writes.{writes_made}
+use Rattle.tabled_places.specs.Writes.{writes_made}
 use Rattle.tabled_correction.specs.Correction.{crossing_written}
 use Rattle.tabled_correction.proofs.border_correction.push_all.Given as goal
 

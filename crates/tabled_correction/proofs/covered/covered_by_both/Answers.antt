@@ -2,8 +2,8 @@ use Rattle.std.proofs.Common.{Bool, List, ◌+◌, ◌&&◌, ◌∙◌, nat_lt, 
 use Rattle.std.specs.FinMap as map
 use Rattle.tabled_object.specs.declared.position.Position.{Position}
 use Rattle.tabled_object.specs.contracts.position.PositionOrd.TheImpl.Laws.{total-law}
-use Rattle.tabled_grid.specs.Table.{table}
-use Rattle.tabled_grid.proofs.Tables.{get-table}
+use Rattle.tabled_kept.specs.Table.{table}
+use Rattle.tabled_kept.proofs.Tables.{get-table}
 use Rattle.tabled_layout.specs.Spans.{SpanEvent, position_cmp}
 use Rattle.tabled_layout.specs.Covering.{within_columns, within_its_rows}
 use Rattle.tabled_layout.proofs.SpanLemmas.{positions_apart}

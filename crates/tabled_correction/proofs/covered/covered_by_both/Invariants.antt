@@ -2,7 +2,7 @@
 use Rattle.std.proofs.Common.{◌≡◌, ◌&&◌, ◌||◌}
 use Rattle.tabled_object.specs.declared.position.Position.{Position}
 use Rattle.tabled_object.specs.Entities.{is_inside}
-use Rattle.tabled_grid.specs.Table.{table}
+use Rattle.tabled_kept.specs.Table.{table}
 use Rattle.tabled_layout.specs.Spans.{position_cmp}
 use Rattle.tabled_layout.specs.Covering.{within_columns, within_its_rows}
 use Rattle.tabled_correction.specs.Covered.{has, covered_by}

@@ -1,6 +1,6 @@
 use Rattle.std.proofs.Common.{sym, ◌∙◌}
-use Rattle.tabled_grid.specs.Keys.{spots_total, exact_spots}
-use Rattle.tabled_grid.proofs.Tables.{put_and_taken}
+use Rattle.tabled_places.specs.Keys.{spots_total, exact_spots}
+use Rattle.tabled_kept.proofs.Tables.{put_and_taken}
 use Rattle.tabled_grid.proofs.cells.put_cell.Goals as goal
 
 pub returns-then-is_err-clause-err : goal.returns-then-is_err-clause-err

@@ -1,7 +1,7 @@
 use Rattle.std.proofs.Common.{◌≡◌, ◌+◌, ap, ◌∙◌}
 use Rattle.std.specs.FinMap as map
-use Rattle.tabled_grid.specs.Table.{table}
-use Rattle.tabled_grid.specs.Keys.{line_cmp}
+use Rattle.tabled_kept.specs.Table.{table}
+use Rattle.tabled_places.specs.Keys.{line_cmp}
 use Rattle.tabled_grid.specs.Counted.{number_at}
 use Rattle.tabled_grid.proofs.Numbers.{raised, raised_there}
 use Rattle.tabled_grid.proofs.counter.add.Goals as goal

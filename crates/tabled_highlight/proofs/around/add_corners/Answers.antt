@@ -1,6 +1,6 @@
 use Rattle.std.proofs.Common.{ap, refl}
-use Rattle.tabled_grid.specs.declared.site.Spot.TheVariants.{Crossing}
-use Rattle.tabled_grid.specs.Writes.{writes_made}
+use Rattle.tabled_places.specs.declared.site.Spot.TheVariants.{Crossing}
+use Rattle.tabled_places.specs.Writes.{writes_made}
 use Rattle.tabled_grid.proofs.Seen.{on_ok}
 use Rattle.tabled_highlight.specs.Around.{unless}
 use Rattle.tabled_highlight.proofs.Adding.{nothing_more, one_more}

@@ -1,7 +1,7 @@
 use Rattle.std.proofs.Common.{ap, refl}
-use Rattle.tabled_grid.specs.declared.site.Direction.TheVariants.{Horizontal, Vertical}
-use Rattle.tabled_grid.specs.declared.site.Spot.TheVariants.{Edge}
-use Rattle.tabled_grid.specs.Writes.{writes_made}
+use Rattle.tabled_places.specs.declared.site.Direction.TheVariants.{Horizontal, Vertical}
+use Rattle.tabled_places.specs.declared.site.Spot.TheVariants.{Edge}
+use Rattle.tabled_places.specs.Writes.{writes_made}
 use Rattle.tabled_grid.proofs.Seen.{on_ok}
 use Rattle.tabled_highlight.proofs.Adding.{nothing_more, one_more}
 use Rattle.tabled_highlight.proofs.around.add_sides.Goals as goal

@@ -1,5 +1,5 @@
 use Rattle.std.proofs.Common.{sym, option_copied, ◌∙◌}
-use Rattle.tabled_grid.proofs.EntityBorders.{nothing_written}
+use Rattle.tabled_places.proofs.EntityBorders.{nothing_written}
 use Rattle.tabled_highlight.specs.Around.{written_around}
 use Rattle.tabled_highlight.specs.Highlighting.{drawn_with}
 use Rattle.tabled_highlight.proofs.around.outline_writes.Goals as goal

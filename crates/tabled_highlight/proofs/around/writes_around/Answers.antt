@@ -1,5 +1,5 @@
 use Rattle.std.proofs.Common.{ap, option_copied, ◌++◌, ◌∙◌}
-use Rattle.tabled_grid.proofs.EntityBorders.{nothing_written}
+use Rattle.tabled_places.proofs.EntityBorders.{nothing_written}
 use Rattle.tabled_highlight.specs.Around.{has, written_around_each}
 use Rattle.tabled_highlight.proofs.Adding.{one_cell_more}
 use Rattle.tabled_highlight.proofs.around.writes_around.Goals as goal

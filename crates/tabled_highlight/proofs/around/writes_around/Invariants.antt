@@ -1,6 +1,6 @@
 -- What is written so far, and what is left to be written.
 use Rattle.std.proofs.Common.{◌≡◌, ◌++◌, option_copied}
-use Rattle.tabled_grid.specs.Writes.{writes_made}
+use Rattle.tabled_places.specs.Writes.{writes_made}
 use Rattle.tabled_highlight.specs.Outline.{Outlining}
 use Rattle.tabled_highlight.specs.Around.{has, written_around_each}
 use Rattle.tabled_highlight.proofs.around.writes_around.Given as goal

@@ -1,5 +1,5 @@
 use Rattle.std.proofs.Common.{ap, sym, option_copied, option_map, None, ◌∙◌}
-use Rattle.tabled_grid.proofs.EntityBorders.{nothing_written}
+use Rattle.tabled_places.proofs.EntityBorders.{nothing_written}
 use Rattle.tabled_color.specs.BorderColors.{border_texts}
 use Rattle.tabled_highlight.specs.Around.{written_around}
 use Rattle.tabled_highlight.specs.Highlighting.{drawn_with}

@@ -6,12 +6,12 @@ use Rattle.tabled_settings.specs.Setting.{write_of}
 use Rattle.tabled_grid.proofs.Seen.{on_ok, where_ok}
 use Rattle.tabled_configuration.specs.Colored.{by_cell_color}
 use Rattle.tabled_configuration.specs.EntitiesColored.{entities_colored}
-use Rattle.tabled_printing.specs.Texts.{Table}
+use Rattle.tabled_width.specs.Texts.{Table}
 use Rattle.tabled_color.specs.Shade.{Shade, texts_of}
 use Rattle.tabled_colorization.specs.Turns.{colorization, exact_colorization}
 use Rattle.tabled_formatting.specs.Formatting.{padding_set}
 use Rattle.tabled_formatting.specs.Margins.{margin_colored, shadow_set}
-use Rattle.tabled_text.specs.Sizes.{column_count}
+use Rattle.tabled_measure.specs.Sizes.{column_count}
 use Rattle.tabled_kinds.proofs.Turns.{nothing_yet, then_one, then_those}
 use Rattle.tabled_kinds.proofs.kinds.every_color.Goals as goal
 

@@ -2,8 +2,8 @@
 use Rattle.std.proofs.Common.{length, refl, subst, ◌∙◌}
 use Rattle.tabled_object.specs.declared.dimension.FixedDimension.{FixedDimension}
 use Rattle.tabled_grid.proofs.Seen.{on_ok}
-use Rattle.tabled_printing.specs.Texts.{Table}
-use Rattle.tabled_text.specs.Sizes.{column_count}
+use Rattle.tabled_width.specs.Texts.{Table}
+use Rattle.tabled_measure.specs.Sizes.{column_count}
 use Rattle.tabled_correction.specs.Correction.{correction_events}
 use Rattle.tabled_kinds.specs.EveryKind.{first_targets, other_targets, InTurn}
 use Rattle.tabled_kinds.proofs.Turns.{nothing_yet, then_one, then_those}

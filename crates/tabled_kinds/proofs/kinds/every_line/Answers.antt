@@ -8,12 +8,12 @@ use Rattle.tabled_configuration.specs.Configuration.{all_writes}
 use Rattle.tabled_configuration.specs.Colored.{Changes}
 use Rattle.tabled_text.specs.TextTable.{widths_read, heights_read}
 use Rattle.tabled_printing.specs.Picture.{look}
-use Rattle.tabled_printing.specs.Texts.{Table}
+use Rattle.tabled_width.specs.Texts.{Table}
 use Rattle.tabled_highlight.specs.Highlighting.{highlight_events}
 use Rattle.tabled_options.specs.LineChar.{line_char_events}
 use Rattle.tabled_options.specs.LineText.{text_events}
 use Rattle.tabled_options.specs.NamedLine.{row_line}
-use Rattle.tabled_text.specs.Sizes.{column_count}
+use Rattle.tabled_measure.specs.Sizes.{column_count}
 use Rattle.tabled_kinds.specs.EveryKind.{InTurn}
 use Rattle.tabled_kinds.proofs.Turns.{nothing_yet, then_one, then_those}
 use Rattle.tabled_kinds.proofs.kinds.every_line.Goals as goal

@@ -5,7 +5,7 @@ use Rattle.tabled_object.specs.declared.entity.Entity.TheVariants.{Global, Row}
 use Rattle.tabled_settings.specs.Setting.{write_of}
 use Rattle.tabled_grid.proofs.Seen.{on_ok, where_ok}
 use Rattle.tabled_configuration.specs.Colored.{by_cell_color}
-use Rattle.tabled_printing.specs.Texts.{Table}
+use Rattle.tabled_width.specs.Texts.{Table}
 use Rattle.tabled_color.specs.Shade.{Shade, texts_of}
 use Rattle.tabled_formatting.specs.Formatting.{justification_set, padding_set}
 use Rattle.tabled_kinds.proofs.Turns.{nothing_yet, then_one, then_those}

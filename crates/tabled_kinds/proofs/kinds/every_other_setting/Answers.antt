@@ -3,8 +3,8 @@ use Rattle.std.proofs.Common.{[], ◌∷◌, length, refl, ◌∙◌}
 use Rattle.tabled_object.specs.declared.dimension.FixedDimension.{FixedDimension}
 use Rattle.tabled_object.specs.declared.entity.Entity.TheVariants.{Global, Column}
 use Rattle.tabled_grid.proofs.Seen.{on_ok}
-use Rattle.tabled_printing.specs.Texts.{Table}
-use Rattle.tabled_text.specs.Sizes.{column_count}
+use Rattle.tabled_width.specs.Texts.{Table}
+use Rattle.tabled_measure.specs.Sizes.{column_count}
 use Rattle.tabled_formatting.specs.Formatting.{alignment_set, strategy_set, trim_set}
 use Rattle.tabled_kinds.specs.EveryKind.{other_colors, whole_colors}
 use Rattle.tabled_kinds.proofs.Turns.{nothing_yet, then_one, then_those}

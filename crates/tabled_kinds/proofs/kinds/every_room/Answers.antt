@@ -3,8 +3,8 @@ use Rattle.std.proofs.Common.{[], ◌∷◌, length, refl, ◌∙◌}
 use Rattle.tabled_object.specs.declared.dimension.FixedDimension.{FixedDimension}
 use Rattle.tabled_object.specs.declared.entity.Entity.TheVariants.{Global, Row, Cell}
 use Rattle.tabled_grid.proofs.Seen.{on_ok}
-use Rattle.tabled_printing.specs.Texts.{Table}
-use Rattle.tabled_text.specs.Sizes.{column_count}
+use Rattle.tabled_width.specs.Texts.{Table}
+use Rattle.tabled_measure.specs.Sizes.{column_count}
 use Rattle.tabled_correction.specs.Span.{span_events}
 use Rattle.tabled_formatting.specs.Formatting.{padding_given}
 use Rattle.tabled_formatting.specs.Margins.{margin_given}

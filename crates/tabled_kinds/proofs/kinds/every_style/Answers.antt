@@ -3,7 +3,7 @@ use Rattle.std.proofs.Common.{[], refl, ◌∙◌}
 use Rattle.tabled_object.specs.declared.dimension.FixedDimension.{FixedDimension}
 use Rattle.tabled_grid.proofs.Seen.{on_ok}
 use Rattle.tabled_configuration.specs.Configuration.{borders_replaced}
-use Rattle.tabled_printing.specs.Texts.{Table}
+use Rattle.tabled_width.specs.Texts.{Table}
 use Rattle.tabled_style.specs.Named.{ready_applied}
 use Rattle.tabled_theme.specs.Events.{theme_applied}
 use Rattle.tabled_kinds.proofs.Turns.{nothing_yet, then_one}

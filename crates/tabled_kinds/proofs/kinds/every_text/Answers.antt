@@ -3,7 +3,7 @@ use Rattle.std.proofs.Common.{[], ◌∷◌, refl, ◌∙◌}
 use Rattle.tabled_object.specs.declared.dimension.FixedDimension.{FixedDimension}
 use Rattle.tabled_object.specs.declared.entity.Entity.TheVariants.{Global, Row, Column, Cell}
 use Rattle.tabled_grid.proofs.Seen.{on_ok}
-use Rattle.tabled_printing.specs.Texts.{Table}
+use Rattle.tabled_width.specs.Texts.{Table}
 use Rattle.tabled_formatting.specs.Formatting.{alignment_set, strategy_set, trim_set, justification_set}
 use Rattle.tabled_kinds.proofs.Turns.{nothing_yet, then_one, then_those}
 use Rattle.tabled_kinds.proofs.kinds.every_text.Goals as goal

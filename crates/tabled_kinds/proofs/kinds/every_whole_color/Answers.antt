@@ -5,10 +5,10 @@ use Rattle.tabled_object.specs.declared.dimension.FixedDimension.{FixedDimension
 use Rattle.tabled_object.specs.declared.entity.Entity.TheVariants.{Column, Row}
 use Rattle.tabled_grid.proofs.Seen.{on_ok}
 use Rattle.tabled_configuration.specs.EntitiesColored.{entities_colored}
-use Rattle.tabled_printing.specs.Texts.{Table}
+use Rattle.tabled_width.specs.Texts.{Table}
 use Rattle.tabled_color.specs.Shade.{texts_of}
 use Rattle.tabled_colorization.specs.Joined.{cells_joined}
-use Rattle.tabled_text.specs.Sizes.{column_count}
+use Rattle.tabled_measure.specs.Sizes.{column_count}
 use Rattle.tabled_kinds.proofs.Turns.{nothing_yet, then_those}
 use Rattle.tabled_kinds.proofs.kinds.every_whole_color.Goals as goal
 

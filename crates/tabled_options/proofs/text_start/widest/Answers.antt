@@ -6,7 +6,7 @@ use Rattle.std.proofs.lemmas.Iterator.Adapters.{option_map_id}
 use Rattle.std.proofs.lemmas.Iterator.Consumers.{max_from_yields_List}
 use Rattle.std.proofs.lemmas.Iterator.Splits.{YieldsList-from_str_split}
 use Rattle.std.proofs.lemmas.List.Folds.{fold-map}
-use Rattle.tabled_printing.specs.Texts.{pieces, width_of_text}
+use Rattle.tabled_width.specs.Texts.{pieces, width_of_text}
 use Rattle.tabled_options.proofs.text_start.widest.Goals as goal
 
 greatest : (ns : List ℕ) → unwrap_or (reduce max ns) 0 ≡ fold max 0 ns

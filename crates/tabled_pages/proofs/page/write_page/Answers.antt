@@ -4,7 +4,7 @@ use Rattle.std.specs.Io.KnownBytes.{Appends}
 use Rattle.std.proofs.KnownBytes.{Appends-nil}
 use Rattle.std.proofs.lemmas.Bool.Decides.{nat_tests}
 use Rattle.std.proofs.lemmas.Result.{on_ok_weaker}
-use Rattle.tabled_printing.specs.Texts.{Table}
+use Rattle.tabled_width.specs.Texts.{Table}
 use Rattle.tabled_text.specs.TextTable.{text_of}
 use Rattle.tabled_pages.specs.Input.{fault_of, have_equal_counts, rows_of}
 use Rattle.tabled_pages.specs.Style.{styled}

@@ -1,7 +1,7 @@
 -- What is kept at the position.
 use Rattle.std.proofs.Common.{max, unwrap_or, sym, ap, ◌∙◌}
 use Rattle.tabled_object.specs.contracts.position.PositionOrd.TheImpl.Laws.{total-law}
-use Rattle.tabled_grid.proofs.Tables.{get-table}
+use Rattle.tabled_kept.proofs.Tables.{get-table}
 use Rattle.tabled_layout.proofs.SpanLemmas.{positions_apart}
 use Rattle.tabled_painting.proofs.spans_of.span_at.Goals as goal
 

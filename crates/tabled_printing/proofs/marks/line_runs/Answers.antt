@@ -1,6 +1,6 @@
 -- Each list of events that the configuration shows gives one look, and with it these marks.
 use Rattle.std.proofs.Common.{◌+◌, ◌*◌, ◌++◌, length, ap, subst, ◌∙◌}
-use Rattle.tabled_grid.specs.Probing.{IsRaised}
+use Rattle.tabled_kept.specs.Probing.{IsRaised}
 use Rattle.tabled_configuration.specs.Configuration.{all_writes}
 use Rattle.tabled_printing.specs.Picture.{look, marks_along}
 use Rattle.tabled_printing.specs.LinePieces.{lines_met}

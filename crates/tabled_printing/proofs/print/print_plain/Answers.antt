@@ -3,10 +3,10 @@ use Rattle.std.proofs.Common.{ℕ, List, ◌++◌, ap, sym, ◌∙◌, string_by
 use Rattle.std.specs.List.{flat_map, join_with_byte}
 use Rattle.tabled_configuration.specs.Configuration.{all_writes}
 use Rattle.tabled_printing.specs.Picture.{look, text_lines}
-use Rattle.tabled_printing.specs.Texts.{texts}
+use Rattle.tabled_width.specs.Texts.{texts}
 use Rattle.tabled_printing.proofs.LookLemmas.{own_look}
 use Rattle.tabled_printing.proofs.TextLemmas.{ended, by_result, cut_at_start}
-use Rattle.tabled_printing.proofs.TimesLemmas.{string_len-is}
+use Rattle.tabled_width.proofs.TimesLemmas.{string_len-is}
 use Rattle.tabled_printing.proofs.print.print_plain.Goals as goal
 
 pub truncate-requires : goal.truncate-requires

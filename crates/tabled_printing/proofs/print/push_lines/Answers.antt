@@ -4,7 +4,7 @@ use Rattle.std.specs.List.{flat_map}
 use Rattle.std.proofs.lemmas.Result.{MatchResult-from_err}
 use Rattle.tabled_configuration.specs.Configuration.{all_writes}
 use Rattle.tabled_printing.specs.Picture.{look, text_lines}
-use Rattle.tabled_printing.specs.Texts.{Appends, texts}
+use Rattle.tabled_width.specs.Texts.{Appends, texts}
 use Rattle.tabled_printing.specs.Viewed.{with_colors_if}
 use Rattle.tabled_printing.proofs.TextLemmas.{ended, kept_all}
 use Rattle.tabled_printing.proofs.ViewedLemmas.{kept_lines}

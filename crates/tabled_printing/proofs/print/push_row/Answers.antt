@@ -1,7 +1,7 @@
 -- One more line of text, the line feed that ends it, and one more piece that is taken.
 use Rattle.std.proofs.Common.{ℕ, List, ◌++◌, [], length, map, drop, get_or, ap, ◌∙◌, string_bytes}
 use Rattle.std.proofs.lemmas.List.{take_at}
-use Rattle.tabled_printing.specs.Texts.{pieces}
+use Rattle.tabled_width.specs.Texts.{pieces}
 use Rattle.tabled_printing.specs.Pieces.{lent, first_piece, after_first_piece}
 use Rattle.tabled_printing.specs.Picture.{Look, line_of_pieces, row_line}
 use Rattle.tabled_printing.specs.Viewed.{frame_look}

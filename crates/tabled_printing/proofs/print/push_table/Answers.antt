@@ -5,7 +5,7 @@ use Rattle.std.proofs.lemmas.List.{length-map}
 use Rattle.tabled_object.specs.Entities.{below}
 use Rattle.tabled_printing.specs.Along.{is_empty}
 use Rattle.tabled_printing.specs.Picture.{Look, line_if_drawn, row_lines}
-use Rattle.tabled_printing.specs.Texts.{Appends, texts}
+use Rattle.tabled_width.specs.Texts.{Appends, texts}
 use Rattle.tabled_printing.specs.Viewed.{frame_look}
 use Rattle.tabled_printing.proofs.TextLemmas.{ended, rows_more, rows_closed, written_both, appends_last, texts_at}
 use Rattle.tabled_printing.proofs.print.push_table.Goals as goal

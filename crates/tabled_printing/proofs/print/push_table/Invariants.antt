@@ -3,7 +3,7 @@ use Rattle.std.proofs.Common.{◌≡◌, ◌++◌, [], ◌∷◌, string_bytes, 
 use Rattle.std.specs.List.{flat_map}
 use Rattle.tabled_object.specs.Entities.{below}
 use Rattle.tabled_printing.specs.Picture.{Look, line_if_drawn, row_lines}
-use Rattle.tabled_printing.specs.Texts.{texts}
+use Rattle.tabled_width.specs.Texts.{texts}
 use Rattle.tabled_printing.specs.Viewed.{frame_look}
 use Rattle.tabled_printing.proofs.print.push_table.Given as goal
 

@@ -2,7 +2,7 @@
 use Rattle.std.proofs.Common.{rules, tests, ◌==◌, lit<}
 use Rattle.std.proofs.lemmas.Iterator.Splits.{YieldsList-from_str_split}
 use Rattle.std.proofs.lemmas.Iterator.Search.{all_from_yields_List}
-use Rattle.tabled_printing.specs.Texts.{width_of_text}
+use Rattle.tabled_width.specs.Texts.{width_of_text}
 use Rattle.tabled_printing.proofs.refusals.has_width.Goals as goal
 
 pub returns : goal.returns

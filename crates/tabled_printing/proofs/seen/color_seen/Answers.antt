@@ -1,6 +1,6 @@
 use Rattle.std.proofs.Common.{◌∙◌}
-use Rattle.tabled_grid.specs.State.{state_at}
-use Rattle.tabled_grid.proofs.DrawnLemmas.{value-shown}
+use Rattle.tabled_places.specs.State.{state_at}
+use Rattle.tabled_places.proofs.DrawnLemmas.{value-shown}
 use Rattle.tabled_configuration.specs.Configuration.{colors_of}
 use Rattle.tabled_printing.proofs.MadeInTurn.{lent_shown}
 use Rattle.tabled_printing.proofs.seen.color_seen.Goals as goal

@@ -1,7 +1,7 @@
 use Rattle.std.proofs.Common.{ap, ◌∙◌}
-use Rattle.tabled_grid.specs.Event.{replay}
-use Rattle.tabled_grid.specs.Value.{value}
-use Rattle.tabled_grid.specs.Drawn.{drawn}
+use Rattle.tabled_places.specs.Event.{replay}
+use Rattle.tabled_places.specs.Value.{value}
+use Rattle.tabled_places.specs.Drawn.{drawn}
 use Rattle.tabled_configuration.specs.Configuration.{characters_of, colors_of}
 use Rattle.tabled_printing.proofs.MadeInTurn.{lent_shown}
 use Rattle.tabled_printing.proofs.seen.headline.Goals as goal

@@ -1,5 +1,5 @@
-use Rattle.tabled_grid.specs.State.{state_at}
-use Rattle.tabled_grid.proofs.DrawnLemmas.{drawn-answer}
+use Rattle.tabled_places.specs.State.{state_at}
+use Rattle.tabled_places.proofs.DrawnLemmas.{drawn-answer}
 use Rattle.tabled_configuration.specs.Configuration.{characters_of}
 use Rattle.tabled_printing.proofs.MadeInTurn.{lent_shown}
 use Rattle.tabled_printing.proofs.seen.line_seen.Goals as goal

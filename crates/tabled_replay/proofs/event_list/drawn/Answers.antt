@@ -1,5 +1,5 @@
 use Rattle.std.proofs.Common.{◌<◌, ◌≤◌, is_some, sym, ap, ◌∙◌, arith}
-use Rattle.tabled_grid.specs.Drawn.{number}
+use Rattle.tabled_places.specs.Drawn.{number}
 use Rattle.tabled_replay.proofs.EventListLemmas.{drawn_past, drawn_found, drawn_nowhere}
 use Rattle.tabled_replay.proofs.event_list.drawn.Goals as goal
 

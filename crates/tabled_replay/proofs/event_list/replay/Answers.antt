@@ -1,6 +1,6 @@
 use Rattle.std.proofs.Common.{sym, ap, ◌∙◌}
-use Rattle.tabled_grid.specs.Event.{left_by}
-use Rattle.tabled_grid.proofs.Replay.{replay-nil}
+use Rattle.tabled_places.specs.Event.{left_by}
+use Rattle.tabled_places.proofs.Replay.{replay-nil}
 use Rattle.tabled_replay.proofs.EventListLemmas.{replay_covered, replay_passed}
 use Rattle.tabled_replay.proofs.event_list.replay.Goals as goal
 use Rattle.tabled_replay.proofs.event_list.replay.Goals.{then-covers+in-Write, then-covers+in-Erase, else-covers}

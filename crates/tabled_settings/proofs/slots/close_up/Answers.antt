@@ -4,7 +4,7 @@ use Rattle.tabled_settings.specs.Setting.{same_entity}
 use Rattle.tabled_settings.specs.Slots.{standing, place, HasPlaces}
 use Rattle.tabled_settings.proofs.Placing.{standing-kept, placed-kept}
 use Rattle.tabled_settings.proofs.Holes.{few_by_places, few_kept}
-use Rattle.tabled_settings.proofs.InOrder.{placed_by_map, told_empty, told_other}
+use Rattle.tabled_settings.proofs.InOrder.{placed_by_map, told_other}
 use Rattle.tabled_settings.proofs.slots.close_up.Goals as goal
 
 pub number-requires : goal.number-requires
@@ -23,9 +23,6 @@ returns-then-len-clause-placed g c =
     let kept : c.retain.new.self.items ≡ filter is_some c.args.slots.now.items = filter_same _ is_some _ (λ x b f' k. search rules) _ _ c.retain.ensures.filtered in
     placed_by_map c.number.new.places c.retain.new.self.items (few_kept c.args.slots.now.items c.retain.new.self.items kept (ap standing kept ∙ standing-kept c.args.slots.now.items))
     (subst (HasPlaces c.number.new.places) c.deref.ensures.value c.number.ensures)
-
-pub returns-then-is_empty-clause-few_holes : goal.returns-then-is_empty-clause-few_holes
-returns-then-is_empty-clause-few_holes g c = (c.requires.placed.in_order (told_empty c.args.places.now c.is_empty.result c.is_empty.ensures c.if-is_empty.true)).few_holes
 
 pub returns-then-len-clause-few_holes : goal.returns-then-len-clause-few_holes
 returns-then-len-clause-few_holes g c =

@@ -3,8 +3,8 @@ use Rattle.std.proofs.Common.{◌≡◌, ◌+◌, ◌-◌, if◌then◌else◌}
 use Rattle.std.specs.List.{sum_by}
 use Rattle.tabled_object.specs.Entities.{below}
 use Rattle.tabled_configuration.specs.Configuration.{all_writes, characters_of}
-use Rattle.tabled_grid.specs.Drawn.{drawn}
-use Rattle.tabled_grid.specs.declared.place.LineOf.{LineOf as Line}
+use Rattle.tabled_places.specs.Drawn.{drawn}
+use Rattle.tabled_places.specs.declared.place.LineOf.{LineOf as Line}
 use Rattle.tabled_text.specs.Fitted.{padding_across}
 use Rattle.tabled_text.proofs.fitting.beside_columns.Given as goal
 

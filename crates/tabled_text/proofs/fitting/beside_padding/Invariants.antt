@@ -2,7 +2,7 @@
 use Rattle.std.proofs.Common.{◌≡◌, ◌+◌, ◌-◌, map}
 use Rattle.tabled_object.specs.Entities.{below, position}
 use Rattle.tabled_settings.specs.Live.{value_at}
-use Rattle.tabled_text.specs.Sizes.{greatest}
+use Rattle.tabled_measure.specs.Sizes.{greatest}
 use Rattle.tabled_text.proofs.fitting.beside_padding.Given as goal
 
 abbrev pub invariant-loop-row : goal.invariant-loop-row

@@ -1,5 +1,5 @@
 use Rattle.std.proofs.Common.{if◌then◌else◌, sym, ap, ◌∙◌}
-use Rattle.tabled_grid.specs.declared.place.LineOf.{LineOf as Line}
+use Rattle.tabled_places.specs.declared.place.LineOf.{LineOf as Line}
 use Rattle.tabled_printing.proofs.LookLemmas.{own_drawn}
 use Rattle.tabled_text.proofs.fitting.line_width.Goals as goal
 

@@ -5,7 +5,7 @@ use Rattle.std.proofs.lemmas.Bool.Decides.{nat_tests}
 use Rattle.tabled_object.specs.Entities.{below}
 use Rattle.tabled_text.proofs.Frames.{line_kept, frame_kept, frame_none}
 use Rattle.tabled_text.specs.Fitted.{frame_width, padding_across}
-use Rattle.tabled_text.specs.Sizes.{column_count}
+use Rattle.tabled_measure.specs.Sizes.{column_count}
 use Rattle.tabled_text.proofs.fitting.room_for_texts.Goals as goal
 
 pub returns-then-rows-eq0 : goal.returns-then-rows-eq0

@@ -1,7 +1,7 @@
 -- A piece has as many bytes for each of its characters.
 use Rattle.std.proofs.Common.{refl, ◌∙◌, rules}
 use Rattle.std.specs.Char.{IsScalar}
-use Rattle.tabled_printing.proofs.TimesLemmas.{bytes_of_each, part_of, part_split}
+use Rattle.tabled_width.proofs.TimesLemmas.{bytes_of_each, part_of, part_split}
 use Rattle.tabled_text.proofs.stream.part_of.Goals as goal
 
 pub range-requires-clause-end_boundary : goal.range-requires-clause-end_boundary

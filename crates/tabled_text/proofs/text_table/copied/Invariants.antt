@@ -1,6 +1,6 @@
 -- The rows so far.
 use Rattle.std.proofs.Common.{◌≡◌, take}
-use Rattle.tabled_printing.specs.Texts.{texts}
+use Rattle.tabled_width.specs.Texts.{texts}
 use Rattle.tabled_text.specs.TextTable.{lent_rows}
 use Rattle.tabled_text.proofs.text_table.copied.Given as goal
 

@@ -1,10 +1,10 @@
 use Rattle.std.proofs.Common.{refl}
 use lib.Utf8.{encode}
-use Rattle.tabled_grid.specs.Event.{replay}
-use Rattle.tabled_grid.specs.Value.{value}
-use Rattle.tabled_grid.specs.Drawn.{drawn}
-use Rattle.tabled_grid.specs.State.{class_record_set, class_writes, classes}
-use Rattle.tabled_grid.specs.Lines.{horizontal_line_set, vertical_line_set}
+use Rattle.tabled_places.specs.Event.{replay}
+use Rattle.tabled_places.specs.Value.{value}
+use Rattle.tabled_places.specs.Drawn.{drawn}
+use Rattle.tabled_places.specs.State.{class_record_set, class_writes, classes}
+use Rattle.tabled_places.specs.Lines.{horizontal_line_set, vertical_line_set}
 use Rattle.tabled_configuration.specs.Configuration.{borders_set, borders_replaced, horizontal_lines_put, vertical_lines_put}
 use Rattle.tabled_uses.specs.Examples.{text_of, down_both_sides, all_cleared, boxed_cell, corner_alone, corner_erased, default_alone}
 use Rattle.tabled_uses.proofs.examples.drawn_lines.Goals as goal

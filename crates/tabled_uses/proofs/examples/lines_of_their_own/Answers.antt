@@ -1,10 +1,10 @@
 use Rattle.std.proofs.Common.{refl}
 use lib.Utf8.{encode}
-use Rattle.tabled_grid.specs.Event.{replay}
-use Rattle.tabled_grid.specs.Value.{value}
-use Rattle.tabled_grid.specs.Drawn.{drawn}
-use Rattle.tabled_grid.specs.State.{class_record_set, class_writes, classes}
-use Rattle.tabled_grid.specs.Lines.{horizontal_line_set, vertical_line_set}
+use Rattle.tabled_places.specs.Event.{replay}
+use Rattle.tabled_places.specs.Value.{value}
+use Rattle.tabled_places.specs.Drawn.{drawn}
+use Rattle.tabled_places.specs.State.{class_record_set, class_writes, classes}
+use Rattle.tabled_places.specs.Lines.{horizontal_line_set, vertical_line_set}
 use Rattle.tabled_configuration.specs.Configuration.{borders_set}
 use Rattle.tabled_uses.specs.Examples.{text_of, markdown_offsets, vertical_line, horizontal_line, line_replaced, inner_intersection, closing_line}
 use Rattle.tabled_uses.proofs.examples.lines_of_their_own.Goals as goal

@@ -1,10 +1,10 @@
 use Rattle.std.proofs.Common.{refl}
 use lib.Utf8.{encode}
-use Rattle.tabled_grid.specs.Event.{replay}
-use Rattle.tabled_grid.specs.Value.{value}
-use Rattle.tabled_grid.specs.Drawn.{drawn}
-use Rattle.tabled_grid.specs.State.{class_record_set, class_writes, classes}
-use Rattle.tabled_grid.specs.Lines.{horizontal_line_set, vertical_line_set}
+use Rattle.tabled_places.specs.Event.{replay}
+use Rattle.tabled_places.specs.Value.{value}
+use Rattle.tabled_places.specs.Drawn.{drawn}
+use Rattle.tabled_places.specs.State.{class_record_set, class_writes, classes}
+use Rattle.tabled_places.specs.Lines.{horizontal_line_set, vertical_line_set}
 use Rattle.tabled_configuration.specs.Configuration.{borders_set}
 use Rattle.tabled_uses.specs.Examples.{text_of, whole_frame, no_rows, one_empty_cell, cells_of_three, offsets_from_start, whole_line, empty_crossing, start_before_end, end_then_start, cell_over_class}
 use Rattle.tabled_uses.proofs.examples.places_and_levels.Goals as goal

@@ -2,11 +2,11 @@
 use Rattle.std.proofs.Common.{refl}
 use lib.Utf8.{encode}
 use Rattle.tabled_object.specs.Entities.{rectangle}
-use Rattle.tabled_grid.specs.Event.{replay}
-use Rattle.tabled_grid.specs.Value.{value}
-use Rattle.tabled_grid.specs.Drawn.{drawn}
-use Rattle.tabled_grid.specs.State.{class_record_set, class_writes, classes}
-use Rattle.tabled_grid.specs.Lines.{horizontal_line_set, vertical_line_set}
+use Rattle.tabled_places.specs.Event.{replay}
+use Rattle.tabled_places.specs.Value.{value}
+use Rattle.tabled_places.specs.Drawn.{drawn}
+use Rattle.tabled_places.specs.State.{class_record_set, class_writes, classes}
+use Rattle.tabled_places.specs.Lines.{horizontal_line_set, vertical_line_set}
 use Rattle.tabled_configuration.specs.Configuration.{borders_set}
 use Rattle.tabled_options.specs.LineChar.{line_char_events}
 use Rattle.tabled_uses.specs.Examples.{text_of}

@@ -3,7 +3,7 @@ use Rattle.std.proofs.Common.{◌≡◌, ◌+◌, ◌&&◌, length, chars, sum, 
 use Rattle.std.specs.Prelude.{nat_le}
 use Rattle.std.proofs.lemmas.Iterator.{YieldsList-from_chars}
 use Rattle.std.proofs.lemmas.Iterator.Consumers.{count_from_yields_List}
-use Rattle.tabled_text.specs.Sizes.{column_widths}
+use Rattle.tabled_measure.specs.Sizes.{column_widths}
 use Rattle.tabled_viewing.proofs.captions.has_room.Goals as goal
 
 pub returns-then-all_take_one : goal.returns-then-all_take_one

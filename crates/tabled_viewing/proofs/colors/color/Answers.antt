@@ -3,7 +3,7 @@ use Rattle.std.proofs.Common.{if◌then◌else◌, [], subst, ◌∙◌}
 use Rattle.tabled_configuration.specs.ChangeLaws.{both_change}
 use Rattle.tabled_configuration.specs.Colored.{Changes}
 use Rattle.tabled_grid.proofs.Seen.{on_ok}
-use Rattle.tabled_printing.specs.Texts.{Table}
+use Rattle.tabled_width.specs.Texts.{Table}
 use Rattle.tabled_viewing.specs.Colors.{emboldened, frame_colored}
 use Rattle.tabled_viewing.proofs.colors.color.Goals as goal
 

@@ -4,7 +4,7 @@ use Rattle.tabled_configuration.specs.Colored.{Changes}
 use Rattle.tabled_configuration.specs.EntitiesColored.{entities_colored}
 use Rattle.tabled_colorization.specs.Turns.{Colorizing, colorization}
 use Rattle.tabled_grid.proofs.Seen.{on_ok}
-use Rattle.tabled_text.specs.Sizes.{column_count}
+use Rattle.tabled_measure.specs.Sizes.{column_count}
 use Rattle.tabled_viewing.specs.Colors.{striped}
 use Rattle.tabled_viewing.proofs.Applied.{unwanted, wanted}
 use Rattle.tabled_viewing.proofs.colors.stripe.Goals as goal

@@ -4,7 +4,7 @@ use Rattle.tabled_configuration.specs.Colored.{Shows}
 use Rattle.tabled_configuration.specs.Configuration.{borders_replaced}
 use Rattle.tabled_configuration.proofs.ColoredLemmas.{Shows_after_change_colored}
 use Rattle.tabled_grid.proofs.Seen.{on_ok}
-use Rattle.tabled_grid.specs.declared.borders.Borders.{Borders}
+use Rattle.tabled_places.specs.declared.borders.Borders.{Borders}
 use Rattle.tabled_object.specs.declared.records.Shape.{Shape}
 use Rattle.tabled_style.specs.Named.{shown, ready_applied}
 use Rattle.tabled_viewing.specs.View.{has_header_line}

@@ -3,7 +3,7 @@ use Rattle.std.proofs.Common.{length, map, string_bytes, subst}
 use Rattle.tabled_configuration.specs.Colored.{Changes}
 use Rattle.tabled_configuration.proofs.ColoredLemmas.{Shows_after_change_colored}
 use Rattle.tabled_grid.proofs.Seen.{on_ok}
-use Rattle.tabled_printing.specs.Texts.{Table}
+use Rattle.tabled_width.specs.Texts.{Table}
 use Rattle.tabled_viewing.specs.Outlines.{outlines}
 use Rattle.tabled_viewing.specs.View.{drawn}
 use Rattle.tabled_viewing.proofs.drawing.draw_borders.Goals as goal

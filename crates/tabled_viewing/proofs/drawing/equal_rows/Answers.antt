@@ -1,6 +1,6 @@
 -- Rows are refused where their counts differ.
 use Rattle.std.proofs.Common.{refl, ap, ◌∙◌, inr, Err}
-use Rattle.tabled_printing.specs.Texts.{texts}
+use Rattle.tabled_width.specs.Texts.{texts}
 use Rattle.tabled_viewing.proofs.Faults.{taken_equal, refused_unequal}
 use Rattle.tabled_viewing.proofs.drawing.equal_rows.Goals as goal
 

@@ -2,7 +2,7 @@
 use Rattle.std.proofs.Common.{◌≡◌, ◌≤◌, ℕ, Some, None, sym, subst, ◌∙◌}
 use Rattle.tabled_grid.proofs.Seen.{on_ok}
 use Rattle.tabled_painting.specs.Widths.{text_width}
-use Rattle.tabled_text.specs.Cells.{margin_set}
+use Rattle.tabled_measure.specs.Cells.{margin_set}
 use Rattle.tabled_text.specs.Fitted.{least_width}
 use Rattle.tabled_text.specs.TextTable.{look_of}
 use Rattle.tabled_viewing.proofs.drawing.fit.Goals as goal

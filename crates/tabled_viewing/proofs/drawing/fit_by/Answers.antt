@@ -3,7 +3,7 @@ use Rattle.std.proofs.Common.{◌-◌, ◌≤◌, Bool, if◌then◌else◌, sub
 use Rattle.std.specs.Cmp.{first_so}
 use Rattle.tabled_grid.proofs.Seen.{on_ok}
 use Rattle.tabled_painting.specs.Widths.{text_width}
-use Rattle.tabled_text.specs.Cells.{margin_set, sets_no_padding, sets_no_spans}
+use Rattle.tabled_measure.specs.Cells.{margin_set, sets_no_padding, sets_no_spans}
 use Rattle.tabled_text.specs.Fitted.{frame_width}
 use Rattle.tabled_text.specs.TextTable.{look_of, look_with_spans}
 use Rattle.tabled_text.proofs.Totals.{printable_can_share}

@@ -2,8 +2,8 @@
 use Rattle.std.proofs.Common.{◌≤◌, ℕ, Option, map, string_bytes, sym, subst, ◌∙◌}
 use Rattle.tabled_configuration.specs.Colored.{Colored, Shows}
 use Rattle.tabled_grid.proofs.Seen.{on_ok}
-use Rattle.tabled_printing.specs.Texts.{Table}
-use Rattle.tabled_text.specs.Changed.{CellsArePrintable}
+use Rattle.tabled_width.specs.Texts.{Table}
+use Rattle.tabled_measure.specs.Changed.{CellsArePrintable}
 use Rattle.tabled_text.specs.Fitted.{least_width}
 use Rattle.tabled_viewing.specs.View.{IsWithin, framed}
 use Rattle.tabled_viewing.proofs.OnLines.{leaves}

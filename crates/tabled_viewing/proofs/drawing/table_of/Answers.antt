@@ -1,8 +1,8 @@
 -- The texts, cleaned or not.
 use Rattle.std.proofs.Common.{if◌then◌else◌, ap, ◌∙◌}
 use Rattle.tabled_clean.specs.Steering.{cleaned}
-use Rattle.tabled_printing.specs.Texts.{Table}
-use Rattle.tabled_text.specs.Changed.{cells_changed, each_text}
+use Rattle.tabled_width.specs.Texts.{Table}
+use Rattle.tabled_measure.specs.Changed.{cells_changed, each_text}
 use Rattle.tabled_viewing.specs.View.{texts_asked}
 use Rattle.tabled_viewing.proofs.drawing.table_of.Goals as goal
 

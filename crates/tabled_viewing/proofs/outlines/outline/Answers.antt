@@ -3,7 +3,7 @@ use Rattle.std.proofs.Common.{Option, List, ℕ, map, string_bytes, subst}
 use Rattle.tabled_configuration.specs.ChangeLaws.{both_change}
 use Rattle.tabled_configuration.specs.Colored.{Changes}
 use Rattle.tabled_grid.proofs.Seen.{on_ok}
-use Rattle.tabled_printing.specs.Texts.{Table}
+use Rattle.tabled_width.specs.Texts.{Table}
 use Rattle.tabled_request.specs.Words.{word_at}
 use Rattle.tabled_viewing.specs.Outlines.{outlined}
 use Rattle.tabled_viewing.specs.declared.outlines.Choosing.TheVariants.{ByPlace, ByText}

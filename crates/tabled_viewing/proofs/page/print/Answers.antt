@@ -4,8 +4,8 @@ use Rattle.std.specs.Io.KnownBytes.{Appends}
 use Rattle.tabled_grid.proofs.Seen.{on_ok}
 use Rattle.tabled_painting.specs.PaintedTable.{colored_text}
 use Rattle.tabled_painting.specs.Widths.{text_width}
-use Rattle.tabled_printing.specs.Columns.{IsRectangle}
-use Rattle.tabled_text.specs.Cells.{margin_set}
+use Rattle.tabled_width.specs.Narrow.{IsRectangle}
+use Rattle.tabled_measure.specs.Cells.{margin_set}
 use Rattle.tabled_text.specs.TextTable.{look_of, look_with_spans, painted, text_of}
 use Rattle.tabled_text.proofs.SpannedEven.{apart_alone, stand_apart}
 use Rattle.tabled_viewing.proofs.page.print.Goals as goal

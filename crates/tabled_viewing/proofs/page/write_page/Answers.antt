@@ -4,7 +4,7 @@ use Rattle.std.proofs.KnownBytes.{Appends-nil}
 use Rattle.std.proofs.lemmas.Bool.Decides.{nat_tests}
 use Rattle.std.proofs.lemmas.List.{length-map}
 use Rattle.tabled_grid.proofs.Seen.{on_ok}
-use Rattle.tabled_printing.specs.Texts.{Table, texts}
+use Rattle.tabled_width.specs.Texts.{Table, texts}
 use Rattle.tabled_viewing.specs.View.{IsPage}
 use Rattle.tabled_viewing.proofs.Faults.{none_without}
 use Rattle.tabled_viewing.proofs.Pages.{view_none, view_some}

@@ -3,9 +3,10 @@ use Rattle.std.proofs.Common.{◌≡◌, ◌++◌, ◌∷◌, [], Bool, List, �
 use Rattle.tabled_configuration.specs.Colored.{Shows}
 use Rattle.tabled_configuration.specs.Configuration.{ConfigEvent}
 use Rattle.tabled_painting.specs.Widths.{text_width}
-use Rattle.tabled_printing.specs.Columns.{IsRectangle, WritesNarrow}
-use Rattle.tabled_printing.specs.Texts.{Table}
-use Rattle.tabled_text.specs.Cells.{leaves_sizes, margin_set}
+use Rattle.tabled_width.specs.Narrow.{IsRectangle}
+use Rattle.tabled_printing.specs.Columns.{WritesNarrow}
+use Rattle.tabled_width.specs.Texts.{Table}
+use Rattle.tabled_measure.specs.Cells.{leaves_sizes, margin_set}
 use Rattle.tabled_text.specs.TextTable.{look_of, text_of}
 use Rattle.tabled_viewing.specs.Colors.{aligned, colored_if}
 use Rattle.tabled_viewing.specs.View.{captioned, framed, titled, written}

@@ -1,7 +1,7 @@
 -- The style's name is tested first, then the input is read, and its page is written last.
 use Rattle.std.proofs.Common.{map, string_bytes}
 use Rattle.tabled_grid.proofs.Seen.{on_ok}
-use Rattle.tabled_printing.specs.Texts.{texts}
+use Rattle.tabled_width.specs.Texts.{texts}
 use Rattle.tabled_viewing.proofs.Faults.{not_written}
 use Rattle.tabled_viewing.proofs.Results.{if_err}
 use Rattle.tabled_viewing.proofs.Views.{as_passed, good_read, good_whole, not_passed, refused_bytes, refused_later, refused_style, refused_written, view_read, view_written}

@@ -2,7 +2,7 @@
 use Rattle.std.proofs.Common.{ℕ, map, String, string_bytes, Global, ap, ◌∙◌, arith}
 use Rattle.std.specs.declared.vec.Vec.{Vec}
 use Rattle.std.specs.List.{insert}
-use Rattle.tabled_printing.specs.Texts.{Table, texts}
+use Rattle.tabled_width.specs.Texts.{Table, texts}
 use Rattle.tabled_rows.proofs.RowLemmas.{insert-map, insert-min}
 use Rattle.tabled_builder.proofs.builder.Builder.insert_record.Goals as goal
 

@@ -3,7 +3,7 @@ use Rattle.std.proofs.Common.{◌≡◌, map, length, String, string_bytes, Glob
 use Rattle.std.specs.declared.vec.Vec.{Vec}
 use Rattle.std.specs.List.{remove, slice_get}
 use Rattle.std.proofs.lemmas.Option.{slice_get-map, slice_get_read}
-use Rattle.tabled_printing.specs.Texts.{Table, texts}
+use Rattle.tabled_width.specs.Texts.{Table, texts}
 use Rattle.tabled_rows.proofs.RowLemmas.{remove-map}
 use Rattle.tabled_builder.proofs.builder.Builder.remove_record.Goals as goal
 

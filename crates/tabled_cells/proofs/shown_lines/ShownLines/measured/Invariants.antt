@@ -1,6 +1,6 @@
 -- The lines stay, and the widest so far is known.
 use Rattle.std.proofs.Common.{◌≡◌, map, take}
-use Rattle.tabled_printing.specs.Texts.{width_of_text}
+use Rattle.tabled_width.specs.Texts.{width_of_text}
 use Rattle.tabled_cells.specs.Placed.{greatest}
 use Rattle.tabled_cells.specs.Shown.{shown}
 use Rattle.tabled_cells.proofs.shown_lines.ShownLines.measured.Given as goal

@@ -1,6 +1,6 @@
 -- The writes so far.
 use Rattle.std.proofs.Common.{◌≡◌, ◌++◌}
-use Rattle.tabled_grid.specs.Writes.{writes_made}
+use Rattle.tabled_places.specs.Writes.{writes_made}
 use Rattle.tabled_color.specs.Coloring.{line_colored}
 use Rattle.tabled_color.proofs.border_color.option.add_line.Given as goal
 

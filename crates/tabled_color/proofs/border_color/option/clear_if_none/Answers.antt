@@ -1,5 +1,5 @@
 use Rattle.std.proofs.Common.{sym, subst}
-use Rattle.tabled_grid.specs.Calls.{spot_of}
+use Rattle.tabled_places.specs.Calls.{spot_of}
 use Rattle.tabled_configuration.specs.Configuration.{Changes, by_colors}
 use Rattle.tabled_configuration.specs.ChangeLaws.{none_change_borders}
 use Rattle.tabled_color.specs.Coloring.{spot_cleared}

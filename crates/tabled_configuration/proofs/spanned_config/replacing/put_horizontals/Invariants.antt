@@ -1,6 +1,6 @@
 use Rattle.std.proofs.Common.{take}
-use Rattle.tabled_grid.specs.Event as grid
-use Rattle.tabled_grid.specs.State.{state_at}
+use Rattle.tabled_places.specs.Event as grid
+use Rattle.tabled_places.specs.State.{state_at}
 use Rattle.tabled_configuration.specs.Configuration.{horizontal_lines_put}
 use Rattle.tabled_configuration.proofs.spanned_config.replacing.put_horizontals.Given as goal
 

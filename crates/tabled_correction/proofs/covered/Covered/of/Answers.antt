@@ -1,5 +1,5 @@
 use Rattle.std.proofs.Common.{subst}
-use Rattle.tabled_grid.specs.Table.{table}
+use Rattle.tabled_kept.specs.Table.{table}
 use Rattle.tabled_layout.specs.Spans.{SpanMap, position_cmp}
 use Rattle.tabled_layout.specs.Covering.{covered_by_column_span, covered_by_row_span, covered_by_both_spans}
 use Rattle.tabled_correction.specs.Covered.{AreThose}

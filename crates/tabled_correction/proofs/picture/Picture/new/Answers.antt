@@ -1,5 +1,5 @@
-use Rattle.tabled_grid.specs.State.{state_at}
-use Rattle.tabled_grid.specs.Value.{plain_value}
+use Rattle.tabled_places.specs.State.{state_at}
+use Rattle.tabled_places.specs.Value.{plain_value}
 use Rattle.tabled_correction.specs.Correction.{spanned}
 use Rattle.tabled_correction.proofs.Pictures.{nothing_written_over}
 use Rattle.tabled_correction.proofs.picture.Picture.new.Goals as goal

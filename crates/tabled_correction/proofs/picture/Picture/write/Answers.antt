@@ -1,5 +1,5 @@
-use Rattle.tabled_grid.specs.State.{state_at}
-use Rattle.tabled_grid.specs.Value.{plain_value}
+use Rattle.tabled_places.specs.State.{state_at}
+use Rattle.tabled_places.specs.Value.{plain_value}
 use Rattle.tabled_grid.proofs.Seen.{on_ok}
 use Rattle.tabled_correction.specs.Picture.{pictured}
 use Rattle.tabled_correction.proofs.Pictures.{shown_after}

@@ -1,4 +1,4 @@
-use Rattle.tabled_grid.proofs.Changing.{cells_erased}
+use Rattle.tabled_places.proofs.Changing.{cells_erased}
 use Rattle.tabled_grid.proofs.CountedLemmas.{no_cells_counted}
 use Rattle.tabled_grid.proofs.Seen.{seen, changed, with_cells}
 use Rattle.tabled_grid.proofs.layers.Layers+T.erase_cells.Goals as goal

@@ -1,8 +1,8 @@
 -- A record with nothing stays, and any other gives way to one with nothing.
 use Rattle.std.proofs.Common.{refl, sym, subst, ◌∙◌}
-use Rattle.tabled_grid.specs.State.{HasNothing}
-use Rattle.tabled_grid.proofs.ClassWrites.{nothing_in}
-use Rattle.tabled_grid.proofs.Changing.{class_erased}
+use Rattle.tabled_places.specs.State.{HasNothing}
+use Rattle.tabled_places.proofs.ClassWrites.{nothing_in}
+use Rattle.tabled_places.proofs.Changing.{class_erased}
 use Rattle.tabled_grid.proofs.Seen.{seen, changed}
 use Rattle.tabled_grid.proofs.layers.Layers+T.erase_class.Goals as goal
 

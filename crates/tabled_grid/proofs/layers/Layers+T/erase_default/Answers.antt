@@ -1,5 +1,5 @@
 use Rattle.std.proofs.Common.{None}
-use Rattle.tabled_grid.proofs.Changing.{default_erased}
+use Rattle.tabled_places.proofs.Changing.{default_erased}
 use Rattle.tabled_grid.proofs.Seen.{seen, changed, with_default}
 use Rattle.tabled_grid.proofs.layers.Layers+T.erase_default.Goals as goal
 

@@ -1,4 +1,4 @@
-use Rattle.tabled_grid.proofs.Changing.{horizontal_offsets_erased}
+use Rattle.tabled_places.proofs.Changing.{horizontal_offsets_erased}
 use Rattle.tabled_grid.proofs.Seen.{seen, changed, with_horizontal_offsets}
 use Rattle.tabled_grid.proofs.layers.Layers+T.erase_horizontal_offsets.Goals as goal
 

@@ -1,5 +1,5 @@
 use Rattle.std.proofs.Common.{◌∙◌}
-use Rattle.tabled_grid.proofs.Changing.{lines_erased}
+use Rattle.tabled_places.proofs.Changing.{lines_erased}
 use Rattle.tabled_grid.proofs.CountedLemmas.{no_lines_counted}
 use Rattle.tabled_grid.proofs.Seen.{seen, changed, with_lines}
 use Rattle.tabled_grid.proofs.layers.Layers+T.erase_lines.Goals as goal

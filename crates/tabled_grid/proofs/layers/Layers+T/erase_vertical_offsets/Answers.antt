@@ -1,4 +1,4 @@
-use Rattle.tabled_grid.proofs.Changing.{vertical_offsets_erased}
+use Rattle.tabled_places.proofs.Changing.{vertical_offsets_erased}
 use Rattle.tabled_grid.proofs.Seen.{seen, changed, with_vertical_offsets}
 use Rattle.tabled_grid.proofs.layers.Layers+T.erase_vertical_offsets.Goals as goal
 

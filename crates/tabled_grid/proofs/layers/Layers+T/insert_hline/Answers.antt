@@ -1,4 +1,4 @@
-use Rattle.tabled_grid.proofs.Changing.{horizontal_line_put}
+use Rattle.tabled_places.proofs.Changing.{horizontal_line_put}
 use Rattle.tabled_grid.proofs.Seen.{seen, changed, on_ok, with_horizontal}
 use Rattle.tabled_grid.proofs.layers.Layers+T.insert_hline.Goals as goal
 

@@ -1,4 +1,4 @@
-use Rattle.tabled_grid.proofs.Changing.{vertical_line_put}
+use Rattle.tabled_places.proofs.Changing.{vertical_line_put}
 use Rattle.tabled_grid.proofs.Seen.{seen, changed, on_ok, with_vertical}
 use Rattle.tabled_grid.proofs.layers.Layers+T.insert_vline.Goals as goal
 

@@ -1,6 +1,6 @@
 use Rattle.std.proofs.Common.{◌∙◌}
-use Rattle.tabled_grid.proofs.ClassWrites.{nothing_in}
-use Rattle.tabled_grid.proofs.Changing.{nothing_shown}
+use Rattle.tabled_places.proofs.ClassWrites.{nothing_in}
+use Rattle.tabled_places.proofs.Changing.{nothing_shown}
 use Rattle.tabled_grid.proofs.CountedLemmas.{no_cells_counted, no_lines_counted}
 use Rattle.tabled_grid.proofs.layers.Layers+T.new.Goals as goal
 

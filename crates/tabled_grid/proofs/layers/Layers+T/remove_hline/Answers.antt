@@ -1,4 +1,4 @@
-use Rattle.tabled_grid.proofs.Changing.{horizontal_line_taken}
+use Rattle.tabled_places.proofs.Changing.{horizontal_line_taken}
 use Rattle.tabled_grid.proofs.Seen.{seen, changed, with_horizontal}
 use Rattle.tabled_grid.proofs.layers.Layers+T.remove_hline.Goals as goal
 

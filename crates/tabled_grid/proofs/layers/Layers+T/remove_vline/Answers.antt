@@ -1,4 +1,4 @@
-use Rattle.tabled_grid.proofs.Changing.{vertical_line_taken}
+use Rattle.tabled_places.proofs.Changing.{vertical_line_taken}
 use Rattle.tabled_grid.proofs.Seen.{seen, changed, with_vertical}
 use Rattle.tabled_grid.proofs.layers.Layers+T.remove_vline.Goals as goal
 

@@ -1,4 +1,4 @@
-use Rattle.tabled_grid.proofs.Changing.{class_put}
+use Rattle.tabled_places.proofs.Changing.{class_put}
 use Rattle.tabled_grid.proofs.Seen.{seen, changed, with_class}
 use Rattle.tabled_grid.proofs.layers.Layers+T.set_class.Goals as goal
 

@@ -1,5 +1,5 @@
 use Rattle.std.proofs.Common.{Some}
-use Rattle.tabled_grid.proofs.Changing.{default_set}
+use Rattle.tabled_places.proofs.Changing.{default_set}
 use Rattle.tabled_grid.proofs.Seen.{seen, changed, with_default}
 use Rattle.tabled_grid.proofs.layers.Layers+T.set_default.Goals as goal
 

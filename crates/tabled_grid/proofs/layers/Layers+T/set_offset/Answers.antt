@@ -1,7 +1,7 @@
 use Rattle.std.proofs.Common.{ap}
-use Rattle.tabled_grid.specs.State.{state_at}
-use Rattle.tabled_grid.specs.Calls.{offset_set}
-use Rattle.tabled_grid.proofs.Replay.{Changes-nil}
+use Rattle.tabled_places.specs.State.{state_at}
+use Rattle.tabled_places.specs.Calls.{offset_set}
+use Rattle.tabled_places.proofs.Replay.{Changes-nil}
 use Rattle.tabled_grid.proofs.Seen.{as_events}
 use Rattle.tabled_grid.proofs.layers.Layers+T.set_offset.Goals as goal
 

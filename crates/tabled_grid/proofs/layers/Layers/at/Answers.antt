@@ -1,6 +1,6 @@
 use Rattle.std.proofs.Common.{sym, ◌∙◌}
-use Rattle.tabled_grid.specs.declared.place.LineOf.{LineOf}
-use Rattle.tabled_grid.proofs.LookUps.{value_outside, at_edge, at_crossing}
+use Rattle.tabled_places.specs.declared.place.LineOf.{LineOf}
+use Rattle.tabled_places.proofs.LookUps.{value_outside, at_edge, at_crossing}
 use Rattle.tabled_grid.proofs.layers.Layers.at.Goals as goal
 
 pub returns-then-not-is_inside-clause-value : goal.returns-then-not-is_inside-clause-value

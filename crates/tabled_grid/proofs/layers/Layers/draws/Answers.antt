@@ -1,6 +1,6 @@
 use Rattle.std.proofs.Common.{true, sym, subst, ◌∙◌, ◌↔◌, IsTrue, arith}
-use Rattle.tabled_grid.specs.Drawn.{Drawn}
-use Rattle.tabled_grid.specs.State.{state_at}
+use Rattle.tabled_places.specs.Drawn.{Drawn}
+use Rattle.tabled_places.specs.State.{state_at}
 use Rattle.tabled_grid.proofs.DrawnBy.{class_answer}
 use Rattle.tabled_grid.proofs.Seen.{seen}
 use Rattle.tabled_grid.proofs.layers.Layers.draws.Goals as goal

@@ -1,6 +1,6 @@
 use Rattle.std.proofs.Common.{is_some, ap, subst, ◌∙◌, ◌↔◌, IsTrue}
-use Rattle.tabled_grid.specs.Drawn.{Drawn}
-use Rattle.tabled_grid.specs.State.{state_at, class_draws}
+use Rattle.tabled_places.specs.Drawn.{Drawn}
+use Rattle.tabled_places.specs.State.{state_at, class_draws}
 use Rattle.tabled_grid.proofs.DrawnBy.{row_left, col_left}
 use Rattle.tabled_grid.proofs.Seen.{seen}
 use Rattle.tabled_grid.proofs.layers.Layers.draws_above.Goals as goal

@@ -2,9 +2,9 @@
 use Rattle.std.proofs.Common.{◌≡◌, ◌↔◌, IsFalse, nat_lt, true, ap, subst, ◌∙◌}
 use Rattle.std.specs.Prelude.{None, unwrap_or}
 use Rattle.std.specs.FinMap as map
-use Rattle.tabled_grid.specs.Drawn.{lies_on}
-use Rattle.tabled_grid.specs.Keys.{spot_cmp}
-use Rattle.tabled_grid.specs.Site.{Spot}
+use Rattle.tabled_places.specs.Drawn.{lies_on}
+use Rattle.tabled_places.specs.Keys.{spot_cmp}
+use Rattle.tabled_places.specs.declared.site.Spot.{Spot}
 use Rattle.tabled_grid.proofs.CountedLemmas.{none_on_line}
 use Rattle.tabled_grid.proofs.layers.Layers.has_cells_on.Goals as goal
 

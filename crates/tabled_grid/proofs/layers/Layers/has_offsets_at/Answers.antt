@@ -1,7 +1,8 @@
 -- Of the direction's offsets.
 use Rattle.std.proofs.Common.{◌↔◌, IsFalse, sym, subst}
-use Rattle.tabled_grid.specs.Site.{Direction, Horizontal, Vertical}
-use Rattle.tabled_grid.specs.State.{State, HasNoOffsetsAt}
+use Rattle.tabled_places.specs.declared.site.Direction.{Direction}
+use Rattle.tabled_places.specs.declared.site.Direction.TheVariants.{Horizontal, Vertical}
+use Rattle.tabled_places.specs.State.{State, HasNoOffsetsAt}
 use Rattle.tabled_grid.proofs.layers.Layers.has_offsets_at.Goals as goal
 
 pub returns-in-Horizontal-clause-value : goal.returns-in-Horizontal-clause-value

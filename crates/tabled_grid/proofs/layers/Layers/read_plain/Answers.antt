@@ -1,6 +1,6 @@
 use Rattle.std.proofs.Common.{sym, ◌∙◌}
-use Rattle.tabled_grid.specs.declared.place.LineOf.{LineOf}
-use Rattle.tabled_grid.proofs.LookUps.{plain_outside, plain_at_edge, plain_at_crossing}
+use Rattle.tabled_places.specs.declared.place.LineOf.{LineOf}
+use Rattle.tabled_places.proofs.LookUps.{plain_outside, plain_at_edge, plain_at_crossing}
 use Rattle.tabled_grid.proofs.layers.Layers.read_plain.Goals as goal
 
 pub returns-then-not-has_spot-clause-value : goal.returns-then-not-has_spot-clause-value

@@ -1,8 +1,8 @@
 use Rattle.std.proofs.Common.{[], ◌∷◌, ap, ◌∙◌, zip}
-use Rattle.tabled_grid.specs.CellBorder.{border_fields}
-use Rattle.tabled_grid.specs.Calls.{places_set}
-use Rattle.tabled_grid.specs.Writes.{writes_made}
-use Rattle.tabled_grid.proofs.EntityBorders.{all_at}
+use Rattle.tabled_places.specs.CellBorder.{border_fields}
+use Rattle.tabled_places.specs.Calls.{places_set}
+use Rattle.tabled_places.specs.Writes.{writes_made}
+use Rattle.tabled_places.proofs.EntityBorders.{all_at}
 use Rattle.tabled_grid.proofs.layers.cell_border.writes_around.Goals as goal
 
 pub returns : goal.returns

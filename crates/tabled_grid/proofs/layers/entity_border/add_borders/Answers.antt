@@ -1,16 +1,8 @@
 use Rattle.std.proofs.Common.{◌++◌, ap, sym, ◌∙◌, append_assoc, append-nil}
-use Rattle.tabled_grid.specs.Calls.{border_set, borders_of}
-use Rattle.tabled_grid.specs.Writes.{writes_made}
-use Rattle.tabled_grid.proofs.EntityBorders.{eight_made, borders_inside, borders_outside, no_borders_left, some_inside, none_inside_after}
+use Rattle.tabled_places.specs.Calls.{border_set, borders_of}
+use Rattle.tabled_places.specs.Writes.{writes_made}
+use Rattle.tabled_places.proofs.EntityBorders.{eight_made, borders_inside, borders_outside, no_borders_left, none_inside_after}
 use Rattle.tabled_grid.proofs.layers.entity_border.add_borders.Goals as goal
-
-pub returns-in_err-copy-clause-without_cells : goal.returns-in_err-copy-clause-without_cells
-returns-in_err-copy-clause-without_cells g c = λ none.
-    absurd (some_inside c.args.shape.0 c.args.shape.1 c.in-Some.pos c.next.new.self c.loop-pos.pos-iterator c.in-Some.ensures.steps (sym c.is_inside.ensures ∙ c.if-is_inside.true) (c.loop-pos.invariant.3 none))
-
-pub returns-in_err-add_to-clause-without_cells : goal.returns-in_err-add_to-clause-without_cells
-returns-in_err-add_to-clause-without_cells g c = λ none.
-    absurd (some_inside c.args.shape.0 c.args.shape.1 c.in-Some.pos c.next.new.self c.loop-pos.pos-iterator c.in-Some.ensures.steps (sym c.is_inside.ensures ∙ c.if-is_inside.true) (c.loop-pos.invariant.3 none))
 
 pub loop-pos-preserved-in-Continue-branch-2 : goal.loop-pos-preserved-in-Continue-branch-2
 loop-pos-preserved-in-Continue-branch-2 g c =

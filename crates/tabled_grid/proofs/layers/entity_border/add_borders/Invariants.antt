@@ -1,7 +1,7 @@
 use Rattle.std.proofs.Common.{◌≡◌, [], ◌++◌, filter}
 use Rattle.tabled_object.specs.Entities.{is_inside}
-use Rattle.tabled_grid.specs.Calls.{borders_of}
-use Rattle.tabled_grid.specs.Writes.{writes_made}
+use Rattle.tabled_places.specs.Calls.{borders_of}
+use Rattle.tabled_places.specs.Writes.{writes_made}
 use Rattle.tabled_grid.proofs.layers.entity_border.add_borders.Given as goal
 
 abbrev pub invariant-loop-pos : goal.invariant-loop-pos

@@ -1,6 +1,6 @@
 use Rattle.std.proofs.Common.{◌++◌, ap, ◌∙◌}
-use Rattle.tabled_grid.specs.Calls.{borders_of}
-use Rattle.tabled_grid.proofs.EntityBorders.{nothing_written}
+use Rattle.tabled_places.specs.Calls.{borders_of}
+use Rattle.tabled_places.proofs.EntityBorders.{nothing_written}
 use Rattle.tabled_grid.proofs.layers.entity_border.border_writes.Goals as goal
 
 pub returns-clause-ok : goal.returns-clause-ok

@@ -1,5 +1,5 @@
-use Rattle.tabled_grid.specs.Keys.{edge_place_cmp}
-use Rattle.tabled_grid.specs.Table.{table}
+use Rattle.tabled_places.specs.Keys.{edge_place_cmp}
+use Rattle.tabled_kept.specs.Table.{table}
 use Rattle.tabled_grid.proofs.RowOffsets.{row_told}
 use Rattle.tabled_grid.proofs.layers.levels.has_row.Goals as goal
 

@@ -1,6 +1,6 @@
 use Rattle.std.proofs.Common.{sym, ap, ◌∙◌, arith, slice_index_or}
 use Rattle.std.specs.FinMap as map
-use Rattle.tabled_kept.specs.Slots.{slot}
+use Rattle.tabled_keys.specs.Slots.{slot}
 use Rattle.tabled_kept.proofs.SlotLemmas.{get-filled}
 use Rattle.tabled_kept.proofs.TableLemmas.{in_slot_of, in_no_row}
 use Rattle.tabled_kept.proofs.table.Table.first_row.Goals as goal

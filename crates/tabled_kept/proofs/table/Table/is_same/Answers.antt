@@ -2,7 +2,7 @@ use Rattle.std.proofs.Common.{sym, ap, ◌∙◌, arith, inl, inr, ◌≡◌, sl
 use Rattle.std.specs.Option.{option_eq}
 use Rattle.std.specs.FinMap as map
 use Rattle.std.proofs.lemmas.Bool.{cases_lt}
-use Rattle.tabled_kept.specs.Slots.{slot}
+use Rattle.tabled_keys.specs.Slots.{slot}
 use Rattle.tabled_kept.specs.Same.{same_map}
 use Rattle.tabled_kept.proofs.SameRows.{row_alike, rows_alike, rows_differ}
 use Rattle.tabled_kept.proofs.table.Table.is_same.Goals as goal

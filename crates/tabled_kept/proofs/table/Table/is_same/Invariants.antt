@@ -1,7 +1,7 @@
 use Rattle.std.proofs.Common.{◌≡◌, ℕ, ◌<◌, true}
 use Rattle.std.specs.Option.{option_eq}
 use Rattle.std.specs.FinMap as map
-use Rattle.tabled_kept.specs.Slots.{slot}
+use Rattle.tabled_keys.specs.Slots.{slot}
 use Rattle.tabled_kept.proofs.table.Table.is_same.Given as goal
 
 -- the rows so far keep the same

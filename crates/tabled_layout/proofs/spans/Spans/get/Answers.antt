@@ -1,7 +1,7 @@
 use Rattle.std.proofs.Common.{sym, ap, ◌∙◌}
 use Rattle.std.specs.FinMap as map
 use Rattle.tabled_object.specs.contracts.position.PositionOrd.TheImpl.Laws.{total-law}
-use Rattle.tabled_grid.proofs.Tables.{get-table}
+use Rattle.tabled_kept.proofs.Tables.{get-table}
 use Rattle.tabled_layout.proofs.SpanLemmas.{positions_apart}
 use Rattle.tabled_layout.proofs.spans.Spans.get.Goals as goal
 

@@ -1,8 +1,8 @@
 use Rattle.std.proofs.Common.{arith, ap, sym, subst, ◌∙◌}
 use Rattle.std.specs.FinMap as map
 use Rattle.tabled_object.specs.contracts.position.PositionOrd.TheImpl.Laws.{total-law}
-use Rattle.tabled_grid.proofs.Tables.{get-table, table-put}
-use Rattle.tabled_grid.specs.Table.{table}
+use Rattle.tabled_kept.proofs.Tables.{get-table, table-put}
+use Rattle.tabled_kept.specs.Table.{table}
 use Rattle.tabled_layout.specs.Spans.{position_cmp, NoLonger}
 use Rattle.tabled_layout.proofs.CoveringLemmas.{longer_by_one}
 use Rattle.tabled_layout.proofs.SpanLemmas.{positions_apart}

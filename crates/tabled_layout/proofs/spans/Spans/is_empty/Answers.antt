@@ -1,6 +1,6 @@
 use Rattle.std.proofs.Common.{◌∙◌, sym}
 use Rattle.tabled_object.specs.contracts.position.PositionOrd.TheImpl.Laws.{total-law}
-use Rattle.tabled_grid.proofs.Tables.{no-entries, no-keys}
+use Rattle.tabled_kept.proofs.Tables.{no-entries, no-keys}
 use Rattle.tabled_layout.proofs.SpanLemmas.{positions_apart, none_counted}
 use Rattle.tabled_layout.proofs.spans.Spans.is_empty.Goals as goal
 

@@ -1,5 +1,5 @@
 use Rattle.std.proofs.Common.{subst, sym}
-use Rattle.tabled_grid.specs.Table.{table}
+use Rattle.tabled_kept.specs.Table.{table}
 use Rattle.tabled_layout.specs.Spans.{position_cmp, NoLonger}
 use Rattle.tabled_layout.proofs.CoveringLemmas.{none_longer}
 use Rattle.tabled_layout.proofs.spans.Spans.new.Goals as goal

@@ -1,8 +1,8 @@
 use Rattle.std.proofs.Common.{ap, sym, subst, ◌∙◌}
 use Rattle.std.specs.FinMap as map
 use Rattle.tabled_object.specs.contracts.position.PositionOrd.TheImpl.Laws.{total-law}
-use Rattle.tabled_grid.proofs.Tables.{table-take}
-use Rattle.tabled_grid.specs.Table.{table}
+use Rattle.tabled_kept.proofs.Tables.{table-take}
+use Rattle.tabled_kept.specs.Table.{table}
 use Rattle.tabled_layout.specs.Spans.{position_cmp, NoLonger}
 use Rattle.tabled_layout.proofs.CoveringLemmas.{no_longer_without}
 use Rattle.tabled_layout.proofs.SpanLemmas.{positions_apart}

@@ -2,7 +2,7 @@ use Rattle.std.proofs.Common.{subst, sym}
 use Rattle.std.specs.List.Sorted.{IsStrictlySortedBy}
 use Rattle.std.specs.Map.{keys_of}
 use Rattle.tabled_object.specs.contracts.position.PositionOrd.TheImpl.Laws.{total-law}
-use Rattle.tabled_grid.proofs.Ascending.{copied_further}
+use Rattle.tabled_kept.proofs.Ascending.{copied_further}
 use Rattle.tabled_layout.specs.Spans.{position_cmp}
 use Rattle.tabled_layout.proofs.spans.SpansKeep.keep.Goals as goal
 

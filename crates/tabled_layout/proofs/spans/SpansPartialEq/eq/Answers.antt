@@ -1,7 +1,7 @@
 use Rattle.std.proofs.Common.{◌∙◌, ◌==◌, sym}
 use Rattle.tabled_object.specs.contracts.position.PositionOrd.TheImpl.Laws.{total-law}
 use Rattle.tabled_object.specs.contracts.position.PositionPartialEq.TheImpl.{eq-value as same}
-use Rattle.tabled_grid.proofs.Ascending.{same-table}
+use Rattle.tabled_kept.proofs.Ascending.{same-table}
 use Rattle.tabled_layout.specs.Same.{same_spans}
 use Rattle.tabled_layout.proofs.SpanLemmas.{is_same_position}
 use Rattle.tabled_layout.proofs.spans.SpansPartialEq.eq.Goals as goal

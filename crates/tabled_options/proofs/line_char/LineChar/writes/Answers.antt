@@ -1,6 +1,6 @@
 -- One more position.
 use Rattle.std.proofs.Common.{ap, sym, ◌++◌, ◌∙◌, map, filter}
-use Rattle.tabled_grid.proofs.EntityBorders.{nothing_written}
+use Rattle.tabled_places.proofs.EntityBorders.{nothing_written}
 use Rattle.tabled_options.specs.LineChar.{direction_of, has_edge, mark_written}
 use Rattle.tabled_options.proofs.LineCharLemmas.{one_more}
 use Rattle.tabled_options.proofs.line_char.LineChar.writes.Goals as goal

@@ -1,7 +1,7 @@
 -- What is written so far, and what is left to be written.
 use Rattle.std.proofs.Common.{◌≡◌, ◌++◌, map, filter}
 use Rattle.tabled_object.specs.Entities.{cells_of}
-use Rattle.tabled_grid.specs.Writes.{writes_made}
+use Rattle.tabled_places.specs.Writes.{writes_made}
 use Rattle.tabled_options.specs.LineChar.{direction_of, has_edge, mark_written}
 use Rattle.tabled_options.proofs.line_char.LineChar.writes.Given as goal
 

@@ -1,6 +1,6 @@
 -- One more place.
 use Rattle.std.proofs.Common.{◌∙◌, ap, sym}
-use Rattle.tabled_grid.specs.Writes.{writes_made}
+use Rattle.tabled_places.specs.Writes.{writes_made}
 use Rattle.tabled_options.specs.Laying.{looked}
 use Rattle.tabled_options.proofs.WrittenLemmas.{one_written, no_characters, character_more, character_none}
 use Rattle.tabled_options.proofs.line_text.writes.character_writes.Goals as goal

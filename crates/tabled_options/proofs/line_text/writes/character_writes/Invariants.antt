@@ -1,6 +1,6 @@
 -- What is written so far.
 use Rattle.std.proofs.Common.{◌≡◌, take}
-use Rattle.tabled_grid.specs.Writes.{writes_made}
+use Rattle.tabled_places.specs.Writes.{writes_made}
 use Rattle.tabled_options.specs.LineText.{characters_written}
 use Rattle.tabled_options.specs.Laying.{looked}
 use Rattle.tabled_options.proofs.line_text.writes.character_writes.Given as goal

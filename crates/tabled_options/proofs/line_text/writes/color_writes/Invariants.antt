@@ -1,6 +1,6 @@
 -- What is written so far.
 use Rattle.std.proofs.Common.{◌≡◌, Some, take}
-use Rattle.tabled_grid.specs.Writes.{writes_made}
+use Rattle.tabled_places.specs.Writes.{writes_made}
 use Rattle.tabled_color.specs.Shade.{texts_of}
 use Rattle.tabled_options.specs.LineText.{colors_written}
 use Rattle.tabled_options.proofs.line_text.writes.color_writes.Given as goal

@@ -1,6 +1,6 @@
 -- What the configuration returns is how the table looks.
 use Rattle.std.proofs.Common.{◌∙◌}
-use Rattle.tabled_grid.specs.Drawn.{drawn}
+use Rattle.tabled_places.specs.Drawn.{drawn}
 use Rattle.tabled_configuration.specs.Configuration.{all_writes, characters_of}
 use Rattle.tabled_printing.proofs.LineLemmas.{crossed_is}
 use Rattle.tabled_printing.proofs.LookLemmas.{own_drawn}

@@ -1,6 +1,6 @@
 -- The rooms of the columns so far.
 use Rattle.std.proofs.Common.{◌≡◌, [], length, map, slice_index_or}
-use Rattle.tabled_printing.specs.Texts.{Table}
+use Rattle.tabled_width.specs.Texts.{Table}
 use Rattle.tabled_painting.specs.RoomLines.{AreBegun, AreOpen, columns_of, room_cells, rows_of}
 use Rattle.tabled_painting.specs.Viewed.{viewed}
 use Rattle.tabled_painting.proofs.spanned_lines.SpannedLines.begin_rooms.Given as goal

@@ -4,7 +4,7 @@ use Rattle.std.proofs.lemmas.List.{length-map}
 use Rattle.tabled_rooms.proofs.HostLemmas.{hosts_above}
 use Rattle.tabled_painting.specs.PaintedSpans.{spanned_if_drawn, spanned_row}
 use Rattle.tabled_painting.specs.RoomLines.{columns_of, room_cells, rows_of}
-use Rattle.tabled_painting.specs.TextsBy.{texts_by}
+use Rattle.tabled_cells.specs.TextsBy.{texts_by}
 use Rattle.tabled_painting.specs.Viewed.{viewed}
 use Rattle.tabled_painting.proofs.FrameLemmas.{row_texts}
 use Rattle.tabled_painting.proofs.PageLemmas.{row_more, no_lines}

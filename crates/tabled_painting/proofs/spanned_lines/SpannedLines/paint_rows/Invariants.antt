@@ -6,7 +6,7 @@ use Rattle.tabled_rooms.specs.Holding.{AreAbove}
 use Rattle.tabled_painting.specs.Pages.{PaintsLines}
 use Rattle.tabled_painting.specs.PaintedSpans.{spanned_if_drawn, spanned_row}
 use Rattle.tabled_painting.specs.RoomLines.{AreOpen, columns_of, room_cells, rows_of}
-use Rattle.tabled_painting.specs.TextsBy.{texts_by}
+use Rattle.tabled_cells.specs.TextsBy.{texts_by}
 use Rattle.tabled_painting.specs.Viewed.{viewed}
 use Rattle.tabled_painting.proofs.spanned_lines.SpannedLines.paint_rows.Given as goal
 

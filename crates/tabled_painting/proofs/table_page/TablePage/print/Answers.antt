@@ -5,7 +5,7 @@ use Rattle.tabled_painting.specs.Painted.{Painted}
 use Rattle.tabled_painting.specs.Pages.{counted_sides, joined}
 use Rattle.tabled_painting.specs.RoomLines.{columns_of, room_cells, rows_of}
 use Rattle.tabled_painting.specs.TablePages.{lines_between, text_of_page}
-use Rattle.tabled_painting.specs.TextsBy.{texts_by}
+use Rattle.tabled_cells.specs.TextsBy.{texts_by}
 use Rattle.tabled_painting.specs.Viewed.{viewed}
 use Rattle.tabled_painting.proofs.PageLemmas.{joined_first, whole_both}
 use Rattle.tabled_painting.proofs.MarginLemmas.{in_its_margin, lines_count}

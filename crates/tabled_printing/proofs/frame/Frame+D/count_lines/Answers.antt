@@ -1,6 +1,6 @@
 -- The marks of a line that is there are those of all its places.
 use Rattle.std.proofs.Common.{length, ap, arith}
-use Rattle.tabled_grid.specs.declared.place.LineOf.{LineOf}
+use Rattle.tabled_places.specs.declared.place.LineOf.{LineOf}
 use Rattle.tabled_printing.specs.Picture.{Look}
 use Rattle.tabled_printing.specs.Viewed.{frame_look}
 use Rattle.tabled_printing.proofs.LineLemmas.{marks_are, vertical_there}

@@ -1,7 +1,7 @@
 -- One piece more, and the last crossing.
 use Rattle.std.proofs.Common.{◌≡◌, ◌+◌, ◌++◌, map, ◌∙◌, arith, rules}
 use Rattle.std.proofs.lemmas.Grind.{common_steps}
-use Rattle.tabled_grid.specs.declared.place.LineOf.{LineOf}
+use Rattle.tabled_places.specs.declared.place.LineOf.{LineOf}
 use Rattle.tabled_printing.specs.LinePieces.{places_before}
 use Rattle.tabled_printing.specs.Marks.{mark_of}
 use Rattle.tabled_printing.specs.Picture.{Look, mark_at}

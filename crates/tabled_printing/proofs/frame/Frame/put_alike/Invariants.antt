@@ -1,7 +1,7 @@
 -- The pieces so far, and what the next crossing shows.
 use Rattle.std.proofs.Common.{◌≡◌, ◌<◌, map}
-use Rattle.tabled_grid.specs.declared.place.Place.{Place}
-use Rattle.tabled_grid.specs.declared.place.LineOf.{LineOf}
+use Rattle.tabled_places.specs.declared.place.Place.{Place}
+use Rattle.tabled_places.specs.declared.place.LineOf.{LineOf}
 use Rattle.tabled_printing.specs.LinePieces.{places_before}
 use Rattle.tabled_printing.specs.Marks.{mark_of}
 use Rattle.tabled_printing.specs.Picture.{Look, mark_at}

@@ -1,6 +1,6 @@
 -- A line is drawn where the configuration says so.
 use Rattle.std.proofs.Common.{◌∙◌}
-use Rattle.tabled_grid.specs.Drawn.{drawn}
+use Rattle.tabled_places.specs.Drawn.{drawn}
 use Rattle.tabled_configuration.specs.Configuration.{all_writes, characters_of}
 use Rattle.tabled_printing.proofs.LookLemmas.{own_drawn}
 use Rattle.tabled_printing.proofs.walk.Walk.is_crossed.Goals as goal

@@ -1,6 +1,6 @@
 -- The pieces so far.
 use Rattle.std.proofs.Common.{◌+◌, ◌*◌, length, map}
-use Rattle.tabled_grid.specs.Probing.{IsRaised}
+use Rattle.tabled_kept.specs.Probing.{IsRaised}
 use Rattle.tabled_printing.specs.Picture.{Look, mark_at}
 use Rattle.tabled_printing.specs.LinePieces.{places_before}
 use Rattle.tabled_printing.specs.Viewed.{walk_look}

@@ -1,6 +1,6 @@
 -- The places of the edge so far.
 use Rattle.std.proofs.Common.{◌*◌, map}
-use Rattle.tabled_grid.specs.Probing.{IsRaised}
+use Rattle.tabled_kept.specs.Probing.{IsRaised}
 use Rattle.tabled_object.specs.Entities.{below}
 use Rattle.tabled_printing.specs.Picture.{mark_at}
 use Rattle.tabled_printing.specs.LinePieces.{edge_of}

@@ -1,8 +1,8 @@
-use Rattle.std.proofs.Common.{ap, sym, ◌∙◌, subst, [], ◌∷◌, ◌++◌}
+use Rattle.std.proofs.Common.{sym, ◌∙◌, subst, [], ◌∷◌, ◌++◌}
 use Rattle.tabled_settings.specs.Setting.{same_entity}
 use Rattle.tabled_settings.specs.Slots.{standing, IsOnce}
 use Rattle.tabled_settings.specs.Live.{without}
-use Rattle.tabled_settings.proofs.Lasting.{copied_hole, copied_event, copied_all}
+use Rattle.tabled_settings.proofs.Lasting.{copied_hole, copied_event}
 use Rattle.tabled_settings.proofs.last_events.LastEventsKeep.keep.Goals as goal
 use Rattle.tabled_settings.proofs.last_events.LastEventsKeep.keep.Goals.{in-Some+in_ok-keep-in-Some+in_ok-put-in-Some, in-None}
 
@@ -16,8 +16,3 @@ loop-slot-preserved g c =
           (subst (λ slots. IsOnce same_entity (standing slots)) (sym c.deref-slot-items.ensures.value) c.self.invariant.0.0))
       | in-None w ↦ w.copy-is ∙ c.loop-slot.invariant ∙ sym (copied_hole c.deref-slot-items.result.now c.loop-slot.slot-index c.slot-item.result c.loop-slot-test.true c.slot-item.is w.in-None.is)
     ]
-
-pub returns : goal.returns
-returns g c =
-    c.loop-slot.invariant ∙ copied_all c.deref-slot-items.result.now c.loop-slot.slot-index c.loop-slot-test.false
-    ∙ ap standing c.deref-slot-items.ensures.value ∙ c.self.view_is

@@ -1,6 +1,6 @@
 -- The characters so far.
 use Rattle.std.proofs.Common.{◌*◌}
-use Rattle.tabled_printing.specs.Texts.{times}
+use Rattle.tabled_width.specs.Texts.{times}
 use Rattle.tabled_text.specs.Streams.{StreamGains}
 use Rattle.tabled_text.proofs.stream.Stream.push_pieces.Given as goal
 

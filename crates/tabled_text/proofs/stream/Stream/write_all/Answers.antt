@@ -1,7 +1,7 @@
 -- The text before, the table, and the text after, and then all that waits is written.
 use Rattle.std.proofs.Common.{◌++◌}
 use Rattle.tabled_painting.specs.TablePages.{text_of_page}
-use Rattle.tabled_painting.specs.TextsBy.{texts_by}
+use Rattle.tabled_cells.specs.TextsBy.{texts_by}
 use Rattle.tabled_text.specs.Streams.{stream_both}
 use Rattle.tabled_text.proofs.StreamLemmas.{then_kept}
 use Rattle.tabled_text.proofs.stream.Stream.write_all.Goals as goal

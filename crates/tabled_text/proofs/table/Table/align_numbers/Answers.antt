@@ -5,9 +5,9 @@ use Rattle.tabled_grid.proofs.Seen.{on_ok}
 use Rattle.tabled_configuration.proofs.ColoredLemmas.{Changes_lent}
 use Rattle.tabled_configuration.specs.Colored.{Changes}
 use Rattle.tabled_numbers.specs.Columns.{is_numeric}
-use Rattle.tabled_text.specs.Numeric.{at_right, numeric_columns}
+use Rattle.tabled_measure.specs.Numeric.{at_right, numeric_columns}
 use Rattle.tabled_text.specs.TextTable.{Drawing}
-use Rattle.tabled_text.proofs.NumericLemmas.{none_colored}
+use Rattle.tabled_measure.proofs.NumericLemmas.{none_colored}
 use Rattle.tabled_text.proofs.table.Table.align_numbers.Goals as goal
 
 pub returns-clause-config : goal.returns-clause-config

@@ -1,8 +1,8 @@
 -- The sizes are those of the texts.
 use Rattle.std.proofs.Common.{ap, subst, ◌∙◌}
-use Rattle.tabled_painting.specs.TextsBy.{texts_by}
-use Rattle.tabled_text.specs.Cells.{AreUtf8}
-use Rattle.tabled_text.specs.Sizes.{column_widths, row_heights, unequal_row}
+use Rattle.tabled_cells.specs.TextsBy.{texts_by}
+use Rattle.tabled_measure.specs.Cells.{AreUtf8}
+use Rattle.tabled_measure.specs.Sizes.{column_widths, row_heights, unequal_row}
 use Rattle.tabled_text.proofs.table.Table.of_equal_rows.Goals as goal
 
 pub invariant_of-result : goal.invariant_of-result

@@ -4,7 +4,7 @@ use Rattle.std.specs.Io.KnownBytes.{Appends}
 use Rattle.tabled_configuration.specs.Configuration as borders
 use Rattle.tabled_grid.proofs.Seen.{on_ok}
 use Rattle.tabled_text.specs.TextTable.{text_of}
-use Rattle.tabled_text.proofs.EqualRows.{each-count}
+use Rattle.tabled_measure.proofs.EqualRows.{each-count}
 use Rattle.tabled_text.proofs.SpannedEven.{printed_even}
 use Rattle.tabled_text.proofs.ViewLemmas.{plain_text_viewed}
 use Rattle.tabled_text.proofs.table.Table.print_between.Goals as goal

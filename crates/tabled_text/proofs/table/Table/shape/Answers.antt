@@ -1,10 +1,10 @@
 -- There are as many rows as texts of rows, and as many columns as widths.
 use Rattle.std.proofs.Common.{◌≡◌, length, map, ap, ◌∙◌, arith}
 use Rattle.std.proofs.lemmas.List.{length-map}
-use Rattle.tabled_painting.specs.TextsBy.{texts_by}
-use Rattle.tabled_text.specs.Sizes.{column_count}
+use Rattle.tabled_cells.specs.TextsBy.{texts_by}
+use Rattle.tabled_measure.specs.Sizes.{column_count}
 use Rattle.tabled_text.specs.TextTable.{shape_of}
-use Rattle.tabled_text.proofs.Widths.{count_widths}
+use Rattle.tabled_measure.proofs.Widths.{count_widths}
 use Rattle.tabled_text.proofs.table.Table.shape.Goals as goal
 
 pub returns : goal.returns

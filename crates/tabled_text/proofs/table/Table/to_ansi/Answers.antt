@@ -3,7 +3,7 @@ use Rattle.std.proofs.Common.{refl, sym, subst, ap, ◌∙◌}
 use Rattle.tabled_configuration.specs.Colored.{Shows}
 use Rattle.tabled_painting.specs.PaintedTable.{colored_text}
 use Rattle.tabled_text.specs.TextTable.{painted, text_of}
-use Rattle.tabled_text.proofs.EqualRows.{each-count}
+use Rattle.tabled_measure.proofs.EqualRows.{each-count}
 use Rattle.tabled_text.proofs.SpannedEven.{printed_even}
 use Rattle.tabled_text.proofs.ViewLemmas.{colored_text_viewed}
 use Rattle.tabled_text.proofs.table.Table.to_ansi.Goals as goal

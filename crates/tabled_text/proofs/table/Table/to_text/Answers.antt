@@ -1,12 +1,12 @@
 -- The text of what is lent is that of the table; it is even, and its lines stand straight.
 use Rattle.std.proofs.Common.{sym, subst, ap, ◌∙◌}
 use Rattle.tabled_configuration.specs.Configuration as borders
-use Rattle.tabled_printing.specs.Columns.{IsRectangle}
-use Rattle.tabled_printing.specs.Texts.{pieces}
+use Rattle.tabled_width.specs.Narrow.{IsRectangle}
+use Rattle.tabled_width.specs.Texts.{pieces}
 use Rattle.tabled_painting.specs.Widths.{StandsStraightIn, text_width}
-use Rattle.tabled_text.specs.Cells.{margin_set}
+use Rattle.tabled_measure.specs.Cells.{margin_set}
 use Rattle.tabled_text.specs.TextTable.{look_of, look_printed, text_of}
-use Rattle.tabled_text.proofs.EqualRows.{each-count}
+use Rattle.tabled_measure.proofs.EqualRows.{each-count}
 use Rattle.tabled_text.proofs.Even.{text_straight}
 use Rattle.tabled_text.proofs.SpannedEven.{printed_even}
 use Rattle.tabled_text.proofs.ViewLemmas.{plain_text_viewed}

@@ -2,10 +2,10 @@
 use Rattle.std.proofs.Common.{length, map, sym, ap, subst, ◌∙◌}
 use Rattle.std.proofs.lemmas.List.{length-map}
 use Rattle.std.proofs.lemmas.List.Elements.{All-same}
-use Rattle.tabled_painting.specs.TextsBy.{texts_by}
-use Rattle.tabled_text.specs.Cells.{AreUtf8}
-use Rattle.tabled_text.specs.Sizes.{column_count, column_widths, row_heights, unequal_row}
-use Rattle.tabled_text.proofs.EqualRows.{HasCells, HaveCells, have-cells}
+use Rattle.tabled_cells.specs.TextsBy.{texts_by}
+use Rattle.tabled_measure.specs.Cells.{AreUtf8}
+use Rattle.tabled_measure.specs.Sizes.{column_count, column_widths, row_heights, unequal_row}
+use Rattle.tabled_measure.proofs.EqualRows.{HasCells, HaveCells, have-cells}
 use Rattle.tabled_text.proofs.table.Table.view.Goals as goal
 
 pub returns-clause-equal : goal.returns-clause-equal

@@ -2,10 +2,10 @@
 use Rattle.std.proofs.Common.{◌≡◌, ℕ, not, Bool, true, false, if◌then◌else◌, length, refl, sym, ap, ◌∙◌}
 use Rattle.std.proofs.lemmas.List.{length-map}
 use Rattle.tabled_configuration.specs.Configuration.{Configuration, all_writes, is_sized_by_texts}
-use Rattle.tabled_text.specs.Sizes.{column_widths, row_height, row_heights}
+use Rattle.tabled_measure.specs.Sizes.{column_widths, row_height, row_heights}
 use Rattle.tabled_text.specs.TableViews.{texts_viewed}
 use Rattle.tabled_text.specs.TextTable.{heights_with_spans, widths_with_spans}
-use Rattle.tabled_text.proofs.Widths.{count_widths}
+use Rattle.tabled_measure.proofs.Widths.{count_widths}
 use Rattle.tabled_text.proofs.table_view.TableView.other_sizes.Goals as goal
 
 none_set : (b : Bool) → not b ≡ false → b ≡ true

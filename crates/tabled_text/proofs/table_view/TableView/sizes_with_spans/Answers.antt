@@ -1,11 +1,11 @@
 -- The sizes of the texts, by what is set and by which lines are drawn.
 use Rattle.std.proofs.Common.{◌∙◌}
-use Rattle.tabled_grid.specs.Drawn.{drawn}
-use Rattle.tabled_grid.specs.declared.place.LineOf.{LineOf}
+use Rattle.tabled_places.specs.Drawn.{drawn}
+use Rattle.tabled_places.specs.declared.place.LineOf.{LineOf}
 use Rattle.tabled_configuration.specs.Configuration.{all_writes, characters_of}
 use Rattle.tabled_rooms.specs.Sizes.{spanned_heights, spanned_widths}
 use Rattle.tabled_painting.specs.PaintedSpans.{columns_spanned, rows_spanned}
-use Rattle.tabled_text.specs.Sizes.{height_with_padding, width_with_padding}
+use Rattle.tabled_measure.specs.Sizes.{height_with_padding, width_with_padding}
 use Rattle.tabled_text.specs.TableViews.{texts_viewed}
 use Rattle.tabled_text.specs.TextTable.{heights_with_spans, widths_with_spans}
 use Rattle.tabled_text.proofs.table_view.TableView.sizes_with_spans.Goals as goal

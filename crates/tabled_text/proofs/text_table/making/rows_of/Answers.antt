@@ -3,7 +3,7 @@ use Rattle.std.proofs.Common.{◌≡◌, ◌+◌, ◌∷◌, ◌++◌, List, [],
 use Rattle.std.specs.declared.vec.Vec.{Vec}
 use Rattle.std.specs.List.{AllZip}
 use Rattle.std.proofs.lemmas.List.{map-append, take_all}
-use Rattle.tabled_printing.specs.Texts.{Table, texts}
+use Rattle.tabled_width.specs.Texts.{Table, texts}
 use Rattle.tabled_rows.specs.Spelled.{IsRow}
 use Rattle.tabled_rows.proofs.SpelledLemmas.{one-row-more}
 use Rattle.tabled_text.proofs.text_table.making.rows_of.Goals as goal

@@ -1,7 +1,7 @@
 -- The rows of the values that were passed.
 use Rattle.std.proofs.Common.{◌∷◌, map, take}
 use Rattle.std.specs.List.{AllZip}
-use Rattle.tabled_printing.specs.Texts.{texts}
+use Rattle.tabled_width.specs.Texts.{texts}
 use Rattle.tabled_rows.specs.Spelled.{IsRow}
 use Rattle.tabled_text.proofs.text_table.making.rows_of.Given as goal
 

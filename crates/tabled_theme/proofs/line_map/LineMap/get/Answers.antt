@@ -1,7 +1,7 @@
 use Rattle.std.proofs.Common.{sym, ap, ◌∙◌}
 use Rattle.std.specs.Cmp.{nat_cmp_total}
 use Rattle.std.specs.FinMap as map
-use Rattle.tabled_grid.proofs.Tables.{get-table}
+use Rattle.tabled_kept.proofs.Tables.{get-table}
 use Rattle.tabled_theme.proofs.line_map.LineMap.get.Goals as goal
 
 pub returns : goal.returns

@@ -1,5 +1,5 @@
 use Rattle.std.specs.Cmp.{nat_cmp_total}
-use Rattle.tabled_grid.proofs.Ascending.{copied_further}
+use Rattle.tabled_kept.proofs.Ascending.{copied_further}
 use Rattle.tabled_theme.proofs.LineMaps.{still_ascending}
 use Rattle.tabled_theme.proofs.line_map.LineMapKeep.keep.Goals as goal
 

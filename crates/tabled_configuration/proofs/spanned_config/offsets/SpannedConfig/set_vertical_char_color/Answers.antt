@@ -1,7 +1,7 @@
 use Rattle.std.proofs.Common.{subst}
-use Rattle.tabled_grid.specs.Event as grid
-use Rattle.tabled_grid.specs.Calls.{offset_set}
-use Rattle.tabled_grid.specs.State.{state_at}
+use Rattle.tabled_places.specs.Event as grid
+use Rattle.tabled_places.specs.Calls.{offset_set}
+use Rattle.tabled_places.specs.State.{state_at}
 use Rattle.tabled_grid.proofs.Seen.{on_ok}
 use Rattle.tabled_configuration.proofs.ConfigurationLemmas.{Changes_by_colors}
 use Rattle.tabled_configuration.proofs.spanned_config.offsets.SpannedConfig.set_vertical_char_color.Goals as goal

@@ -1,4 +1,4 @@
-use Rattle.tabled_grid.proofs.CellBorders.{erased_then, erased_at}
+use Rattle.tabled_places.proofs.CellBorders.{erased_then, erased_at}
 use Rattle.tabled_grid.proofs.layers.cell_border.Layers+T.erase_border.Goals as goal
 
 pub returns : goal.returns

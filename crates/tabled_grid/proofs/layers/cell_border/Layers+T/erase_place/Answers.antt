@@ -1,4 +1,4 @@
-use Rattle.tabled_grid.proofs.CellBorders.{nothing_erased, cell_erased_there}
+use Rattle.tabled_places.proofs.CellBorders.{nothing_erased, cell_erased_there}
 use Rattle.tabled_grid.proofs.layers.cell_border.Layers+T.erase_place.Goals as goal
 
 pub returns-in-Some : goal.returns-in-Some

@@ -1,8 +1,8 @@
 use Rattle.std.proofs.Common.{IsTrue, subst, ◌∙◌}
-use Rattle.tabled_grid.specs.Event.{Changes}
-use Rattle.tabled_grid.specs.State.{state_at}
-use Rattle.tabled_grid.specs.Calls.{writes_anew}
-use Rattle.tabled_grid.proofs.EntityBorders.{eight_made}
+use Rattle.tabled_places.specs.Event.{Changes}
+use Rattle.tabled_places.specs.State.{state_at}
+use Rattle.tabled_places.specs.Calls.{writes_anew}
+use Rattle.tabled_places.proofs.EntityBorders.{eight_made}
 use Rattle.tabled_grid.proofs.Seen.{on_ok, on_err}
 use Rattle.tabled_grid.proofs.layers.cell_border.Layers+T.set_border.Goals as goal
 

@@ -1,8 +1,8 @@
 use Rattle.std.proofs.Common.{sym, subst, ◌∙◌}
-use Rattle.tabled_grid.specs.Calls.{borders_erased}
-use Rattle.tabled_grid.specs.Event.{Changes}
-use Rattle.tabled_grid.specs.State.{state_at}
-use Rattle.tabled_grid.proofs.Clearing.{one_inside, one_outside, none_left}
+use Rattle.tabled_places.specs.Calls.{borders_erased}
+use Rattle.tabled_places.specs.Event.{Changes}
+use Rattle.tabled_places.specs.State.{state_at}
+use Rattle.tabled_places.proofs.Clearing.{one_inside, one_outside, none_left}
 use Rattle.tabled_grid.proofs.layers.clearing.Layers+T.erase_borders.Goals as goal
 
 pub loop-pos-preserved-then-is_inside : goal.loop-pos-preserved-then-is_inside

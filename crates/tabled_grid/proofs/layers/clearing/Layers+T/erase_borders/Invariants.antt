@@ -1,6 +1,6 @@
-use Rattle.tabled_grid.specs.Calls.{borders_erased}
-use Rattle.tabled_grid.specs.Event.{Changes}
-use Rattle.tabled_grid.specs.State.{State, state_at}
+use Rattle.tabled_places.specs.Calls.{borders_erased}
+use Rattle.tabled_places.specs.Event.{Changes}
+use Rattle.tabled_places.specs.State.{State, state_at}
 use Rattle.tabled_grid.proofs.layers.clearing.Layers+T.erase_borders.Given as goal
 
 abbrev pub invariant-loop-pos : goal.invariant-loop-pos

@@ -1,5 +1,5 @@
 use Rattle.std.proofs.Common.{arith}
-use Rattle.tabled_grid.proofs.Clearing.{frame_there, no_frame, no_rows, no_cols}
+use Rattle.tabled_places.proofs.Clearing.{frame_there, no_frame, no_rows, no_cols}
 use Rattle.tabled_grid.proofs.layers.clearing.Layers+T.erase_frame.Goals as goal
 use Rattle.tabled_grid.proofs.layers.clearing.Layers+T.erase_frame.Goals.{then-rows-eq0-via-then-rows-eq0, then-rows-eq0-via-else-rows-eq0+then-cols-eq0}
 

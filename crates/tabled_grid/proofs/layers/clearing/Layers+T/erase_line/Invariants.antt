@@ -1,7 +1,7 @@
-use Rattle.tabled_grid.specs.Calls.{spots_erased, edge_of, crossing_of}
-use Rattle.tabled_grid.specs.Event.{Changes}
-use Rattle.tabled_grid.specs.State.{state_at}
-use Rattle.tabled_grid.proofs.Clearing.{so_far}
+use Rattle.tabled_places.specs.Calls.{spots_erased, edge_of, crossing_of}
+use Rattle.tabled_places.specs.Event.{Changes}
+use Rattle.tabled_places.specs.State.{state_at}
+use Rattle.tabled_places.proofs.Clearing.{so_far}
 use Rattle.tabled_grid.proofs.layers.clearing.Layers+T.erase_line.Given as goal
 
 abbrev pub invariant-loop-at : goal.invariant-loop-at

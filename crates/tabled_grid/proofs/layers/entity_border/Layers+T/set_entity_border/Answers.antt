@@ -1,5 +1,5 @@
-use Rattle.tabled_grid.specs.State.{state_at}
-use Rattle.tabled_grid.proofs.EntityBorders.{sure_without_cells}
+use Rattle.tabled_places.specs.State.{state_at}
+use Rattle.tabled_places.proofs.EntityBorders.{sure_without_cells}
 use Rattle.tabled_grid.proofs.layers.entity_border.Layers+T.set_entity_border.Goals as goal
 
 pub returns-clause-without_cells : goal.returns-clause-without_cells

@@ -1,9 +1,11 @@
 use Rattle.std.proofs.Common.{◌≡◌, true, [], ◌∷◌, sym, subst, ◌∙◌}
 use Rattle.tabled_object.specs.Entities.{is_inside}
-use Rattle.tabled_grid.specs.Calls.{border_set, borders_of}
-use Rattle.tabled_grid.specs.Event.{erase, level_sites, Changes}
-use Rattle.tabled_grid.specs.State.{state_at}
-use Rattle.tabled_grid.proofs.EntityBorders.{none_inside_after}
+use Rattle.tabled_places.specs.Calls.{border_set, borders_of}
+use Rattle.tabled_places.specs.declared.event.Event.TheVariants.{Erase as erase}
+use Rattle.tabled_places.specs.declared.event.Region.TheVariants.{Level as level_sites}
+use Rattle.tabled_places.specs.Event.{Changes}
+use Rattle.tabled_places.specs.State.{state_at}
+use Rattle.tabled_places.proofs.EntityBorders.{none_inside_after}
 use Rattle.tabled_grid.proofs.FirstBorders.{same_beside_border, borders_taken_back, border_then, outside_then, no_border_then}
 use Rattle.tabled_grid.proofs.Seen.{on_err, where_ok}
 use Rattle.tabled_grid.proofs.layers.entity_border.Layers+T.write_first_borders.Goals as goal

@@ -1,8 +1,8 @@
 use Rattle.std.proofs.Common.{◌≡◌, [], filter}
 use Rattle.tabled_object.specs.Entities.{is_inside}
-use Rattle.tabled_grid.specs.Calls.{borders_of}
-use Rattle.tabled_grid.specs.Event.{Changes}
-use Rattle.tabled_grid.specs.State.{State, state_at}
+use Rattle.tabled_places.specs.Calls.{borders_of}
+use Rattle.tabled_places.specs.Event.{Changes}
+use Rattle.tabled_places.specs.State.{State, state_at}
 use Rattle.tabled_grid.proofs.FirstBorders.{IsSameBesideCells}
 use Rattle.tabled_grid.proofs.layers.entity_border.Layers+T.write_first_borders.Given as goal
 

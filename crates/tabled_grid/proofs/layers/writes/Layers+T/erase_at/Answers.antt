@@ -1,8 +1,10 @@
 use Rattle.std.proofs.Common.{[], ◌∷◌, ap, sym, ◌∙◌}
-use Rattle.tabled_grid.specs.Event.{erase, one_site}
-use Rattle.tabled_grid.specs.Site.{Horizontal, Vertical, at_offset}
-use Rattle.tabled_grid.specs.Writes.{site_of}
-use Rattle.tabled_grid.proofs.Changing.{horizontal_offset_erased, vertical_offset_erased}
+use Rattle.tabled_places.specs.declared.event.Event.TheVariants.{Erase as erase}
+use Rattle.tabled_places.specs.declared.event.Region.TheVariants.{One as one_site}
+use Rattle.tabled_places.specs.declared.site.Direction.TheVariants.{Horizontal, Vertical}
+use Rattle.tabled_places.specs.declared.site.Site.TheVariants.{Offset as at_offset}
+use Rattle.tabled_places.specs.Writes.{site_of}
+use Rattle.tabled_places.proofs.Changing.{horizontal_offset_erased, vertical_offset_erased}
 use Rattle.tabled_grid.proofs.Seen.{seen, changed, as_events, with_horizontal_offsets, with_vertical_offsets}
 use Rattle.tabled_grid.proofs.layers.writes.Layers+T.erase_at.Goals as goal
 

@@ -1,4 +1,4 @@
-use Rattle.tabled_grid.proofs.Changing.{cell_erased}
+use Rattle.tabled_places.proofs.Changing.{cell_erased}
 use Rattle.tabled_grid.proofs.CountedLemmas.{cell_counts, cell_taken}
 use Rattle.tabled_grid.proofs.Seen.{seen, changed, with_cells}
 use Rattle.tabled_grid.proofs.layers.writes.Layers+T.erase_spot.Goals as goal

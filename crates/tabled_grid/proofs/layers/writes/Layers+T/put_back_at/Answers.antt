@@ -1,5 +1,5 @@
-use Rattle.tabled_grid.specs.Writes.{site_of}
-use Rattle.tabled_grid.proofs.PuttingBack.{value_back, nothing_back}
+use Rattle.tabled_places.specs.Writes.{site_of}
+use Rattle.tabled_places.proofs.PuttingBack.{value_back, nothing_back}
 use Rattle.tabled_grid.proofs.layers.writes.Layers+T.put_back_at.Goals as goal
 
 pub returns-in-Some : goal.returns-in-Some

@@ -1,8 +1,10 @@
 use Rattle.std.proofs.Common.{[], ◌∷◌, ap, sym, ◌∙◌}
-use Rattle.tabled_grid.specs.Event.{sign, write}
-use Rattle.tabled_grid.specs.Site.{Horizontal, Vertical, at_spot, at_offset}
-use Rattle.tabled_grid.specs.Writes.{site_of}
-use Rattle.tabled_grid.proofs.Changing.{cell_set, horizontal_offset_set, vertical_offset_set}
+use Rattle.tabled_places.specs.declared.event.Written.TheVariants.{Sign as sign}
+use Rattle.tabled_places.specs.declared.event.Event.TheVariants.{Write as write}
+use Rattle.tabled_places.specs.declared.site.Direction.TheVariants.{Horizontal, Vertical}
+use Rattle.tabled_places.specs.declared.site.Site.TheVariants.{Cell as at_spot, Offset as at_offset}
+use Rattle.tabled_places.specs.Writes.{site_of}
+use Rattle.tabled_places.proofs.Changing.{cell_set, horizontal_offset_set, vertical_offset_set}
 use Rattle.tabled_grid.proofs.CountedLemmas.{small_number, cell_either}
 use Rattle.tabled_grid.proofs.Seen.{seen, changed, on_ok, as_events, with_cells, with_horizontal_offsets, with_vertical_offsets}
 use Rattle.tabled_grid.proofs.layers.writes.Layers+T.replace.Goals as goal

@@ -1,7 +1,7 @@
-use Rattle.tabled_grid.specs.State.{state_at}
-use Rattle.tabled_grid.proofs.Replay.{Changes-append}
+use Rattle.tabled_places.specs.State.{state_at}
+use Rattle.tabled_places.proofs.Replay.{Changes-append}
 use Rattle.tabled_grid.proofs.Seen.{if_err}
-use Rattle.tabled_grid.proofs.WritingAnew.{stays_then, sooner_anew, later_anew}
+use Rattle.tabled_places.proofs.WritingAnew.{stays_then, sooner_anew, later_anew}
 use Rattle.tabled_grid.proofs.layers.writes.Tuple2Group.exchange.Goals as goal
 
 pub returns-in_err-exchange-clause-absent : goal.returns-in_err-exchange-clause-absent

@@ -1,6 +1,6 @@
 use Rattle.std.proofs.Common.{ap, ◌∙◌}
-use Rattle.tabled_grid.specs.Writes.{writes_made}
-use Rattle.tabled_grid.proofs.EntityBorders.{writes_made-append}
+use Rattle.tabled_places.specs.Writes.{writes_made}
+use Rattle.tabled_places.proofs.EntityBorders.{writes_made-append}
 use Rattle.tabled_grid.proofs.layers.writes.VecWriteGroup.add_to.Goals as goal
 
 pub returns : goal.returns

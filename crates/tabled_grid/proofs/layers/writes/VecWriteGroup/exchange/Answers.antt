@@ -1,12 +1,11 @@
-use Rattle.std.proofs.Common.{◌≡◌, ◌+◌, ◌<◌, ◌≤◌, [], ◌∷◌, ◌++◌, length, get_or, take, drop, refl, ap, sym, subst, ◌∙◌, arith}
-use Rattle.std.proofs.lemmas.List.{length-set, take_more, take_more_set, take-set, take_all, take-append-drop}
-use Rattle.tabled_grid.specs.Event.{Changes}
-use Rattle.tabled_grid.specs.State.{state_at}
-use Rattle.tabled_grid.specs.Writes.{writes_made, PutsBackAll}
-use Rattle.tabled_grid.proofs.EntityBorders.{nothing_written}
-use Rattle.tabled_grid.proofs.Replay.{Changes-nil}
-use Rattle.tabled_grid.proofs.WritesLemmas.{one_more_made, one_more_back, nothing_back_yet, entry_anew, same_behind, same_there}
-use Rattle.tabled_grid.proofs.WritingAnew.{stays_same, stays_then}
+use Rattle.std.proofs.Common.{◌≡◌, ◌+◌, ◌<◌, [], ◌∷◌, ◌++◌, length, get_or, take, drop, refl, ap, sym, subst, ◌∙◌, arith}
+use Rattle.std.proofs.lemmas.List.{length-set, take_more, take_more_set, take-append-drop}
+use Rattle.tabled_places.specs.Event.{Changes}
+use Rattle.tabled_places.specs.State.{state_at}
+use Rattle.tabled_places.proofs.EntityBorders.{nothing_written}
+use Rattle.tabled_places.proofs.Replay.{Changes-nil}
+use Rattle.tabled_places.proofs.WritesLemmas.{one_more_made, one_more_back, nothing_back_yet, entry_anew, same_behind, same_there}
+use Rattle.tabled_places.proofs.WritingAnew.{stays_same, stays_then}
 use Rattle.tabled_grid.proofs.layers.writes.VecWriteGroup.exchange.Goals as goal
 
 pub loop-made-init : goal.loop-made-init
@@ -18,12 +17,6 @@ loop-made-init g c = record {
   back = nothing_back_yet (take 0 c.args.self.now.items) c.args.store.now refl;
   stays = stays_same (state_at c.args.store.now);
 }
-
-pub loop-made-smaller : goal.loop-made-smaller
-loop-made-smaller g c =
-    let lt : c.loop-made.made < length c.loop-made.self.items = omega (arith, c.len.ensures, c.loop-made-test.true) in
-    let same : length _ ≡ length c.loop-made.self.items = length-set c.loop-made.self.items c.loop-made.made c.exchange.new.self in
-    omega (arith, lt, same)
 
 pub loop-made-preserved : goal.loop-made-preserved
 loop-made-preserved g c =
@@ -44,11 +37,6 @@ loop-made-preserved g c =
       stays = stays_then _ _ _ c.loop-made.invariant.stays c.in-Ok.ensures.stays;
     }
 
-pub returns-in-Err-clause-err : goal.returns-in-Err-clause-err
-returns-in-Err-clause-err g c =
-    c.put_back.ensures c.args.store.now (subst (λ k. PutsBackAll c.truncate.new.self.items c.args.store.now k) (sym c.in-Err.ensures.err)
-    (subst (λ ws. PutsBackAll ws c.args.store.now c.loop-made.store) (sym (c.truncate.ensures.items ∙ take-set c.loop-made.self.items c.loop-made.made c.exchange.new.self)) c.loop-made.invariant.back))
-
 pub returns-in-Err-clause-absent : goal.returns-in-Err-clause-absent
 returns-in-Err-clause-absent g c =
     let xs = c.loop-made.self.items in
@@ -60,13 +48,3 @@ returns-in-Err-clause-absent g c =
     entry_anew ys (take i ys) (drop (i + 1) ys) entry c.args.store.now c.loop-made.store
     (sym (take-append-drop (i + 1) ys) ∙ ap (λ ws. ws ++ drop (i + 1) ys) (take_more ys i entry lt ∙ ap (λ x. take i ys ++ x ∷ []) given))
     c.loop-made.invariant.stays c.in-Err.ensures.absent
-
-pub returns-clause-ok : goal.returns-clause-ok
-returns-clause-ok g c =
-    let all : length c.args.self.now.items ≤ c.loop-made.made = omega (arith, c.len.ensures, c.loop-made-test.false, c.loop-made.invariant.as_long) in
-    subst (λ ws. Changes (writes_made ws) (state_at c.args.store.now) (state_at c.loop-made.store)) (take_all c.loop-made.made c.args.self.now.items all) c.loop-made.invariant.made
-
-pub returns-clause-back : goal.returns-clause-back
-returns-clause-back g c =
-    let all : length c.loop-made.self.items ≤ c.loop-made.made = omega (arith, c.len.ensures, c.loop-made-test.false) in
-    subst (λ ws. PutsBackAll ws c.args.store.now c.loop-made.store) (take_all c.loop-made.made c.loop-made.self.items all) c.loop-made.invariant.back

@@ -1,7 +1,7 @@
 use Rattle.std.proofs.Common.{◌≡◌, ◌-◌, ◌≤◌, length, take, drop}
-use Rattle.tabled_grid.specs.Event.{Changes}
-use Rattle.tabled_grid.specs.State.{state_at}
-use Rattle.tabled_grid.specs.Writes.{writes_made, PutsBackAll, Stays}
+use Rattle.tabled_places.specs.Event.{Changes}
+use Rattle.tabled_places.specs.State.{state_at}
+use Rattle.tabled_places.specs.Writes.{writes_made, PutsBackAll, Stays}
 use Rattle.tabled_grid.proofs.layers.writes.VecWriteGroup.exchange.Given as goal
 
 abbrev pub invariant-loop-made : goal.invariant-loop-made

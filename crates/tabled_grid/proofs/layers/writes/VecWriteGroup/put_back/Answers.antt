@@ -1,7 +1,7 @@
 use Rattle.std.proofs.Common.{subst}
 use Rattle.std.proofs.lemmas.List.{nil_from_length}
-use Rattle.tabled_grid.specs.Writes.{PutsBackAll}
-use Rattle.tabled_grid.proofs.WritesLemmas.{last_back, none_back}
+use Rattle.tabled_places.specs.Writes.{PutsBackAll}
+use Rattle.tabled_places.proofs.WritesLemmas.{last_back, none_back}
 use Rattle.tabled_grid.proofs.layers.writes.VecWriteGroup.put_back.Goals as goal
 
 pub loop-entry-preserved-in-Some : goal.loop-entry-preserved-in-Some

@@ -1,6 +1,6 @@
 use Rattle.std.proofs.Common.{length}
-use Rattle.tabled_grid.specs.State.{State}
-use Rattle.tabled_grid.specs.Writes.{PutsBackAll}
+use Rattle.tabled_places.specs.State.{State}
+use Rattle.tabled_places.specs.Writes.{PutsBackAll}
 use Rattle.tabled_grid.proofs.layers.writes.VecWriteGroup.put_back.Given as goal
 
 abbrev pub invariant-loop-entry : goal.invariant-loop-entry

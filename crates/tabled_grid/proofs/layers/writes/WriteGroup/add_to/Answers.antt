@@ -1,5 +1,5 @@
 use Rattle.std.proofs.Common.{sym, ◌∙◌}
-use Rattle.tabled_grid.proofs.EntityBorders.{added, none_added}
+use Rattle.tabled_places.proofs.EntityBorders.{added, none_added}
 use Rattle.tabled_grid.proofs.layers.writes.WriteGroup.add_to.Goals as goal
 
 pub returns-in_ok-push : goal.returns-in_ok-push

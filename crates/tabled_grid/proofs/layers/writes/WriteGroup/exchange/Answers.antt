@@ -1,11 +1,11 @@
 use Rattle.std.proofs.Common.{sym, ◌∙◌}
-use Rattle.tabled_grid.specs.Event.{sign}
-use Rattle.tabled_grid.specs.State.{state_at}
-use Rattle.tabled_grid.specs.Writes.{site_of}
-use Rattle.tabled_grid.proofs.PuttingBack.{written_over}
+use Rattle.tabled_places.specs.declared.event.Written.TheVariants.{Sign as sign}
+use Rattle.tabled_places.specs.State.{state_at}
+use Rattle.tabled_places.specs.Writes.{site_of}
+use Rattle.tabled_places.proofs.PuttingBack.{written_over}
 use Rattle.tabled_grid.proofs.Seen.{if_err}
-use Rattle.tabled_grid.proofs.WritesLemmas.{one_made, one_anew, none_made, no_value_made, target_back}
-use Rattle.tabled_grid.proofs.WritingAnew.{stays_same, stays_written}
+use Rattle.tabled_places.proofs.WritesLemmas.{one_made, one_anew, none_made, no_value_made, target_back}
+use Rattle.tabled_places.proofs.WritingAnew.{stays_same, stays_written}
 use Rattle.tabled_grid.proofs.layers.writes.WriteGroup.exchange.Goals as goal
 
 pub returns-in_default-clause-ok : goal.returns-in_default-clause-ok

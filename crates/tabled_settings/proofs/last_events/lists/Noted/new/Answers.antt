@@ -1,5 +1,4 @@
-use Rattle.std.proofs.Common.{subst, arith}
-use Rattle.tabled_settings.specs.Slots.{IsNoted}
+use Rattle.std.proofs.Common.{arith}
 use Rattle.tabled_settings.proofs.InOrder.{all_noted}
 use Rattle.tabled_settings.proofs.last_events.lists.Noted.new.Goals as goal
 
@@ -7,8 +6,3 @@ pub invariant_of-result : goal.invariant_of-result
 invariant_of-result g c =
     let many = all_noted c.deref.result.now c.args.events.items c.deref-2.result.now c.in_ok-before.before.items c.note_list.new.places c.deref-2.ensures.value c.in_ok-before.ensures.ok in
     record { as_many = omega (arith, many, c.in_ok-before.before.ok.0, c.args.events.ok.0) }
-
-pub returns-clause-noted : goal.returns-clause-noted
-returns-clause-noted g c =
-    subst (λ slots. IsNoted c.note_list.new.places slots c.args.events.items c.in_ok-before.before.items) c.deref.ensures.value
-    (subst (λ events. IsNoted c.note_list.new.places c.deref.result.now events c.in_ok-before.before.items) c.deref-2.ensures.value c.in_ok-before.ensures.ok)

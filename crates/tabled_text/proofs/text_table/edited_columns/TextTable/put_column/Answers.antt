@@ -4,14 +4,14 @@ use Rattle.std.specs.List.{insert}
 use Rattle.std.proofs.lemmas.Bool.Decides.{nat_tests}
 use Rattle.std.proofs.lemmas.List.{length-map}
 use Rattle.tabled_cells.specs.Placed.{greatest}
-use Rattle.tabled_printing.specs.Texts.{texts}
-use Rattle.tabled_text.specs.EditedColumns.{column_goes_in, heights_with}
-use Rattle.tabled_text.specs.Sizes.{column_count, width_asked}
-use Rattle.tabled_text.proofs.ColumnLemmas.{heights-with, nothing_in, unequal-with, widths-with, with-min}
-use Rattle.tabled_text.proofs.EqualRows.{same_count}
+use Rattle.tabled_width.specs.Texts.{texts}
+use Rattle.tabled_measure.specs.EditedColumns.{column_goes_in, heights_with}
+use Rattle.tabled_measure.specs.Sizes.{column_count, width_asked}
+use Rattle.tabled_measure.proofs.ColumnLemmas.{heights-with, nothing_in, unequal-with, widths-with, with-min}
+use Rattle.tabled_measure.proofs.EqualRows.{same_count}
 use Rattle.tabled_text.proofs.Even.{utf8_cells}
 use Rattle.tabled_text.proofs.TableLemmas.{measured_by}
-use Rattle.tabled_text.proofs.Widths.{count_widths}
+use Rattle.tabled_measure.proofs.Widths.{count_widths}
 use Rattle.tabled_text.proofs.text_table.edited_columns.TextTable.put_column.Goals as goal
 
 pub returns-then-is_empty-clause-texts : goal.returns-then-is_empty-clause-texts

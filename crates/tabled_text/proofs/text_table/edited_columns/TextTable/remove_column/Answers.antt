@@ -1,7 +1,7 @@
 -- The column is there.
 use Rattle.std.proofs.Common.{Some, ap, ◌∙◌, arith}
-use Rattle.tabled_text.specs.Sizes.{column_count}
-use Rattle.tabled_text.proofs.ColumnLemmas.{column_there}
+use Rattle.tabled_measure.specs.Sizes.{column_count}
+use Rattle.tabled_measure.proofs.ColumnLemmas.{column_there}
 use Rattle.tabled_text.proofs.text_table.edited_columns.TextTable.remove_column.Goals as goal
 
 pub returns-clause-column : goal.returns-clause-column

@@ -3,13 +3,13 @@ use Rattle.std.proofs.Common.{◌≡◌, ◌<◌, ◌++◌, ℕ, List, map, leng
 use Rattle.std.specs.declared.vec.Vec.{Vec}
 use Rattle.std.specs.List.{remove}
 use Rattle.std.proofs.lemmas.List.{take_at}
-use Rattle.tabled_printing.specs.Texts.{Table, texts}
-use Rattle.tabled_text.specs.EditedColumns.{without_column}
-use Rattle.tabled_text.specs.Sizes.{cell, column_count, row_heights}
-use Rattle.tabled_text.proofs.ColumnLemmas.{unequal-without, widths-without}
+use Rattle.tabled_width.specs.Texts.{Table, texts}
+use Rattle.tabled_measure.specs.EditedColumns.{without_column}
+use Rattle.tabled_measure.specs.Sizes.{cell, column_count, row_heights}
+use Rattle.tabled_measure.proofs.ColumnLemmas.{unequal-without, widths-without}
 use Rattle.tabled_text.proofs.Even.{utf8_cells}
 use Rattle.tabled_text.proofs.TableLemmas.{measured_by}
-use Rattle.tabled_text.proofs.Widths.{count_widths}
+use Rattle.tabled_measure.proofs.Widths.{count_widths}
 use Rattle.tabled_configuration.proofs.InTurn.{where_refused}
 use Rattle.tabled_text.proofs.text_table.edited_columns.TextTable.take_out.Goals as goal
 

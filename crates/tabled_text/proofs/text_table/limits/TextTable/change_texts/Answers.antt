@@ -1,9 +1,9 @@
 -- The new texts have as many cells in each row, and are measured.
 use Rattle.std.proofs.Common.{map, length, sym, ap, ◌∙◌}
-use Rattle.tabled_printing.specs.Texts.{texts}
-use Rattle.tabled_text.specs.Changed.{cells_changed}
-use Rattle.tabled_text.specs.Sizes.{column_widths, row_heights}
-use Rattle.tabled_text.proofs.ChangedLemmas.{counts_stay, same_unequal}
+use Rattle.tabled_width.specs.Texts.{texts}
+use Rattle.tabled_measure.specs.Changed.{cells_changed}
+use Rattle.tabled_measure.specs.Sizes.{column_widths, row_heights}
+use Rattle.tabled_measure.proofs.ChangedLemmas.{counts_stay, same_unequal}
 use Rattle.tabled_text.proofs.Even.{utf8_cells}
 use Rattle.tabled_text.proofs.TableLemmas.{measured_by}
 use Rattle.tabled_text.proofs.text_table.limits.TextTable.change_texts.Goals as goal

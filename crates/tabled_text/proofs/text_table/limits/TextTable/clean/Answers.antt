@@ -3,8 +3,8 @@ use Rattle.std.proofs.Common.{subst, sym, ap, ◌∙◌}
 use Rattle.std.specs.List.{list_all}
 use Rattle.tabled_clean.specs.Steering.{is_clean}
 use Rattle.tabled_grid.proofs.Seen.{on_ok}
-use Rattle.tabled_text.specs.Changed.{CellsAreClean}
-use Rattle.tabled_text.proofs.Cleaned.{all_clean, clean_cells, cells_cleaned}
+use Rattle.tabled_measure.specs.Changed.{CellsAreClean}
+use Rattle.tabled_measure.proofs.Cleaned.{all_clean, clean_cells, cells_cleaned}
 use Rattle.tabled_text.proofs.text_table.limits.TextTable.clean.Goals as goal
 
 pub returns-clause-clean : goal.returns-clause-clean

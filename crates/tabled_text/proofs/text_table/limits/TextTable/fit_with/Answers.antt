@@ -2,11 +2,11 @@
 use Rattle.std.proofs.Common.{◌≡◌, ◌-◌, ℕ, List, None, max, arith, map, ap, sym, subst, ◌∙◌}
 use Rattle.tabled_configuration.specs.Configuration.{Shows}
 use Rattle.tabled_grid.proofs.Seen.{on_ok}
-use Rattle.tabled_text.specs.Cells.{AreUtf8}
+use Rattle.tabled_measure.specs.Cells.{AreUtf8}
 use Rattle.tabled_width.specs.Shares.{IsCap, shared, used}
-use Rattle.tabled_text.specs.Changed.{cells_changed, texts_of_columns}
+use Rattle.tabled_measure.specs.Changed.{cells_changed, texts_of_columns}
 use Rattle.tabled_text.specs.Fitted.{texts_asked}
-use Rattle.tabled_text.specs.Sizes.{column_widths, unequal_row}
+use Rattle.tabled_measure.specs.Sizes.{column_widths, unequal_row}
 use Rattle.tabled_text.proofs.Totals.{fits_total}
 use Rattle.tabled_text.proofs.text_table.limits.TextTable.fit_with.Goals as goal
 

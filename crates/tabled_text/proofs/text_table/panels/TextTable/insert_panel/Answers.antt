@@ -1,6 +1,6 @@
 -- Rows that have cells take a panel.
 use Rattle.std.proofs.Common.{◌≡◌, ◌⊎◌, ◌<◌, inl, inr, true, false, length, sym, ap, ◌∙◌, arith}
-use Rattle.tabled_text.specs.Sizes.{column_count}
+use Rattle.tabled_measure.specs.Sizes.{column_count}
 use Rattle.tabled_text.proofs.PanelLemmas.{panel_in}
 use Rattle.tabled_text.proofs.text_table.panels.TextTable.insert_panel.Goals.{else-rows-ne0-via-then-rows-ne0+else-cols-eq0, else-rows-ne0-via-else-rows-ne0}
 use Rattle.tabled_text.proofs.text_table.panels.TextTable.insert_panel.Goals as goal

@@ -3,11 +3,11 @@ use Rattle.std.proofs.Common.{◌≡◌, true, map, String, string_bytes, Global
 use Rattle.std.specs.declared.vec.Vec.{Vec}
 use Rattle.std.specs.List.{insert}
 use Rattle.tabled_configuration.proofs.InTurn.{where_refused}
-use Rattle.tabled_printing.specs.Texts.{Table, texts}
+use Rattle.tabled_width.specs.Texts.{Table, texts}
 use Rattle.tabled_rows.proofs.RowLemmas.{insert-map}
-use Rattle.tabled_text.specs.Edited.{goes_in, widths_with}
-use Rattle.tabled_text.specs.Sizes.{row_height}
-use Rattle.tabled_text.proofs.EditedLemmas.{unequal-insert, widths-insert}
+use Rattle.tabled_measure.specs.Edited.{goes_in, widths_with}
+use Rattle.tabled_measure.specs.Sizes.{row_height}
+use Rattle.tabled_measure.proofs.EditedLemmas.{unequal-insert, widths-insert}
 use Rattle.tabled_text.proofs.Even.{utf8_cells}
 use Rattle.tabled_text.proofs.TableLemmas.{measured_by}
 use Rattle.tabled_text.proofs.text_table.rows.TextTable.put_row.Goals as goal

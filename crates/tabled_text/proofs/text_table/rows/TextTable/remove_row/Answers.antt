@@ -4,10 +4,10 @@ use Rattle.std.specs.declared.vec.Vec.{Vec}
 use Rattle.std.specs.List.{remove, slice_get}
 use Rattle.std.proofs.lemmas.Grind.{common_steps}
 use Rattle.std.proofs.lemmas.Option.{slice_get-map, slice_get_read}
-use Rattle.tabled_printing.specs.Texts.{texts}
+use Rattle.tabled_width.specs.Texts.{texts}
 use Rattle.tabled_rows.proofs.RowLemmas.{remove-map}
-use Rattle.tabled_text.specs.Sizes.{column_widths, row_heights}
-use Rattle.tabled_text.proofs.EditedLemmas.{unequal-remove}
+use Rattle.tabled_measure.specs.Sizes.{column_widths, row_heights}
+use Rattle.tabled_measure.proofs.EditedLemmas.{unequal-remove}
 use Rattle.tabled_text.proofs.Even.{utf8_cells}
 use Rattle.tabled_text.proofs.TableLemmas.{measured_by}
 use Rattle.tabled_text.proofs.text_table.rows.TextTable.remove_row.Goals as goal

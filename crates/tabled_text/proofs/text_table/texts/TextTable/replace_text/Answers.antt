@@ -2,15 +2,15 @@
 use Rattle.std.proofs.Common.{◌≡◌, ◌<◌, List, [], length, drop, set, get_or, String, string_bytes, Global, ap, ◌∙◌, arith}
 use Rattle.std.specs.declared.vec.Vec.{Vec}
 use Rattle.std.proofs.lemmas.List.{take_at}
-use Rattle.tabled_printing.specs.Texts.{Table, texts}
-use Rattle.tabled_text.specs.Edited.{text_set}
-use Rattle.tabled_text.specs.Sizes.{cell, column_count, column_width, row_height}
-use Rattle.tabled_text.proofs.ChangedLemmas.{same_unequal}
-use Rattle.tabled_text.proofs.EqualRows.{each-count}
-use Rattle.tabled_text.proofs.TextLemmas.{counts-set, heights-set, widths-set}
+use Rattle.tabled_width.specs.Texts.{Table, texts}
+use Rattle.tabled_measure.specs.Edited.{text_set}
+use Rattle.tabled_measure.specs.Sizes.{cell, column_count, column_width, row_height}
+use Rattle.tabled_measure.proofs.ChangedLemmas.{same_unequal}
+use Rattle.tabled_measure.proofs.EqualRows.{each-count}
+use Rattle.tabled_measure.proofs.TextLemmas.{counts-set, heights-set, widths-set}
 use Rattle.tabled_text.proofs.Even.{utf8_cells}
 use Rattle.tabled_text.proofs.TableLemmas.{measured_by}
-use Rattle.tabled_text.proofs.Widths.{count_widths}
+use Rattle.tabled_measure.proofs.Widths.{count_widths}
 use Rattle.tabled_text.proofs.text_table.texts.TextTable.replace_text.Goals as goal
 
 pub replace_in-requires-clause-col : goal.replace_in-requires-clause-col

@@ -1,0 +1,22 @@
+//! Rows of cells that are written as CSV.
+
+ghost use Rattle.std.specs.Prelude.{◌≡◌, ℕ, List, IfErr, IfOk};
+ghost use Rattle.tabled_input.specs.Lines.{cells_of};
+ghost use Rattle.tabled_input.specs.Written.{IsWritten};
+ghost use Rattle.tabled_input.specs.declared.quoted.CsvError.{CsvError as Refusal};
+
+use std::alloc::Global;
+use tabled_input::{CsvError, csv};
+
+/// Whatever rows of cells a text is written for, each cell in quotes or, where it may, bare, these rows are read, and only memory can be
+/// refused.
+pub fn written_rows_are_read(
+    alloc: Global,
+    text: &str,
+    separator: char,
+) -> Result<Vec<Vec<String>>, CsvError>
+    ensures read { (rows : List (List (List ℕ))) → IsWritten separator rows text.now → IfOk result (λ found. cells_of found.items ≡ rows) }
+    ensures memory_alone { (rows : List (List (List ℕ))) → IsWritten separator rows text.now → IfErr result (λ e. e ≡ Refusal.OutOfMemory) }
+{
+    csv(alloc, text, separator)
+}

@@ -1,5 +1,0 @@
-use Rattle.tabled_configuration.proofs.ColorsLemmas.{by_entity}
-use Rattle.tabled_claims.proofs.lists.cell_colors_by_entity.Goals as goal
-
-pub returns : goal.returns
-returns c = λ events cell. by_entity events cell

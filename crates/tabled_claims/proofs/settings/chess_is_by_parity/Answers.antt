@@ -1,5 +1,0 @@
-use Rattle.tabled_colorization.proofs.ChessLemmas.{on_the_board}
-use Rattle.tabled_claims.proofs.settings.chess_is_by_parity.Goals as goal
-
-pub returns : goal.returns
-returns c = λ white black rows cols row col default h k. on_the_board white black rows cols row col default h k

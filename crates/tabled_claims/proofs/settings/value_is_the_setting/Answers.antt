@@ -1,5 +1,0 @@
-use Rattle.tabled_settings.proofs.Settling.{value_is_the_setting}
-use Rattle.tabled_claims.proofs.settings.value_is_the_setting.Goals as goal
-
-pub returns : goal.returns
-returns g c = λ default events cell. value_is_the_setting cell default events

@@ -1,5 +1,0 @@
-use Rattle.tabled_layout.proofs.LayoutLemmas.{as_by_what_is_left}
-use Rattle.tabled_claims.proofs.spans.as_by_what_is_left.Goals as goal
-
-pub returns : goal.returns
-returns c = λ events. as_by_what_is_left events

@@ -1,5 +1,0 @@
-use Rattle.tabled_rooms.proofs.LawLemmas.{alone}
-use Rattle.tabled_claims.proofs.spans.cells_alone.Goals as goal
-
-pub returns : goal.returns
-returns c = alone

@@ -1,5 +1,0 @@
-use Rattle.tabled_rooms.proofs.LawLemmas.{takes, at_home}
-use Rattle.tabled_claims.proofs.spans.hosts_stand.Goals as goal
-
-pub returns : goal.returns
-returns c = record { takes = takes; at_home = at_home }

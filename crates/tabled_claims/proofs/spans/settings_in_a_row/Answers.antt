@@ -1,5 +1,0 @@
-use Rattle.tabled_layout.proofs.LayoutLemmas.{settings_after-append}
-use Rattle.tabled_claims.proofs.spans.settings_in_a_row.Goals as goal
-
-pub returns : goal.returns
-returns c = λ settings es fs. settings_after-append settings es fs

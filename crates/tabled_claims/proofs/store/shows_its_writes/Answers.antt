@@ -1,5 +1,0 @@
-use Rattle.tabled_grid.proofs.Writing.{Shows-writes_of}
-use Rattle.tabled_claims.proofs.store.shows_its_writes.Goals as goal
-
-pub returns : goal.returns
-returns g c = λ state. Shows-writes_of state

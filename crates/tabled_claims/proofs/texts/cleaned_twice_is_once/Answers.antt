@@ -1,5 +1,0 @@
-use Rattle.tabled_clean.proofs.SteeringLemmas.{clean_twice}
-use Rattle.tabled_claims.proofs.texts.cleaned_twice_is_once.Goals as goal
-
-pub returns : goal.returns
-returns c = λ text u. clean_twice text u

@@ -1,5 +1,0 @@
-use Rattle.tabled_width.proofs.LimitedLaws.{limited_fits}
-use Rattle.tabled_claims.proofs.texts.limited_lines_fit.Goals as goal
-
-pub returns : goal.returns
-returns c = limited_fits

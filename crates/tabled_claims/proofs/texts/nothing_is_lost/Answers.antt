@@ -1,5 +1,0 @@
-use Rattle.tabled_width.proofs.RowLaws.{concat_line}
-use Rattle.tabled_claims.proofs.texts.nothing_is_lost.Goals as goal
-
-pub returns : goal.returns
-returns c = concat_line

@@ -1,5 +1,0 @@
-use Rattle.tabled_width.proofs.PrintableRows.{each_fits}
-use Rattle.tabled_claims.proofs.texts.printable_clusters_fit.Goals as goal
-
-pub returns : goal.returns
-returns c = each_fits

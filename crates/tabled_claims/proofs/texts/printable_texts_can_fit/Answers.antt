@@ -1,5 +1,0 @@
-use Rattle.tabled_width.proofs.LimitedLaws.{printable_can_fit}
-use Rattle.tabled_claims.proofs.texts.printable_texts_can_fit.Goals as goal
-
-pub returns : goal.returns
-returns c = printable_can_fit

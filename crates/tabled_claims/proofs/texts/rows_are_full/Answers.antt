@@ -1,5 +1,0 @@
-use Rattle.tabled_width.proofs.FullRows.{line_full}
-use Rattle.tabled_claims.proofs.texts.rows_are_full.Goals as goal
-
-pub returns : goal.returns
-returns c = line_full

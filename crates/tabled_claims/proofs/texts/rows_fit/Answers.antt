@@ -1,5 +1,0 @@
-use Rattle.tabled_width.proofs.RowLaws.{line_stands}
-use Rattle.tabled_claims.proofs.texts.rows_fit.Goals as goal
-
-pub returns : goal.returns
-returns c = line_stands

@@ -1,5 +1,0 @@
-use Rattle.tabled_width.proofs.Heights.{shortened_fits}
-use Rattle.tabled_claims.proofs.texts.shortened_lines_are_few.Goals as goal
-
-pub returns : goal.returns
-returns c = shortened_fits

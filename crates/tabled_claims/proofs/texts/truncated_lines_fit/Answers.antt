@@ -1,5 +1,0 @@
-use Rattle.tabled_width.proofs.TextLaws.{truncated_fits}
-use Rattle.tabled_claims.proofs.texts.truncated_lines_fit.Goals as goal
-
-pub returns : goal.returns
-returns c = truncated_fits

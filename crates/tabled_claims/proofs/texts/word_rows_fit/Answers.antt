@@ -1,5 +1,0 @@
-use Rattle.tabled_width.proofs.WordLaws.{word_rows_fit}
-use Rattle.tabled_claims.proofs.texts.word_rows_fit.Goals as goal
-
-pub returns : goal.returns
-returns c = word_rows_fit

@@ -1,5 +1,0 @@
-use Rattle.tabled_claims.proofs.CleanViews.{view_clean}
-use Rattle.tabled_claims.proofs.viewing.page_steers_nothing.Goals as goal
-
-pub returns : goal.returns
-returns c = view_clean

@@ -1,4 +1,0 @@
-pub mod Cuts
-pub mod Steps
-pub mod Returns
-pub mod ReadBack

@@ -1,4 +1,0 @@
-pub mod Lines
-pub mod Quoted
-pub mod Reading
-pub mod Written

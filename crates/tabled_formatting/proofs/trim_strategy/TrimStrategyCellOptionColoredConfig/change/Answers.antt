@@ -1,8 +1,0 @@
-use Rattle.std.proofs.Common.{refl}
-use Rattle.tabled_grid.proofs.Seen.{on_ok}
-use Rattle.tabled_configuration.proofs.ColoredLemmas.{Changes_lent}
-use Rattle.tabled_formatting.proofs.FormattingLemmas.{none_in_trim_set}
-use Rattle.tabled_formatting.proofs.trim_strategy.TrimStrategyCellOptionColoredConfig.change.Goals as goal
-
-pub returns-clause-ok : goal.returns-clause-ok
-returns-clause-ok g c = on_ok c.set.result (λ changes. Changes_lent _ _ c.args.cfg.now _ _ c.config_mut.ensures.value refl (none_in_trim_set _ _) changes) c.set.ensures.ok

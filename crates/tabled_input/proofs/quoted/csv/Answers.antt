@@ -1,0 +1,45 @@
+-- The text is read from the start of a row on.
+use Rattle.std.proofs.Common.{◌≡◌, map, string_bytes, chars, length, inl, inr, sym, ap, ◌∙◌, arith}
+use Rattle.std.proofs.lemmas.List.{length-map}
+use Rattle.tabled_input.specs.Lines.{cells_of}
+use Rattle.tabled_input.specs.Quoted.{csv_rows, end_at, has_open_quote, is_quoted, without_returns}
+use Rattle.tabled_input.specs.declared.quoted.CsvError.TheVariants.{OpenQuote}
+use Rattle.tabled_input.proofs.ReadBack.{read_back}
+use Rattle.tabled_input.proofs.Steps.{first_taken}
+use Rattle.tabled_input.proofs.quoted.csv.Goals as goal
+
+pub returns-then-is_open-clause-refused : goal.returns-then-is_open-clause-refused
+unfolding csv_rows has_open_quote
+returns-then-is_open-clause-refused c =
+    let new = c.new-reader.ensures in
+    let rows : cells_of c.end.new.self.rows.items ≡ csv_rows c.args.separator c.args.text.now = c.in_ok-end.ensures ∙ c.in_ok-read.ensures.rows
+    ∙ first_taken c.args.separator _ _ _ _ _ (without_returns (chars c.args.text.now)) new.separator new.at (ap cells_of new.rows) (ap (map string_bytes) new.row) new.cell in
+    let within : is_quoted c.read.new.reader.at ≡ has_open_quote c.args.separator c.args.text.now =
+    ap is_quoted (c.in_ok-read.ensures.end ∙ ap (λ n. end_at n c.new-reader.result.at (without_returns (chars c.args.text.now))) new.separator
+    ∙ ap (λ at. end_at c.args.separator at (without_returns (chars c.args.text.now))) new.at) in
+    let count : c.len.result ≡ length c.end.new.self.rows.items = omega (arith, c.len.ensures, c.end.new.self.rows.ok.0) in
+    inr (sym within ∙ sym c.is_within_quotes-is_open.ensures ∙ c.if-is_open.true, ap (λ n. OpenQuote n) (count ∙ sym (length-map _ _) ∙ ap length rows))
+
+pub returns-clause-rows : goal.returns-clause-rows
+unfolding csv_rows
+returns-clause-rows c =
+    let new = c.new-reader.ensures in
+    c.in_ok-end.ensures ∙ c.in_ok-read.ensures.rows
+    ∙ first_taken c.args.separator _ _ _ _ _ (without_returns (chars c.args.text.now)) new.separator new.at (ap cells_of new.rows) (ap (map string_bytes) new.row) new.cell
+
+pub returns-clause-closed : goal.returns-clause-closed
+unfolding has_open_quote
+returns-clause-closed c =
+    let new = c.new-reader.ensures in
+    let within : is_quoted c.read.new.reader.at ≡ has_open_quote c.args.separator c.args.text.now =
+    ap is_quoted (c.in_ok-read.ensures.end ∙ ap (λ n. end_at n c.new-reader.result.at (without_returns (chars c.args.text.now))) new.separator
+    ∙ ap (λ at. end_at c.args.separator at (without_returns (chars c.args.text.now))) new.at) in
+    sym within ∙ sym c.is_within_quotes-is_open.ensures ∙ c.if-is_open.false
+
+pub returns-clause-written : goal.returns-clause-written
+returns-clause-written c = λ rows is. returns-clause-rows c ∙ (read_back c.args.separator rows c.args.text.now is).0
+
+pub returns-then-is_open-clause-memory_alone : goal.returns-then-is_open-clause-memory_alone
+returns-then-is_open-clause-memory_alone c = λ rows is.
+    let closed = (read_back c.args.separator rows c.args.text.now is).1 in
+    elim (returns-then-is_open-clause-refused c) [ inl e ↦ e | inr quote ↦ let opened = quote.0 in absurd (cc) ]

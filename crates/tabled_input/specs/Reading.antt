@@ -1,0 +1,19 @@
+-- What a reader of CSV has read, and what the rest will give. Only private calls cite this.
+use Rattle.std.specs.Prelude.{ℕ, Bool, List, [], ◌∷◌, ◌++◌, map, string_bytes, if◌then◌else◌}
+use Rattle.tabled_input.specs.declared.reader.Reader.{Reader}
+use Rattle.tabled_input.specs.Lines.{cells_of}
+use Rattle.tabled_input.specs.Quoted.{left_at, without_returns}
+
+-- the cells of a row and a part of its next one, before what is left of it
+abbrev pub onto : List (List ℕ) → List ℕ → List (List (List ℕ)) → List (List (List ℕ))
+onto row cell [] = []
+onto row cell ([] ∷ rows) = row ∷ rows
+onto row cell ((first ∷ more) ∷ rows) = (row ++ (cell ++ first) ∷ more) ∷ rows
+
+-- the rows that were read, and those that further characters give
+abbrev pub rows_with : Reader → List ℕ → List (List (List ℕ))
+rows_with reader more = cells_of reader.rows.items ++ onto (map string_bytes reader.row.items) (string_bytes reader.cell) (left_at reader.separator reader.at more)
+
+-- the characters that further ones give, before which a carriage return may have been held back
+abbrev pub going_on : Bool → List ℕ → List ℕ
+going_on is_held more = without_returns (if is_held then 13 ∷ more else more)

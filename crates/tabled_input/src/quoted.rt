@@ -1,0 +1,105 @@
+//! The rows of a text in CSV.
+
+ghost use Rattle.std.specs.Prelude.{◌≡◌, ◌⊎◌, ◌∷◌, [], ℕ, List, true, false, chars, length, IfOk, IfErr, OnOk};
+ghost use Rattle.tabled_input.specs.Lines.{cells_of};
+ghost use Rattle.tabled_input.specs.Quoted.{csv_rows, end_at, has_open_quote, without_returns};
+ghost use Rattle.tabled_input.specs.Reading.{going_on, rows_with};
+ghost use Rattle.tabled_input.specs.Written.{IsWritten};
+ghost use Rattle.tabled_input.specs.declared.quoted.CsvError.{CsvError as Refusal};
+
+use crate::reader::Reader;
+use std::alloc::{AllocError, Global};
+
+/// Why a text has no rows.
+#[derive(Clone, Copy, Debug, PartialEq, Eq)]
+pub enum CsvError {
+    /// A cell of the last row begins with a quote, and no other quote ends it. Which row it is, counted from 1.
+    OpenQuote { row: usize },
+    /// Memory was asked for and refused.
+    OutOfMemory,
+}
+
+impl From<AllocError> for CsvError {
+    ghost from_gives = { λ _ e. e ≡ Refusal.OutOfMemory };
+
+    fn from(_refused: AllocError) -> CsvError {
+        CsvError::OutOfMemory
+    }
+}
+
+/// Takes a carriage return that was held back, unless a line feed comes next.
+fn release(reader: &mut Reader, is_held: bool, next: char) -> Result<(), AllocError>
+    ensures rows { (more : List ℕ) → OnOk result (rows_with reader.new (going_on false (next ∷ more)) ≡ rows_with reader.old (going_on is_held (next ∷ more))) }
+    ensures end { (more : List ℕ) → OnOk result (end_at reader.new.separator reader.new.at (going_on false (next ∷ more)) ≡ end_at reader.old.separator reader.old.at (going_on is_held (next ∷ more))) }
+{
+    if !is_held {
+        return Ok(());
+    }
+    if next == '\n' {
+        return Ok(());
+    }
+    reader.take('\r')?;
+    Ok(())
+}
+
+/// Takes a character, or holds it back if it is a carriage return, and answers whether one is held back.
+fn put(reader: &mut Reader, is_held: bool, character: char) -> Result<bool, AllocError>
+    ensures rows { (more : List ℕ) → IfOk result (λ holds. rows_with reader.new (going_on holds more) ≡ rows_with reader.old (going_on is_held (character ∷ more))) }
+    ensures end { (more : List ℕ) → IfOk result (λ holds. end_at reader.new.separator reader.new.at (going_on holds more) ≡ end_at reader.old.separator reader.old.at (going_on is_held (character ∷ more))) }
+{
+    release(reader, is_held, character)?;
+    if character == '\r' {
+        return Ok(true);
+    }
+    reader.take(character)?;
+    Ok(false)
+}
+
+/// Takes a carriage return that is held back at the end of a text.
+fn finish(reader: &mut Reader, is_held: bool) -> Result<(), AllocError>
+    ensures rows { OnOk result (rows_with reader.new [] ≡ rows_with reader.old (going_on is_held [])) }
+    ensures end { OnOk result (end_at reader.new.separator reader.new.at [] ≡ end_at reader.old.separator reader.old.at (going_on is_held [])) }
+{
+    if !is_held {
+        return Ok(());
+    }
+    reader.take('\r')?;
+    Ok(())
+}
+
+/// Takes the characters of a text.
+fn read(reader: &mut Reader, text: &str) -> Result<(), AllocError>
+    ensures rows { OnOk result (rows_with reader.new [] ≡ rows_with reader.old (without_returns (chars text.now))) }
+    ensures end { OnOk result (reader.new.at ≡ end_at reader.old.separator reader.old.at (without_returns (chars text.now))) }
+{
+    let mut is_held = false;
+    for character in text.chars() {
+        is_held = put(reader, is_held, character)?;
+    }
+    finish(reader, is_held)?;
+    Ok(())
+}
+
+/// Returns the rows of a text in CSV, whose cells stand between separators. A cell that begins with a quote ends with one, and may have
+/// separators and line feeds; two quotes in it are one. A line feed, or a carriage return and a line feed, ends a row. Refused where the last
+/// cell has no quote that ends it, and where memory is.
+pub fn csv(alloc: Global, text: &str, separator: char) -> Result<Vec<Vec<String>>, CsvError>
+    ensures rows { IfOk result (λ rows. cells_of rows.items ≡ csv_rows separator text.now) }
+    ensures closed { OnOk result (has_open_quote separator text.now ≡ false) }
+    ensures refused { IfErr result (λ e. (e ≡ Refusal.OutOfMemory) ⊎ ((has_open_quote separator text.now ≡ true) × (e ≡ Refusal.OpenQuote (length (csv_rows separator text.now))))) }
+
+    // Of a text that is written for rows, these rows are read.
+    ensures written { (rows : List (List (List ℕ))) → IsWritten separator rows text.now → IfOk result (λ read. cells_of read.items ≡ rows) }
+    ensures memory_alone { (rows : List (List (List ℕ))) → IsWritten separator rows text.now → IfErr result (λ e. e ≡ Refusal.OutOfMemory) }
+{
+    let mut reader = Reader::new(alloc, separator);
+    read(&mut reader, text)?;
+    let is_open = reader.is_within_quotes();
+    reader.end()?;
+    if is_open {
+        return Err(CsvError::OpenQuote {
+            row: reader.rows.len(),
+        });
+    }
+    Ok(reader.rows)
+}

@@ -1,0 +1,10 @@
+pub mod Measuring
+pub mod EqualRows
+pub mod Widths
+pub mod ChangedLemmas
+pub mod Cleaned
+pub mod EditedLemmas
+pub mod NumericLemmas
+pub mod ColumnLemmas
+pub mod TextLemmas
+pub mod CellLemmas

@@ -1,0 +1,6 @@
+pub mod Sizes
+pub mod Cells
+pub mod Changed
+pub mod Edited
+pub mod EditedColumns
+pub mod Numeric

@@ -1,0 +1,14 @@
+pub mod Site
+pub mod Event
+pub mod Value
+pub mod Drawn
+pub mod State
+pub mod Borders
+pub mod Lines
+pub mod Keys
+pub mod KeySlots
+pub mod Reading
+pub mod Calls
+pub mod CustomLines
+pub mod CellBorder
+pub mod Writes

@@ -1,0 +1,5 @@
+pub mod NoSpans
+pub mod PagesEven
+pub mod ReadTexts
+pub mod CleanLimits
+pub mod CleanViews
