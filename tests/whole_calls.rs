@@ -5,6 +5,7 @@ use std::alloc::{AllocError, Global};
 use std::test::Fail;
 use tabled_border::{ANSIBuf, Border};
 use tabled_config::{ColoredConfig, Mark, Run, SpannedConfig};
+use tabled_configuration::apply_colors;
 use tabled_grid::{
     Borders, Entity, FixedDimension, HorizontalLine, Layers, OutOfMemory, Position, Probes,
     VerticalLine, border_writes,
@@ -60,6 +61,29 @@ fn entities_are_colored_with_their_fillings_and_paddings(rt: HostRuntime) -> Res
     assert!(rt; begins(cfg.config().get_justification_color(BELOW), "a"));
     assert!(rt; begins(cfg.config().get_padding_color(beside).top.as_ref(), "c"));
     assert!(rt; begins(cfg.get_color(CELL), ""));
+    Ok(())
+}
+
+/// A list with one color, for row 1.
+fn for_row<T: Drop>(alloc: Global, value: T) -> Result<Vec<(Entity, Option<T>)>, OutOfMemory> {
+    let mut list = Vec::new(alloc);
+    list.push((Entity::Row(1), Some(value)))?;
+    Ok(list)
+}
+
+#[test]
+fn three_lists_of_colors_are_written_at_once(rt: HostRuntime) -> Result<(), Fail> {
+    let alloc = rt.alloc();
+    let mut cfg = SpannedConfig::new(alloc);
+    let mut colors = EntityMap::new(alloc, ANSIBuf::new(alloc, "", "")?);
+    let texts = for_row(alloc, ANSIBuf::new(alloc, "a", "b")?)?;
+    let fills = for_row(alloc, Some(ANSIBuf::new(alloc, "c", "d")?))?;
+    let sides = Sides::new(Some(ANSIBuf::new(alloc, "e", "f")?), None, None, None);
+    let paddings = for_row(alloc, sides)?;
+    apply_colors(&mut cfg, &mut colors, texts, fills, paddings)?;
+    assert!(rt; begins(Some(colors.get(BELOW)), "a") && begins(Some(colors.get(CELL)), ""));
+    assert!(rt; begins(cfg.get_justification_color(BELOW), "c"));
+    assert!(rt; begins(cfg.get_padding_color(BELOW).left.as_ref(), "e"));
     Ok(())
 }
 

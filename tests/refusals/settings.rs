@@ -5,6 +5,7 @@ use crate::turn::{Named, Outcome, Turn};
 use std::alloc::Global;
 use tabled_border::{ANSIBuf, Border, Keep, OutOfMemory};
 use tabled_config::{ColoredConfig, SpannedConfig};
+use tabled_configuration::apply_colors;
 use tabled_grid::{Entity, HorizontalLine, Offset, Place, Position, Target, VerticalLine, Write};
 use tabled_layout::{Spans, TableSettings};
 use tabled_settings::{
@@ -584,6 +585,29 @@ fn color_entities(turn: &mut Turn) -> Result<Outcome, OutOfMemory> {
     Ok(sample.outcome(returned, &copy, &changed.cfg))
 }
 
+/// A list with one value, for row 1.
+fn for_row<T: Drop>(alloc: Global, value: T) -> Result<Vec<(Entity, Option<T>)>, OutOfMemory> {
+    let mut list = Vec::new(alloc);
+    list.push((Entity::Row(1), Some(value)))?;
+    Ok(list)
+}
+
+/// What becomes of three lists of colors.
+fn write_colors(turn: &mut Turn) -> Result<Outcome, OutOfMemory> {
+    let alloc = turn.alloc();
+    let mut cfg = SpannedConfig::new(alloc);
+    let mut colors = EntityMap::new(alloc, owned(alloc)?);
+    let copy: SpannedConfig = cfg.keep(alloc)?;
+    let same: EntityMap<ANSIBuf> = colors.keep(alloc)?;
+    let red = ANSIBuf::new(alloc, "a", "b")?;
+    let texts = for_row(alloc, red)?;
+    let fills = for_row(alloc, Some(owned(alloc)?))?;
+    let paddings = for_row(alloc, Sides::new(Some(owned(alloc)?), None, None, None))?;
+    turn.spend();
+    let returned = apply_colors(&mut cfg, &mut colors, texts, fills, paddings);
+    Ok(Outcome::of(returned, cfg != copy && colors != same, cfg == copy && colors == same))
+}
+
 /// What becomes of the removal of a color.
 fn remove_color(turn: &mut Turn) -> Result<Outcome, OutOfMemory> {
     let alloc = turn.alloc();
@@ -596,7 +620,7 @@ fn remove_color(turn: &mut Turn) -> Result<Outcome, OutOfMemory> {
 }
 
 /// Colors of cells, and spans.
-pub(crate) fn colors_and_spans() -> [Named; 8] {
+pub(crate) fn colors_and_spans() -> [Named; 9] {
     [
         (
             "ColoredConfig::set_color",
@@ -610,6 +634,7 @@ pub(crate) fn colors_and_spans() -> [Named; 8] {
         ),
         ("ColoredConfig::remove_color", remove_color),
         ("ColoredConfig::color_entities", color_entities),
+        ("apply_colors", write_colors),
         (
             "SpannedConfig::set_column_span",
             |turn| {

@@ -3,7 +3,8 @@
 
 use std::io;
 use tabled_border::{Border, OutOfMemory};
-use tabled_configuration::{ColoredConfig, SpannedConfig, modify};
+use tabled_changes::{ColoredConfig, modify};
+use tabled_configuration::SpannedConfig;
 use tabled_grid::{Place, Probes};
 use tabled_object::{Segment, Shape};
 

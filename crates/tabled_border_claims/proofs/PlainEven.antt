@@ -8,14 +8,14 @@ use Rattle.std.proofs.lemmas.Bool.Decides.{nat_tests}
 use Rattle.std.proofs.lemmas.List.Elements.{All-weaker}
 use Rattle.std.proofs.lemmas.List.Sums.{AllPass-from_list_all}
 use Rattle.std.proofs.lemmas.Str.{chars_past_char, encode_ascii, encodes-chars}
-use Rattle.tabled_printing.specs.declared.print_error.PrintError.{PrintError}
+use Rattle.tabled_config.specs.declared.print_error.PrintError.{PrintError}
 use Rattle.tabled_width.specs.Texts.{Table, pieces, width_of_text}
 use Rattle.tabled_printing.specs.Along.{is_empty}
-use Rattle.tabled_printing.specs.Refusal.{unless, cell_faults, row_faults, table_faults}
+use Rattle.tabled_config.specs.Refusal.{unless, cell_faults, row_faults, table_faults}
 use Rattle.tabled_printing.specs.Picture.{Look, text_lines}
 use Rattle.tabled_width.specs.Narrow.{is_narrow, begins_with_space, stands_apart}
 use Rattle.tabled_printing.specs.Columns.{HasNarrowBorders, table_width, StandsStraight}
-use Rattle.tabled_printing.proofs.FaultLemmas.{none_at, none_rest, right_rows, right_columns}
+use Rattle.tabled_config.proofs.FaultLemmas.{none_at, none_rest, right_rows, right_columns}
 use Rattle.tabled_width.proofs.PieceTexts.{IsUtf8-piece, piece_lacks, cut_lines}
 use Rattle.tabled_width.proofs.Tiles.{Tile, Tile-nil, Tile-space, Tile-narrow, Tile-same, Splits-utf8, Lacks, each_wide}
 use Rattle.tabled_printing.proofs.Straight.{lines_around, lines_tiles, lines_straight}

@@ -8,7 +8,7 @@ ghost use Rattle.tabled_formatting.specs.Margins.{margin_colored, margin_given, 
 
 use std::alloc::Global;
 use tabled_border::{AnsiText, OutOfMemory};
-use tabled_configuration::{CellOption, ColoredConfig, TableOption};
+use tabled_changes::{CellOption, ColoredConfig, TableOption};
 use tabled_formatting::{
     Alignment, AlignmentStrategy, Justification, Margin, MarginColor, Padding, PaddingColor,
     Shadow, TrimStrategy,

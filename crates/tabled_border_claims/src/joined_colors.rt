@@ -4,12 +4,12 @@ ghost use Rattle.std.specs.Prelude.{◌≡◌, OnOk, OnErr};
 ghost use Rattle.tabled_object.specs.Entities.{cells_of};
 ghost use Rattle.tabled_object.specs.declared.entity.Entity.TheVariants as cells;
 ghost use Rattle.tabled_configuration.specs.Colored.{Changes};
-ghost use Rattle.tabled_configuration.specs.EntitiesColored.{entities_colored};
+ghost use Rattle.tabled_changes.specs.EntitiesColored.{entities_colored};
 ghost use Rattle.tabled_colorization.specs.Joined.{cells_joined};
 
 use tabled_border::OutOfMemory;
+use tabled_changes::{CellOption, ColoredConfig, TableOption};
 use tabled_colorization::JoinedColor;
-use tabled_configuration::{CellOption, ColoredConfig, TableOption};
 use tabled_object::{Entity, ExactRecords, Records};
 
 /// Each cell of an entity has the color that it had, and another one joined onto it, with its filling and its padding.

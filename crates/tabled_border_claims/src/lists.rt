@@ -19,18 +19,19 @@ ghost use Rattle.tabled_configuration.specs.CellColors.{changed, colors_after, g
 ghost use Rattle.tabled_configuration.specs.Colored.{Colored, Shows, Changes, all_writes};
 ghost use Rattle.tabled_configuration.specs.Configuration as borders;
 ghost use Rattle.tabled_configuration.specs.Configuration.{ConfigEvent, cell_colors_of, characters_of, colors_of, of_cell_colors, settings_of};
-ghost use Rattle.tabled_printing.specs.Headline.{HaveMade, line_count};
+ghost use Rattle.tabled_config.specs.Headline.{HaveMade, line_count};
 ghost use Rattle.tabled_configuration.specs.Options.{MakesInTurn};
 ghost use Rattle.tabled_printing.specs.Picture.{edge_size, look, printed};
-ghost use Rattle.tabled_printing.specs.Refusal.{has_no_spans, table_faults};
+ghost use Rattle.tabled_config.specs.Refusal.{has_no_spans, table_faults};
 ghost use Rattle.tabled_width.specs.Texts.{Table, texts};
 
 use tabled_border::ANSIBuf;
-use tabled_configuration::{ColoredConfig, Configured, SpannedConfig};
+use tabled_changes::{ColoredConfig, Configured};
+use tabled_config::{PrintError, Seen, character_seen, color_seen, line_seen};
+use tabled_configuration::SpannedConfig;
 use tabled_grid::{LineOf, Place};
 use tabled_kept::Meter;
 use tabled_object::Dimension;
-use tabled_printing::{PrintError, Seen, character_seen, color_seen, line_seen};
 
 /// The headline. After any list of options on a table of one shape, each edge place and crossing has, found by at most six
 /// readings, which `character_after_any_list`, `color_after_any_list` and `line_after_any_list` count, the character and the color of
@@ -57,7 +58,7 @@ pub fn headline<'a, D: Dimension>(
         → IsOkUnless result.printed PrintError.OutOfMemory }
     ensures unchanged { OnErr result.printed (string_bytes out.new ≡ string_bytes out.old) }
 {
-    tabled_printing::headline(cfg, dims, shape, cells, place, line, out)
+    tabled_config::headline(cfg, dims, shape, cells, place, line, out)
 }
 
 /// The character of a place after any list of options, found by at most six readings, whatever the type of the meter that counts

@@ -5,7 +5,7 @@ ghost use Rattle.tabled_object.specs.declared.entity.Entity.TheVariants as cells
 ghost use Rattle.tabled_settings.specs.Setting.{write_of};
 ghost use Rattle.tabled_configuration.specs.Colored.{Shows, Changes, by_cell_color};
 ghost use Rattle.tabled_configuration.specs.Configuration.{ConfigEvent, all_writes, borders_replaced};
-ghost use Rattle.tabled_configuration.specs.EntitiesColored.{entities_colored};
+ghost use Rattle.tabled_changes.specs.EntitiesColored.{entities_colored};
 ghost use Rattle.tabled_configuration.specs.Options.{MakesInTurn, entity_bordered, entity_unbordered, table_bordered, table_unbordered};
 ghost use Rattle.tabled_printing.specs.Picture.{look};
 ghost use Rattle.tabled_color.specs.BorderColors.{border_texts};
@@ -24,9 +24,9 @@ ghost use Rattle.tabled_object.specs.Entities.{cells_of, is_inside};
 
 use std::alloc::Global;
 use tabled_border::{Border as GridBorder, OutOfMemory};
+use tabled_changes::{CellOption, ColoredConfig, TableOption, modify};
 use tabled_color::{BorderColor, Color};
 use tabled_colorization::{CellColor, Colorization, ExactColorization};
-use tabled_configuration::{CellOption, ColoredConfig, TableOption, modify};
 use tabled_correction::BorderCorrection;
 use tabled_grid::Borders;
 use tabled_highlight::Highlight;

@@ -14,21 +14,19 @@ ghost use Rattle.tabled_printing.specs.Columns.{StandsStraight, WritesNarrow, ta
 ghost use Rattle.tabled_printing.specs.LinePieces.{lines_met};
 ghost use Rattle.tabled_printing.specs.Marks.{mark_of, marks_of, run_marks};
 ghost use Rattle.tabled_printing.specs.Picture.{Look, look, text_marked, text_shown, mark_at, marks_along, marks, line_if_drawn, text_lines, printed};
-ghost use Rattle.tabled_printing.specs.Refusal.{first_refusal, table_faults};
+ghost use Rattle.tabled_config.specs.Refusal.{first_refusal, table_faults};
 ghost use Rattle.tabled_printing.specs.Sides.{side_at};
 ghost use Rattle.tabled_border_claims.specs.TextOrder.{text_order, line_text, place_in};
 ghost use Rattle.tabled_width.specs.Texts.{Table, pieces, texts, width_of_text};
 ghost use Rattle.tabled_printing.specs.Viewed.{frame_look, with_colors_if};
 
 use tabled_border::OutOfMemory;
+use tabled_config::{PrintError, join_lines, print_plain};
 use tabled_configuration::SpannedConfig;
 use tabled_grid::LineOf;
 use tabled_kept::{Meter, Probes};
 use tabled_object::Dimension;
-use tabled_printing::{
-    Frame, Mark, PrintError, RowSide, RowSides, Run, Sink, join_lines, line_marks, line_runs,
-    print_plain,
-};
+use tabled_printing::{Frame, Mark, RowSide, RowSides, Run, Sink, line_marks, line_runs};
 
 /// The printer appends exactly the picture that the events draw around the cells. It returns the first fault there is, and
 /// where there is none it is refused for memory alone; a refusal leaves the text as it was.

@@ -13,7 +13,7 @@ ghost use Rattle.tabled_settings.specs.Padding.{first_padding};
 ghost use Rattle.tabled_settings.specs.Live.{after, after_all, at_first, value_at};
 ghost use Rattle.tabled_settings.specs.AlikeRows.{IsRowAlike};
 ghost use Rattle.tabled_settings.specs.Setting.{EntityEvent, is_global, removal_of, setting, write_of};
-ghost use Rattle.tabled_configuration.specs.EntitiesColored.{entities_colored, text_writes};
+ghost use Rattle.tabled_changes.specs.EntitiesColored.{entities_colored, text_writes};
 ghost use Rattle.tabled_color.specs.Shade.{Shade, texts_of};
 ghost use Rattle.tabled_colorization.specs.declared.pattern.Pattern.{Pattern as Order};
 ghost use Rattle.tabled_colorization.specs.declared.pattern.Pattern.TheVariants as pattern;

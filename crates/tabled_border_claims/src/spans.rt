@@ -22,7 +22,7 @@ ghost use Rattle.tabled_rooms.specs.Sizes.{below, is_own, row_count, spanned_hei
 ghost use Rattle.std.specs.FinMap as map;
 
 use tabled_border::OutOfMemory;
-use tabled_configuration::{CellOption, ColoredConfig};
+use tabled_changes::{CellOption, ColoredConfig};
 use tabled_correction::Span;
 use tabled_object::{Entity, ExactRecords, Records};
 

@@ -35,7 +35,7 @@ ghost use Rattle.tabled_claims.specs.Clean.{WritesClean};
 use std::alloc::Global;
 use std::{fmt, io, mem};
 use tabled_border::OutOfMemory;
-use tabled_configuration::{CellOption, ColoredConfig, TableOption};
+use tabled_changes::{CellOption, ColoredConfig, TableOption};
 use tabled_object::{FixedDimension, Object, Shape};
 use tabled_text::{TableError, TextTable};
 use tabled_width::Overflow;

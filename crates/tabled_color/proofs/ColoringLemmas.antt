@@ -21,7 +21,7 @@ use Rattle.tabled_places.specs.Writes.{given_event, writes_made}
 use Rattle.tabled_configuration.specs.Configuration as borders
 use Rattle.tabled_configuration.specs.Configuration.{Configuration, of_colors, by_characters, by_colors, cell_colors_of, writes_applied}
 use Rattle.tabled_configuration.specs.ChangeLaws.{none_change_borders, both_change_borders}
-use Rattle.tabled_configuration.proofs.ColoredLemmas.{none_by_colors}
+use Rattle.tabled_changes.proofs.ColoredLemmas.{none_by_colors}
 use Rattle.tabled_configuration.proofs.ConfigurationLemmas.{both_passed_over}
 use Rattle.tabled_configuration.specs.Configuration.{cell_color_event}
 use Rattle.tabled_color.specs.Coloring.{one_color, at_once_or_each, entity_colored, spot_colored, spot_cleared, line_colored, frame_colored, corners_cleared, table_colored}

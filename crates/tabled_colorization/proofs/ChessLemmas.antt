@@ -12,7 +12,7 @@ use Rattle.tabled_object.specs.declared.entity.Entity.TheVariants.{Cell}
 use Rattle.tabled_object.specs.declared.position.Position.{Position}
 use Rattle.tabled_object.specs.Entities.{below, covers, position}
 use Rattle.tabled_settings.specs.Setting.{EntityEvent, write_of, setting}
-use Rattle.tabled_configuration.specs.EntitiesColored.{text_writes}
+use Rattle.tabled_changes.specs.EntitiesColored.{text_writes}
 use Rattle.tabled_color.specs.Shade.{Shade, texts_of}
 use Rattle.tabled_colorization.specs.declared.pattern.Pattern.TheVariants.{Chess}
 use Rattle.tabled_colorization.specs.Turns.{in_its_turn, in_turn, numbered, with_color}

@@ -2,15 +2,15 @@
 
 ghost use Rattle.std.specs.Prelude.{◌≡◌, ◌∷◌, [], None, IfOk};
 ghost use Rattle.tabled_color.specs.Shade.{texts_of};
-ghost use Rattle.tabled_configuration.specs.EntitiesColored.{entities_colored};
+ghost use Rattle.tabled_changes.specs.EntitiesColored.{entities_colored};
 ghost use Rattle.tabled_object.specs.declared.entity.Entity.TheVariants as cells;
 
 use crate::turns::Colored;
 use std::alloc::Global;
 use std::marker::Model;
 use tabled_border::{ANSIBuf, OutOfMemory};
+use tabled_changes::{CellOption, ColoredConfig, TableOption};
 use tabled_color::Color;
-use tabled_configuration::{CellOption, ColoredConfig, TableOption};
 use tabled_object::Entity;
 
 /// A color for whole cells: that of their texts, of the characters that fill them beside these, and of the padding on all sides, where a

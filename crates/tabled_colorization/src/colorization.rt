@@ -2,7 +2,7 @@
 
 ghost use Rattle.std.specs.Prelude.{◌≡◌, ◌∷◌, [], Some, IfOk};
 ghost use Rattle.tabled_object.specs.declared.entity.Entity.TheVariants as cells;
-ghost use Rattle.tabled_configuration.specs.EntitiesColored.{entities_colored};
+ghost use Rattle.tabled_changes.specs.EntitiesColored.{entities_colored};
 ghost use Rattle.tabled_colorization.specs.declared.pattern.Pattern.TheVariants as pattern;
 ghost use Rattle.tabled_colorization.specs.Turns.{colorization};
 
@@ -12,8 +12,8 @@ use crate::turns::colored_by;
 use std::alloc::Global;
 use std::marker::Model;
 use tabled_border::{Keep, OutOfMemory};
+use tabled_changes::{ColoredConfig, TableOption};
 use tabled_color::Color;
-use tabled_configuration::{ColoredConfig, TableOption};
 use tabled_object::{Entity, ExactRecords, Records};
 
 /// Colors for the cells of a table, given in turn: after the last color the first one comes again.

@@ -2,15 +2,15 @@
 
 ghost use Rattle.std.specs.Prelude.{◌≡◌, Some, IfOk};
 ghost use Rattle.tabled_object.specs.declared.entity.Entity.TheVariants as cells;
-ghost use Rattle.tabled_configuration.specs.EntitiesColored.{entities_colored};
+ghost use Rattle.tabled_changes.specs.EntitiesColored.{entities_colored};
 ghost use Rattle.tabled_colorization.specs.Turns.{exact_colorization};
 
 use crate::turns::colored_exactly;
 use std::alloc::Global;
 use std::marker::Model;
 use tabled_border::OutOfMemory;
+use tabled_changes::{ColoredConfig, TableOption};
 use tabled_color::Color;
-use tabled_configuration::{ColoredConfig, TableOption};
 use tabled_object::{Entity, ExactRecords, Object, Records};
 
 /// Colors for the entities that an object lists, given in turn: each entity as a whole has one, and after the last color the

@@ -2,7 +2,7 @@
 
 ghost use Rattle.std.specs.Prelude.{◌≡◌, None, IfOk};
 ghost use Rattle.tabled_color.specs.Shade.{texts_of};
-ghost use Rattle.tabled_configuration.specs.EntitiesColored.{entities_colored};
+ghost use Rattle.tabled_changes.specs.EntitiesColored.{entities_colored};
 ghost use Rattle.tabled_colorization.specs.Joined.{cells_joined, color_at, joined_texts};
 ghost use Rattle.tabled_object.specs.Entities.{cells_of};
 ghost use Rattle.tabled_object.specs.declared.entity.Entity.TheVariants as every;
@@ -11,8 +11,8 @@ use crate::turns::Colored;
 use std::alloc::Global;
 use std::marker::Model;
 use tabled_border::{ANSIBuf, OutOfMemory};
+use tabled_changes::{CellOption, ColoredConfig, TableOption};
 use tabled_color::Color;
-use tabled_configuration::{CellOption, ColoredConfig, TableOption};
 use tabled_object::{Entity, ExactRecords, Position, Records};
 
 /// A color that is joined onto the one that each cell has, as [`Color::join`] joins two: a cell on a ground keeps it and is bold too, where

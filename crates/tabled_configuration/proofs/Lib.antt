@@ -1,11 +1,7 @@
 pub mod ConfigurationLemmas
-pub mod ColoredLemmas
-pub mod ColorsLemmas
 pub mod SameConfigurationLemmas
 pub mod InTurn
 pub mod Replacing
-pub mod SecondTime
-pub mod EntitiesColoredLemmas
 pub mod BothLemmas
 pub mod AlignedLemmas
 pub mod Below

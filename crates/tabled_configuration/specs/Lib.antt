@@ -4,8 +4,5 @@ pub mod Colored
 pub mod ChangeLaws
 pub mod SameConfiguration
 pub mod Options
-pub mod Resizing
-pub mod Compact
-pub mod EntitiesColored
 pub mod EntitiesAligned
 pub mod AlikeRows

@@ -1,25 +1,9 @@
-//! Configurations, and the options that change them. What prints a table of a configuration stands in `tabled_printing`.
+//! The configuration of borders and of what is set for cells, and what configurations mean. The options that change one stand in
+//! `tabled_changes`, and what prints its lines in `tabled_printing`.
 //!
 //! `docs/DEFINITIONS.md` explains the words of the contracts. Users name these items by `tabled_config`.
 #![tactic(auto)]
 
-mod border_options;
-mod cell_option;
-mod color_map;
-mod colored_config;
-mod compact_options;
-mod configured;
-mod resizing;
-mod setting;
 mod spanned_config;
-mod table_option;
 
-pub use cell_option::{CellOption, modify};
-pub use color_map::{ColorMap, Colors};
-pub use colored_config::ColoredConfig;
-pub use compact_options::SetCompact;
-pub use configured::{BorderEvent, Configured};
-pub use resizing::Resizes;
-pub use setting::{SetCells, SetTable};
-pub use spanned_config::SpannedConfig;
-pub use table_option::TableOption;
+pub use spanned_config::{SpannedConfig, apply_colors};

@@ -10,7 +10,7 @@ ghost use Rattle.tabled_configuration.specs.Configuration.{all_but_offsets};
 mod applying;
 mod both;
 mod cells;
-pub(crate) mod coloring;
+mod coloring;
 mod colors;
 mod copies;
 mod equality;
@@ -24,6 +24,7 @@ mod replacing;
 mod settings;
 mod spans;
 
+pub use coloring::apply_colors;
 use std::alloc::Global;
 use std::marker::Model;
 use tabled_border::ANSIBuf;

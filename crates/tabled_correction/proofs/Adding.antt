@@ -7,7 +7,7 @@ use Rattle.tabled_places.specs.declared.writes.Write as grid
 use Rattle.tabled_places.specs.Writes.{writes_made}
 use Rattle.tabled_places.proofs.EntityBorders.{writes_made-append, nothing_written}
 use Rattle.tabled_configuration.specs.Configuration.{Configuration, cell_colors_of}
-use Rattle.tabled_configuration.proofs.ColoredLemmas.{none_by_characters}
+use Rattle.tabled_changes.proofs.ColoredLemmas.{none_by_characters}
 use Rattle.tabled_correction.specs.Correction.{Write, Spanned, after_writes, columns_corrected, rows_corrected, inner_corrected, corrected, spanned, crossing_written, correction_events}
 use Rattle.tabled_configuration.proofs.Below.{flat_map_below}
 

@@ -9,7 +9,8 @@ ghost use Rattle.tabled_correction.specs.Correction.{spanned, corrected, crossin
 use crate::picture::Picture;
 use std::alloc::Global;
 use tabled_border::OutOfMemory;
-use tabled_configuration::{ColoredConfig, SpannedConfig, TableOption};
+use tabled_changes::{ColoredConfig, TableOption};
+use tabled_configuration::SpannedConfig;
 use tabled_grid::{Place, Target, Write};
 use tabled_object::{Entity, ExactRecords, Position, Records};
 

@@ -10,7 +10,8 @@ ghost use Rattle.tabled_correction.specs.Span.{cell_spanned, span_events};
 use std::alloc::Global;
 use std::marker::Model;
 use tabled_border::OutOfMemory;
-use tabled_configuration::{CellOption, ColoredConfig, SpannedConfig};
+use tabled_changes::{CellOption, ColoredConfig};
+use tabled_configuration::SpannedConfig;
 use tabled_object::{Entity, ExactRecords, Position, Records};
 
 /// Lets each cell of an entity span several columns, or several rows, from its own on. What stands in the others is not shown, and the

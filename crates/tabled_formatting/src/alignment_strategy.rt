@@ -1,11 +1,12 @@
 //! Whether the lines of a text are aligned as one.
 
 ghost use Rattle.std.specs.Prelude.{◌≡◌, ⊤, refl};
-ghost use Rattle.tabled_configuration.specs.declared.resizing.Resizes.TheVariants as resizing;
+ghost use Rattle.tabled_changes.specs.declared.resizing.Resizes.TheVariants as resizing;
 ghost use Rattle.tabled_formatting.specs.Formatting.{strategy_set, each_line};
 
 use tabled_border::OutOfMemory;
-use tabled_configuration::{Resizes, SetCells, SpannedConfig};
+use tabled_changes::{Resizes, SetCells};
+use tabled_configuration::SpannedConfig;
 use tabled_object::Entity;
 
 /// Whether the lines of a text in a cell are moved as one block, or each by itself. Here a text of two lines at the right of

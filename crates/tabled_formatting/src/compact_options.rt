@@ -1,13 +1,13 @@
 //! Options on compact configurations. None of them takes memory.
 
-ghost use Rattle.tabled_configuration.specs.declared.resizing.Resizes.TheVariants as resizing;
+ghost use Rattle.tabled_changes.specs.declared.resizing.Resizes.TheVariants as resizing;
 ghost use Rattle.tabled_formatting.specs.Formatting.{each_line};
 ghost use Rattle.tabled_formatting.specs.Compact.{compact_aligned, multiline_aligned};
 
 use crate::{Alignment, AlignmentStrategy, MarginColor, PaddingColor};
 use tabled_border::ANSIStr;
+use tabled_changes::{Resizes, SetCompact};
 use tabled_compact::{CompactConfig, CompactMultilineConfig};
-use tabled_configuration::{Resizes, SetCompact};
 
 /// Sets an alignment between the left and the right side; one between the upper and the lower side changes nothing.
 impl SetCompact<CompactConfig> for Alignment {

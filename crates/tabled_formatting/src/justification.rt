@@ -1,15 +1,16 @@
 //! What fills a cell beside its text.
 
 ghost use Rattle.std.specs.Prelude.{◌≡◌, refl, Some, None, IfOk, option_map, option_copied};
-ghost use Rattle.tabled_configuration.specs.declared.resizing.Resizes.TheVariants as resizing;
+ghost use Rattle.tabled_changes.specs.declared.resizing.Resizes.TheVariants as resizing;
 ghost use Rattle.tabled_color.specs.Shade.{texts_of};
 ghost use Rattle.tabled_formatting.specs.Formatting.{justification_set};
 
 use std::alloc::Global;
 use std::marker::Model;
 use tabled_border::{ANSIBuf, Keep, OutOfMemory};
+use tabled_changes::{Resizes, SetCells};
 use tabled_color::Color;
-use tabled_configuration::{Resizes, SetCells, SpannedConfig};
+use tabled_configuration::SpannedConfig;
 use tabled_object::Entity;
 
 /// The character that fills cells beside their texts, and its color. Here it is `#`:

@@ -1,12 +1,13 @@
 //! The room around a table.
 
 ghost use Rattle.std.specs.Prelude.{◌≡◌, ⊤, refl};
-ghost use Rattle.tabled_configuration.specs.declared.resizing.Resizes.TheVariants as resizing;
+ghost use Rattle.tabled_changes.specs.declared.resizing.Resizes.TheVariants as resizing;
 ghost use Rattle.tabled_formatting.specs.Margins.{margin_given, with_fills};
 
 use std::marker::Model;
 use tabled_border::OutOfMemory;
-use tabled_configuration::{Resizes, SetTable, SpannedConfig};
+use tabled_changes::{Resizes, SetTable};
+use tabled_configuration::SpannedConfig;
 use tabled_settings::{Indent, Sides};
 
 /// The room around a table: how many columns at its left and its right, how many lines above and below it, and the characters that fill

@@ -1,13 +1,14 @@
 //! The color of the margin.
 
 ghost use Rattle.std.specs.Prelude.{refl};
-ghost use Rattle.tabled_configuration.specs.declared.resizing.Resizes.TheVariants as resizing;
+ghost use Rattle.tabled_changes.specs.declared.resizing.Resizes.TheVariants as resizing;
 ghost use Rattle.tabled_formatting.specs.Margins.{margin_colored};
 
 use crate::side_colors::{OfMargin, SideColors};
 use crate::texts::side_texts;
 use tabled_border::{AnsiText, OutOfMemory};
-use tabled_configuration::{Resizes, SetTable, SpannedConfig};
+use tabled_changes::{Resizes, SetTable};
+use tabled_configuration::SpannedConfig;
 
 /// The color of the margin on each side of a table.
 pub type MarginColor<C> = SideColors<C, OfMargin>;

@@ -1,13 +1,14 @@
 //! The padding of cells.
 
 ghost use Rattle.std.specs.Prelude.{◌≡◌, ⊤, refl};
-ghost use Rattle.tabled_configuration.specs.declared.resizing.Resizes.TheVariants as resizing;
+ghost use Rattle.tabled_changes.specs.declared.resizing.Resizes.TheVariants as resizing;
 ghost use Rattle.tabled_formatting.specs.Formatting.{padding_given};
 ghost use Rattle.tabled_formatting.specs.Margins.{with_fills};
 
 use std::marker::Model;
 use tabled_border::OutOfMemory;
-use tabled_configuration::{Resizes, SetCells, SpannedConfig};
+use tabled_changes::{Resizes, SetCells};
+use tabled_configuration::SpannedConfig;
 use tabled_object::Entity;
 use tabled_settings::{Indent, Sides};
 

@@ -1,13 +1,14 @@
 //! The color of the padding.
 
 ghost use Rattle.std.specs.Prelude.{refl};
-ghost use Rattle.tabled_configuration.specs.declared.resizing.Resizes.TheVariants as resizing;
+ghost use Rattle.tabled_changes.specs.declared.resizing.Resizes.TheVariants as resizing;
 ghost use Rattle.tabled_formatting.specs.Formatting.{padding_set};
 
 use crate::side_colors::{OfPadding, SideColors};
 use crate::texts::side_texts;
 use tabled_border::{AnsiText, OutOfMemory};
-use tabled_configuration::{Resizes, SetCells, SpannedConfig};
+use tabled_changes::{Resizes, SetCells};
+use tabled_configuration::SpannedConfig;
 use tabled_object::Entity;
 
 /// The color of the padding of cells on each side.

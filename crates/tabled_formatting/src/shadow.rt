@@ -1,15 +1,16 @@
 //! A shadow of a table.
 
 ghost use Rattle.std.specs.Prelude.{◌≡◌, true, false, None, Some, IfOk, option_map};
-ghost use Rattle.tabled_configuration.specs.declared.resizing.Resizes.TheVariants as resizing;
+ghost use Rattle.tabled_changes.specs.declared.resizing.Resizes.TheVariants as resizing;
 ghost use Rattle.tabled_formatting.specs.Margins.{indent_of, shadow_sizes, offset_of, shadow_offsets, color_of, shadow_colors, shadow_set};
 ghost use Rattle.tabled_formatting.specs.LeavesColors.{none_in_shadow_set};
 
 use crate::texts::copied_texts;
 use std::alloc::Global;
 use tabled_border::{ANSIBuf, Keep, OutOfMemory};
+use tabled_changes::{Resizes, SetTable};
 use tabled_color::Color;
-use tabled_configuration::{Resizes, SetTable, SpannedConfig};
+use tabled_configuration::SpannedConfig;
 use tabled_grid::Offset;
 use tabled_settings::{Indent, Sides};
 

@@ -1,12 +1,13 @@
 //! Which empty parts of a text are dropped.
 
 ghost use Rattle.std.specs.Prelude.{⊤};
-ghost use Rattle.tabled_configuration.specs.declared.resizing.Resizes.TheVariants as resizing;
+ghost use Rattle.tabled_changes.specs.declared.resizing.Resizes.TheVariants as resizing;
 ghost use Rattle.tabled_formatting.specs.Formatting.{trim_set};
 ghost use Rattle.tabled_formatting.specs.LeavesColors.{none_in_trim_set};
 
 use tabled_border::OutOfMemory;
-use tabled_configuration::{Resizes, SetCells, SpannedConfig};
+use tabled_changes::{Resizes, SetCells};
+use tabled_configuration::SpannedConfig;
 use tabled_object::Entity;
 
 /// What is dropped around a text before it is aligned: empty lines above and below it, spaces at its left and its right.

@@ -18,7 +18,7 @@ use Rattle.tabled_places.proofs.Leaving.{on_spots, same_change}
 use Rattle.tabled_layout.specs.TableSettings.{settings_after}
 use Rattle.tabled_configuration.specs.Configuration.{Configuration, Changes, of_characters, of_colors, setting_event, cell_colors_of, by_characters, by_colors, writes_applied}
 use Rattle.tabled_configuration.proofs.ConfigurationLemmas.{passed_over, both_passed_over, characters_of-both, colors_of-both, Changes_by_both}
-use Rattle.tabled_configuration.proofs.ColoredLemmas.{none_by_both}
+use Rattle.tabled_changes.proofs.ColoredLemmas.{none_by_both}
 use Rattle.tabled_color.specs.Shade.{Shade}
 use Rattle.tabled_color.specs.BorderColors.{border_texts}
 use Rattle.tabled_highlight.specs.Outline.{Outlining, CellSet, outline_value, outline}

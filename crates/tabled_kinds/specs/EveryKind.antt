@@ -6,7 +6,7 @@ use Rattle.tabled_object.specs.Entities.{cells_of}
 use Rattle.tabled_settings.specs.Setting.{write_of}
 use Rattle.tabled_configuration.specs.Configuration.{ConfigEvent, borders_replaced, all_writes}
 use Rattle.tabled_configuration.specs.Colored.{Colored, Changes, by_cell_color}
-use Rattle.tabled_configuration.specs.EntitiesColored.{entities_colored}
+use Rattle.tabled_changes.specs.EntitiesColored.{entities_colored}
 use Rattle.tabled_configuration.specs.Options.{MakesInTurn, table_bordered, entity_bordered, entity_unbordered, table_unbordered}
 use Rattle.tabled_printing.specs.Picture.{look}
 use Rattle.tabled_width.specs.Texts.{Table}

@@ -2,7 +2,7 @@
 use Rattle.std.proofs.Common.{◌≡◌, ℕ, Option, option_map, List, [], map, filter, ap, ◌∙◌}
 use Rattle.tabled_configuration.specs.Configuration.{Configuration, ConfigEvent, all_writes, cell_colors_of}
 use Rattle.tabled_printing.specs.Picture.{Look, look}
-use Rattle.tabled_configuration.proofs.ColoredLemmas.{none_by_characters, none_by_both}
+use Rattle.tabled_changes.proofs.ColoredLemmas.{none_by_characters, none_by_both}
 use Rattle.tabled_object.specs.declared.entity.Entity.{Entity}
 use Rattle.tabled_object.specs.Entities.{cells_of}
 use Rattle.tabled_places.specs.declared.place.LineOf.{LineOf}

@@ -11,7 +11,7 @@ use crate::written::write_of;
 use std::alloc::Global;
 use std::marker::Model;
 use tabled_border::OutOfMemory;
-use tabled_configuration::{CellOption, ColoredConfig};
+use tabled_changes::{CellOption, ColoredConfig};
 use tabled_grid::{Offset, Place, Target, Write};
 use tabled_object::{Entity, ExactRecords, Position, Records};
 

@@ -4,7 +4,8 @@ ghost use Rattle.std.specs.Prelude.{◌≡◌, IfSome, option_copied};
 ghost use Rattle.tabled_painting.specs.CellLines.{text_color};
 
 use tabled_border::ANSIBuf;
-use tabled_configuration::{ColorMap, Colors, SpannedConfig};
+use tabled_changes::{ColorMap, Colors};
+use tabled_configuration::SpannedConfig;
 use tabled_object::Position;
 use tabled_settings::Sides;
 

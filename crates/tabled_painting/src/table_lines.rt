@@ -22,7 +22,7 @@ use std::alloc::Global;
 use std::convert::AsStr;
 use tabled_border::{ANSIBuf, OutOfMemory};
 use tabled_cells::Placement;
-use tabled_configuration::{ColorMap, ColoredConfig};
+use tabled_changes::{ColorMap, ColoredConfig};
 use tabled_kept::Probes;
 use tabled_object::{Dimension, FixedDimension, Position};
 use tabled_printing::{Frame, Mark};

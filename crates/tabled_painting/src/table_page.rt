@@ -22,7 +22,7 @@ use crate::table_lines::TableLines;
 use crate::{MarginSides, Output, Painter};
 use std::convert::AsStr;
 use tabled_border::OutOfMemory;
-use tabled_configuration::ColoredConfig;
+use tabled_changes::ColoredConfig;
 use tabled_object::FixedDimension;
 use tabled_printing::Frame;
 

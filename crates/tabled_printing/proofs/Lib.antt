@@ -1,11 +1,7 @@
-pub mod FaultLemmas
-pub mod MadeInTurn
 pub mod LookLemmas
 pub mod LineLemmas
 pub mod MarkLemmas
 pub mod AlikeLemmas
-pub mod TextLemmas
-pub mod PieceLemmas
 pub mod ViewedLemmas
 pub mod Straight
 pub mod NarrowLemmas

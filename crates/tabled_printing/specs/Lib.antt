@@ -9,6 +9,4 @@ pub mod Beside
 pub mod SideMarks
 pub mod Sides
 pub mod Viewed
-pub mod Refusal
-pub mod Headline
 pub mod Columns

@@ -31,8 +31,8 @@ impl Mark<'_> {
     }
 }
 
-/// The character that is printed for what a place shows, a space for nothing.
-pub(crate) fn printed_as(shown: Option<char>) -> char
+/// Returns the character that is printed for what a place shows, a space for nothing.
+pub fn printed_as(shown: Option<char>) -> char
     ensures { result ≡ character shown }
 {
     shown.unwrap_or(' ')

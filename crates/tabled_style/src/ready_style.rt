@@ -14,7 +14,8 @@ use std::io::ErrorKind;
 use std::str::FromStr;
 use std::{fmt, io};
 use tabled_border::OutOfMemory;
-use tabled_configuration::{ColoredConfig, SpannedConfig, TableOption};
+use tabled_changes::{ColoredConfig, TableOption};
+use tabled_configuration::SpannedConfig;
 use tabled_grid::Borders;
 use tabled_object::Entity;
 

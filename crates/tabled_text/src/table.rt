@@ -15,7 +15,8 @@ use std::alloc::Global;
 use std::convert::AsStr;
 use std::marker::Model;
 use tabled_border::OutOfMemory;
-use tabled_configuration::{CellOption, ColoredConfig, SpannedConfig, TableOption, modify};
+use tabled_changes::{CellOption, ColoredConfig, TableOption, modify};
+use tabled_configuration::SpannedConfig;
 use tabled_measure::measure::{sizes_of, unequal_row};
 use tabled_numbers::column_count;
 use tabled_object::{FixedDimension, Object, Shape};
@@ -94,7 +95,7 @@ impl<T: AsStr + Drop> Table<T> {
     ghost use Rattle.tabled_measure.specs.Sizes.{column_count, column_widths, row_heights, unequal_row};
     ghost use Rattle.tabled_text.specs.TextTable.{AreRead, shape_of};
     ghost use Rattle.tabled_text.specs.contracts.table.Table.{the_row};
-    ghost use Rattle.tabled_configuration.specs.contracts.colored_config.ColoredConfig.{the_row as config_row};
+    ghost use Rattle.tabled_changes.specs.contracts.colored_config.ColoredConfig.{the_row as config_row};
 
     /// Makes a table of these rows of texts, which are taken as they are. Refused where a row has more or fewer cells than row 0, with the
     /// number of the first such row and both counts, or where memory is refused.

@@ -14,7 +14,7 @@ use crate::stream::write_page;
 use std::convert::AsStr;
 use std::io;
 use tabled_border::OutOfMemory;
-use tabled_configuration::ColoredConfig;
+use tabled_changes::ColoredConfig;
 use tabled_measure::spanned::TextSizes;
 use tabled_object::FixedDimension;
 use tabled_painting::{TablePage, sizes_of_spanned};

@@ -5,7 +5,7 @@ use Rattle.tabled_places.specs.State.{class_record_set}
 use Rattle.tabled_border.specs.Texts.{Texts}
 use Rattle.tabled_configuration.specs.Configuration.{Configuration, Changes, by_colors, cell_color_event, cell_colors_of}
 use Rattle.tabled_configuration.proofs.ConfigurationLemmas.{both_passed_over}
-use Rattle.tabled_configuration.proofs.ColoredLemmas.{none_by_colors, none_in_borders_replaced}
+use Rattle.tabled_changes.proofs.ColoredLemmas.{none_by_colors, none_in_borders_replaced}
 use Rattle.tabled_configuration.specs.ChangeLaws.{both_change_borders}
 use Rattle.tabled_theme.specs.Shown.{ThemeShown}
 use Rattle.tabled_theme.specs.Events.{as_style, color_texts, style_applied, theme_applied}

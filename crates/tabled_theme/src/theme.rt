@@ -19,8 +19,8 @@ use fields::copied;
 use std::alloc::Global;
 use std::marker::Model;
 use tabled_border::OutOfMemory;
+use tabled_changes::ColoredConfig;
 use tabled_color::Color;
-use tabled_configuration::ColoredConfig;
 use tabled_grid::{Borders, HorizontalLine, VerticalLine};
 use tabled_style::Style;
 

@@ -7,7 +7,7 @@ use Rattle.tabled_settings.specs.Setting.{write_of}
 use Rattle.tabled_settings.specs.declared.alignment.AlignmentHorizontal.TheVariants as horizontal
 use Rattle.tabled_configuration.specs.Configuration.{ConfigEvent}
 use Rattle.tabled_configuration.specs.Colored.{by_cell_color}
-use Rattle.tabled_configuration.specs.EntitiesColored.{entities_colored}
+use Rattle.tabled_changes.specs.EntitiesColored.{entities_colored}
 use Rattle.tabled_color.specs.Shade.{Shade, texts_of, static_shade, sequence}
 use Rattle.tabled_color.specs.BorderColors.{full_border, border_texts}
 use Rattle.tabled_color.specs.Coloring.{entity_colored}

@@ -14,7 +14,8 @@ ghost use Rattle.tabled_color.specs.Coloring.{one_color, entity_colored, spot_co
 use crate::BorderColor;
 use std::alloc::Global;
 use tabled_border::{ANSIBuf, Border, Keep, OutOfMemory};
-use tabled_configuration::{CellOption, ColoredConfig, SpannedConfig, TableOption};
+use tabled_changes::{CellOption, ColoredConfig, TableOption};
+use tabled_configuration::SpannedConfig;
 use tabled_grid::{LineOf, Place, Target, Write, border_writes};
 use tabled_object::{Entity, ExactRecords, Records};
 

@@ -8,7 +8,7 @@ ghost use Rattle.tabled_color.specs.Shade.{texts_of};
 
 use crate::Color;
 use tabled_border::{ANSIBuf, OutOfMemory};
-use tabled_configuration::{CellOption, ColoredConfig, TableOption};
+use tabled_changes::{CellOption, ColoredConfig, TableOption};
 use tabled_object::Entity;
 
 impl<R> CellOption<R, ColoredConfig> for Color {

@@ -1,13 +1,14 @@
 //! An alignment as an option.
 
 ghost use Rattle.std.specs.Prelude.{⊤};
-ghost use Rattle.tabled_configuration.specs.declared.resizing.Resizes.TheVariants as resizing;
+ghost use Rattle.tabled_changes.specs.declared.resizing.Resizes.TheVariants as resizing;
 ghost use Rattle.tabled_formatting.specs.Formatting.{alignment_set};
 ghost use Rattle.tabled_formatting.specs.LeavesColors.{none_in_alignment_set};
 
 use crate::Alignment;
 use tabled_border::OutOfMemory;
-use tabled_configuration::{Resizes, SetCells, SpannedConfig};
+use tabled_changes::{Resizes, SetCells};
+use tabled_configuration::SpannedConfig;
 use tabled_object::Entity;
 
 impl SetCells for Alignment {

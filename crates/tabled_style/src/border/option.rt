@@ -8,7 +8,7 @@ ghost use Rattle.tabled_configuration.specs.Options.{entity_bordered, table_bord
 
 use super::{Border, EmptyBorder};
 use tabled_border::OutOfMemory;
-use tabled_configuration::{CellOption, ColoredConfig, TableOption};
+use tabled_changes::{CellOption, ColoredConfig, TableOption};
 use tabled_object::{Entity, ExactRecords, Records};
 
 impl<T, B, L, R, Data: Records + ExactRecords> CellOption<Data, ColoredConfig>

@@ -1,10 +1,10 @@
 //! A style as an option on compact configurations.
 
-ghost use Rattle.tabled_configuration.specs.declared.resizing.Resizes.TheVariants as resizing;
+ghost use Rattle.tabled_changes.specs.declared.resizing.Resizes.TheVariants as resizing;
 
 use super::Style;
+use tabled_changes::{Resizes, SetCompact};
 use tabled_compact::{CompactConfig, CompactMultilineConfig};
-use tabled_configuration::{Resizes, SetCompact};
 
 /// Sets the class record: custom lines are left out.
 impl<T, B, L, R, H, V, const HN: usize, const VN: usize> SetCompact<CompactConfig>

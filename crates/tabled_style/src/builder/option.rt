@@ -6,7 +6,7 @@ ghost use Rattle.tabled_configuration.specs.Configuration.{borders_replaced};
 
 use super::Style;
 use tabled_border::OutOfMemory;
-use tabled_configuration::{ColoredConfig, TableOption};
+use tabled_changes::{ColoredConfig, TableOption};
 use tabled_object::Entity;
 
 impl<T, B, L, R, H, V, const HN: usize, const VN: usize, Data, Dims> TableOption<

@@ -11,7 +11,7 @@ use std::alloc::{AllocError, Global};
 use std::convert::AsStr;
 use std::mem;
 use tabled_border::{Keep, OutOfMemory};
-use tabled_configuration::ColoredConfig;
+use tabled_changes::ColoredConfig;
 
 impl<T: AsStr + Drop> Table<T> {
     /// Returns a table of copies of these texts, for which all is set that is set for this one: what edits texts, such as `fit` and `clean`,

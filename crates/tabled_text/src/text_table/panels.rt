@@ -14,7 +14,7 @@ use crate::TableError;
 use std::alloc::Global;
 use std::mem;
 use tabled_border::{Keep, OutOfMemory};
-use tabled_configuration::{ColoredConfig, TableOption};
+use tabled_changes::{ColoredConfig, TableOption};
 use tabled_correction::BorderCorrection;
 use tabled_object::{Position, Shape};
 

@@ -1,10 +1,10 @@
 //! A theme as an option on compact configurations.
 
-ghost use Rattle.tabled_configuration.specs.declared.resizing.Resizes.TheVariants as resizing;
+ghost use Rattle.tabled_changes.specs.declared.resizing.Resizes.TheVariants as resizing;
 
 use super::Theme;
+use tabled_changes::{Resizes, SetCompact};
 use tabled_compact::{CompactConfig, CompactMultilineConfig};
-use tabled_configuration::{Resizes, SetCompact};
 
 /// Sets the class record: lines and colors are left out.
 impl SetCompact<CompactConfig> for Theme {

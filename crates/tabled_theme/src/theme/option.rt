@@ -12,7 +12,8 @@ use super::fields::texts;
 use crate::line_map::LineMap;
 use std::alloc::Global;
 use tabled_border::OutOfMemory;
-use tabled_configuration::{ColoredConfig, SpannedConfig, TableOption};
+use tabled_changes::{ColoredConfig, TableOption};
+use tabled_configuration::SpannedConfig;
 use tabled_object::Entity;
 
 impl<Data, Dims> TableOption<Data, ColoredConfig, Dims> for Theme {

@@ -6,7 +6,7 @@ use Rattle.tabled_configuration.specs.Configuration.{characters_of, colors_of}
 use Rattle.tabled_printing.specs.Picture.{text_lines}
 use Rattle.tabled_configuration.specs.Colored.{Changes}
 use Rattle.tabled_configuration.specs.ChangeLaws.{none_change, both_change}
-use Rattle.tabled_configuration.proofs.ColoredLemmas.{Shows_after_change_colored}
+use Rattle.tabled_changes.proofs.ColoredLemmas.{Shows_after_change_colored}
 use Rattle.tabled_printing.proofs.LookLemmas.{same_look}
 use Rattle.tabled_configuration.proofs.InTurn.{by_all_events, all_unread}
 use Rattle.tabled_border_claims.proofs.lists.any_list.Goals as goal

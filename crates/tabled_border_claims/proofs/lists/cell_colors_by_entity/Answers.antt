@@ -1,4 +1,4 @@
-use Rattle.tabled_configuration.proofs.ColorsLemmas.{by_entity}
+use Rattle.tabled_changes.proofs.ColorsLemmas.{by_entity}
 use Rattle.tabled_border_claims.proofs.lists.cell_colors_by_entity.Goals as goal
 
 pub returns : goal.returns

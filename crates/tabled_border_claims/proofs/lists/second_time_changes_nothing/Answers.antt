@@ -1,4 +1,4 @@
-use Rattle.tabled_configuration.proofs.SecondTime.{same_borders, same_configuration, same_colored}
+use Rattle.tabled_changes.proofs.SecondTime.{same_borders, same_configuration, same_colored}
 use Rattle.tabled_border_claims.proofs.lists.second_time_changes_nothing.Goals as goal
 
 pub returns-clause-borders : goal.returns-clause-borders

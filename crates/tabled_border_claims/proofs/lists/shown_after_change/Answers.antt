@@ -1,4 +1,4 @@
-use Rattle.tabled_configuration.proofs.ColoredLemmas.{Shows_after_change_colored}
+use Rattle.tabled_changes.proofs.ColoredLemmas.{Shows_after_change_colored}
 use Rattle.tabled_configuration.proofs.ConfigurationLemmas.{Shows_after_change}
 use Rattle.tabled_border_claims.proofs.lists.shown_after_change.Goals as goal
 

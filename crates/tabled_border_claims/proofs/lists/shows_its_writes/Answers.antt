@@ -1,4 +1,4 @@
-use Rattle.tabled_configuration.proofs.ColoredLemmas.{Shows-all_writes_colored}
+use Rattle.tabled_changes.proofs.ColoredLemmas.{Shows-all_writes_colored}
 use Rattle.tabled_configuration.proofs.ConfigurationLemmas.{shown_characters, shown_colors, Shows-all_writes}
 use Rattle.tabled_border_claims.proofs.lists.shows_its_writes.Goals as goal
 

@@ -1,4 +1,4 @@
-use Rattle.tabled_configuration.proofs.ColoredLemmas.{new_shows, given_shows}
+use Rattle.tabled_changes.proofs.ColoredLemmas.{new_shows, given_shows}
 use Rattle.tabled_border_claims.proofs.lists.shows_when_new.Goals as goal
 
 pub returns-clause-new : goal.returns-clause-new

@@ -1,5 +1,5 @@
 use Rattle.tabled_grid.proofs.Seen.{on_ok}
-use Rattle.tabled_configuration.proofs.ColoredLemmas.{Shows_after_change_colored}
+use Rattle.tabled_changes.proofs.ColoredLemmas.{Shows_after_change_colored}
 use Rattle.tabled_border_claims.proofs.options.any_option.Goals as goal
 
 pub returns-clause-shown : goal.returns-clause-shown

@@ -1,5 +1,5 @@
 use Rattle.std.proofs.Common.{ap}
-use Rattle.tabled_configuration.specs.EntitiesColored.{entities_colored}
+use Rattle.tabled_changes.specs.EntitiesColored.{entities_colored}
 use Rattle.tabled_colorization.specs.Turns.{numbered}
 use Rattle.tabled_colorization.proofs.TurnLemmas.{none_in_turn}
 use Rattle.tabled_border_claims.proofs.settings.no_colors_no_change.Goals as goal

@@ -2,7 +2,7 @@ use Rattle.std.proofs.Common.{◌-◌, string_bytes, sym, ap, subst}
 use Rattle.tabled_configuration.specs.Configuration as borders
 use Rattle.tabled_painting.specs.Widths.{text_width}
 use Rattle.tabled_width.specs.Texts.{pieces}
-use Rattle.tabled_printing.proofs.PieceLemmas.{on_ok}
+use Rattle.tabled_config.proofs.PieceLemmas.{on_ok}
 use Rattle.tabled_measure.specs.Cells.{margin_set}
 use Rattle.tabled_text.specs.Fitted.{frame_width}
 use Rattle.tabled_text.specs.TextTable.{look_printed}

@@ -8,7 +8,7 @@ use Rattle.tabled_places.specs.Value.{value}
 use Rattle.tabled_configuration.specs.Colored.{Shows}
 use Rattle.tabled_configuration.specs.Configuration.{borders_replaced, horizontal_lines_put, vertical_lines_put}
 use Rattle.tabled_configuration.specs.Options.{entity_bordered}
-use Rattle.tabled_configuration.proofs.ColoredLemmas.{new_shows}
+use Rattle.tabled_changes.proofs.ColoredLemmas.{new_shows}
 use Rattle.tabled_style.specs.Ready.{ascii}
 use Rattle.tabled_claims.proofs.worked.corner_over_a_style.Goals as goal
 

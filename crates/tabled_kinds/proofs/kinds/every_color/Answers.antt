@@ -5,7 +5,7 @@ use Rattle.tabled_object.specs.declared.entity.Entity.TheVariants.{Global, Row, 
 use Rattle.tabled_settings.specs.Setting.{write_of}
 use Rattle.tabled_grid.proofs.Seen.{on_ok, where_ok}
 use Rattle.tabled_configuration.specs.Colored.{by_cell_color}
-use Rattle.tabled_configuration.specs.EntitiesColored.{entities_colored}
+use Rattle.tabled_changes.specs.EntitiesColored.{entities_colored}
 use Rattle.tabled_width.specs.Texts.{Table}
 use Rattle.tabled_color.specs.Shade.{Shade, texts_of}
 use Rattle.tabled_colorization.specs.Turns.{colorization, exact_colorization}

@@ -2,7 +2,7 @@
 use Rattle.std.proofs.Common.{◌≡◌, ◌++◌, ◌&&◌, Bool, true, false, if◌then◌else◌, List, ℕ, [], sym, ap, subst, ◌∙◌, append-nil, string_bytes}
 use Rattle.tabled_configuration.specs.Colored.{Changes, Shows}
 use Rattle.tabled_configuration.specs.Configuration.{ConfigEvent}
-use Rattle.tabled_configuration.proofs.ColoredLemmas.{Shows_after_change_colored}
+use Rattle.tabled_changes.proofs.ColoredLemmas.{Shows_after_change_colored}
 use Rattle.tabled_viewing.specs.Captions.{has_room, written_on_line}
 use Rattle.tabled_viewing.proofs.captions.put_text.Goals as goal
 

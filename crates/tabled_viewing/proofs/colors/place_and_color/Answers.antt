@@ -1,7 +1,7 @@
 -- The sides, and then the colors.
 use Rattle.std.proofs.Common.{◌++◌, subst}
 use Rattle.tabled_configuration.specs.Colored.{Changes}
-use Rattle.tabled_configuration.proofs.ColoredLemmas.{Shows_after_change_colored}
+use Rattle.tabled_changes.proofs.ColoredLemmas.{Shows_after_change_colored}
 use Rattle.tabled_grid.proofs.Seen.{on_ok}
 use Rattle.tabled_width.specs.Texts.{Table}
 use Rattle.tabled_viewing.specs.Colors.{aligned, colored_if}

@@ -1,7 +1,7 @@
 -- The stripes are wanted, or not.
 use Rattle.std.proofs.Common.{length, subst}
 use Rattle.tabled_configuration.specs.Colored.{Changes}
-use Rattle.tabled_configuration.specs.EntitiesColored.{entities_colored}
+use Rattle.tabled_changes.specs.EntitiesColored.{entities_colored}
 use Rattle.tabled_colorization.specs.Turns.{Colorizing, colorization}
 use Rattle.tabled_grid.proofs.Seen.{on_ok}
 use Rattle.tabled_measure.specs.Sizes.{column_count}

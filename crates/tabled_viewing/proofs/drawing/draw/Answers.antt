@@ -2,7 +2,7 @@
 use Rattle.std.proofs.Common.{Bool, if◌then◌else◌, [], sym, ap, subst, ◌∙◌}
 use Rattle.tabled_configuration.specs.Colored.{Shows}
 use Rattle.tabled_configuration.specs.Configuration.{borders_replaced}
-use Rattle.tabled_configuration.proofs.ColoredLemmas.{Shows_after_change_colored}
+use Rattle.tabled_changes.proofs.ColoredLemmas.{Shows_after_change_colored}
 use Rattle.tabled_grid.proofs.Seen.{on_ok}
 use Rattle.tabled_places.specs.declared.borders.Borders.{Borders}
 use Rattle.tabled_object.specs.declared.records.Shape.{Shape}

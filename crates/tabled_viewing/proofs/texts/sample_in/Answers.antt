@@ -1,7 +1,7 @@
 -- The style is applied to the sample.
 use Rattle.std.proofs.Common.{[]}
 use Rattle.tabled_style.specs.Named.{ready_applied}
-use Rattle.tabled_configuration.proofs.ColoredLemmas.{Shows_after_change_colored}
+use Rattle.tabled_changes.proofs.ColoredLemmas.{Shows_after_change_colored}
 use Rattle.tabled_viewing.proofs.texts.sample_in.Goals as goal
 
 pub returns-clause-config : goal.returns-clause-config

@@ -1,7 +1,7 @@
 -- The list that was written is that of the option.
 use Rattle.std.proofs.Common.{◌∙◌}
 use Rattle.tabled_grid.proofs.Seen.{on_ok}
-use Rattle.tabled_configuration.proofs.ColoredLemmas.{Changes_lent, characters_applied}
+use Rattle.tabled_changes.proofs.ColoredLemmas.{Changes_lent, characters_applied}
 use Rattle.tabled_correction.specs.Correction.{correction_events}
 use Rattle.tabled_correction.proofs.Adding.{none_in_correction}
 use Rattle.tabled_correction.proofs.border_correction.BorderCorrectionTableOptionColoredConfig.change.Goals as goal

@@ -2,7 +2,7 @@
 use Rattle.std.proofs.Common.{◌∙◌, ap, filter, flat_map}
 use Rattle.tabled_object.specs.Entities.{cells_of, is_inside}
 use Rattle.tabled_grid.proofs.Seen.{on_ok}
-use Rattle.tabled_configuration.proofs.ColoredLemmas.{Changes_lent}
+use Rattle.tabled_changes.proofs.ColoredLemmas.{Changes_lent}
 use Rattle.tabled_correction.specs.Span.{cell_spanned, span_events}
 use Rattle.tabled_correction.proofs.SpanEvents.{none_in_spans}
 use Rattle.tabled_correction.proofs.span.SpanCellOptionColoredConfig.change.Goals as goal

@@ -1,6 +1,6 @@
 use Rattle.std.proofs.Common.{refl}
 use Rattle.tabled_grid.proofs.Seen.{on_ok}
-use Rattle.tabled_configuration.proofs.ColoredLemmas.{Changes_lent}
+use Rattle.tabled_changes.proofs.ColoredLemmas.{Changes_lent}
 use Rattle.tabled_highlight.proofs.Made.{none_in_outline}
 use Rattle.tabled_highlight.proofs.highlight.HighlightTableOptionColoredConfig.change.Goals as goal
 

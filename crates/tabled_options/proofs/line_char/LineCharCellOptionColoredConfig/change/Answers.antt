@@ -1,7 +1,7 @@
 -- The list that was written is that of the option.
 use Rattle.std.proofs.Common.{◌∙◌}
 use Rattle.tabled_grid.proofs.Seen.{on_ok}
-use Rattle.tabled_configuration.proofs.ColoredLemmas.{Changes_lent, characters_applied}
+use Rattle.tabled_changes.proofs.ColoredLemmas.{Changes_lent, characters_applied}
 use Rattle.tabled_options.specs.LineChar.{line_char_events}
 use Rattle.tabled_options.proofs.Applying.{none_in_marks}
 use Rattle.tabled_options.proofs.line_char.LineCharCellOptionColoredConfig.change.Goals as goal

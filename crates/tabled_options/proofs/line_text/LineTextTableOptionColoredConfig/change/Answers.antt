@@ -1,7 +1,7 @@
 -- The lists that were written are those of the option, in the table as it looked before.
 use Rattle.std.proofs.Common.{refl, ap, ◌∙◌}
 use Rattle.tabled_grid.proofs.Seen.{on_ok}
-use Rattle.tabled_configuration.proofs.ColoredLemmas.{Changes_lent}
+use Rattle.tabled_changes.proofs.ColoredLemmas.{Changes_lent}
 use Rattle.tabled_options.proofs.Applying.{none_in_text, read_alike}
 use Rattle.tabled_options.proofs.line_text.LineTextTableOptionColoredConfig.change.Goals as goal
 

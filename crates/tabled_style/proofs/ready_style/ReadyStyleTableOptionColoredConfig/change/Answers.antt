@@ -1,6 +1,6 @@
 use Rattle.std.proofs.Common.{refl}
 use Rattle.tabled_grid.proofs.Seen.{on_ok}
-use Rattle.tabled_configuration.proofs.ColoredLemmas.{Changes_lent, none_in_borders_replaced}
+use Rattle.tabled_changes.proofs.ColoredLemmas.{Changes_lent, none_in_borders_replaced}
 use Rattle.tabled_style.proofs.ready_style.ReadyStyleTableOptionColoredConfig.change.Goals as goal
 
 pub returns-clause-ok : goal.returns-clause-ok

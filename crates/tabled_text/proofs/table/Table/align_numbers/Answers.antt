@@ -2,7 +2,7 @@
 use Rattle.std.proofs.Common.{◌≡◌, ap, drop, filter, subst, ◌∙◌}
 use Rattle.tabled_object.specs.Entities.{below}
 use Rattle.tabled_grid.proofs.Seen.{on_ok}
-use Rattle.tabled_configuration.proofs.ColoredLemmas.{Changes_lent}
+use Rattle.tabled_changes.proofs.ColoredLemmas.{Changes_lent}
 use Rattle.tabled_configuration.specs.Colored.{Changes}
 use Rattle.tabled_numbers.specs.Columns.{is_numeric}
 use Rattle.tabled_measure.specs.Numeric.{at_right, numeric_columns}

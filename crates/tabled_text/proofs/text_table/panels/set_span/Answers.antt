@@ -2,7 +2,7 @@
 use Rattle.std.proofs.Common.{refl}
 use Rattle.tabled_grid.proofs.Seen.{on_ok}
 use Rattle.tabled_object.specs.Entities.{position}
-use Rattle.tabled_configuration.proofs.ColoredLemmas.{Changes_lent}
+use Rattle.tabled_changes.proofs.ColoredLemmas.{Changes_lent}
 use Rattle.tabled_configuration.specs.Configuration.{by_column_span}
 use Rattle.tabled_text.proofs.text_table.panels.set_span.Goals as goal
 

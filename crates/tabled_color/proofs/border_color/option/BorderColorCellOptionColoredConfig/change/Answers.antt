@@ -1,6 +1,6 @@
 use Rattle.tabled_grid.proofs.Seen.{on_ok, on_err}
 use Rattle.std.proofs.Common.{◌∙◌}
-use Rattle.tabled_configuration.proofs.ColoredLemmas.{Changes_lent}
+use Rattle.tabled_changes.proofs.ColoredLemmas.{Changes_lent}
 use Rattle.tabled_color.specs.BorderColors.{border_texts}
 use Rattle.tabled_color.specs.Coloring.{entity_colored}
 use Rattle.tabled_color.proofs.ColoringLemmas.{none_in_entity_colored}

@@ -1,5 +1,5 @@
 use Rattle.tabled_configuration.specs.Options.{entity_unbordered}
-use Rattle.tabled_configuration.proofs.ColoredLemmas.{Changes_lent, none_in_entity_unbordered}
+use Rattle.tabled_changes.proofs.ColoredLemmas.{Changes_lent, none_in_entity_unbordered}
 use Rattle.tabled_style.proofs.border.option.EmptyBorderCellOptionColoredConfig.change.Goals as goal
 
 pub returns-clause-ok : goal.returns-clause-ok

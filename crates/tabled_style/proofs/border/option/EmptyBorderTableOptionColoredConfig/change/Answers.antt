@@ -1,5 +1,5 @@
 use Rattle.tabled_configuration.specs.Options.{table_unbordered}
-use Rattle.tabled_configuration.proofs.ColoredLemmas.{Changes_lent, none_in_table_unbordered}
+use Rattle.tabled_changes.proofs.ColoredLemmas.{Changes_lent, none_in_table_unbordered}
 use Rattle.tabled_style.proofs.border.option.EmptyBorderTableOptionColoredConfig.change.Goals as goal
 
 pub returns-clause-ok : goal.returns-clause-ok

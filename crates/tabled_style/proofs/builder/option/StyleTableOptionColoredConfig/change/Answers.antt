@@ -1,7 +1,7 @@
 use Rattle.std.proofs.Common.{ap, ◌∙◌}
 use Rattle.tabled_grid.proofs.Seen.{on_ok}
 use Rattle.tabled_configuration.specs.Configuration.{borders_replaced}
-use Rattle.tabled_configuration.proofs.ColoredLemmas.{Changes_lent, none_in_borders_replaced}
+use Rattle.tabled_changes.proofs.ColoredLemmas.{Changes_lent, none_in_borders_replaced}
 use Rattle.tabled_style.proofs.builder.option.StyleTableOptionColoredConfig.change.Goals as goal
 
 pub returns-clause-ok : goal.returns-clause-ok

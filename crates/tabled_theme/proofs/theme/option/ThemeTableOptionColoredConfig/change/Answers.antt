@@ -1,5 +1,5 @@
 use Rattle.std.proofs.Common.{refl, ap, ◌∙◌}
-use Rattle.tabled_configuration.proofs.ColoredLemmas.{Changes_spanned}
+use Rattle.tabled_changes.proofs.ColoredLemmas.{Changes_spanned}
 use Rattle.tabled_theme.specs.Events.{color_texts}
 use Rattle.tabled_theme.proofs.Applying.{applied_in_turn, none_in_theme_applied}
 use Rattle.tabled_theme.proofs.theme.option.ThemeTableOptionColoredConfig.change.Goals as goal

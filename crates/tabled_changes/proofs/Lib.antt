@@ -1,0 +1,4 @@
+pub mod ColoredLemmas
+pub mod ColorsLemmas
+pub mod SecondTime
+pub mod EntitiesColoredLemmas

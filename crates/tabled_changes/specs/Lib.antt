@@ -1,0 +1,3 @@
+pub mod Resizing
+pub mod Compact
+pub mod EntitiesColored

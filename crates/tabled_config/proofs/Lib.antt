@@ -1,0 +1,4 @@
+pub mod FaultLemmas
+pub mod MadeInTurn
+pub mod TextLemmas
+pub mod PieceLemmas

@@ -1,7 +1,0 @@
-use Rattle.tabled_grid.proofs.Seen.{on_ok}
-use Rattle.tabled_configuration.proofs.ColoredLemmas.{Changes_by_cell_color}
-use Rattle.tabled_configuration.proofs.colored_config.ColoredConfig.set_color.Goals as goal
-
-pub returns-clause-ok : goal.returns-clause-ok
-returns-clause-ok c =
-    on_ok c.insert.result (λ made. Changes_by_cell_color _ c.self.inside.config _ _ c.args.self.now c.self.view_is made) c.insert.ensures.ok

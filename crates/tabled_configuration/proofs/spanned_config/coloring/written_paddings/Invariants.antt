@@ -1,7 +1,0 @@
--- What was written so far.
-use Rattle.std.proofs.Common.{◌≡◌, take}
-use Rattle.tabled_configuration.specs.EntitiesColored.{padding_writes}
-use Rattle.tabled_configuration.proofs.spanned_config.coloring.written_paddings.Given as goal
-
-abbrev pub invariant-loop-entity : goal.invariant-loop-entity
-invariant-loop-entity l = l.events.items ≡ padding_writes (take l.entity-index l.list)
