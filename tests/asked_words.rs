@@ -4,7 +4,7 @@ use std::alloc::{AllocError, Global};
 use std::test::Fail;
 use tabled_request::{
     FrameColor, OptionName, Request, Shows, WordsError, are_cells, are_columns, are_named,
-    named_cells, names_column, number_of, read_words,
+    named_cells, names_column, number_of, read_words, spread_words, word_at,
 };
 
 /// Words that are given.
@@ -19,7 +19,7 @@ fn words_of(alloc: Global, given: &[&str]) -> Result<Vec<String>, AllocError> {
 /// What words ask for.
 fn asked(alloc: Global, given: &[&str]) -> Result<Result<Request, WordsError>, AllocError> {
     let words = words_of(alloc, given)?;
-    Ok(read_words(&words))
+    Ok(read_words(&spread_words(alloc, &words)?))
 }
 
 #[test]
@@ -49,6 +49,11 @@ fn options_without_values_are_read(rt: HostRuntime) -> Result<(), Fail> {
         ("--help", Request { shows: Shows::Help, ..none }),
         ("--version", Request { shows: Shows::Version, ..none }),
         ("--styles", Request { shows: Shows::Styles, ..none }),
+        ("-c", Request { is_csv: true, ..none }),
+        ("-h", Request { shows: Shows::Help, ..none }),
+        ("-V", Request { shows: Shows::Version, ..none }),
+        ("-", none),
+        ("--", none),
         ("data.tsv", Request { file: Some(0), ..none }),
         ("", Request { file: Some(0), ..none }),
     ] {
@@ -77,10 +82,113 @@ fn options_with_values_are_read(rt: HostRuntime) -> Result<(), Fail> {
         ("--outline", "2:3,4:*", Request { outline: Some(1), ..none }),
         ("--mark", "a\nb", Request { mark: Some(1), ..none }),
         ("--mark", "", Request { mark: Some(1), ..none }),
+        ("--separator", "\\t", Request { separator: Some('\t'), ..none }),
+        ("--separator", "\\0", Request { separator: Some('\0'), ..none }),
+        ("--separator", "\\", Request { separator: Some('\\'), ..none }),
+        ("-s", "dots", Request { style: Some(1), ..none }),
+        ("-d", ";", Request { separator: Some(';'), ..none }),
+        ("-t", "a=b", Request { title: Some(1), ..none }),
+        ("-l", "1", Request { left: Some(1), ..none }),
+        ("-r", "1", Request { right: Some(1), ..none }),
+        ("-w", "60", Request { width: Some(60), ..none }),
+        ("-C", "always", Request { has_color: true, ..none }),
+        ("-o", "*:1", Request { outline: Some(1), ..none }),
+        ("-m", "-", Request { mark: Some(1), ..none }),
+        ("--title", "--", Request { title: Some(1), ..none }),
+        ("--title", "--style=dots", Request { title: Some(1), ..none }),
     ] {
         assert!(rt; asked(rt.alloc(), &[option, value])? == Ok(request), "{option} {value}");
     }
     Ok(())
+}
+
+#[test]
+fn values_stand_after_an_equals_sign(rt: HostRuntime) -> Result<(), Fail> {
+    let cases: &[(&[&str], &[&str])] = &[
+        (&[], &[]),
+        (&["--width=40"], &["--width", "40"]),
+        (&["--title="], &["--title", ""]),
+        (&["--title=a=b", "c=d"], &["--title", "a=b", "c=d"]),
+        (&["--title", "--style=dots", "--style=dots"], &["--title", "--style=dots", "--style", "dots"]),
+        (&["-t", "--style=dots"], &["-t", "--style=dots"]),
+        (&["--mark=--", "--left=1"], &["--mark", "--", "--left", "1"]),
+        (&["--csv", "--color=never"], &["--csv", "--color", "never"]),
+        (&["--csv=yes", "-w=40", "--widht=40", "="], &["--csv=yes", "-w=40", "--widht=40", "="]),
+        (&["--left=1", "--", "--right=1"], &["--left", "1", "--", "--right=1"]),
+    ];
+    for (given, expected) in cases {
+        let spread = spread_words(rt.alloc(), &words_of(rt.alloc(), given)?)?;
+        let same = spread.len() == expected.len()
+            && spread.iter().zip(expected.iter()).all(|(word, text)| word.as_str() == *text);
+        assert!(rt; same, "{given:?}");
+    }
+    Ok(())
+}
+
+#[test]
+fn values_of_one_word_are_read(rt: HostRuntime) -> Result<(), Fail> {
+    let none = Request::of_no_words();
+    let cases: &[(&[&str], Request)] = &[
+        (&["--width=60"], Request { width: Some(60), ..none }),
+        (&["--csv", "--title=", "a"], Request { is_csv: true, title: Some(2), file: Some(3), ..none }),
+        (&["--separator=\\t", "--color=always"], Request { separator: Some('\t'), has_color: true, ..none }),
+        (&["--mark=--csv", "--mark=-"], Request { mark: Some(3), ..none }),
+    ];
+    for (words, request) in cases {
+        assert!(rt; asked(rt.alloc(), words)? == Ok(*request), "{words:?}");
+    }
+    let spread = spread_words(rt.alloc(), &words_of(rt.alloc(), &["--csv", "--title=a=b"])?)?;
+    assert!(rt; read_words(&spread) == Ok(Request { is_csv: true, title: Some(2), ..none }));
+    assert!(rt; word_at(&spread, Some(2)) == Some("a=b") && word_at(&spread, Some(3)).is_none());
+    Ok(())
+}
+
+#[test]
+fn two_dashes_end_the_options_and_one_is_standard_input(rt: HostRuntime) -> Result<(), Fail> {
+    let none = Request::of_no_words();
+    let cases: &[(&[&str], Result<Request, WordsError>)] = &[
+        (&["--", "--csv"], Ok(Request { file: Some(1), ..none })),
+        (&["--", "--style=dots"], Ok(Request { file: Some(1), ..none })),
+        (&["--csv", "--", "--"], Ok(Request { is_csv: true, file: Some(2), ..none })),
+        (&["--", "-"], Ok(none)),
+        (&["-", "--csv"], Ok(Request { is_csv: true, ..none })),
+        (&["a", "--"], Ok(Request { file: Some(0), ..none })),
+        (&["--", "a", "-x"], Err(WordsError::SecondFile { word: 2 })),
+        (&["a", "--", "b"], Err(WordsError::SecondFile { word: 2 })),
+        (&["a", "-"], Err(WordsError::SecondFile { word: 1 })),
+        (&["-", "a"], Err(WordsError::SecondFile { word: 1 })),
+        (&["-", "-"], Err(WordsError::SecondFile { word: 1 })),
+    ];
+    for (words, expected) in cases {
+        assert!(rt; asked(rt.alloc(), words)? == *expected, "{words:?}");
+    }
+    Ok(())
+}
+
+#[test]
+fn an_option_is_named_where_one_is_near(rt: HostRuntime) {
+    for (word, near) in [
+        ("--widht", Some(OptionName::Width)),
+        ("--colour", Some(OptionName::Color)),
+        ("--seperator", Some(OptionName::Separator)),
+        ("--sep", Some(OptionName::Separator)),
+        ("--ttle", Some(OptionName::Title)),
+        ("--outlines", Some(OptionName::Outline)),
+        ("--no-headers", Some(OptionName::NoHeader)),
+        ("--noheader", Some(OptionName::NoHeader)),
+        ("--csv=yes", Some(OptionName::Csv)),
+        ("--colour=never", Some(OptionName::Color)),
+        ("-style=dots", Some(OptionName::Style)),
+        ("-mark", Some(OptionName::Mark)),
+        ("--CSV", None),
+        ("--x", None),
+        ("-x", None),
+        ("-w40", None),
+        ("-w=40", None),
+        ("--columns", None),
+    ] {
+        assert!(rt; OptionName::near(word) == near, "{word}");
+    }
 }
 
 #[test]
@@ -99,7 +207,13 @@ fn wrong_words_are_refused(rt: HostRuntime) -> Result<(), Fail> {
     let cases: &[(&[&str], WordsError)] = &[
         (&["--widht", "3"], unknown(0)),
         (&["--csv", "-x"], unknown(1)),
-        (&["-"], unknown(0)),
+        (&["-w40"], unknown(0)),
+        (&["-ch"], unknown(0)),
+        (&["-w=40"], unknown(0)),
+        (&["--csv=yes"], unknown(0)),
+        (&["--widht=3"], unknown(0)),
+        (&["-S", "dots"], unknown(0)),
+        (&["---"], unknown(0)),
         (&["--CSV"], unknown(0)),
         (&["a", "b", "-x"], WordsError::SecondFile { word: 1 }),
         (&["--csv", "--title"], WordsError::NoValue { option: OptionName::Title }),
@@ -108,6 +222,11 @@ fn wrong_words_are_refused(rt: HostRuntime) -> Result<(), Fail> {
         (&["--separator", "é"], bad(OptionName::Separator, 1)),
         (&["--separator", "\""], bad(OptionName::Separator, 1)),
         (&["--separator", "\n"], bad(OptionName::Separator, 1)),
+        (&["--separator", "\\n"], bad(OptionName::Separator, 1)),
+        (&["--separator="], bad(OptionName::Separator, 1)),
+        (&["--csv", "--width=0"], bad(OptionName::Width, 2)),
+        (&["--left=1", "-w"], WordsError::NoValue { option: OptionName::Width }),
+        (&["a", "b", "--style=dots"], WordsError::SecondFile { word: 1 }),
         (&["--title", "a\nb"], bad(OptionName::Title, 1)),
         (&["--csv", "--footer", "\n"], bad(OptionName::Footer, 2)),
         (&["--left", "0"], bad(OptionName::Left, 1)),

@@ -18,12 +18,16 @@ fn written(alloc: Global, rows: &[Vec<String>]) -> Result<String, Fail> {
 }
 
 /// Texts, and their rows where cells stand between tabs.
-static SEPARATED: [(&str, &str); 14] = [
+static SEPARATED: [(&str, &str); 18] = [
     ("", ""),
-    ("\n", "|/"),
+    ("\n", ""),
+    ("\n\r\n\n", ""),
+    ("\r", "|\r/"),
+    (" \n\n ", "| /| /"),
     ("a", "|a/"),
     ("a\n", "|a/"),
-    ("a\n\n", "|a/|/"),
+    ("a\n\n", "|a/"),
+    ("\n\na\tb\r\n\r\nc\n\n", "|a|b/|c/"),
     ("\t", "||/"),
     ("a\tb\nc\td\n", "|a|b/|c|d/"),
     ("a\tb\r\nc\td\r\n", "|a|b/|c|d/"),
@@ -36,12 +40,16 @@ static SEPARATED: [(&str, &str); 14] = [
 ];
 
 /// Texts, and their rows as CSV with commas.
-static QUOTED: [(&str, &str); 25] = [
+static QUOTED: [(&str, &str); 31] = [
     ("", ""),
-    ("\n", "|/"),
+    ("\n", ""),
+    ("\n\r\n\n", ""),
+    ("\n\na,b\r\n\r\nc\n\n", "|a|b/|c/"),
+    ("a\n\"b\n\n\nc\"\n", "|a/|b\n\n\nc/"),
     ("a", "|a/"),
     ("a\n", "|a/"),
-    ("a\n\n", "|a/|/"),
+    ("a\n\n", "|a/"),
+    (",\n\n,", "||/||/"),
     (",", "||/"),
     ("a,b\nc,d\n", "|a|b/|c|d/"),
     ("a,b\r\nc,d\r\n", "|a|b/|c|d/"),
@@ -51,6 +59,8 @@ static QUOTED: [(&str, &str); 25] = [
     ("\"a\r\nb\",c\r\n", "|a\nb|c/"),
     ("\"a\"\"b\"\n", "|a\"b/"),
     ("\"\"\n", "|/"),
+    ("\"\"", "|/"),
+    ("a\n\n\"\"\n\"\"\n\n", "|a/|/|/"),
     ("\"\",\"\"\n", "||/"),
     ("\"\"\"\"\n", "|\"/"),
     ("\"\"\"a\"\"\"\n", "|\"a\"/"),
@@ -97,13 +107,15 @@ fn cells_stand_in_quotes(rt: HostRuntime) -> Result<(), Fail> {
 
 #[test]
 fn quotes_that_nothing_ends_are_refused(rt: HostRuntime) {
-    for (text, row) in [
-        ("\"", 1),
-        ("a,\"b\n", 1),
-        ("a\nb,\"c\n\nd\n", 2),
-        ("\"a\"\n\"b\nc\"\n\"d\"\"\n", 3),
+    for (text, line, row) in [
+        ("\"", 1, 1),
+        ("a,\"b\n", 1, 1),
+        ("a\nb,\"c\n\nd\n", 2, 2),
+        ("\"a\"\n\"b\nc\"\n\"d\"\"\n", 4, 3),
+        ("a\r\n\r\n\nb,\"c\r\nd", 4, 2),
+        ("\"a\n\nb\",c,\"\n\n\"\"\n", 3, 1),
     ] {
         let refused = csv(rt.alloc(), text, ',');
-        assert!(rt; refused.err() == Some(CsvError::OpenQuote { row }), "{text:?}");
+        assert!(rt; refused.err() == Some(CsvError::OpenQuote { line, row }), "{text:?}");
     }
 }

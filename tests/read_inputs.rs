@@ -57,9 +57,39 @@ fn bytes_that_are_no_text_are_told(rt: HostRuntime) {
 
 #[test]
 fn an_open_quote_is_told_after_the_bytes(rt: HostRuntime) {
-    let open = rows(rt.alloc(), Cells::Quoted(','), b"a\n\"b\n").err();
-    assert!(rt; open == Some(InputError::OpenQuote { row: 2 }));
+    let open = rows(rt.alloc(), Cells::Quoted(','), b"a\n\n\"b\n").err();
+    assert!(rt; open == Some(InputError::OpenQuote { line: 3, row: 2 }));
     let bytes = rows(rt.alloc(), Cells::Quoted(','), b"a\n\"b\n\xff").err();
     assert!(rt; bytes == Some(InputError::NotUtf8 { line: 3, byte: 1 }));
     assert!(rt; rows(rt.alloc(), Cells::Separated('\t'), b"a\n\"b\n").is_ok());
+}
+
+#[test]
+fn one_byte_order_mark_is_dropped(rt: HostRuntime) -> Result<(), Fail> {
+    for (cells, input, cell) in [
+        (Cells::Separated(','), "\u{feff}a,b", "a"),
+        (Cells::Separated(','), "a\u{feff},b", "a\u{feff}"),
+        (Cells::Quoted(','), "\u{feff}a,b\n", "a"),
+        (Cells::Quoted(','), "\u{feff}\"a,b\"\n", "a,b"),
+        (Cells::Quoted(','), "\u{feff}\u{feff}a", "\u{feff}a"),
+        (Cells::Quoted(','), "\n\u{feff}a", "\u{feff}a"),
+    ] {
+        match rows(rt.alloc(), cells, input.as_bytes()) {
+            Ok(rows) => assert!(rt; rows.len() == 1 && rows[0][0].as_str() == cell, "{input:?}"),
+            Err(_) => assert!(rt; false, "{input:?}"),
+        }
+    }
+    for cells in [Cells::Separated(','), Cells::Quoted(',')] {
+        for input in ["\u{feff}", "\u{feff}\r\n\n"] {
+            match rows(rt.alloc(), cells, input.as_bytes()) {
+                Ok(rows) => assert!(rt; rows.is_empty(), "{input:?}"),
+                Err(_) => assert!(rt; false, "{input:?}"),
+            }
+        }
+        for (input, byte) in [(b"\xef\xbb".as_slice(), 1), (b"\xef\xbb\xbfa\xff".as_slice(), 5)] {
+            let refused = rows(rt.alloc(), cells, input).err();
+            assert!(rt; refused == Some(InputError::NotUtf8 { line: 1, byte }), "{input:?}");
+        }
+    }
+    Ok(())
 }

@@ -56,20 +56,19 @@ fn shows(alloc: Global, words: &str, around: Surroundings, input: &str, text: &s
 
 /// Whether the program writes nothing and ends with this status, and says this.
 fn refuses(alloc: Global, words: &str, input: &[u8], status: u8, text: &str) -> Result<bool, Fail> {
-    let is_csv = words.contains("--csv");
     let words = words_of(alloc, words)?;
     let mut written = Vec::new(alloc);
     match viewed(alloc, &words, TERMINAL, input, &mut written) {
         Ok(()) => Ok(false),
         Err(refusal) => {
-            let says = said(alloc, &words, is_csv, refusal)?;
+            let says = said(alloc, &words, refusal)?;
             Ok(written.is_empty() && refusal.status() == status && says.as_str() == text)
         }
     }
 }
 
 /// Words, an input and the table that is drawn of it.
-static PICTURES: [(&str, &str, &str); 25] = [
+static PICTURES: [(&str, &str, &str); 27] = [
     ("", "a\tb\n1\t22\n", "╭───┬────╮\n│ a │  b │\n├───┼────┤\n│ 1 │ 22 │\n╰───┴────╯\n"),
     ("", "", ""),
     ("--title|x", "", ""),
@@ -94,7 +93,9 @@ static PICTURES: [(&str, &str, &str); 25] = [
     ("--style|psql|--width|9|--truncate", "a\tbcdef\n", " a | b.. \n---+-----\n"),
     ("--style|psql|--width|9|--truncate|--wrap", "a\tb c d e\n", " a | b c \n   | d e \n---+-----\n"),
     ("--style|psql|--terminal", "a\tb c d e f g h\n", " a | b c d e \n   | f g h   \n---+---------\n"),
-    ("--style|psql|--fill", "a\tb\nc\n\nd\te\tf\n", " a | b |   \n---+---+---\n c |   |   \n   |   |   \n d | e | f \n"),
+    ("--style|psql|--fill", "a\tb\nc\n\nd\te\tf\n", " a | b |   \n---+---+---\n c |   |   \n d | e | f \n"),
+    ("--style|psql", "\u{feff}\n\na\tb\r\n\r\nc\td\n\n", " a | b \n---+---\n c | d \n"),
+    ("--style|psql|--csv", "\u{feff}\"a\"\n\n\"\"\n", " a \n---\n   \n"),
 ];
 
 #[test]
@@ -161,17 +162,18 @@ fn outlines_stand_around_cells(rt: HostRuntime) -> Result<(), Fail> {
 }
 
 /// Words, an input, and the status and the text of its refusal.
-static REFUSALS: [(&str, &[u8], u8, &str); 20] = [
-    ("", b"a\tb\tc\td\ne\tf\n", 3, "line 2 has 2 cells where line 1 has 4 (--fill fills them)"),
-    ("", b"a\n\tb\n", 3, "line 2 has 2 cells where line 1 has 1 (--fill fills them)"),
+static REFUSALS: [(&str, &[u8], u8, &str); 21] = [
+    ("", b"\na\n\n\n\tb\n", 3, "row 2 has 2 cells where row 1 has 1 (--fill fills them)"),
+    ("", b"a\tb\tc\td\ne\tf\n", 3, "row 2 has 2 cells where row 1 has 4 (--fill fills them)"),
+    ("", b"a\n\tb\n", 3, "row 2 has 2 cells where row 1 has 1 (--fill fills them)"),
     ("--csv", b"a,\"b\nc\"\nd\n", 3, "row 2 has 1 cells where row 1 has 2 (--fill fills them)"),
     ("", b"a\nb\xff\n", 4, "line 2 is not UTF-8 at its byte 2 (convert the input to UTF-8)"),
-    ("--csv", b"a\n\"b\n", 4, "row 2 has a cell that begins with a quote, which nothing ends (end it with a quote)"),
-    ("--widht|3", b"\xff", 2, "--widht is no option (--width is the nearest; --help shows them)"),
-    ("-x", b"", 2, "-x is no option (--style is the nearest; --help shows them)"),
+    ("--csv", b"a\n\"b\n", 4, "row 2 has a cell that begins with a quote on line 2, which nothing ends (end it with a quote)"),
+    ("--widht|3", b"\xff", 2, "--widht is no option (perhaps --width; --help shows them)"),
+    ("-x", b"", 2, "-x is no option (--help shows them)"),
     ("--csv|--title", b"", 2, "--title has no value (a text without a line feed)"),
     ("--style|fancy", b"\xff", 2, "\"fancy\" is no value of --style (the name of a style, which --styles shows)"),
-    ("--separator|ab", b"", 2, "\"ab\" is no value of --separator (one character of ASCII, but no quote and no line end)"),
+    ("--separator|ab", b"", 2, "\"ab\" is no value of --separator (one character of ASCII, or \\t or \\0, but no quote and no line end)"),
     ("--right|0", b"", 2, "\"0\" is no value of --right (numbers of columns from 1 on, as 1,3-5)"),
     ("--width|0", b"", 2, "\"0\" is no value of --width (a number from 1 on)"),
     ("--color|auto", b"", 2, "\"auto\" is no value of --color (always or never)"),
@@ -204,7 +206,7 @@ fn other_refusals_have_their_texts(rt: HostRuntime) -> Result<(), Fail> {
         (ViewError::OutOfMemory, 1, "memory was refused (give less of the input)"),
         (ViewError::WriteFailed, 1, "the output can't be written (is it closed, or full?)"),
     ] {
-        let says = said(rt.alloc(), &words, false, refusal)?;
+        let says = said(rt.alloc(), &words, refusal)?;
         assert!(rt; refusal.status() == status && says.as_str() == text, "{text}");
     }
     Ok(())

@@ -9,7 +9,7 @@ use tabled_input::{CsvError, csv};
 use tabled_grid::OutOfMemory;
 use tabled_input::{Cells, InputError, read_input, read_rows};
 use tabled_pages::{ShowError, all_words, run};
-use tabled_request::{GivenError, Request, Surroundings, all_sides, named_cells};
+use tabled_request::{GivenError, Request, Surroundings, all_sides, named_cells, spread_words};
 use tabled_viewing::{ViewError, said, understood};
 
 /// A writer that keeps what it is given, and takes no memory.
@@ -168,7 +168,7 @@ pub(crate) fn calls() -> [Named; 6] {
 }
 
 /// The calls of the other program.
-pub(crate) fn views() -> [Named; 10] {
+pub(crate) fn views() -> [Named; 11] {
     [
         ("tabled_viewing::run", |turn| view(turn, "--style ascii --no-numbers", "a\tb\n1\t22\n", PAGE)),
         ("tabled_viewing::run (of CSV)", |turn| view(turn, "--style ascii --no-numbers --csv --fill", "a,b\n1,22\n", PAGE)),
@@ -177,6 +177,11 @@ pub(crate) fn views() -> [Named; 10] {
             turn.spend();
             let words = tabled_request::all_words(turn.alloc(), &Called);
             Ok(made(words.map(|words| words.len() == 1), GivenError::OutOfMemory))
+        }),
+        ("spread_words", |turn| {
+            let given = words(turn.alloc(), "--style=ascii a")?;
+            turn.spend();
+            Ok(Outcome::of_value(spread_words(turn.alloc(), &given).map(|apart| apart.len() == 3)))
         }),
         ("named_cells", |turn| {
             turn.spend();
@@ -192,7 +197,7 @@ pub(crate) fn views() -> [Named; 10] {
         ("said", |turn| {
             let words = Vec::new(turn.alloc());
             turn.spend();
-            let says = said(turn.alloc(), &words, false, ViewError::WriteFailed);
+            let says = said(turn.alloc(), &words, ViewError::WriteFailed);
             Ok(Outcome::of_value(says.map(|text| text.as_str().starts_with("the output can't be written"))))
         }),
         ("csv", |turn| {

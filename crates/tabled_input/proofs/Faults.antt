@@ -4,7 +4,7 @@ use Rattle.std.specs.Str.{IsUtf8}
 use Rattle.std.specs.Str.Lossy.{utf8_valid_len}
 use Rattle.std.proofs.lemmas.Bool.Decides.{nat_tests}
 use Rattle.std.proofs.lemmas.Str.{utf8_valid_len-IsUtf8}
-use Rattle.tabled_input.specs.Input.{fault_of, fault_of_text, not_utf8}
+use Rattle.tabled_input.specs.Input.{fault_of, fault_of_text, not_utf8, without_mark}
 use Rattle.tabled_input.specs.declared.error.InputError.{InputError}
 use Rattle.tabled_input.specs.declared.error.InputError.TheVariants.{ReadFailed, TooLong, OutOfMemory}
 use Rattle.tabled_input.specs.declared.read.TheConstants.{INPUT_LIMIT}
@@ -12,16 +12,16 @@ use Rattle.tabled_input.specs.declared.rows.Cells.{Cells}
 
 module _ (cells : Cells) (input : List ℕ) where
   by_tests : (long whole : Bool) → nat_lt INPUT_LIMIT (length input) ≡ long → (utf8_valid_len input == length input) ≡ whole
-      → fault_of cells input ≡ (if long then Some TooLong else if not whole then Some (not_utf8 input) else fault_of_text cells input)
+      → fault_of cells input ≡ (if long then Some TooLong else if not whole then Some (not_utf8 input) else fault_of_text cells (without_mark input))
   unfolding fault_of
   by_tests long whole p q =
-      ap (λ b. if b then Some TooLong else if not (utf8_valid_len input == length input) then Some (not_utf8 input) else fault_of_text cells input) p
-      ∙ ap (λ b. if long then Some TooLong else if not b then Some (not_utf8 input) else fault_of_text cells input) q
+      ap (λ b. if b then Some TooLong else if not (utf8_valid_len input == length input) then Some (not_utf8 input) else fault_of_text cells (without_mark input)) p
+      ∙ ap (λ b. if long then Some TooLong else if not b then Some (not_utf8 input) else fault_of_text cells (without_mark input)) q
 
   within : length input ≤ INPUT_LIMIT → nat_lt INPUT_LIMIT (length input) ≡ false
   within room = grind (arith, nat_tests)
 
-  pub fault_of-text : length input ≤ INPUT_LIMIT → IsUtf8 input → fault_of cells input ≡ fault_of_text cells input
+  pub fault_of-text : length input ≤ INPUT_LIMIT → IsUtf8 input → fault_of cells input ≡ fault_of_text cells (without_mark input)
   fault_of-text room utf8 =
       let same = utf8_valid_len-IsUtf8 input utf8 in
       by_tests false true (within room) (grind (arith, nat_tests, same))

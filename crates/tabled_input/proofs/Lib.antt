@@ -4,3 +4,5 @@ pub mod Cuts
 pub mod Steps
 pub mod Returns
 pub mod ReadBack
+pub mod Marks
+pub mod Grammar

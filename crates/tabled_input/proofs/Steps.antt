@@ -4,8 +4,8 @@ use Rattle.tabled_input.specs.declared.reader.At.{At}
 use Rattle.tabled_input.specs.declared.reader.At.TheVariants.{RowStart, CellStart, Bare, Quoted, AfterQuote}
 use Rattle.tabled_input.specs.declared.reader.Step.{Step}
 use Rattle.tabled_input.specs.declared.reader.Step.TheVariants as step
-use Rattle.tabled_input.specs.Quoted.{step_at, left_at, end_at, row_before, cell_before, letter_before, nothing_left, is_row_start}
-use Rattle.tabled_input.specs.Reading.{onto}
+use Rattle.tabled_input.specs.Quoted.{step_at, left_at, end_at, row_before, cell_before, letter_before, nothing_left}
+use Rattle.tabled_input.specs.Reading.{is_row_start, onto}
 
 abbrev pub Rows : Type 0
 Rows = List (List (List ℕ))
@@ -126,7 +126,7 @@ module _ (separator : ℕ) (at : At) (c : ℕ) (more : List ℕ) where
 
 -- ---- the end of a text
 
-begun : (at : At) → is_row_start at ≡ false → nothing_left at ≡ row_before []
+pub begun : (at : At) → is_row_start at ≡ false → nothing_left at ≡ row_before []
 begun RowStart e = absurd cc
 begun CellStart e = refl
 begun Bare e = refl

@@ -1,9 +1,13 @@
 -- Rows of cells between separators.
-use Rattle.std.specs.Prelude.{ℕ, ◌==◌, nat_lt, if◌then◌else◌, List, [], ◌∷◌, map, string_bytes}
-use Rattle.std.specs.List.{slice_split}
+use Rattle.std.specs.Prelude.{ℕ, ◌==◌, not, nat_lt, if◌then◌else◌, List, [], ◌∷◌, length, map, string_bytes}
+use Rattle.std.specs.List.{count_by, filter, slice_split}
 use Rattle.std.specs.Str.Lines.{lines}
 use Rattle.std.specs.declared.string.String.{String}
 use Rattle.std.specs.declared.vec.Vec.{Vec}
+
+-- how many line feeds there are
+abbrev pub line_feeds : List ℕ → ℕ
+line_feeds bytes = count_by (λ b. b == 10) bytes
 
 -- the bytes of each cell of rows of texts
 abbrev pub cells_of : {Z W : Type 0} → List (Vec (String Z) W) → List (List (List ℕ))
@@ -13,7 +17,7 @@ cells_of rows = map (λ row. map string_bytes row.items) rows
 abbrev pub cut_at : ℕ → List ℕ → List (List ℕ)
 cut_at separator line = if nat_lt separator 128 then slice_split (λ b. b == separator) line else line ∷ []
 
--- the rows of a text: its lines, each cut at the separator. A line ends at a line feed, or at a carriage return and a line feed; one at the
--- end of the text begins no further line
+-- the rows of a text: its lines but blank ones, each cut at the separator. A line ends at a line feed, or at a carriage return and a line
+-- feed; one at the end of the text begins no further line
 unfoldable pub separated : ℕ → List ℕ → List (List (List ℕ))
-separated separator text = map (cut_at separator) (lines text)
+separated separator text = map (cut_at separator) (filter (λ line. not (length line == 0)) (lines text))

@@ -1,12 +1,13 @@
 -- Rows of cells as CSV has them, character by character.
 --
---     text     row {end row} [end]
+--     text     {end} [row {end {end} row}] {end}
 --     end      a line feed, or a carriage return and a line feed
---     row      cell {separator cell}
+--     row      cell {separator cell}, but no blank line
 --     cell     quote {character, or two quotes} quote, or characters but separators and line feeds
 --
 -- What no such text has stands for itself: a quote in a cell that begins with none, and what follows the quote that ends a cell.
-use Rattle.std.specs.Prelude.{ℕ, Bool, true, false, ◌==◌, ◌&&◌, if◌then◌else◌, List, [], ◌∷◌, ◌++◌, chars, encode_utf8, slice_index}
+use Rattle.std.specs.Prelude.{ℕ, ◌+◌, ◌-◌, Bool, true, false, ◌==◌, ◌&&◌, if◌then◌else◌, List, [], ◌∷◌, ◌++◌, chars, encode_utf8, length, slice_index, slice_index_or}
+use Rattle.tabled_input.specs.Lines.{line_feeds}
 use Rattle.tabled_input.specs.declared.reader.At.{At}
 use Rattle.tabled_input.specs.declared.reader.At.TheVariants.{RowStart, CellStart, Bare, Quoted, AfterQuote}
 use Rattle.tabled_input.specs.declared.reader.Step.{Step}
@@ -23,7 +24,7 @@ bare_step separator c = if c == separator then step.Cell else if c == 10 then st
 
 -- what a character does by where it stands
 unfoldable pub step_at : ℕ → At → ℕ → Step
-step_at separator RowStart c = if c == 34 then step.Nothing Quoted else bare_step separator c
+step_at separator RowStart c = if c == 34 then step.Nothing Quoted else if c == 10 then step.Nothing RowStart else bare_step separator c
 step_at separator CellStart c = if c == 34 then step.Nothing Quoted else bare_step separator c
 step_at separator Bare c = bare_step separator c
 step_at separator Quoted c = if c == 34 then step.Nothing AfterQuote else step.Letter Quoted
@@ -45,10 +46,7 @@ letter_before c ((cell ∷ row) ∷ rows) = ((encode_utf8 c ++ cell) ∷ row) �
 -- the rest of a text without a character: what is left of the cell in which it stands, of its row, and the rows after it
 abbrev pub nothing_left : At → List (List (List ℕ))
 nothing_left RowStart = []
-nothing_left CellStart = row_before []
-nothing_left Bare = row_before []
-nothing_left Quoted = row_before []
-nothing_left AfterQuote = row_before []
+nothing_left other = row_before []
 
 -- the same of characters, by where they stand
 unfoldable pub left_at : ℕ → At → List ℕ → List (List (List ℕ))
@@ -74,19 +72,8 @@ end_at separator at (c ∷ more) =
 
 -- within quotes
 abbrev pub is_quoted : At → Bool
-is_quoted RowStart = false
-is_quoted CellStart = false
-is_quoted Bare = false
 is_quoted Quoted = true
-is_quoted AfterQuote = false
-
--- before a row
-abbrev pub is_row_start : At → Bool
-is_row_start RowStart = true
-is_row_start CellStart = false
-is_row_start Bare = false
-is_row_start Quoted = false
-is_row_start AfterQuote = false
+is_quoted other = false
 
 -- the rows of a text
 unfoldable pub csv_rows : ℕ → List ℕ → List (List (List ℕ))
@@ -95,3 +82,10 @@ csv_rows separator text = left_at separator RowStart (without_returns (chars tex
 -- whether its last cell begins with a quote and no other quote ends it
 unfoldable pub has_open_quote : ℕ → List ℕ → Bool
 has_open_quote separator text = is_quoted (end_at separator RowStart (without_returns (chars text)))
+
+-- the line on which the last cell begins, where it goes on to the end of the text: as many above the last line as it has line feeds
+abbrev pub last_cell : List (List (List ℕ)) → List ℕ
+last_cell rows = let row = slice_index_or rows (length rows - 1) [] in slice_index_or row (length row - 1) []
+
+abbrev pub line_of_last : List ℕ → List (List (List ℕ)) → ℕ
+line_of_last text rows = line_feeds text - line_feeds (last_cell rows) + 1

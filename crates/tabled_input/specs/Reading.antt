@@ -1,5 +1,7 @@
 -- What a reader of CSV has read, and what the rest will give. Only private calls cite this.
-use Rattle.std.specs.Prelude.{ℕ, Bool, List, [], ◌∷◌, ◌++◌, map, string_bytes, if◌then◌else◌}
+use Rattle.std.specs.Prelude.{ℕ, Bool, true, false, List, [], ◌∷◌, ◌++◌, map, string_bytes, if◌then◌else◌}
+use Rattle.tabled_input.specs.declared.reader.At.{At}
+use Rattle.tabled_input.specs.declared.reader.At.TheVariants.{RowStart}
 use Rattle.tabled_input.specs.declared.reader.Reader.{Reader}
 use Rattle.tabled_input.specs.Lines.{cells_of}
 use Rattle.tabled_input.specs.Quoted.{left_at, without_returns}
@@ -17,3 +19,8 @@ rows_with reader more = cells_of reader.rows.items ++ onto (map string_bytes rea
 -- the characters that further ones give, before which a carriage return may have been held back
 abbrev pub going_on : Bool → List ℕ → List ℕ
 going_on is_held more = without_returns (if is_held then 13 ∷ more else more)
+
+-- before a row
+abbrev pub is_row_start : At → Bool
+is_row_start RowStart = true
+is_row_start other = false

@@ -17,8 +17,8 @@ pub enum InputError {
     TooLong,
     /// The input is no text of UTF-8: the line of the first byte that belongs to none, and its number in the line.
     NotUtf8 { line: usize, byte: usize },
-    /// A cell of this row, the last one, begins with a quote, and no other quote ends it.
-    OpenQuote { row: usize },
+    /// A cell of this row, the last one, begins with a quote, and no other quote ends it: the line on which the quote stands, and the row.
+    OpenQuote { line: usize, row: usize },
     /// Memory was asked for and refused.
     OutOfMemory,
 }
@@ -44,7 +44,7 @@ impl From<CsvError> for InputError {
 
     fn from(refused: CsvError) -> InputError {
         match refused {
-            CsvError::OpenQuote { row } => InputError::OpenQuote { row },
+            CsvError::OpenQuote { line, row } => InputError::OpenQuote { line, row },
             CsvError::OutOfMemory => InputError::OutOfMemory,
         }
     }

@@ -3,7 +3,7 @@
 ghost use Rattle.std.specs.Prelude.{◌≡◌, ◌<◌, ◌==◌, ◌∷◌, [], length, map, string_bytes, IfOk, IfSome, MatchOption};
 ghost use Rattle.std.specs.List.{position, slice_split};
 ghost use Rattle.std.specs.Str.{IsUtf8};
-ghost use Rattle.tabled_input.specs.Lines.{cells_of, cut_at, separated as rows_of};
+ghost use Rattle.tabled_input.specs.Lines.{cells_of, cut_at, line_feeds, separated as rows_of};
 
 use std::alloc::{AllocError, Global};
 
@@ -63,15 +63,30 @@ fn cells(alloc: Global, line: &str, separator: char, room: usize) -> Result<Vec<
     }
 }
 
-/// Returns the rows of a text: its lines, each cut at a separator, a character of ASCII; another one separates nothing. A line ends at a line
-/// feed, or at a carriage return and a line feed; one at the end of the text begins no further line. Only memory can be refused.
+/// Returns the rows of a text: its lines but blank ones, each cut at a separator, a character of ASCII; another one separates nothing. A line
+/// ends at a line feed, or at a carriage return and a line feed; one at the end of the text begins no further line. Only memory can be refused.
 pub fn separated(alloc: Global, text: &str, separator: char) -> Result<Vec<Vec<String>>, AllocError>
     ensures { IfOk result (λ rows. cells_of rows.items ≡ rows_of separator text.now) }
 {
     let mut rows: Vec<Vec<String>> = Vec::new(alloc);
     for line in text.lines() {
-        let room = rows.first().map_or(0, |row| row.len());
-        rows.push(cells(alloc, line, separator, room)?)?;
+        if !line.is_empty() {
+            let room = rows.first().map_or(0, |row| row.len());
+            rows.push(cells(alloc, line, separator, room)?)?;
+        }
     }
     Ok(rows)
+}
+
+/// How many line feeds some bytes have.
+pub(crate) fn line_feeds(bytes: &[u8]) -> usize
+    ensures { result ≡ line_feeds bytes.now }
+{
+    let mut count = 0;
+    for each in bytes {
+        if *each == b'\n' {
+            count += 1;
+        }
+    }
+    count
 }

@@ -1,20 +1,22 @@
 //! The rows of a text in CSV.
 
-ghost use Rattle.std.specs.Prelude.{◌≡◌, ◌⊎◌, ◌∷◌, [], ℕ, List, true, false, chars, length, IfOk, IfErr, OnOk};
+ghost use Rattle.std.specs.Prelude.{◌≡◌, ◌==◌, ◌⊎◌, ◌∷◌, [], ℕ, List, true, false, chars, length, IfOk, IfErr, OnOk};
 ghost use Rattle.tabled_input.specs.Lines.{cells_of};
-ghost use Rattle.tabled_input.specs.Quoted.{csv_rows, end_at, has_open_quote, without_returns};
+ghost use Rattle.tabled_input.specs.Quoted.{csv_rows, end_at, has_open_quote, last_cell, line_of_last, without_returns};
 ghost use Rattle.tabled_input.specs.Reading.{going_on, rows_with};
 ghost use Rattle.tabled_input.specs.Written.{IsWritten};
 ghost use Rattle.tabled_input.specs.declared.quoted.CsvError.{CsvError as Refusal};
 
+use crate::lines::line_feeds;
 use crate::reader::Reader;
 use std::alloc::{AllocError, Global};
 
 /// Why a text has no rows.
 #[derive(Clone, Copy, Debug, PartialEq, Eq)]
 pub enum CsvError {
-    /// A cell of the last row begins with a quote, and no other quote ends it. Which row it is, counted from 1.
-    OpenQuote { row: usize },
+    /// A cell of the last row begins with a quote, and no other quote ends it: the line on which the quote stands, and the row, both counted
+    /// from 1.
+    OpenQuote { line: usize, row: usize },
     /// Memory was asked for and refused.
     OutOfMemory,
 }
@@ -80,15 +82,37 @@ fn read(reader: &mut Reader, text: &str) -> Result<(), AllocError>
     Ok(())
 }
 
+/// The last cell of rows, the empty text where there is none.
+fn last_cell(rows: &[Vec<String>]) -> &str
+    ensures { result.now ≡ last_cell (cells_of rows.now) }
+{
+    let Some(row) = rows.last() else {
+        return "";
+    };
+    match row.last() {
+        Some(cell) => cell.as_str(),
+        None => "",
+    }
+}
+
+/// The line of a text on which the last of its cells begins, where that goes on to the end of the text.
+fn line_of_last(text: &str, rows: &[Vec<String>]) -> usize
+    ensures { result ≡ line_of_last text.now (cells_of rows.now) }
+{
+    let above = line_feeds(text.as_bytes());
+    above.saturating_sub(line_feeds(last_cell(rows).as_bytes())) + 1
+}
+
 /// Returns the rows of a text in CSV, whose cells stand between separators. A cell that begins with a quote ends with one, and may have
 /// separators and line feeds; two quotes in it are one. A line feed, or a carriage return and a line feed, ends a row. Refused where the last
 /// cell has no quote that ends it, and where memory is.
 pub fn csv(alloc: Global, text: &str, separator: char) -> Result<Vec<Vec<String>>, CsvError>
     ensures rows { IfOk result (λ rows. cells_of rows.items ≡ csv_rows separator text.now) }
     ensures closed { OnOk result (has_open_quote separator text.now ≡ false) }
-    ensures refused { IfErr result (λ e. (e ≡ Refusal.OutOfMemory) ⊎ ((has_open_quote separator text.now ≡ true) × (e ≡ Refusal.OpenQuote (length (csv_rows separator text.now))))) }
+    ensures refused { IfErr result (λ e. (e ≡ Refusal.OutOfMemory) ⊎ ((has_open_quote separator text.now ≡ true) × (e ≡ Refusal.OpenQuote (line_of_last text.now (csv_rows separator text.now)) (length (csv_rows separator text.now))))) }
 
-    // Of a text that is written for rows, these rows are read.
+    // A text is written for the rows that are read, where the separator is no quote and no line feed; and no others are read of it.
+    ensures grammar { (separator == 34) ≡ false → (separator == 10) ≡ false → IfOk result (λ rows. IsWritten separator (cells_of rows.items) text.now) }
     ensures written { (rows : List (List (List ℕ))) → IsWritten separator rows text.now → IfOk result (λ read. cells_of read.items ≡ rows) }
     ensures memory_alone { (rows : List (List (List ℕ))) → IsWritten separator rows text.now → IfErr result (λ e. e ≡ Refusal.OutOfMemory) }
 {
@@ -98,6 +122,7 @@ pub fn csv(alloc: Global, text: &str, separator: char) -> Result<Vec<Vec<String>
     reader.end()?;
     if is_open {
         return Err(CsvError::OpenQuote {
+            line: line_of_last(text, &reader.rows),
             row: reader.rows.len(),
         });
     }

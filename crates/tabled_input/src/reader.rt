@@ -2,8 +2,8 @@
 
 ghost use Rattle.std.specs.Prelude.{◌≡◌, ℕ, List, [], ◌∷◌, ◌++◌, map, string_bytes, OnOk, IfOk};
 ghost use Rattle.tabled_input.specs.Lines.{cells_of};
-ghost use Rattle.tabled_input.specs.Quoted.{bare_step, end_at, is_quoted, is_row_start, step_at};
-ghost use Rattle.tabled_input.specs.Reading.{rows_with};
+ghost use Rattle.tabled_input.specs.Quoted.{bare_step, end_at, is_quoted, step_at};
+ghost use Rattle.tabled_input.specs.Reading.{is_row_start, rows_with};
 
 use std::alloc::{AllocError, Global};
 use std::mem;
@@ -32,7 +32,7 @@ pub enum Step {
     Cell,
     /// The character is one of the cell's, and the next one stands there.
     Letter(At),
-    /// The character is a quote that is none of the cell's, and the next one stands there.
+    /// The character is none of a cell's, and the next one stands there: a quote around a cell, or a line feed before a row.
     Nothing(At),
 }
 
@@ -57,6 +57,7 @@ fn step_at(separator: char, at: At, character: char) -> Step
     let is_quote = character == '"';
     match at {
         At::RowStart | At::CellStart if is_quote => Step::Nothing(At::Quoted),
+        At::RowStart if character == '\n' => Step::Nothing(At::RowStart),
         At::Quoted if is_quote => Step::Nothing(At::AfterQuote),
         At::AfterQuote if is_quote => Step::Letter(At::Quoted),
         At::Quoted => Step::Letter(At::Quoted),

@@ -5,7 +5,7 @@ ghost use Rattle.std.specs.Io.KnownBytes.{Consumes, IsAtEnd};
 ghost use Rattle.std.specs.Str.{IsUtf8};
 ghost use Rattle.std.specs.Str.Lossy.{utf8_valid_len};
 ghost use Rattle.tabled_input.specs.Lines.{cells_of};
-ghost use Rattle.tabled_input.specs.Input.{fault_of, fault_of_text, not_utf8, rows_in};
+ghost use Rattle.tabled_input.specs.Input.{fault_of, fault_of_text, not_utf8, rows_in, rows_of_text, without_mark};
 ghost use Rattle.tabled_input.specs.declared.error.InputError.{InputError as Refusal};
 
 use crate::error::InputError;
@@ -40,9 +40,19 @@ fn as_text(input: &[u8]) -> Result<&str, InputError>
     }
 }
 
+/// A text without one byte order mark at its start.
+fn without_mark(text: &str) -> &str
+    ensures { result.now ≡ without_mark text.now }
+{
+    match text.strip_prefix('\u{feff}') {
+        Some(rest) => rest,
+        None => text,
+    }
+}
+
 /// The rows of a text.
 fn rows_of(alloc: Global, cells: Cells, text: &str) -> Result<Vec<Vec<String>>, InputError>
-    ensures rows { IfOk result (λ rows. cells_of rows.items ≡ rows_in cells text.now) }
+    ensures rows { IfOk result (λ rows. cells_of rows.items ≡ rows_of_text cells text.now) }
     ensures good { OnOk result (fault_of_text cells text.now ≡ None) }
     ensures refused { IfErr result (λ e. (e ≡ Refusal.OutOfMemory) ⊎ (fault_of_text cells text.now ≡ Some e)) }
 {
@@ -66,11 +76,12 @@ fn rows_of_bytes(alloc: Global, cells: Cells, bytes: &[u8]) -> Result<Vec<Vec<St
     ensures refused { IfErr result (λ e. (e ≡ Refusal.OutOfMemory) ⊎ (fault_of cells bytes.now ≡ Some e)) }
 {
     let text = as_text(bytes)?;
-    let rows = rows_of(alloc, cells, text)?;
+    let rows = rows_of(alloc, cells, without_mark(text))?;
     Ok(rows)
 }
 
-/// Returns the rows of what is read: it is read whole, and at most one byte past the limit of 268,435,456 bytes. Over a reader that tells its
+/// Returns the rows of what is read: it is read whole, and at most one byte past the limit of 268,435,456 bytes, and one byte order mark at
+/// its start is dropped. Over a reader that tells its
 /// bytes, the rows are those of these bytes, and a refusal is the first fault that they have; unless reading failed, or memory was refused.
 pub fn read_rows<R: Read>(
     alloc: Global,

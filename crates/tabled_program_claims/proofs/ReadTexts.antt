@@ -1,13 +1,13 @@
 -- The cells of an input are texts where it is one.
-use Rattle.std.proofs.Common.{◌≡◌, ◌==◌, ◌&&◌, ℕ, ◌-◌, ◌<◌, ◌≤◌, nat_lt, Bool, true, false, if◌then◌else◌, List, [], ◌∷◌, ◌++◌, take, length, get_or, chars, encode_utf8, lit<, append-nil, refl, sym, subst, arith, ⊎_elim}
+use Rattle.std.proofs.Common.{◌≡◌, ◌==◌, ◌&&◌, ℕ, ◌-◌, ◌<◌, ◌≤◌, nat_lt, not, Bool, true, false, if◌then◌else◌, List, [], ◌∷◌, ◌++◌, take, length, get_or, chars, encode_utf8, lit<, append-nil, refl, sym, subst, arith, ⊎_elim}
 use Rattle.std.specs.List.{slice_index}
-use Rattle.std.specs.List.{All, slice_split}
+use Rattle.std.specs.List.{All, filter, slice_split}
 use Rattle.std.specs.Str.{IsUtf8}
 use Rattle.std.specs.Str.Lines.{lines, lines_of_parts, strip_carriage_return}
 use Rattle.std.proofs.Math.Utf8.{scalar, scalars}
 use Rattle.std.proofs.lemmas.Bool.{and_parts, and_from, cases_lt, eqb-true, ltb-true}
 use Rattle.std.proofs.lemmas.List.{get_or_past}
-use Rattle.std.proofs.lemmas.List.Elements.{All-nil, All-cons, All-head, All-tail, All-map}
+use Rattle.std.proofs.lemmas.List.Elements.{All-nil, All-cons, All-head, All-tail, All-map, All-filter}
 use Rattle.std.proofs.lemmas.Str.{scalars-chars, IsUtf8-append, IsUtf8-nil, IsUtf8-take, IsCharBoundary-before_ascii}
 use Rattle.tabled_input.specs.Lines.{cut_at, separated}
 use Rattle.tabled_input.specs.Quoted.{cell_before, csv_rows, left_at, letter_before, nothing_left, row_before, step_at, without_returns}
@@ -15,7 +15,8 @@ use Rattle.tabled_input.specs.declared.reader.At.{At}
 use Rattle.tabled_input.specs.declared.reader.At.TheVariants.{RowStart, CellStart, Bare, Quoted, AfterQuote}
 use Rattle.tabled_input.specs.declared.reader.Step.{Step}
 use Rattle.tabled_input.specs.declared.reader.Step.TheVariants as step
-use Rattle.tabled_input.specs.Input.{rows_in}
+use Rattle.tabled_input.specs.Input.{rows_in, without_mark}
+use Rattle.tabled_input.proofs.Marks.{mark_text}
 use Rattle.tabled_input.specs.declared.rows.Cells.{Cells}
 use Rattle.tabled_input.specs.declared.rows.Cells.TheVariants as cells
 use Rattle.tabled_width.proofs.PieceFacts.{all_texts}
@@ -58,7 +59,9 @@ separated_texts : (separator : ℕ) (text : List ℕ) → IsUtf8 text → AreTex
 unfolding separated
 separated_texts separator text read =
     let all = lines_are_texts (slice_split (λ b. b == 10) text) (all_texts 10 (lit< tt) text read) in
-    All-map (All IsUtf8) (cut_at separator) (lines text) (λ k d within. cut_texts separator (get_or (lines text) k d) (all k d within))
+    let is_full : List ℕ → Bool = λ line. not (length line == 0) in
+    let full = All-filter is_full IsUtf8 (lines text) all in
+    All-map (All IsUtf8) (cut_at separator) (filter is_full (lines text)) (λ k d within. cut_texts separator (get_or (filter is_full (lines text)) k d) (full k d within))
 
 -- ---- CSV
 
@@ -123,8 +126,8 @@ quoted_texts separator text read = left_texts separator RowStart (without_return
 -- ---- the rows of an input
 
 pub rows_are_texts : (how : Cells) (input : List ℕ) → IsUtf8 input → AreTexts (rows_in how input)
-rows_are_texts (cells.Separated separator) input read = separated_texts separator input read
-rows_are_texts (cells.Quoted separator) input read = quoted_texts separator input read
+rows_are_texts (cells.Separated separator) input read = separated_texts separator (without_mark input) (mark_text input read)
+rows_are_texts (cells.Quoted separator) input read = quoted_texts separator (without_mark input) (mark_text input read)
 
 -- what holds of the empty text and of each cell of rows holds of what they say at any place
 pub at_each : (P : List ℕ → Type 0) (rows : List (List (List ℕ))) → P [] → All (All P) rows → (row col : ℕ) → P (get_or (get_or rows row []) col [])

@@ -6,9 +6,10 @@ ghost use Rattle.std.specs.List.{All};
 ghost use Rattle.std.specs.Str.{IsUtf8};
 ghost use Rattle.tabled_clean.specs.Steering.{is_clean};
 ghost use Rattle.tabled_input.specs.declared.error.InputError.TheVariants as input_refusals;
-ghost use Rattle.tabled_request.specs.Words.{request_of};
+ghost use Rattle.tabled_request.specs.Words.{request_of, spread};
 ghost use Rattle.tabled_request.specs.declared.error.WordsError.{WordsError as Wrong};
 ghost use Rattle.tabled_request.specs.declared.request.Request.{Request as Asked};
+ghost use Rattle.tabled_request.specs.declared.spread.Next.TheVariants.{Any};
 ghost use Rattle.tabled_request.specs.declared.surroundings.Surroundings.{Surroundings as Told};
 ghost use Rattle.tabled_width.specs.Texts.{Table};
 ghost use Rattle.tabled_style.specs.declared.ready_style.ReadyStyle.{ReadyStyle as Named};
@@ -19,10 +20,10 @@ ghost use Rattle.tabled_viewing.specs.Said.{said};
 ghost use Rattle.tabled_viewing.specs.View.{FitsWidth, IsPage, IsView};
 ghost use Rattle.tabled_viewing.specs.declared.error.ViewError.TheVariants as refusals;
 
-use std::alloc::Global;
+use std::alloc::{AllocError, Global};
 use std::io::{Read, Write};
 use tabled_border::OutOfMemory;
-use tabled_request::{Request, Surroundings};
+use tabled_request::{Request, Surroundings, spread_words};
 use tabled_viewing::{ViewError, run, said, understood};
 
 /// Over a reader and a writer that tell their bytes, the program reads the whole input and writes exactly its view, the table of its
@@ -82,6 +83,13 @@ pub fn asked_about_itself<R: Read, W: Write>(
     run(alloc, request, words, around, input, output)
 }
 
+/// Words are taken as if each `--x=y`, where `--x` is the name of an option that takes a value, stood as two.
+pub fn words_stand_apart(alloc: Global, words: &[String]) -> Result<Vec<String>, AllocError>
+    ensures { IfOk result (λ all. map string_bytes all.items ≡ spread Any (map string_bytes words.now)) }
+{
+    spread_words(alloc, words)
+}
+
 /// What words ask for is what they ask for one after the other; the first that is wrong is the refusal.
 pub fn words_understood(words: &[String]) -> Result<Request, ViewError>
     ensures request { IfOk result (λ request. request_of (map string_bytes words.now) ≡ Ok request) }
@@ -94,12 +102,11 @@ pub fn words_understood(words: &[String]) -> Result<Request, ViewError>
 pub fn text_of_a_refusal(
     alloc: Global,
     words: &[String],
-    is_csv: bool,
     refusal: ViewError,
 ) -> Result<String, OutOfMemory>
-    ensures { IfOk result (λ text. string_bytes text ≡ said (map string_bytes words.now) is_csv refusal) }
+    ensures { IfOk result (λ text. string_bytes text ≡ said (map string_bytes words.now) refusal) }
 {
-    said(alloc, words, is_csv, refusal)
+    said(alloc, words, refusal)
 }
 
 /// Each refusal has its status.

@@ -1,2 +1,3 @@
 pub mod WordByWord
 pub mod ByColumn
+pub mod Endings

@@ -1,34 +1,25 @@
 -- Cells that words name, by a row and a column, each a number from 1 on or a star.
-use Rattle.std.specs.Prelude.{ℕ, ◌+◌, Bool, false, ◌==◌, ◌&&◌, ◌||◌, nat_le, List, codes, map, Option, Some, None}
+use Rattle.std.specs.Prelude.{ℕ, ◌+◌, Bool, false, ◌==◌, ◌&&◌, ◌||◌, List, codes, map, Some, None, is_some}
 use Rattle.std.specs.List.{list_all, list_any, before_first, after_first, slice_split}
 use Rattle.std.specs.Str.{bytes_eq}
 use Rattle.tabled_request.specs.Columns.{is_comma}
-use Rattle.tabled_request.specs.Numerals.{number_of}
+use Rattle.tabled_request.specs.Numerals.{from_one, number_of}
 use Rattle.tabled_request.specs.declared.cells.NamedCells.{NamedCells}
 use Rattle.tabled_request.specs.declared.cells.Choice.{Choice}
 
 abbrev pub is_colon : ℕ → Bool
 is_colon b = b == 58
 
--- a number from 1 on, and the number after another
-abbrev pub is_from_one : Option ℕ → Bool
-is_from_one None = false
-is_from_one (Some number) = nat_le 1 number
-
-abbrev pub is_next : Option ℕ → ℕ → Bool
-is_next None n = false
-is_next (Some number) n = number == n + 1
-
 -- what stands for a row or a column: its number, or a star for all
 abbrev pub is_part : List ℕ → Bool
-is_part word = bytes_eq word (codes "*") || is_from_one (number_of word)
+is_part word = bytes_eq word (codes "*") || is_some (from_one (number_of word))
 
 abbrev pub part_of : List ℕ → Choice
 part_of word = record { is_all = bytes_eq word (codes "*"); number = number_of word }
 
 -- whether the row or the column of that number, counted from 0, is one of them
 abbrev pub has : Choice → ℕ → Bool
-has part n = part.is_all || is_next part.number n
+has part n = part.is_all || elim (part.number) [ None ↦ false | Some number ↦ number == n + 1 ]
 
 -- whether a part of a word names cells: by a row and a column with a colon between them
 unfoldable pub is_cell : List ℕ → Bool

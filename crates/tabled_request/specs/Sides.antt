@@ -14,12 +14,8 @@ below_header has_header [] = []
 below_header has_header (row ∷ rows) = if has_header then rows else row ∷ rows
 
 -- whether a word names a column
-abbrev pub in_word : Option (List ℕ) → ℕ → Bool
-in_word None col = false
-in_word (Some word) col = names_column word col
-
 abbrev pub is_named : List (List ℕ) → Option ℕ → ℕ → Bool
-is_named words number col = in_word (word_at words number) col
+is_named words number col = elim (word_at words number) [ None ↦ false | Some word ↦ names_column word col ]
 
 -- where the cells of a column stand: as the words say, and else at the right where it is one of numbers
 abbrev pub side_of : Request → List (List ℕ) → List (List (List ℕ)) → ℕ → ColumnSide

@@ -1,8 +1,7 @@
 -- What the surroundings say, by what variables hold, each of which may not be set.
 use Rattle.std.specs.Prelude.{ℕ, Bool, true, false, ◌||◌, if◌then◌else◌, List, [], ◌∷◌, codes, length, take, Option, Some, None, option_copied}
 use Rattle.std.specs.Str.{str_eq_ignore_ascii_case}
-use Rattle.tabled_request.specs.Numerals.{number_of}
-use Rattle.tabled_request.specs.Words.{is_width}
+use Rattle.tabled_request.specs.Numerals.{from_one, number_of}
 use Rattle.tabled_request.specs.declared.surroundings.Surroundings.{Surroundings}
 use Rattle.tabled_request.specs.declared.surroundings.Variables.{Variables}
 
@@ -36,7 +35,7 @@ takes_utf8 (Some locale) = names_utf8 locale
 -- how many columns the terminal has: a number from 1 on
 abbrev pub columns_told : Option (List ℕ) → Option ℕ
 columns_told None = None
-columns_told (Some text) = is_width (number_of text)
+columns_told (Some text) = from_one (number_of text)
 
 -- what variables say: the locale is the first that is told of three, and colors are not wanted where NO_COLOR is
 abbrev pub told : Variables → Surroundings

@@ -1,20 +1,16 @@
--- What the words after the program's name ask for, one word after the other.
-use Rattle.std.specs.Prelude.{ℕ, ◌+◌, Bool, true, false, not, ◌==◌, ◌&&◌, ◌||◌, nat_lt, nat_le, if◌then◌else◌, List, [], ◌∷◌, codes, length, slice_index, slice_get, Option, Some, None, is_some, option_map, Result, Ok, Err}
-use Rattle.std.specs.List.{list_any}
+-- What the words after the program's name ask for.
+use Rattle.std.specs.Prelude.{ℕ, ◌+◌, Bool, true, false, not, ◌==◌, ◌&&◌, if◌then◌else◌, List, [], ◌∷◌, ◌++◌, codes, slice_index, slice_get, Option, Some, None, Result, Ok, Err}
+use Rattle.std.specs.List.{list_any, before_first, after_first}
 use Rattle.std.specs.Str.{bytes_eq}
 use Rattle.tabled_request.specs.declared.options.OptionName.{OptionName}
-use Rattle.tabled_request.specs.declared.options.OptionName.TheVariants as option
 use Rattle.tabled_request.specs.declared.error.WordsError.{WordsError}
 use Rattle.tabled_request.specs.declared.error.WordsError.TheVariants.{UnknownOption, NoValue, BadValue, SecondFile}
-use Rattle.tabled_request.specs.declared.request.FrameColor.{FrameColor}
-use Rattle.tabled_request.specs.declared.request.FrameColor.TheVariants.{Black, Red, Green, Yellow, Blue, Magenta, Cyan, White}
 use Rattle.tabled_request.specs.declared.request.Request.{Request}
 use Rattle.tabled_request.specs.declared.request.Shows.TheVariants as shows
+use Rattle.tabled_request.specs.declared.spread.Next.{Next}
+use Rattle.tabled_request.specs.declared.spread.Next.TheVariants.{Any, Value, File}
 use Rattle.tabled_request.specs.declared.words.Reading.{Reading}
-use Rattle.tabled_request.specs.Options.{option_named, takes_value}
-use Rattle.tabled_request.specs.Numerals.{number_of}
-use Rattle.tabled_request.specs.Cells.{are_cells}
-use Rattle.tabled_request.specs.Columns.{are_columns}
+use Rattle.tabled_request.specs.Options.{entry_of, is_equals, name_of, option_named, takes_value}
 
 -- what no words ask for
 abbrev pub first_request : Request
@@ -43,110 +39,71 @@ first_request = record {
   is_raw = false;
 }
 
--- the color that a word names
-abbrev pub color_named : List ℕ → Option FrameColor
-color_named word =
-    if bytes_eq word (codes "black") then Some Black else if bytes_eq word (codes "red") then Some Red
-    else if bytes_eq word (codes "green") then Some Green else if bytes_eq word (codes "yellow") then Some Yellow
-    else if bytes_eq word (codes "blue") then Some Blue else if bytes_eq word (codes "magenta") then Some Magenta
-    else if bytes_eq word (codes "cyan") then Some Cyan else if bytes_eq word (codes "white") then Some White
-    else None
+-- what the word after one is: the value of the option that it names, a file after two dashes, or else any word
+abbrev pub after : Next → List ℕ → Next
+after Any word =
+    if bytes_eq word (codes "--") then File
+    else elim (option_named word) [ None ↦ Any | Some option ↦ if takes_value option then Value option else Any ]
+after (Value option) word = Any
+after File word = File
 
--- whether a word says when there are colors
-abbrev pub choice_named : List ℕ → Option Bool
-choice_named word = if bytes_eq word (codes "always") then Some true else if bytes_eq word (codes "never") then Some false else None
+-- whether an option of that name takes a value, so that a word is two in one: the name, and after an equals sign the value
+abbrev pub is_before_value : List ℕ → Bool
+is_before_value word = elim (option_named word) [ None ↦ false | Some option ↦ takes_value option && bytes_eq (name_of option) word ]
 
--- a separator: one character of ASCII, but for a quote, a line feed and a carriage return
-unfoldable pub separator_named : List ℕ → Option ℕ
-separator_named word =
-    if (length word == 1) && nat_lt (slice_index word 0) 128 && not ((slice_index word 0 == 34) || (slice_index word 0 == 10) || (slice_index word 0 == 13))
-    then Some (slice_index word 0) else None
+-- the words that a word is, and all words as if each that is two in one stood as two: no value is, and nothing after two dashes
+abbrev pub parts : Next → List ℕ → List (List ℕ)
+parts Any word =
+    if list_any is_equals word && is_before_value (before_first is_equals word)
+    then before_first is_equals word ∷ after_first is_equals word ∷ [] else word ∷ []
+parts other word = word ∷ []
 
--- a text for a line: it has no line feed
-abbrev pub is_line : List ℕ → Bool
-is_line word = not (list_any (λ b. b == 10) word)
+unfoldable pub spread : Next → List (List ℕ) → List (List ℕ)
+spread next [] = []
+spread next (word ∷ words) = parts next word ++ spread (after next word) words
 
--- a width: from 1 on
-abbrev pub is_width : Option ℕ → Option ℕ
-is_width None = None
-is_width (Some number) = if nat_le 1 number then Some number else None
+-- an option, set by the word of the number n: its value, or the option itself
+abbrev pub with_option : OptionName → ℕ → List ℕ → Reading → Result Reading WordsError
+with_option option n word reading =
+    elim ((entry_of option).sets n word reading.request) [ None ↦ Err (BadValue option n) | Some request ↦ Ok (record reading { request = request }) ]
 
--- the request with an option that takes no value
-abbrev pub with_option : OptionName → Request → Request
-with_option option.Csv request = record request { is_csv = true }
-with_option option.Header request = record request { has_header = true }
-with_option option.NoHeader request = record request { has_header = false }
-with_option option.NoNumbers request = record request { finds_numbers = false }
-with_option option.Wrap request = record request { cuts_off = false }
-with_option option.Truncate request = record request { cuts_off = true }
-with_option option.Terminal request = record request { fits_terminal = true }
-with_option option.Stripes request = record request { has_stripes = true }
-with_option option.Fill request = record request { fills = true }
-with_option option.Raw request = record request { is_raw = true }
-with_option option.Help request = record request { shows = shows.Help }
-with_option option.Version request = record request { shows = shows.Version }
-with_option option.Styles request = record request { shows = shows.Styles }
-with_option other request = request
+-- a file; a dash alone is standard input, as if no file were named
+abbrev pub with_file : ℕ → List ℕ → Reading → Result Reading WordsError
+with_file n word reading =
+    if reading.has_file then Err (SecondFile n)
+    else Ok (record { request = if bytes_eq word (codes "-") then reading.request else record reading.request { file = Some n }; has_file = true })
 
--- the request with an option and its value, the word of that number; nothing where it is no value of it
-abbrev pub with_value : OptionName → ℕ → List ℕ → Request → Option Request
-with_value option.Style n word request = Some (record request { style = Some n })
-with_value option.Separator n word request = option_map (λ c. record request { separator = Some c }) (separator_named word)
-with_value option.Title n word request = if is_line word then Some (record request { title = Some n }) else None
-with_value option.Footer n word request = if is_line word then Some (record request { footer = Some n }) else None
-with_value option.Left n word request = if are_columns word then Some (record request { left = Some n }) else None
-with_value option.Center n word request = if are_columns word then Some (record request { center = Some n }) else None
-with_value option.Right n word request = if are_columns word then Some (record request { right = Some n }) else None
-with_value option.Width n word request = option_map (λ width. record request { width = Some width }) (is_width (number_of word))
-with_value option.Color n word request = option_map (λ choice. record request { has_color = choice }) (choice_named word)
-with_value option.FrameColor n word request = option_map (λ color. record request { frame_color = Some color }) (color_named word)
-with_value option.Outline n word request = if are_cells word then Some (record request { outline = Some n }) else None
-with_value option.Mark n word request = Some (record request { mark = Some n })
-with_value other n word request = None
+-- the word of the number n: a value; a file; or else an option, which waits for its value if it takes one, two dashes, or a file, which does
+-- not begin with a dash unless it is one
+abbrev pub with_word : Next → ℕ → List ℕ → Reading → Result Reading WordsError
+with_word Any n word reading =
+    elim (option_named word) [
+      | Some option ↦ if takes_value option then Ok reading else with_option option n word reading
+      | None ↦
+          if bytes_eq word (codes "--") then Ok reading
+          else if (slice_index word 0 == 45) && not (bytes_eq word (codes "-")) then Err (UnknownOption n)
+          else with_file n word reading
+    ]
+with_word (Value option) n word reading = with_option option n word reading
+with_word File n word reading = with_file n word reading
 
--- a word that an option waited for
-abbrev pub value_taken : OptionName → ℕ → Option Request → Result Reading WordsError
-value_taken option n None = Err (BadValue option n)
-value_taken option n (Some request) = Ok (record { request = request; waits_for = None })
-
--- a word that names an option: it stands alone, or waits for its value
-abbrev pub option_taken : OptionName → Request → Reading
-option_taken option request =
-    if takes_value option then record { request = request; waits_for = Some option } else record { request = with_option option request; waits_for = None }
-
--- a word that names no option: it names the file, unless it begins with a dash or another one did
-abbrev pub file_taken : ℕ → List ℕ → Request → Result Reading WordsError
-file_taken n word request =
-    if slice_index word 0 == 45 then Err (UnknownOption n)
-    else if is_some request.file then Err (SecondFile n)
-    else Ok (record { request = record request { file = Some n }; waits_for = None })
-
-abbrev pub named_or_file : Option OptionName → ℕ → List ℕ → Request → Result Reading WordsError
-named_or_file None n word request = file_taken n word request
-named_or_file (Some option) n word request = Ok (option_taken option request)
-
--- the word of the number n, after what was read before it
-abbrev pub word_taken : Option OptionName → ℕ → List ℕ → Request → Result Reading WordsError
-word_taken None n word request = named_or_file (option_named word) n word request
-word_taken (Some option) n word request = value_taken option n (with_value option n word request)
-
--- what is asked for at the end: no option waits for a value
-abbrev pub at_end : Option OptionName → Request → Result Request WordsError
-at_end None request = Ok request
-at_end (Some option) request = Err (NoValue option)
+-- what is asked for at the end, where no value is missing
+abbrev pub at_end : Next → Request → Result Request WordsError
+at_end (Value option) request = Err (NoValue option)
+at_end other request = Ok request
 
 -- further words, the first of which has the number n
-unfoldable pub words_read : Reading → ℕ → List (List ℕ) → Result Request WordsError
-words_read reading n [] = at_end reading.waits_for reading.request
-words_read reading n (word ∷ words) =
-    elim (word_taken reading.waits_for n word reading.request) [
-      | Ok next ↦ words_read next (n + 1) words
+unfoldable pub words_read : Next → Reading → ℕ → List (List ℕ) → Result Request WordsError
+words_read next reading n [] = at_end next reading.request
+words_read next reading n (word ∷ words) =
+    elim (with_word next n word reading) [
+      | Ok more ↦ words_read (after next word) more (n + 1) words
       | Err e ↦ Err e
     ]
 
 -- what words ask for, or which of them is wrong
 unfoldable pub request_of : List (List ℕ) → Result Request WordsError
-request_of words = words_read (record { request = first_request; waits_for = None }) 0 words
+request_of words = words_read Any (record { request = first_request; has_file = false }) 0 words
 
 -- the word that an option names by its number, if it does
 abbrev pub word_at : List (List ℕ) → Option ℕ → Option (List ℕ)

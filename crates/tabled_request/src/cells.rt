@@ -3,9 +3,9 @@
 ghost use Rattle.std.specs.Prelude.{◌≡◌, codes, IfOk};
 ghost use Rattle.std.specs.List.{before_first, after_first};
 ghost use Rattle.std.specs.Str.{bytes_eq};
-ghost use Rattle.tabled_request.specs.Cells.{are_cells, are_named, cells_of, has, is_cell, is_colon, is_from_one, is_next, is_part, named_cells, part_of};
+ghost use Rattle.tabled_request.specs.Cells.{are_cells, are_named, cells_of, has, is_cell, is_colon, is_part, named_cells, part_of};
 
-use crate::numerals::number_of;
+use crate::numerals::{from_one, number_of};
 use std::alloc::{AllocError, Global};
 
 /// Whether a word is a star, which stands for all rows or all columns.
@@ -15,31 +15,11 @@ fn is_star(word: &str) -> bool
     word == "*"
 }
 
-/// Whether there is a number, from 1 on.
-fn is_from_one(number: Option<usize>) -> bool
-    ensures { result ≡ is_from_one number }
-{
-    match number {
-        Some(number) => 1 <= number,
-        None => false,
-    }
-}
-
-/// Whether there is a number, and it is the one after another.
-fn is_next(number: Option<usize>, n: usize) -> bool
-    ensures { result ≡ is_next number n }
-{
-    match number {
-        Some(number) => n < number && number - n == 1,
-        None => false,
-    }
-}
-
 /// Whether a word stands for a row or a column: a number from 1 on, or a star.
 fn is_part(word: &str) -> bool
     ensures { result ≡ is_part word.now }
 {
-    is_star(word) || is_from_one(number_of(word))
+    is_star(word) || from_one(number_of(word)).is_some()
 }
 
 /// What a word stands for, of all rows or all columns.
@@ -66,7 +46,10 @@ impl Choice {
     fn has(&self, n: usize) -> bool
         ensures { result ≡ has self.now n }
     {
-        self.is_all || is_next(self.number, n)
+        match self.number {
+            Some(number) => self.is_all || (n < number && number - n == 1),
+            None => self.is_all,
+        }
     }
 }
 

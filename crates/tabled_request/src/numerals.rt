@@ -1,7 +1,7 @@
 //! Numbers in words.
 
 ghost use Rattle.std.specs.Prelude.{◌≡◌, ◌≤◌, IfSome};
-ghost use Rattle.tabled_request.specs.Numerals.{number_of, value_of};
+ghost use Rattle.tabled_request.specs.Numerals.{from_one, number_of, value_of};
 
 use tabled_numbers::are_digits;
 
@@ -39,4 +39,14 @@ pub fn number_of(word: &str) -> Option<usize>
     ensures at_most { IfSome result (λ number. number ≤ MOST) }
 {
     number_in(word.as_bytes())
+}
+
+/// A number, if it is one from 1 on.
+pub(crate) fn from_one(number: Option<usize>) -> Option<usize>
+    ensures { result ≡ from_one number }
+{
+    match number {
+        Some(number) if 1 <= number => Some(number),
+        _ => None,
+    }
 }

@@ -1,7 +1,7 @@
 //! The options by name.
 
-ghost use Rattle.std.specs.Prelude.{◌≡◌};
-ghost use Rattle.tabled_request.specs.Options.{all_options, name_of, option_named, takes_value};
+ghost use Rattle.std.specs.Prelude.{◌≡◌, option_map};
+ghost use Rattle.tabled_request.specs.Options.{all_options, entry_of, is_named, name_of, option_named, takes_value};
 
 /// An option of the program.
 #[derive(Clone, Copy, Debug, PartialEq, Eq)]
@@ -59,7 +59,7 @@ pub enum OptionName {
 }
 
 impl OptionName {
-    /// Returns all options.
+    /// Returns all options, in the order in which one that is near a word is looked for.
     pub fn all() -> [OptionName; 25]
         ensures { result ≡ all_options }
     {
@@ -67,8 +67,8 @@ impl OptionName {
             OptionName::Style,
             OptionName::Separator,
             OptionName::Csv,
-            OptionName::Header,
             OptionName::NoHeader,
+            OptionName::Header,
             OptionName::Title,
             OptionName::Footer,
             OptionName::Left,
@@ -92,79 +92,72 @@ impl OptionName {
         ]
     }
 
-    /// Returns the word that names the option.
-    #[tactic(auto, unfolding(crate::specs::Options::name_of))]
+    /// The name of the option, its letter, and whether the word after it is its value.
+    #[tactic(auto, unfolding(crate::specs::Options::entry_of))]
+    fn entry(self) -> (&'static str, Option<&'static str>, bool)
+        ensures name { result.0.now ≡ name_of self }
+        ensures letter { option_map (λ letter. letter.now) result.1 ≡ (entry_of self).letter }
+        ensures takes_value { result.2 ≡ takes_value self }
+    {
+        match self {
+            OptionName::Style => ("--style", Some("-s"), true),
+            OptionName::Separator => ("--separator", Some("-d"), true),
+            OptionName::Csv => ("--csv", Some("-c"), false),
+            OptionName::Header => ("--header", None, false),
+            OptionName::NoHeader => ("--no-header", None, false),
+            OptionName::Title => ("--title", Some("-t"), true),
+            OptionName::Footer => ("--footer", None, true),
+            OptionName::Left => ("--left", Some("-l"), true),
+            OptionName::Center => ("--center", None, true),
+            OptionName::Right => ("--right", Some("-r"), true),
+            OptionName::NoNumbers => ("--no-numbers", None, false),
+            OptionName::Width => ("--width", Some("-w"), true),
+            OptionName::Wrap => ("--wrap", None, false),
+            OptionName::Truncate => ("--truncate", None, false),
+            OptionName::Terminal => ("--terminal", None, false),
+            OptionName::Color => ("--color", Some("-C"), true),
+            OptionName::Stripes => ("--stripes", None, false),
+            OptionName::FrameColor => ("--frame-color", None, true),
+            OptionName::Outline => ("--outline", Some("-o"), true),
+            OptionName::Mark => ("--mark", Some("-m"), true),
+            OptionName::Fill => ("--fill", None, false),
+            OptionName::Raw => ("--raw", None, false),
+            OptionName::Help => ("--help", Some("-h"), false),
+            OptionName::Version => ("--version", Some("-V"), false),
+            OptionName::Styles => ("--styles", None, false),
+        }
+    }
+
+    /// Returns the name of the option.
     pub fn name(self) -> &'static str
         ensures { result.now ≡ name_of self }
     {
-        match self {
-            OptionName::Style => "--style",
-            OptionName::Separator => "--separator",
-            OptionName::Csv => "--csv",
-            OptionName::Header => "--header",
-            OptionName::NoHeader => "--no-header",
-            OptionName::Title => "--title",
-            OptionName::Footer => "--footer",
-            OptionName::Left => "--left",
-            OptionName::Center => "--center",
-            OptionName::Right => "--right",
-            OptionName::NoNumbers => "--no-numbers",
-            OptionName::Width => "--width",
-            OptionName::Wrap => "--wrap",
-            OptionName::Truncate => "--truncate",
-            OptionName::Terminal => "--terminal",
-            OptionName::Color => "--color",
-            OptionName::Stripes => "--stripes",
-            OptionName::FrameColor => "--frame-color",
-            OptionName::Outline => "--outline",
-            OptionName::Mark => "--mark",
-            OptionName::Fill => "--fill",
-            OptionName::Raw => "--raw",
-            OptionName::Help => "--help",
-            OptionName::Version => "--version",
-            OptionName::Styles => "--styles",
-        }
+        self.entry().0
     }
 
     /// Returns whether the word after it is its value.
     pub fn takes_value(self) -> bool
         ensures { result ≡ takes_value self }
     {
-        match self {
-            OptionName::Style => true,
-            OptionName::Separator => true,
-            OptionName::Csv => false,
-            OptionName::Header => false,
-            OptionName::NoHeader => false,
-            OptionName::Title => true,
-            OptionName::Footer => true,
-            OptionName::Left => true,
-            OptionName::Center => true,
-            OptionName::Right => true,
-            OptionName::NoNumbers => false,
-            OptionName::Width => true,
-            OptionName::Wrap => false,
-            OptionName::Truncate => false,
-            OptionName::Terminal => false,
-            OptionName::Color => true,
-            OptionName::Stripes => false,
-            OptionName::FrameColor => true,
-            OptionName::Outline => true,
-            OptionName::Mark => true,
-            OptionName::Fill => false,
-            OptionName::Raw => false,
-            OptionName::Help => false,
-            OptionName::Version => false,
-            OptionName::Styles => false,
+        self.entry().2
+    }
+
+    /// Whether a word names the option, by its name or its letter.
+    fn is_named(self, word: &str) -> bool
+        ensures { result ≡ is_named self word.now }
+    {
+        match self.entry() {
+            (name, Some(letter), _) => name == word || letter == word,
+            (name, None, _) => name == word,
         }
     }
 
-    /// Returns the option that a word names, if it names one.
+    /// Returns the option that a word names, if it names one: by its name, or by its letter after a dash.
     pub fn from_name(word: &str) -> Option<OptionName>
         ensures { result ≡ option_named word.now }
     {
         OptionName::all()
             .into_iter()
-            .find(|option| option.name() == word)
+            .find(|option| option.is_named(word))
     }
 }

@@ -1,7 +1,8 @@
 //! What is asked for.
 
 ghost use Rattle.std.specs.Prelude.{◌≡◌};
-ghost use Rattle.tabled_request.specs.Words.{color_named, first_request};
+ghost use Rattle.tabled_request.specs.Values.{color_named};
+ghost use Rattle.tabled_request.specs.Words.{first_request};
 
 /// What is shown.
 #[derive(Clone, Copy, Debug, PartialEq, Eq)]

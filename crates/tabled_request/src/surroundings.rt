@@ -3,8 +3,7 @@
 ghost use Rattle.std.specs.Prelude.{◌≡◌, option_copied};
 ghost use Rattle.tabled_request.specs.Surroundings.{begins_with, begins_with_utf8, columns_told, is_told, names_utf8, or_else, takes_utf8, told};
 
-use crate::numerals::number_in;
-use crate::words::is_width;
+use crate::numerals::{from_one, number_in};
 use std::env::{Env, FillError};
 
 /// How many bytes the value of a variable may have, to be read.
@@ -97,7 +96,7 @@ fn columns_told(value: Option<&[u8]>) -> Option<usize>
     ensures { result ≡ columns_told (option_copied value.entry) }
 {
     match value {
-        Some(text) => is_width(number_in(text)),
+        Some(text) => from_one(number_in(text)),
         None => None,
     }
 }

@@ -5,7 +5,9 @@
 
 use std::fs;
 use std::process::ExitCode;
-use tabled_request::{Request, Surroundings, all_words, told_by, word_at};
+use tabled_request::{
+    GivenError, Request, Surroundings, all_words, spread_words, told_by, word_at,
+};
 use tabled_viewing::{ViewError, is_about_itself, run, said, understood};
 
 /// Runs the program over the file that is asked for, or over standard input.
@@ -37,9 +39,15 @@ fn view(
     }
 }
 
+/// The words after the program's name, as if each `--x=y` stood as two.
+fn given_words(rt: &HostRuntime) -> Result<Vec<String>, GivenError> {
+    let words = all_words(rt.alloc(), rt)?;
+    Ok(spread_words(rt.alloc(), &words)?)
+}
+
 /// Says why there is no table, and returns the status.
-fn refuse(rt: &HostRuntime, words: &[String], is_csv: bool, refusal: ViewError) -> ExitCode {
-    match said(rt.alloc(), words, is_csv, refusal) {
+fn refuse(rt: &HostRuntime, words: &[String], refusal: ViewError) -> ExitCode {
+    match said(rt.alloc(), words, refusal) {
         Ok(text) => {
             let _ = eprintln!(rt; "tabled_view: {text}");
         }
@@ -51,16 +59,16 @@ fn refuse(rt: &HostRuntime, words: &[String], is_csv: bool, refusal: ViewError) 
 }
 
 fn main(rt: HostRuntime) -> ExitCode {
-    let words = match all_words(rt.alloc(), &rt) {
+    let words = match given_words(&rt) {
         Ok(words) => words,
-        Err(refusal) => return refuse(&rt, &[], false, ViewError::from(refusal)),
+        Err(refusal) => return refuse(&rt, &[], ViewError::from(refusal)),
     };
     let request = match understood(&words) {
         Ok(request) => request,
-        Err(refusal) => return refuse(&rt, &words, false, refusal),
+        Err(refusal) => return refuse(&rt, &words, refusal),
     };
     match view(&rt, request, &words, told_by(&rt)) {
         Ok(()) => ExitCode::SUCCESS,
-        Err(refusal) => refuse(&rt, &words, request.is_csv, refusal),
+        Err(refusal) => refuse(&rt, &words, refusal),
     }
 }

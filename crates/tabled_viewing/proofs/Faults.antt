@@ -95,5 +95,5 @@ pub not_written : (e : InputError) → of_input e ≢ WriteFailed
 not_written input.ReadFailed is = absurd (cc)
 not_written input.TooLong is = absurd (cc)
 not_written (input.NotUtf8 line byte) is = absurd (cc)
-not_written (input.OpenQuote row) is = absurd (cc)
+not_written (input.OpenQuote line row) is = absurd (cc)
 not_written input.OutOfMemory is = absurd (cc)

@@ -27,7 +27,7 @@ abbrev pub of_input : InputError → ViewError
 of_input input.ReadFailed = Input input.ReadFailed
 of_input input.TooLong = Input input.TooLong
 of_input (input.NotUtf8 line byte) = Input (input.NotUtf8 line byte)
-of_input (input.OpenQuote row) = Input (input.OpenQuote row)
+of_input (input.OpenQuote line row) = Input (input.OpenQuote line row)
 of_input input.OutOfMemory = OutOfMemory
 
 -- the word for the style names none
@@ -63,7 +63,7 @@ abbrev pub status_of_input : InputError → ℕ
 status_of_input input.ReadFailed = 1
 status_of_input input.TooLong = 5
 status_of_input (input.NotUtf8 line byte) = 4
-status_of_input (input.OpenQuote row) = 4
+status_of_input (input.OpenQuote line row) = 4
 status_of_input input.OutOfMemory = 1
 
 abbrev pub status_of : ViewError → ℕ

@@ -1,6 +1,5 @@
 -- What the program says of a refusal, in one line.
-use Rattle.std.specs.Prelude.{ℕ, ◌+◌, ◌-◌, ◌^◌, min, Bool, ◌==◌, nat_lt, if◌then◌else◌, List, [], ◌∷◌, ◌++◌, codes, decimal, fold, slice_index_or}
-use Rattle.std.specs.List.{common_prefix_len}
+use Rattle.std.specs.Prelude.{ℕ, ◌+◌, ◌-◌, ◌^◌, min, List, [], ◌∷◌, ◌++◌, codes, decimal, slice_index_or, Some, None}
 use Rattle.tabled_clean.specs.Line.{cleaned_line}
 use Rattle.tabled_input.specs.declared.error.InputError.{InputError}
 use Rattle.tabled_input.specs.declared.error.InputError.TheVariants as input
@@ -11,7 +10,7 @@ use Rattle.tabled_request.specs.declared.error.WordsError.{WordsError}
 use Rattle.tabled_request.specs.declared.error.WordsError.TheVariants.{UnknownOption, NoValue, BadValue, SecondFile}
 use Rattle.tabled_request.specs.declared.options.OptionName.{OptionName}
 use Rattle.tabled_request.specs.declared.options.OptionName.TheVariants as option
-use Rattle.tabled_request.specs.Options.{all_options, name_of}
+use Rattle.tabled_request.specs.Options.{name_of, option_near}
 use Rattle.tabled_viewing.specs.declared.error.ViewError.{ViewError}
 use Rattle.tabled_viewing.specs.declared.error.ViewError.TheVariants.{Given, Words, OpenFailed, Input, UnequalRows, OutOfMemory, WriteFailed}
 
@@ -27,21 +26,10 @@ quoted text = 34 ∷ (cleaned_line text ++ 34 ∷ [])
 abbrev pub from_one : ℕ → ℕ
 from_one n = min (n + 1) (2 ^ 64 - 1)
 
--- how many bytes the name of an option and a word begin with alike
-abbrev pub alike : List ℕ → OptionName → ℕ
-alike word option = common_prefix_len (λ a b. a == b) (name_of option) word
-
--- the option that begins most like a word: of several the first
-abbrev pub nearer : List ℕ → OptionName → OptionName → OptionName
-nearer word best option = if nat_lt (alike word best) (alike word option) then option else best
-
-unfoldable pub nearest : List ℕ → OptionName
-nearest word = fold (nearer word) option.Style all_options
-
 -- what the value of an option may be
 unfoldable pub values : OptionName → List ℕ
 values option.Style = codes "the name of a style, which --styles shows"
-values option.Separator = codes "one character of ASCII, but no quote and no line end"
+values option.Separator = codes "one character of ASCII, or \\t or \\0, but no quote and no line end"
 values option.Title = codes "a text without a line feed"
 values option.Footer = codes "a text without a line feed"
 values option.Left = codes "numbers of columns from 1 on, as 1,3-5"
@@ -54,9 +42,14 @@ values option.Outline = codes "rows and columns from 1 on, or * for all, as 2:3,
 values option.Mark = codes "the text of cells"
 values other = codes "nothing"
 
--- of a word that names no option, of an option without its value, of a word that is no value of an option, and of a second file
+-- of a word that names no option, with the one that is near it, of an option without its value, of a word that is no value of an option, and of a
+-- second file
 abbrev pub said_of_unknown : List ℕ → List ℕ
-said_of_unknown word = cleaned_line word ++ (codes " is no option (" ++ (name_of (nearest word) ++ codes " is the nearest; --help shows them)"))
+said_of_unknown word =
+    elim (option_near word) [
+      | None ↦ cleaned_line word ++ codes " is no option (--help shows them)"
+      | Some option ↦ cleaned_line word ++ (codes " is no option (perhaps " ++ (name_of option ++ codes "; --help shows them)"))
+    ]
 
 abbrev pub said_of_no_value : OptionName → List ℕ
 said_of_no_value option = name_of option ++ (codes " has no value (" ++ (values option ++ codes ")"))
@@ -91,18 +84,16 @@ said_of_input input.ReadFailed = codes "the input can't be read (is it a file?)"
 said_of_input input.TooLong = codes "the input has more than " ++ (decimal INPUT_LIMIT ++ codes " bytes (give less of it)")
 said_of_input (input.NotUtf8 line byte) =
     codes "line " ++ (decimal line ++ (codes " is not UTF-8 at its byte " ++ (decimal byte ++ codes " (convert the input to UTF-8)")))
-said_of_input (input.OpenQuote row) =
-    codes "row " ++ (decimal row ++ codes " has a cell that begins with a quote, which nothing ends (end it with a quote)")
+said_of_input (input.OpenQuote line row) =
+    codes "row " ++ (decimal row ++ (codes " has a cell that begins with a quote on line " ++ (decimal line
+    ++ codes ", which nothing ends (end it with a quote)")))
 said_of_input input.OutOfMemory = out_of_memory
 
--- of rows of unlike length, which are rows of CSV or lines
-abbrev pub unit : Bool → List ℕ
-unit is_csv = if is_csv then codes "row" else codes "line"
-
-abbrev pub said_of_rows : Bool → ℕ → ℕ → ℕ → List ℕ
-said_of_rows is_csv row cells columns =
-    unit is_csv ++ (codes " " ++ (decimal (from_one row) ++ (codes " has " ++ (decimal cells ++ (codes " cells where " ++ (unit is_csv
-    ++ (codes " 1 has " ++ (decimal columns ++ codes " (--fill fills them)"))))))))
+-- of rows of unlike length
+abbrev pub said_of_rows : ℕ → ℕ → ℕ → List ℕ
+said_of_rows row cells columns =
+    codes "row " ++ (decimal (from_one row) ++ (codes " has " ++ (decimal cells
+    ++ (codes " cells where row 1 has " ++ (decimal columns ++ codes " (--fill fills them)")))))
 
 -- of a file that can't be opened, and where the output can't be written
 abbrev pub said_of_file : List ℕ → List ℕ
@@ -112,11 +103,11 @@ abbrev pub write_failed : List ℕ
 write_failed = codes "the output can't be written (is it closed, or full?)"
 
 -- of any refusal
-abbrev pub said : List (List ℕ) → Bool → ViewError → List ℕ
-said words is_csv (Given refusal) = said_of_given refusal
-said words is_csv (Words refusal) = said_of_words words refusal
-said words is_csv (OpenFailed n) = said_of_file (word words n)
-said words is_csv (Input refusal) = said_of_input refusal
-said words is_csv (UnequalRows row cells columns) = said_of_rows is_csv row cells columns
-said words is_csv OutOfMemory = out_of_memory
-said words is_csv WriteFailed = write_failed
+abbrev pub said : List (List ℕ) → ViewError → List ℕ
+said words (Given refusal) = said_of_given refusal
+said words (Words refusal) = said_of_words words refusal
+said words (OpenFailed n) = said_of_file (word words n)
+said words (Input refusal) = said_of_input refusal
+said words (UnequalRows row cells columns) = said_of_rows row cells columns
+said words OutOfMemory = out_of_memory
+said words WriteFailed = write_failed

@@ -1,8 +1,7 @@
 //! What refusals say.
 
-ghost use Rattle.std.specs.Prelude.{◌≡◌, ◌==◌, fold, map, string_bytes, IfOk};
-ghost use Rattle.std.specs.List.{common_prefix_len};
-ghost use Rattle.tabled_viewing.specs.Said.{alike, nearer, nearest, out_of_memory, quoted, said, said_of_bad_value, said_of_file, said_of_given, said_of_input, said_of_no_value, said_of_rows, said_of_second_file, said_of_unknown, said_of_words, unit, values, word, write_failed};
+ghost use Rattle.std.specs.Prelude.{◌≡◌, map, string_bytes, IfOk};
+ghost use Rattle.tabled_viewing.specs.Said.{out_of_memory, quoted, said, said_of_bad_value, said_of_file, said_of_given, said_of_input, said_of_no_value, said_of_rows, said_of_second_file, said_of_unknown, said_of_words, values, word, write_failed};
 
 use crate::error::ViewError;
 use std::alloc::Global;
@@ -29,55 +28,6 @@ fn quoted(alloc: Global, text: &str) -> Result<String, OutOfMemory>
     Ok(format!(in alloc; "\"{text}\"")?)
 }
 
-/// How many bytes two texts begin with alike.
-fn common(a: &[u8], b: &[u8]) -> usize
-    ensures { result ≡ common_prefix_len (λ x y. x == y) a.now b.now }
-{
-    let mut at = 0;
-    while at < a.len() && at < b.len() && a[at] == b[at] {
-        at += 1;
-    }
-    at
-}
-
-/// How many bytes the name of an option and a word begin with alike.
-fn alike(word: &str, option: OptionName) -> usize
-    ensures { result ≡ alike word.now option }
-{
-    common(option.name().as_bytes(), word.as_bytes())
-}
-
-/// Of two options that which begins more like a word, and of equals the first.
-fn nearer(word: &str, best: OptionName, option: OptionName) -> OptionName
-    ensures { result ≡ nearer word.now best option }
-{
-    if alike(word, best) < alike(word, option) {
-        option
-    } else {
-        best
-    }
-}
-
-/// Of some options that which begins most like a word: of several the first, and another one where none begins more like it.
-fn nearest_of(word: &str, best: OptionName, options: &[OptionName]) -> OptionName
-    ensures { result ≡ fold (nearer word.now) best options.now }
-{
-    let mut best = best;
-    for option in options {
-        best = nearer(word, best, *option);
-    }
-    best
-}
-
-/// The option that begins most like a word: of several the first.
-#[tactic(auto, unfolding(crate::specs::Said::nearest))]
-fn nearest(word: &str) -> OptionName
-    ensures { result ≡ nearest word.now }
-{
-    let options = OptionName::all();
-    nearest_of(word, OptionName::Style, &options)
-}
-
 /// What the value of an option may be.
 #[tactic(auto, unfolding(crate::specs::Said::values))]
 fn values(option: OptionName) -> &'static str
@@ -85,7 +35,8 @@ fn values(option: OptionName) -> &'static str
 {
     match option {
         OptionName::Style => "the name of a style, which --styles shows",
-        OptionName::Separator => "one character of ASCII, but no quote and no line end",
+        OptionName::Separator =>
+            "one character of ASCII, or \\t or \\0, but no quote and no line end",
         OptionName::Title => "a text without a line feed",
         OptionName::Footer => "a text without a line feed",
         OptionName::Left => "numbers of columns from 1 on, as 1,3-5",
@@ -100,13 +51,18 @@ fn values(option: OptionName) -> &'static str
     }
 }
 
-/// What is said of a word that names no option.
+/// What is said of a word that names no option, with the one that is near it.
 fn said_of_unknown(alloc: Global, word: &str) -> Result<String, OutOfMemory>
     ensures { IfOk result (λ text. string_bytes text ≡ said_of_unknown word.now) }
 {
-    let name = cleaned_line(alloc, word)?;
-    let near = nearest(word).name();
-    Ok(format!(in alloc; "{name} is no option ({near} is the nearest; --help shows them)")?)
+    let given = cleaned_line(alloc, word)?;
+    match OptionName::near(word) {
+        Some(option) => {
+            let name = option.name();
+            Ok(format!(in alloc; "{given} is no option (perhaps {name}; --help shows them)")?)
+        }
+        None => Ok(format!(in alloc; "{given} is no option (--help shows them)")?),
+    }
 }
 
 /// What is said of an option without its value.
@@ -192,36 +148,27 @@ fn said_of_input(alloc: Global, refusal: InputError) -> Result<String, OutOfMemo
                 "line {line} is not UTF-8 at its byte {byte} (convert the input to UTF-8)"
             )?)
         }
-        InputError::OpenQuote { row } => {
+        InputError::OpenQuote { line, row } => {
             Ok(format!(in alloc;
-                "row {row} has a cell that begins with a quote, which nothing ends (end it with a quote)"
+                "row {row} has a cell that begins with a quote on line {line}, which nothing ends (end it with a quote)"
             )?)
         }
         InputError::OutOfMemory => out_of_memory(alloc),
     }
 }
 
-/// What rows are called: rows in CSV, and else lines.
-fn unit(is_csv: bool) -> &'static str
-    ensures { result.now ≡ unit is_csv }
-{
-    if is_csv { "row" } else { "line" }
-}
-
 /// What is said of rows of unlike length.
 fn said_of_rows(
     alloc: Global,
-    is_csv: bool,
     row: usize,
     cells: usize,
     columns: usize,
 ) -> Result<String, OutOfMemory>
-    ensures { IfOk result (λ text. string_bytes text ≡ said_of_rows is_csv row cells columns) }
+    ensures { IfOk result (λ text. string_bytes text ≡ said_of_rows row cells columns) }
 {
-    let unit = unit(is_csv);
     let row = row.saturating_add(1);
     Ok(format!(in alloc;
-        "{unit} {row} has {cells} cells where {unit} 1 has {columns} (--fill fills them)"
+        "row {row} has {cells} cells where row 1 has {columns} (--fill fills them)"
     )?)
 }
 
@@ -244,13 +191,8 @@ fn write_failed(alloc: Global) -> Result<String, OutOfMemory>
 }
 
 /// Returns what a refusal says, in one line, over these words: what is wrong, and what helps.
-pub fn said(
-    alloc: Global,
-    words: &[String],
-    is_csv: bool,
-    refusal: ViewError,
-) -> Result<String, OutOfMemory>
-    ensures { IfOk result (λ text. string_bytes text ≡ said (map string_bytes words.now) is_csv refusal) }
+pub fn said(alloc: Global, words: &[String], refusal: ViewError) -> Result<String, OutOfMemory>
+    ensures { IfOk result (λ text. string_bytes text ≡ said (map string_bytes words.now) refusal) }
 {
     match refusal {
         ViewError::Given { refusal } => said_of_given(alloc, refusal),
@@ -261,7 +203,7 @@ pub fn said(
             row,
             cells,
             columns,
-        } => said_of_rows(alloc, is_csv, row, cells, columns),
+        } => said_of_rows(alloc, row, cells, columns),
         ViewError::OutOfMemory => out_of_memory(alloc),
         ViewError::WriteFailed => write_failed(alloc),
     }

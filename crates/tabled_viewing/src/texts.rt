@@ -19,31 +19,34 @@ const VERSION: &str = "tabled_view 0.1.0\n";
 const HELP: &str = "\
 usage: tabled_view [OPTIONS] [FILE]
 
-Reads rows of cells from FILE, or from standard input, and writes them as a table.
+Reads rows of cells from FILE, or from standard input where none is given or it is -, and writes them as a table.
 
-  --csv                  cells between commas, which may stand in quotes
-  --separator C          cells between C, a character of ASCII; tabs, where nothing is said
-  --fill                 fill short rows with empty cells
-  --style NAME           the style: see --styles
-  --header, --no-header  the first row is a header (so it is, where nothing is said), or is not
-  --title TEXT           a text above the table
-  --footer TEXT          a text below the table
-  --left COLUMNS         these columns at the left, as 1,3-5
-  --center COLUMNS       in the middle
-  --right COLUMNS        at the right
-  --no-numbers           columns of numbers stand as the others, and not at the right
-  --outline CELLS        an outline around these cells, by row and column from 1 on, as 2:3,4:* (* is all)
-  --mark TEXT            an outline around each cell that has this text
-  --width N              within N columns of the terminal
-  --terminal             within as many columns as COLUMNS says
-  --wrap, --truncate     what is too wide goes on in further lines, or is cut off
-  --color WHEN           always or never
-  --stripes              in color, every other row has a background
-  --frame-color NAME     in color, borders are black, red, green, yellow, blue, magenta, cyan or white
-  --raw                  leave control characters as they are
-  --help                 show this
-  --version              show which version this is
-  --styles               show the styles
+  -c, --csv               cells between commas, which may stand in quotes
+  -d, --separator C       cells between C, a character of ASCII, \\t or \\0; tabs, where nothing is said
+      --fill              fill short rows with empty cells
+  -s, --style NAME        the style: see --styles
+      --header            the first row is a header: so it is, where nothing is said
+      --no-header         it is as the others
+  -t, --title TEXT        a text above the table
+      --footer TEXT       a text below the table
+  -l, --left COLUMNS      these columns at the left, as 1,3-5
+      --center COLUMNS    in the middle
+  -r, --right COLUMNS     at the right
+      --no-numbers        columns of numbers stand as the others, and not at the right
+  -o, --outline CELLS     an outline around these cells, by row and column from 1 on, as 2:3,4:* (* is all)
+  -m, --mark TEXT         an outline around each cell that has this text
+  -w, --width N           within N columns of the terminal
+      --terminal          within as many columns as COLUMNS says
+      --wrap, --truncate  what is too wide goes on in further lines, or is cut off
+  -C, --color WHEN        always or never
+      --stripes           in color, every other row has a background
+      --frame-color NAME  in color, borders are black, red, green, yellow, blue, magenta, cyan or white
+      --raw               leave control characters as they are
+  -h, --help              show this
+  -V, --version           show which version this is
+      --styles            show the styles
+
+A value is the next word, or stands after the name and =, as in --width=60. After -- each word is a file.
 ";
 
 /// A small table.

@@ -2,8 +2,9 @@
 use Rattle.std.proofs.Common.{◌≡◌, map, string_bytes, chars, length, inl, inr, sym, ap, ◌∙◌, arith}
 use Rattle.std.proofs.lemmas.List.{length-map}
 use Rattle.tabled_input.specs.Lines.{cells_of}
-use Rattle.tabled_input.specs.Quoted.{csv_rows, end_at, has_open_quote, is_quoted, without_returns}
+use Rattle.tabled_input.specs.Quoted.{csv_rows, end_at, has_open_quote, is_quoted, line_of_last, without_returns}
 use Rattle.tabled_input.specs.declared.quoted.CsvError.TheVariants.{OpenQuote}
+use Rattle.tabled_input.proofs.Grammar.{written_for}
 use Rattle.tabled_input.proofs.ReadBack.{read_back}
 use Rattle.tabled_input.proofs.Steps.{first_taken}
 use Rattle.tabled_input.proofs.quoted.csv.Goals as goal
@@ -17,8 +18,11 @@ returns-then-is_open-clause-refused c =
     let within : is_quoted c.read.new.reader.at ≡ has_open_quote c.args.separator c.args.text.now =
     ap is_quoted (c.in_ok-read.ensures.end ∙ ap (λ n. end_at n c.new-reader.result.at (without_returns (chars c.args.text.now))) new.separator
     ∙ ap (λ at. end_at c.args.separator at (without_returns (chars c.args.text.now))) new.at) in
+    let same : c.deref.result.now ≡ c.end.new.self.rows.items = cc in
+    let line : c.line_of_last.result ≡ line_of_last c.args.text.now (csv_rows c.args.separator c.args.text.now) =
+    c.line_of_last.ensures ∙ ap (λ items. line_of_last c.args.text.now (cells_of items)) same ∙ ap (line_of_last c.args.text.now) rows in
     let count : c.len.result ≡ length c.end.new.self.rows.items = omega (arith, c.len.ensures, c.end.new.self.rows.ok.0) in
-    inr (sym within ∙ sym c.is_within_quotes-is_open.ensures ∙ c.if-is_open.true, ap (λ n. OpenQuote n) (count ∙ sym (length-map _ _) ∙ ap length rows))
+    inr (sym within ∙ sym c.is_within_quotes-is_open.ensures ∙ c.if-is_open.true, (λ i. OpenQuote (line i) ((count ∙ sym (length-map _ _) ∙ ap length rows) i)))
 
 pub returns-clause-rows : goal.returns-clause-rows
 unfolding csv_rows
@@ -35,6 +39,12 @@ returns-clause-closed c =
     ap is_quoted (c.in_ok-read.ensures.end ∙ ap (λ n. end_at n c.new-reader.result.at (without_returns (chars c.args.text.now))) new.separator
     ∙ ap (λ at. end_at c.args.separator at (without_returns (chars c.args.text.now))) new.at) in
     sym within ∙ sym c.is_within_quotes-is_open.ensures ∙ c.if-is_open.false
+
+pub returns-clause-grammar : goal.returns-clause-grammar
+unfolding csv_rows has_open_quote
+returns-clause-grammar c = λ no_quote no_feed.
+    let read = written_for c.args.separator (without_returns (chars c.args.text.now)) (returns-clause-closed c) in
+    record { no_quote = no_quote; no_feed = no_feed; characters = read.0; are = returns-clause-rows c ∙ read.1; written = read.2 }
 
 pub returns-clause-written : goal.returns-clause-written
 returns-clause-written c = λ rows is. returns-clause-rows c ∙ (read_back c.args.separator rows c.args.text.now is).0

@@ -1,6 +1,6 @@
 -- The bytes are no text, or the fault is that of the text.
 use Rattle.std.proofs.Common.{Some, inl, inr, sym, ap, ◌∙◌}
-use Rattle.tabled_input.specs.Input.{fault_of, fault_of_text}
+use Rattle.tabled_input.specs.Input.{fault_of, fault_of_text, without_mark}
 use Rattle.tabled_input.proofs.Faults.{fault_of-text, fault_of-bytes, passed_on}
 use Rattle.tabled_input.proofs.rows.rows_of_bytes.Goals as goal
 
@@ -11,11 +11,13 @@ returns-in_err-text-clause-refused c =
 
 pub returns-in_err-rows-clause-refused : goal.returns-in_err-rows-clause-refused
 returns-in_err-rows-clause-refused c =
-    let same = fault_of-text c.args.cells c.args.bytes.now c.requires c.in_ok-text.ensures.utf8 ∙ ap (fault_of_text c.args.cells) (sym c.in_ok-text.ensures.text) in
+    let same = fault_of-text c.args.cells c.args.bytes.now c.requires c.in_ok-text.ensures.utf8 ∙ ap (λ bytes. fault_of_text c.args.cells (without_mark bytes)) (sym c.in_ok-text.ensures.text)
+    ∙ ap (fault_of_text c.args.cells) (sym c.without_mark.ensures) in
     passed_on (fault_of c.args.cells c.args.bytes.now) c.in_err-rows.field-0.0 c.from_residual-in_err-rows.result c.from_residual-in_err-rows.ensures.1
     (elim c.in_err-rows.ensures.refused [ inl refused ↦ inl refused | inr known ↦ inr (same ∙ known) ])
 
 pub returns-clause-good : goal.returns-clause-good
 returns-clause-good c =
-    fault_of-text c.args.cells c.args.bytes.now c.requires c.in_ok-text.ensures.utf8 ∙ ap (fault_of_text c.args.cells) (sym c.in_ok-text.ensures.text)
+    fault_of-text c.args.cells c.args.bytes.now c.requires c.in_ok-text.ensures.utf8 ∙ ap (λ bytes. fault_of_text c.args.cells (without_mark bytes)) (sym c.in_ok-text.ensures.text)
+    ∙ ap (fault_of_text c.args.cells) (sym c.without_mark.ensures)
     ∙ c.in_ok-rows.ensures.good

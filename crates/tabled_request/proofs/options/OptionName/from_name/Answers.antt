@@ -5,9 +5,8 @@ use Rattle.std.proofs.lemmas.Iterator.Consumers.{YieldsList-from_shown}
 use Rattle.std.proofs.lemmas.Iterator.Search.{find_from_yields_List}
 use Rattle.std.proofs.lemmas.Iterator.Adapters.{option_map_id}
 use Rattle.std.specs.Array.Iter.{array_into_iter_items, array_steps}
-use Rattle.std.specs.Str.{bytes_eq}
 use Rattle.tabled_request.specs.declared.options.OptionName.{OptionName}
-use Rattle.tabled_request.specs.Options.{all_options, name_of, option_named}
+use Rattle.tabled_request.specs.Options.{all_options, is_named, option_named}
 use Rattle.tabled_request.proofs.options.OptionName.from_name.Goals as goal
 
 -- the iterator gives all options
@@ -21,4 +20,4 @@ pub returns : goal.returns
 unfolding option_named
 returns c =
     sym (option_map_id c.find.result)
-    ∙ find_from_yields_List (λ option. bytes_eq (name_of option) c.args.word.now) _ _ c.find.result c.find.ensures.ran (in_order c) (λ x b q k. search (rules, tests))
+    ∙ find_from_yields_List (λ option. is_named option c.args.word.now) _ _ c.find.result c.find.ensures.ran (in_order c) (λ x b q k. search (rules, tests))

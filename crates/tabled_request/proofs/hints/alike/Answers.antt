@@ -1,7 +1,7 @@
 -- The second text ends where the first goes on.
 use Rattle.std.proofs.Common.{drop, arith}
-use Rattle.tabled_viewing.proofs.Tellings.{none_alike}
-use Rattle.tabled_viewing.proofs.saying.common.Goals as goal
+use Rattle.tabled_request.proofs.Endings.{none_alike}
+use Rattle.tabled_request.proofs.hints.alike.Goals as goal
 
 pub returns-else-at-b : goal.returns-else-at-b
 returns-else-at-b c =
