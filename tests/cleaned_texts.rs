@@ -30,7 +30,9 @@ fn characters_that_steer_are_shown(rt: HostRuntime) -> Result<(), Fail> {
         ("\u{202e}abc\u{202c}", "\u{fffd}abc\u{fffd}"),
         ("\u{200e}\u{200f}\u{61c}\u{2066}x\u{2069}", "\u{fffd}\u{fffd}\u{fffd}\u{fffd}x\u{fffd}"),
         ("a\u{2028}b\u{2029}c", "a\u{fffd}b\u{fffd}c"),
-        ("\u{200d}\u{2027}\u{202f}\u{2065}\u{206a}", "\u{200d}\u{2027}\u{202f}\u{2065}\u{206a}"),
+        ("\u{200d}\u{2027}\u{202f}\u{2065}\u{2070}", "\u{200d}\u{2027}\u{202f}\u{2065}\u{2070}"),
+        ("\u{206a}\u{206f}\u{fff9}x\u{fffb}", "\u{fffd}\u{fffd}\u{fffd}x\u{fffd}"),
+        ("\u{fff8}\u{fffc}\u{fffd}", "\u{fff8}\u{fffc}\u{fffd}"),
     ];
     for (text, expected) in rows {
         assert!(rt; is_cleaned(rt.alloc(), text, expected)?, "{text:?}");

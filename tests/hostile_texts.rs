@@ -49,6 +49,8 @@ const PARTS: &[&str] = &[
     "\u{202c}",
     "\u{2066}",
     "\u{2069}",
+    "\u{206a}",
+    "\u{fff9}",
     "\u{2028}",
     "\u{2029}",
     // emoji, joined and in parts, and flags

@@ -41,9 +41,13 @@ separators_and_embeddings : list_all is_other_kind (range_with_len 0x2028 7) ≡
 unfolding unicode_width
 separators_and_embeddings = refl
 
-isolates : list_all is_other_kind (range_with_len 0x2066 4) ≡ true
+isolates : list_all is_other_kind (range_with_len 0x2066 10) ≡ true
 unfolding unicode_width
 isolates = refl
+
+annotations : list_all is_other_kind (range_with_len 0xFFF9 3) ≡ true
+unfolding unicode_width
+annotations = refl
 
 in_part : (start count : ℕ) → list_all is_other_kind (range_with_len start count) ≡ true → (c : ℕ) → start ≤ c → c < start + count → is_other_kind c ≡ true
 in_part start count all c least most =
@@ -74,9 +78,13 @@ before_isolates : (c : ℕ) → 0x202F ≤ c → c < 0x2066 → steers c ≡ fal
 unfolding steers
 before_isolates c h k = grind (arith, nat_tests)
 
-after_isolates : (c : ℕ) → 0x206A ≤ c → steers c ≡ false
+before_annotations : (c : ℕ) → 0x2070 ≤ c → c < 0xFFF9 → steers c ≡ false
 unfolding steers
-after_isolates c h = grind (arith, nat_tests)
+before_annotations c h k = grind (arith, nat_tests)
+
+after_annotations : (c : ℕ) → 0xFFFC ≤ c → steers c ≡ false
+unfolding steers
+after_annotations c h = grind (arith, nat_tests)
 
 ambiguous_steers : (c : ℕ) → 0xA0 < c → is_ambiguous_kind (kind c) ≡ true → steers c ≡ false
 ambiguous_steers c high is =
@@ -87,8 +95,10 @@ ambiguous_steers c high is =
     (λ (e : 0x2010 ≤ c). ⊎_elim (λ (f : c < 0x2028). before_separators c e f)
     (λ (f : 0x2028 ≤ c). ⊎_elim (λ (g : c < 0x202F). other (in_part 0x2028 7 separators_and_embeddings c f (omega arith)))
     (λ (g : 0x202F ≤ c). ⊎_elim (λ (h : c < 0x2066). before_isolates c g h)
-    (λ (h : 0x2066 ≤ c). ⊎_elim (λ (i : c < 0x206A). other (in_part 0x2066 4 isolates c h (omega arith)))
-    (λ (i : 0x206A ≤ c). after_isolates c i) (cases_lt c 0x206A)) (cases_lt c 0x2066)) (cases_lt c 0x202F)) (cases_lt c 0x2028)) (cases_lt c 0x2010))
+    (λ (h : 0x2066 ≤ c). ⊎_elim (λ (i : c < 0x2070). other (in_part 0x2066 10 isolates c h (omega arith)))
+    (λ (i : 0x2070 ≤ c). ⊎_elim (λ (j : c < 0xFFF9). before_annotations c i j)
+    (λ (j : 0xFFF9 ≤ c). ⊎_elim (λ (k : c < 0xFFFC). other (in_part 0xFFF9 3 annotations c j (omega arith)))
+    (λ (k : 0xFFFC ≤ c). after_annotations c k) (cases_lt c 0xFFFC)) (cases_lt c 0xFFF9)) (cases_lt c 0x2070)) (cases_lt c 0x2066)) (cases_lt c 0x202F)) (cases_lt c 0x2028)) (cases_lt c 0x2010))
     (cases_lt c 0x200E)) (cases_lt c 0x61D)) (cases_lt c 0x61C)
   where
     other : is_other_kind c ≡ true → steers c ≡ false
@@ -101,10 +111,13 @@ unfolding steers
 ascii_steers c h = grind (arith, nat_tests)
 
 boxes_steer : (c : ℕ) → is_in_range 0x2500 0x259F c ≡ true → steers c ≡ false
-boxes_steer c h = above c (let least = (and_parts (nat_le 0x2500 c) (nat_le c 0x259F) h).0 in at_least least)
+boxes_steer c h = let parts = and_parts (nat_le 0x2500 c) (nat_le c 0x259F) h in above c (at_least parts.0) (at_most parts.1)
   where
     at_least : nat_le 0x2500 c ≡ true → 0x2400 ≤ c
     at_least e = grind (arith, nat_tests)
+
+    at_most : nat_le c 0x259F ≡ true → c < 0xFFF9
+    at_most e = grind (arith, nat_tests)
 
 high_steers : (c : ℕ) → (nat_lt 0xA0 c && is_ambiguous_kind (kind c)) ≡ true → steers c ≡ false
 high_steers c h = let parts = and_parts (nat_lt 0xA0 c) (is_ambiguous_kind (kind c)) h in ambiguous_steers c (ltb-true 0xA0 c parts.0) parts.1

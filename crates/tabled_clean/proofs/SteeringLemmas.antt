@@ -11,22 +11,27 @@ use lib.Utf8.{scalar, scalars, low_scalar, encode}
 use Rattle.std.proofs.lemmas.Bool.Decides.{nat_tests}
 use Rattle.tabled_clean.specs.Steering.{steers, picture, shown_for, without_steering, cleaned, is_clean, is_printable, going_on}
 
--- characters above all that steer
-pub above : (c : ℕ) → 0x2400 ≤ c → steers c ≡ false
+-- characters above those that steer, but for marks of annotations
+pub above : (c : ℕ) → 0x2400 ≤ c → c < 0xFFF9 → steers c ≡ false
 unfolding steers
-above c h = grind (arith, nat_tests)
+above c h k = grind (arith, nat_tests)
+
+-- the character for what can't be shown
+unshown_steers : steers 0xFFFD ≡ false
+unfolding steers
+unshown_steers = refl
 
 pub return_steers : steers 13 ≡ true
 unfolding steers
 return_steers = refl
 
-pictured : (b d : Bool) (c : ℕ) → 0x2400 ≤ (if b then 0x2400 + c else if d then 0x2421 else 0xFFFD)
-pictured true d c = omega arith
-pictured false true c = lit≤ tt
-pictured false false c = lit≤ tt
+pictured : (b d : Bool) (c : ℕ) → nat_lt c 32 ≡ b → steers (if b then 0x2400 + c else if d then 0x2421 else 0xFFFD) ≡ false
+pictured true d c e = above (0x2400 + c) (omega arith) (grind (arith, nat_tests))
+pictured false true c e = above 0x2421 (lit≤ tt) (lit≤ tt)
+pictured false false c e = unshown_steers
 
 shown_by : (c : ℕ) (b : Bool) → steers c ≡ b → steers (if b then picture c else c) ≡ false
-shown_by c true e = above (picture c) (pictured (nat_lt c 32) (c == 0x7F) c)
+shown_by c true e = pictured (nat_lt c 32) (c == 0x7F) c refl
 shown_by c false e = e
 
 pub shown_steers : (c : ℕ) → steers (shown_for c) ≡ false

@@ -1,5 +1,5 @@
 -- Characters that steer a terminal, and texts without them.
-use Rattle.std.specs.Prelude.{◌≡◌, ℕ, ◌+◌, Bool, true, false, not, ◌&&◌, ◌||◌, ◌==◌, nat_lt, nat_le, if◌then◌else◌, List, [], ◌∷◌, ◌++◌, chars, encode_utf8_all, slice_index}
+use Rattle.std.specs.Prelude.{◌≡◌, ℕ, ◌+◌, Bool, true, not, ◌&&◌, ◌||◌, ◌==◌, nat_lt, nat_le, if◌then◌else◌, List, [], ◌∷◌, ◌++◌, chars, encode_utf8_all, slice_index}
 use Rattle.std.specs.List.{list_all}
 use Rattle.std.specs.Str.{IsUtf8}
 
@@ -10,17 +10,21 @@ is_between first last c = nat_le first c && nat_le c last
 abbrev pub is_control : ℕ → Bool
 is_control c = (nat_lt c 32 && not (c == 10)) || is_between 0x7F 0x9F c
 
--- a mark of a direction, or one that embeds, overrides or isolates a direction, or ends that
+-- a mark of a direction, or one that embeds, overrides or isolates a direction, or ends that, or an old one of digits and of shapes
 abbrev pub is_direction : ℕ → Bool
-is_direction c = (c == 0x61C) || is_between 0x200E 0x200F c || is_between 0x202A 0x202E c || is_between 0x2066 0x2069 c
+is_direction c = (c == 0x61C) || is_between 0x200E 0x200F c || is_between 0x202A 0x202E c || is_between 0x2066 0x206F c
 
 -- a separator of lines or of paragraphs
 abbrev pub is_separator : ℕ → Bool
 is_separator c = is_between 0x2028 0x2029 c
 
+-- a mark of an annotation between the lines
+abbrev pub is_annotation : ℕ → Bool
+is_annotation c = is_between 0xFFF9 0xFFFB c
+
 -- whether a character steers a terminal
 unfoldable pub steers : ℕ → Bool
-steers c = is_control c || is_direction c || is_separator c
+steers c = is_control c || is_direction c || is_separator c || is_annotation c
 
 -- what is shown in its place: the picture of a control character of ASCII, and else the character for what can't be shown
 abbrev pub picture : ℕ → ℕ

@@ -12,7 +12,7 @@ const RETURN_SHOWN: char = '\u{240D}';
 
 /// Returns whether a character steers a terminal, in place of being shown: a control character but the line feed (those below the space, the
 /// delete character, and U+0080 to U+009F), a character that sets a direction of writing (U+061C, U+200E, U+200F, U+202A to U+202E,
-/// U+2066 to U+2069), or a separator of lines or paragraphs (U+2028, U+2029).
+/// U+2066 to U+206F), a separator of lines or paragraphs (U+2028, U+2029), or a mark of an annotation (U+FFF9 to U+FFFB).
 #[tactic(auto, unfolding(crate::specs::Steering::steers))]
 pub fn steers(character: char) -> bool
     ensures { result ≡ steers character }
@@ -22,9 +22,10 @@ pub fn steers(character: char) -> bool
     let is_direction = number == 0x61C
         || (0x200E <= number && number <= 0x200F)
         || (0x202A <= number && number <= 0x202E)
-        || (0x2066 <= number && number <= 0x2069);
+        || (0x2066 <= number && number <= 0x206F);
     let is_separator = 0x2028 <= number && number <= 0x2029;
-    is_control || is_direction || is_separator
+    let is_annotation = 0xFFF9 <= number && number <= 0xFFFB;
+    is_control || is_direction || is_separator || is_annotation
 }
 
 /// What a character is shown as.
