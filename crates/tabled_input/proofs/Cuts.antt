@@ -1,5 +1,6 @@
 -- A text cut at the first byte that is a given one of ASCII.
-use Rattle.std.proofs.Common.{◌≡◌, ◌==◌, ℕ, ◌+◌, ◌<◌, Bool, true, false, cond, nat_lt, List, [], ◌∷◌, length, get_or, take, drop, Option, Some, None, refl, sym, ap, ◌∙◌, arith}
+use Rattle.std.proofs.lemmas.Grind.{common_steps}
+use Rattle.std.proofs.Common.{◌≡◌, ◌==◌, ℕ, ◌+◌, ◌<◌, Bool, List, [], ◌∷◌, length, get_or, take, drop, Some, None, sym, ap, ◌∙◌, arith}
 use Rattle.std.specs.List.{position, position_or_len, slice_split}
 use Rattle.std.specs.Str.{IsCharBoundary, IsUtf8}
 use Rattle.std.proofs.lemmas.Bool.{eqb-true}
@@ -8,31 +9,19 @@ use Rattle.std.proofs.lemmas.List.Splits.{slice_split_first, slice_split_none}
 use Rattle.std.proofs.lemmas.List.Sums.{fails_before_first, passes_at_first}
 use Rattle.std.proofs.lemmas.Str.{IsCharBoundary-before_ascii, IsCharBoundary-after_ascii}
 
-within : (b : Bool) (n k : ℕ) → cond b (Some n) None ≡ Some k → (b ≡ true) × (n ≡ k)
-within true n k e = (refl, cc)
-within false n k e = absurd cc
-
-outside : (b : Bool) (n : ℕ) → (let o : Option ℕ = cond b (Some n) None in o ≡ None) → b ≡ false
-outside true n e = absurd cc
-outside false n e = refl
-
 module _ (separator : ℕ) (text : List ℕ) where
   abbrev is_one : ℕ → Bool
   is_one byte = byte == separator
 
   pub whole : position is_one text ≡ None → slice_split is_one text ≡ text ∷ []
-  whole none =
-      let w = outside (nat_lt (position_or_len is_one text) (length text)) (position_or_len is_one text) none in
-      slice_split_none is_one text (λ k d h. fails_before_first is_one text k d (grind (arith, nat_tests, w, h)))
+  whole none = slice_split_none is_one text (λ k d h. fails_before_first is_one text k d (grind (arith, nat_tests, common_steps)))
 
   module _ (k : ℕ) (found : position is_one text ≡ Some k) where
     place : position_or_len is_one text ≡ k
-    place = (within (nat_lt (position_or_len is_one text) (length text)) (position_or_len is_one text) k found).1
+    place = grind (arith, nat_tests, common_steps)
 
     pub inside : k < length text
-    inside =
-        let w = within (nat_lt (position_or_len is_one text) (length text)) (position_or_len is_one text) k found in
-        grind (arith, nat_tests, w.0, w.1)
+    inside = grind (arith, nat_tests, common_steps)
 
     pub in_two : slice_split is_one text ≡ take k text ∷ slice_split is_one (drop (k + 1) text)
     in_two =

@@ -1,4 +1,5 @@
 -- The faults of an input, by the tests that the code makes.
+use Rattle.std.proofs.lemmas.Grind.{common_steps}
 use Rattle.std.proofs.Common.{◌≡◌, ℕ, ◌<◌, ◌≤◌, Bool, true, false, not, nat_lt, ◌==◌, if◌then◌else◌, List, length, Option, Some, None, Result, Ok, Err, IsErrAnd, IfErr, IfSome, ◌⊎◌, inl, inr, refl, sym, ap, ◌∙◌, arith}
 use Rattle.std.specs.Str.{IsUtf8}
 use Rattle.std.specs.Str.Lossy.{utf8_valid_len}
@@ -14,9 +15,7 @@ module _ (cells : Cells) (input : List ℕ) where
   by_tests : (long whole : Bool) → nat_lt INPUT_LIMIT (length input) ≡ long → (utf8_valid_len input == length input) ≡ whole
       → fault_of cells input ≡ (if long then Some TooLong else if not whole then Some (not_utf8 input) else fault_of_text cells (without_mark input))
   unfolding fault_of
-  by_tests long whole p q =
-      ap (λ b. if b then Some TooLong else if not (utf8_valid_len input == length input) then Some (not_utf8 input) else fault_of_text cells (without_mark input)) p
-      ∙ ap (λ b. if long then Some TooLong else if not b then Some (not_utf8 input) else fault_of_text cells (without_mark input)) q
+  by_tests long whole p q = grind (arith, nat_tests, common_steps)
 
   within : length input ≤ INPUT_LIMIT → nat_lt INPUT_LIMIT (length input) ≡ false
   within room = grind (arith, nat_tests)

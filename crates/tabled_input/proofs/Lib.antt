@@ -2,7 +2,14 @@ pub mod Reading
 pub mod Faults
 pub mod Cuts
 pub mod Steps
-pub mod Returns
 pub mod ReadBack
 pub mod Marks
 pub mod Grammar
+pub mod Edges
+pub mod Largest
+pub mod Numbering
+pub mod WideCells
+pub mod Even
+pub mod Kept
+pub mod SpacedTexts
+pub mod Bounded

@@ -1,4 +1,5 @@
 -- What is written for rows is read as these rows.
+use Rattle.std.proofs.lemmas.Grind.{common_steps}
 use Rattle.std.proofs.Common.{◌≡◌, ◌≢◌, ◌==◌, ◌⊎◌, ◌&&◌, not, ℕ, Bool, true, false, if◌then◌else◌, List, [], ◌∷◌, ◌++◌, chars, map, take, encode_utf8_all, append_assoc, append-nil, refl, sym, ap, arith, subst, ◌∙◌, eq-eqb, inl, inr}
 use Rattle.std.specs.List.{list_all}
 use Rattle.std.proofs.lemmas.Bool.{and_parts, eqb-true}
@@ -108,10 +109,7 @@ module _ (separator : ℕ) (no_quote : (separator == 34) ≡ false) (no_feed : (
   IsLetter c = not (c == separator) && not (c == 10)
 
   bare_letter : (c : ℕ) → IsLetter c ≡ true → bare_step separator c ≡ step.Letter Bare
-  bare_letter c e =
-      let parts = and_parts (not (c == separator)) (not (c == 10)) e in
-      ap (λ b. if b then step.Cell else if c == 10 then step.Row else step.Letter Bare) (is_not (c == separator) parts.0)
-      ∙ ap (λ b. if b then step.Row else step.Letter Bare) (is_not (c == 10) parts.1)
+  bare_letter c e = grind (arith, nat_tests, common_steps)
 
   bare_step_at : (c : ℕ) → step_at separator Bare c ≡ bare_step separator c
   unfolding step_at

@@ -1,4 +1,7 @@
 -- What each step leaves of a row and of the rows.
+use Rattle.std.proofs.lemmas.Grind.{common_steps}
+use Rattle.std.proofs.lemmas.Bool.Decides.{nat_tests}
+use Rattle.std.proofs.Common.{arith}
 use Rattle.std.proofs.Common.{◌≡◌, ℕ, true, false, List, [], ◌∷◌, ◌++◌, encode_utf8, append_assoc, append-nil, refl, sym, ap, ◌∙◌}
 use Rattle.tabled_input.specs.declared.reader.At.{At}
 use Rattle.tabled_input.specs.declared.reader.At.TheVariants.{RowStart, CellStart, Bare, Quoted, AfterQuote}
@@ -143,22 +146,15 @@ none_begun AfterQuote e = absurd cc
 pub nothing_to_end : (separator : ℕ) (at : At) (old : Rows) (row : List (List ℕ)) (cell : List ℕ) → is_row_start at ≡ true
     → old ≡ old ++ onto row cell (left_at separator at [])
 unfolding left_at
-nothing_to_end separator at old row cell e = sym (append-nil old) ∙ ap (λ rest. old ++ onto row cell rest) (sym (none_begun at e))
+nothing_to_end separator at old row cell e = grind (arith, nat_tests, common_steps)
 
 pub row_to_end : (separator : ℕ) (at : At) (old new : Rows) (row : List (List ℕ)) (cell : List ℕ) → is_row_start at ≡ false
     → new ≡ old ++ (row ++ cell ∷ []) ∷ [] → new ≡ old ++ onto row cell (left_at separator at [])
 unfolding left_at
-row_to_end separator at old new row cell e rows =
-    rows ∙ ap (λ rest. old ++ rest) (sym (onto_row row cell [])) ∙ ap (λ rest. old ++ onto row cell rest) (sym (begun at e))
+row_to_end separator at old new row cell e rows = grind (arith, nat_tests, common_steps)
 
 -- ---- the start of a text
 
 pub first_taken : (separator same : ℕ) (at : At) (rows : Rows) (row : List (List ℕ)) (cell more : List ℕ) → same ≡ separator → at ≡ RowStart → rows ≡ [] → row ≡ [] → cell ≡ []
     → rows ++ onto row cell (left_at same at more) ≡ left_at separator RowStart more
-first_taken separator same at rows row cell more k a r s t =
-    ap (λ n. rows ++ onto row cell (left_at n at more)) k
-    ∙ ap (λ p. rows ++ onto row cell (left_at separator p more)) a
-    ∙ ap (λ front. front ++ onto row cell (left_at separator RowStart more)) r
-    ∙ ap (λ cells. onto cells cell (left_at separator RowStart more)) s
-    ∙ ap (λ bytes. onto [] bytes (left_at separator RowStart more)) t
-    ∙ onto_none (left_at separator RowStart more)
+first_taken separator same at rows row cell more k a r s t = grind (arith, nat_tests, common_steps)

@@ -4,13 +4,14 @@ use Rattle.std.specs.List.{starts_with, suffix_len}
 use Rattle.std.specs.Str.Lossy.{utf8_valid_len}
 use Rattle.tabled_input.specs.Lines.{line_feeds, separated}
 use Rattle.tabled_input.specs.Quoted.{csv_rows, has_open_quote, line_of_last}
+use Rattle.tabled_input.specs.Spaced.{spaced}
 use Rattle.tabled_input.specs.declared.quoted.CsvError.{CsvError}
 use Rattle.tabled_input.specs.declared.quoted.CsvError.TheVariants as csv
 use Rattle.tabled_input.specs.declared.error.InputError.{InputError}
 use Rattle.tabled_input.specs.declared.error.InputError.TheVariants.{TooLong, NotUtf8, OpenQuote, OutOfMemory}
 use Rattle.tabled_input.specs.declared.read.TheConstants.{INPUT_LIMIT}
 use Rattle.tabled_input.specs.declared.rows.Cells.{Cells}
-use Rattle.tabled_input.specs.declared.rows.Cells.TheVariants.{Separated, Quoted}
+use Rattle.tabled_input.specs.declared.rows.Cells.TheVariants.{Separated, Quoted, Spaced}
 
 -- an input without one byte order mark at its start, U+FEFF in UTF-8
 unfoldable pub without_mark : List ℕ → List ℕ
@@ -20,6 +21,7 @@ without_mark input = if starts_with (λ a b. a == b) input (239 ∷ 187 ∷ 191 
 abbrev pub rows_of_text : Cells → List ℕ → List (List (List ℕ))
 rows_of_text (Separated separator) text = separated separator text
 rows_of_text (Quoted separator) text = csv_rows separator text
+rows_of_text Spaced text = spaced text
 
 abbrev pub rows_in : Cells → List ℕ → List (List (List ℕ))
 rows_in cells input = rows_of_text cells (without_mark input)
@@ -38,6 +40,7 @@ not_utf8 bytes = NotUtf8 (line_after (take (utf8_valid_len bytes) bytes)) (byte_
 -- why a text has no rows: a cell has no quote that ends it
 abbrev pub fault_of_text : Cells → List ℕ → Option InputError
 fault_of_text (Separated separator) text = None
+fault_of_text Spaced text = None
 fault_of_text (Quoted separator) text = if has_open_quote separator text then Some (OpenQuote (line_of_last text (csv_rows separator text)) (length (csv_rows separator text))) else None
 
 -- the first reason for which an input is refused

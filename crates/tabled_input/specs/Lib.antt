@@ -2,4 +2,6 @@ pub mod Input
 pub mod Lines
 pub mod Quoted
 pub mod Reading
+pub mod Selection
+pub mod Spaced
 pub mod Written

@@ -30,6 +30,7 @@ impl From<AllocError> for CsvError {
 }
 
 /// Takes a carriage return that was held back, unless a line feed comes next.
+#[tactic(auto, unfolding(crate::specs::Quoted::without_returns))]
 fn release(reader: &mut Reader, is_held: bool, next: char) -> Result<(), AllocError>
     ensures rows { (more : List ℕ) → OnOk result (rows_with reader.new (going_on false (next ∷ more)) ≡ rows_with reader.old (going_on is_held (next ∷ more))) }
     ensures end { (more : List ℕ) → OnOk result (end_at reader.new.separator reader.new.at (going_on false (next ∷ more)) ≡ end_at reader.old.separator reader.old.at (going_on is_held (next ∷ more))) }
@@ -45,6 +46,7 @@ fn release(reader: &mut Reader, is_held: bool, next: char) -> Result<(), AllocEr
 }
 
 /// Takes a character, or holds it back if it is a carriage return, and answers whether one is held back.
+#[tactic(auto, unfolding(crate::specs::Quoted::without_returns))]
 fn put(reader: &mut Reader, is_held: bool, character: char) -> Result<bool, AllocError>
     ensures rows { (more : List ℕ) → IfOk result (λ holds. rows_with reader.new (going_on holds more) ≡ rows_with reader.old (going_on is_held (character ∷ more))) }
     ensures end { (more : List ℕ) → IfOk result (λ holds. end_at reader.new.separator reader.new.at (going_on holds more) ≡ end_at reader.old.separator reader.old.at (going_on is_held (character ∷ more))) }
@@ -58,6 +60,7 @@ fn put(reader: &mut Reader, is_held: bool, character: char) -> Result<bool, Allo
 }
 
 /// Takes a carriage return that is held back at the end of a text.
+#[tactic(auto, unfolding(crate::specs::Quoted::without_returns))]
 fn finish(reader: &mut Reader, is_held: bool) -> Result<(), AllocError>
     ensures rows { OnOk result (rows_with reader.new [] ≡ rows_with reader.old (going_on is_held [])) }
     ensures end { OnOk result (end_at reader.new.separator reader.new.at [] ≡ end_at reader.old.separator reader.old.at (going_on is_held [])) }

@@ -6,12 +6,13 @@ ghost use Rattle.std.specs.Str.{IsUtf8};
 ghost use Rattle.std.specs.Str.Lossy.{utf8_valid_len};
 ghost use Rattle.tabled_input.specs.Lines.{cells_of};
 ghost use Rattle.tabled_input.specs.Input.{fault_of, fault_of_text, not_utf8, rows_in, rows_of_text, without_mark};
+ghost use Rattle.tabled_input.specs.Spaced.{AreEven};
 ghost use Rattle.tabled_input.specs.declared.error.InputError.{InputError as Refusal};
 
 use crate::error::InputError;
 use crate::place::place_after;
 use crate::read::{INPUT_LIMIT, read_input};
-use crate::{csv, separated};
+use crate::{csv, separated, spaced};
 use std::alloc::Global;
 use std::io::Read;
 
@@ -22,6 +23,8 @@ pub enum Cells {
     Separated(char),
     /// As CSV has them, between separators.
     Quoted(char),
+    /// Between runs of blanks, a row in a line.
+    Spaced,
 }
 
 /// An input as a text. Refused where it is none of UTF-8.
@@ -53,6 +56,7 @@ fn without_mark(text: &str) -> &str
 /// The rows of a text.
 fn rows_of(alloc: Global, cells: Cells, text: &str) -> Result<Vec<Vec<String>>, InputError>
     ensures rows { IfOk result (λ rows. cells_of rows.items ≡ rows_of_text cells text.now) }
+    ensures even { cells ≡ Cells.Spaced → IfOk result (λ rows. AreEven (cells_of rows.items)) }
     ensures good { OnOk result (fault_of_text cells text.now ≡ None) }
     ensures refused { IfErr result (λ e. (e ≡ Refusal.OutOfMemory) ⊎ (fault_of_text cells text.now ≡ Some e)) }
 {
@@ -65,6 +69,10 @@ fn rows_of(alloc: Global, cells: Cells, text: &str) -> Result<Vec<Vec<String>>, 
             let rows = csv(alloc, text, separator)?;
             Ok(rows)
         }
+        Cells::Spaced => {
+            let rows = spaced(alloc, text)?;
+            Ok(rows)
+        }
     }
 }
 
@@ -72,6 +80,7 @@ fn rows_of(alloc: Global, cells: Cells, text: &str) -> Result<Vec<Vec<String>>, 
 fn rows_of_bytes(alloc: Global, cells: Cells, bytes: &[u8]) -> Result<Vec<Vec<String>>, InputError>
     requires { length bytes.now ≤ INPUT_LIMIT }
     ensures rows { IfOk result (λ rows. cells_of rows.items ≡ rows_in cells bytes.now) }
+    ensures even { cells ≡ Cells.Spaced → IfOk result (λ rows. AreEven (cells_of rows.items)) }
     ensures good { OnOk result (fault_of cells bytes.now ≡ None) }
     ensures refused { IfErr result (λ e. (e ≡ Refusal.OutOfMemory) ⊎ (fault_of cells bytes.now ≡ Some e)) }
 {
@@ -81,8 +90,8 @@ fn rows_of_bytes(alloc: Global, cells: Cells, bytes: &[u8]) -> Result<Vec<Vec<St
 }
 
 /// Returns the rows of what is read: it is read whole, and at most one byte past the limit of 268,435,456 bytes, and one byte order mark at
-/// its start is dropped. Over a reader that tells its
-/// bytes, the rows are those of these bytes, and a refusal is the first fault that they have; unless reading failed, or memory was refused.
+/// its start is dropped. Over a reader that tells its bytes, the rows are those of these bytes, and a refusal is the first fault that they
+/// have; unless reading failed, or memory was refused. Where cells stand between blanks, all rows have as many.
 pub fn read_rows<R: Read>(
     alloc: Global,
     cells: Cells,
@@ -90,6 +99,7 @@ pub fn read_rows<R: Read>(
 ) -> Result<Vec<Vec<String>>, InputError>
     ensures whole { OnOk result (IsAtEnd (R.remaining input.new)) }
     ensures rows { IfOk result (λ rows. IfSome (R.remaining input.old) (λ bytes. cells_of rows.items ≡ rows_in cells bytes)) }
+    ensures even { cells ≡ Cells.Spaced → IfOk result (λ rows. AreEven (cells_of rows.items)) }
     ensures good { OnOk result (IfSome (R.remaining input.old) (λ bytes. fault_of cells bytes ≡ None)) }
     ensures refused { IfErr result (λ e. (e ≡ Refusal.OutOfMemory) ⊎ (e ≡ Refusal.ReadFailed) ⊎ IfSome (R.remaining input.old) (λ bytes. fault_of cells bytes ≡ Some e)) }
     ensures at_most { (taken : List ℕ) × Consumes (R.remaining input.old) (R.remaining input.new) taken × (length taken ≤ INPUT_LIMIT + 1) }
