@@ -3,8 +3,9 @@
 use std::alloc::{AllocError, Global};
 use std::test::Fail;
 use tabled_request::{
-    FrameColor, OptionName, Request, Shows, WordsError, are_cells, are_columns, are_named,
-    named_cells, names_column, number_of, read_words, spread_words, word_at,
+    Choice, ColumnSide, Form, FrameColor, OptionName, Request, Shows, When, WordsError, all_sides,
+    are_cells, are_columns, columns_named, headings_of, named_cells, number_of,
+    read_words, spread_words, unknown_part, word_at,
 };
 
 /// Words that are given.
@@ -28,7 +29,9 @@ fn nothing_is_asked_for_by_no_words(rt: HostRuntime) -> Result<(), Fail> {
     assert!(rt; asked(rt.alloc(), &[])? == Ok(request));
     assert!(rt; request.shows == Shows::Table && request.has_header && request.finds_numbers);
     assert!(rt; request.file.is_none() && request.style.is_none() && request.separator.is_none());
-    assert!(rt; !request.is_csv && !request.fills && !request.is_raw && !request.has_color);
+    assert!(rt; request.form.is_none() && !request.fills && !request.is_raw);
+    assert!(rt; request.color == When::Auto && request.columns.is_none());
+    assert!(rt; request.head.is_none() && !request.has_row_numbers);
     Ok(())
 }
 
@@ -36,7 +39,8 @@ fn nothing_is_asked_for_by_no_words(rt: HostRuntime) -> Result<(), Fail> {
 fn options_without_values_are_read(rt: HostRuntime) -> Result<(), Fail> {
     let none = Request::of_no_words();
     for (word, request) in [
-        ("--csv", Request { is_csv: true, ..none }),
+        ("--csv", Request { form: Some(Form::Csv), ..none }),
+        ("--spaces", Request { form: Some(Form::Spaces), ..none }),
         ("--header", none),
         ("--no-header", Request { has_header: false, ..none }),
         ("--no-numbers", Request { finds_numbers: false, ..none }),
@@ -45,11 +49,12 @@ fn options_without_values_are_read(rt: HostRuntime) -> Result<(), Fail> {
         ("--terminal", Request { fits_terminal: true, ..none }),
         ("--stripes", Request { has_stripes: true, ..none }),
         ("--fill", Request { fills: true, ..none }),
+        ("--row-numbers", Request { has_row_numbers: true, ..none }),
         ("--raw", Request { is_raw: true, ..none }),
         ("--help", Request { shows: Shows::Help, ..none }),
         ("--version", Request { shows: Shows::Version, ..none }),
         ("--styles", Request { shows: Shows::Styles, ..none }),
-        ("-c", Request { is_csv: true, ..none }),
+        ("-c", Request { form: Some(Form::Csv), ..none }),
         ("-h", Request { shows: Shows::Help, ..none }),
         ("-V", Request { shows: Shows::Version, ..none }),
         ("-", none),
@@ -74,10 +79,19 @@ fn options_with_values_are_read(rt: HostRuntime) -> Result<(), Fail> {
         ("--left", "1", Request { left: Some(1), ..none }),
         ("--center", "2-4,7", Request { center: Some(1), ..none }),
         ("--right", "1,1", Request { right: Some(1), ..none }),
+        ("--left", "name", Request { left: Some(1), ..none }),
+        ("--center", "1-2-3,-,-2,2-,a b", Request { center: Some(1), ..none }),
+        ("--right", "Größe,+7", Request { right: Some(1), ..none }),
+        ("--columns", "3,1-2,name", Request { columns: Some(1), ..none }),
+        ("--columns", "99999999999999999999", Request { columns: Some(1), ..none }),
+        ("--head", "10", Request { head: Some(10), ..none }),
+        ("--head", "0", Request { head: Some(0), ..none }),
+        ("-n", "007", Request { head: Some(7), ..none }),
         ("--width", "60", Request { width: Some(60), ..none }),
         ("--width", "99999999999999999999", Request { width: Some(999_999_999), ..none }),
-        ("--color", "always", Request { has_color: true, ..none }),
-        ("--color", "never", none),
+        ("--color", "always", Request { color: When::Always, ..none }),
+        ("--color", "never", Request { color: When::Never, ..none }),
+        ("--color", "auto", none),
         ("--frame-color", "cyan", Request { frame_color: Some(FrameColor::Cyan), ..none }),
         ("--outline", "2:3,4:*", Request { outline: Some(1), ..none }),
         ("--mark", "a\nb", Request { mark: Some(1), ..none }),
@@ -91,7 +105,7 @@ fn options_with_values_are_read(rt: HostRuntime) -> Result<(), Fail> {
         ("-l", "1", Request { left: Some(1), ..none }),
         ("-r", "1", Request { right: Some(1), ..none }),
         ("-w", "60", Request { width: Some(60), ..none }),
-        ("-C", "always", Request { has_color: true, ..none }),
+        ("-C", "always", Request { color: When::Always, ..none }),
         ("-o", "*:1", Request { outline: Some(1), ..none }),
         ("-m", "-", Request { mark: Some(1), ..none }),
         ("--title", "--", Request { title: Some(1), ..none }),
@@ -113,6 +127,7 @@ fn values_stand_after_an_equals_sign(rt: HostRuntime) -> Result<(), Fail> {
         (&["-t", "--style=dots"], &["-t", "--style=dots"]),
         (&["--mark=--", "--left=1"], &["--mark", "--", "--left", "1"]),
         (&["--csv", "--color=never"], &["--csv", "--color", "never"]),
+        (&["--columns=a=b", "--head=3"], &["--columns", "a=b", "--head", "3"]),
         (&["--csv=yes", "-w=40", "--widht=40", "="], &["--csv=yes", "-w=40", "--widht=40", "="]),
         (&["--left=1", "--", "--right=1"], &["--left", "1", "--", "--right=1"]),
     ];
@@ -130,15 +145,16 @@ fn values_of_one_word_are_read(rt: HostRuntime) -> Result<(), Fail> {
     let none = Request::of_no_words();
     let cases: &[(&[&str], Request)] = &[
         (&["--width=60"], Request { width: Some(60), ..none }),
-        (&["--csv", "--title=", "a"], Request { is_csv: true, title: Some(2), file: Some(3), ..none }),
-        (&["--separator=\\t", "--color=always"], Request { separator: Some('\t'), has_color: true, ..none }),
+        (&["--csv", "--title=", "a"], Request { form: Some(Form::Csv), title: Some(2), file: Some(3), ..none }),
+        (&["--separator=\\t", "--color=always"], Request { separator: Some('\t'), color: When::Always, ..none }),
         (&["--mark=--csv", "--mark=-"], Request { mark: Some(3), ..none }),
+        (&["--columns=id", "--head=0"], Request { columns: Some(1), head: Some(0), ..none }),
     ];
     for (words, request) in cases {
         assert!(rt; asked(rt.alloc(), words)? == Ok(*request), "{words:?}");
     }
     let spread = spread_words(rt.alloc(), &words_of(rt.alloc(), &["--csv", "--title=a=b"])?)?;
-    assert!(rt; read_words(&spread) == Ok(Request { is_csv: true, title: Some(2), ..none }));
+    assert!(rt; read_words(&spread) == Ok(Request { form: Some(Form::Csv), title: Some(2), ..none }));
     assert!(rt; word_at(&spread, Some(2)) == Some("a=b") && word_at(&spread, Some(3)).is_none());
     Ok(())
 }
@@ -149,9 +165,9 @@ fn two_dashes_end_the_options_and_one_is_standard_input(rt: HostRuntime) -> Resu
     let cases: &[(&[&str], Result<Request, WordsError>)] = &[
         (&["--", "--csv"], Ok(Request { file: Some(1), ..none })),
         (&["--", "--style=dots"], Ok(Request { file: Some(1), ..none })),
-        (&["--csv", "--", "--"], Ok(Request { is_csv: true, file: Some(2), ..none })),
+        (&["--csv", "--", "--"], Ok(Request { form: Some(Form::Csv), file: Some(2), ..none })),
         (&["--", "-"], Ok(none)),
-        (&["-", "--csv"], Ok(Request { is_csv: true, ..none })),
+        (&["-", "--csv"], Ok(Request { form: Some(Form::Csv), ..none })),
         (&["a", "--"], Ok(Request { file: Some(0), ..none })),
         (&["--", "a", "-x"], Err(WordsError::SecondFile { word: 2 })),
         (&["a", "--", "b"], Err(WordsError::SecondFile { word: 2 })),
@@ -185,7 +201,13 @@ fn an_option_is_named_where_one_is_near(rt: HostRuntime) {
         ("-x", None),
         ("-w40", None),
         ("-w=40", None),
-        ("--columns", None),
+        ("--column", Some(OptionName::Columns)),
+        ("--colums=1", Some(OptionName::Columns)),
+        ("--heads", Some(OptionName::Header)),
+        ("--haed", Some(OptionName::Head)),
+        ("--space", Some(OptionName::Spaces)),
+        ("--rownumbers", Some(OptionName::RowNumbers)),
+        ("--rows", None),
     ] {
         assert!(rt; OptionName::near(word) == near, "{word}");
     }
@@ -196,6 +218,9 @@ fn the_last_of_several_words_counts(rt: HostRuntime) -> Result<(), Fail> {
     let none = Request::of_no_words();
     let words = ["--no-header", "a", "--width", "3", "--header", "--width", "4", "--truncate", "--wrap"];
     let request = Request { file: Some(1), width: Some(4), ..none };
+    assert!(rt; asked(rt.alloc(), &words)? == Ok(request));
+    let words = ["--csv", "--color=always", "--head=2", "--spaces", "--color=auto", "-n", "3"];
+    let request = Request { form: Some(Form::Spaces), head: Some(3), ..none };
     assert!(rt; asked(rt.alloc(), &words)? == Ok(request));
     Ok(())
 }
@@ -233,11 +258,24 @@ fn wrong_words_are_refused(rt: HostRuntime) -> Result<(), Fail> {
         (&["--left", ""], bad(OptionName::Left, 1)),
         (&["--center", "3-2"], bad(OptionName::Center, 1)),
         (&["--right", "1,,2"], bad(OptionName::Right, 1)),
-        (&["--right", "1-2-3"], bad(OptionName::Right, 1)),
+        (&["--right", ",name"], bad(OptionName::Right, 1)),
+        (&["--left", "name,0-1"], bad(OptionName::Left, 1)),
+        (&["--columns", ""], bad(OptionName::Columns, 1)),
+        (&["--columns", "0"], bad(OptionName::Columns, 1)),
+        (&["--columns", "name,2-1"], bad(OptionName::Columns, 1)),
+        (&["--csv", "--columns=a,"], bad(OptionName::Columns, 2)),
+        (&["--columns"], WordsError::NoValue { option: OptionName::Columns }),
+        (&["--head", ""], bad(OptionName::Head, 1)),
+        (&["--head", "-1"], bad(OptionName::Head, 1)),
+        (&["-n", "some"], bad(OptionName::Head, 1)),
+        (&["-n"], WordsError::NoValue { option: OptionName::Head }),
+        (&["-n3"], unknown(0)),
+        (&["--spaces=1"], unknown(0)),
         (&["--width", "0"], bad(OptionName::Width, 1)),
         (&["--width", "+7"], bad(OptionName::Width, 1)),
         (&["--width", "wide"], bad(OptionName::Width, 1)),
-        (&["--color", "auto"], bad(OptionName::Color, 1)),
+        (&["--color", "Auto"], bad(OptionName::Color, 1)),
+        (&["--color", ""], bad(OptionName::Color, 1)),
         (&["--frame-color", "Red"], bad(OptionName::FrameColor, 1)),
         (&["--outline", "2"], bad(OptionName::Outline, 1)),
         (&["--outline", ""], bad(OptionName::Outline, 1)),
@@ -256,35 +294,144 @@ fn wrong_words_are_refused(rt: HostRuntime) -> Result<(), Fail> {
 }
 
 #[test]
-fn columns_and_numbers_are_named(rt: HostRuntime) {
-    for (word, named) in [("1", "+---"), ("2-3", "-++-"), ("1,4", "+--+"), ("4,2-2", "-+-+")] {
+fn columns_are_named_by_number_and_by_heading(rt: HostRuntime) -> Result<(), Fail> {
+    let headings = words_of(rt.alloc(), &["id", "name", "7", "name", "a-b", "", "1-2"])?;
+    let cases: &[(&str, usize, &[usize])] = &[
+        ("1", 7, &[0]),
+        ("2-3", 7, &[1, 2]),
+        ("4,2-2,4", 7, &[3, 1, 3]),
+        ("5-99999999999", 7, &[4, 5, 6]),
+        ("8", 7, &[]),
+        ("8-9", 7, &[]),
+        ("name", 7, &[1, 3]),
+        ("name", 3, &[1]),
+        ("name,id,1", 7, &[1, 3, 0, 0]),
+        ("a-b", 7, &[4]),
+        ("Name", 7, &[]),
+        ("nam", 7, &[]),
+        // Numbers are no headings.
+        ("7", 7, &[6]),
+        ("07", 7, &[6]),
+        ("1-2", 7, &[0, 1]),
+        // More columns than headings, and fewer.
+        ("9,id", 9, &[8, 0]),
+        ("name,1", 0, &[]),
+    ];
+    for (word, count, expected) in cases {
         assert!(rt; are_columns(word), "{word}");
-        for (col, sign) in named.bytes().enumerate() {
-            assert!(rt; names_column(word, col) == (sign == b'+'), "{word} {col}");
-        }
+        let columns = columns_named(rt.alloc(), word, &headings, *count)?;
+        assert!(rt; columns.as_slice() == *expected, "{word} of {count}");
     }
-    assert!(rt; !names_column("1-99999999999", 1_000_000_000) && names_column("1-99999999999", 999_999_998));
+    assert!(rt; columns_named(rt.alloc(), "name,1-2", &[], 2)?.as_slice() == [0, 1].as_slice());
+    Ok(())
+}
+
+#[test]
+fn the_first_part_that_names_no_column_is_told(rt: HostRuntime) -> Result<(), Fail> {
+    let headings = words_of(rt.alloc(), &["id", "name", "3-x"])?;
+    for (word, count, unknown) in [
+        ("id", 3, None),
+        ("1-99,name,3,3-x", 3, None),
+        ("4", 3, Some(0)),
+        ("3-4,4-5,x", 3, Some(1)),
+        ("id,Id,other", 3, Some(1)),
+        ("name", 1, Some(0)),
+        ("1", 0, Some(0)),
+    ] {
+        assert!(rt; unknown_part(word, &headings, count) == unknown, "{word} of {count}");
+    }
+    assert!(rt; unknown_part("1,id", &[], 3) == Some(1));
+    Ok(())
+}
+
+/// The cells of rows.
+fn rows_of(alloc: Global, given: &[&[&str]]) -> Result<Vec<Vec<String>>, AllocError> {
+    let mut rows = Vec::new(alloc);
+    for row in given {
+        rows.push(words_of(alloc, row)?)?;
+    }
+    Ok(rows)
+}
+
+#[test]
+fn columns_stand_where_their_headings_say(rt: HostRuntime) -> Result<(), Fail> {
+    let rows = rows_of(rt.alloc(), &[&["id", "name", "name", "size"], &["1", "a", "x", "3"]])?;
+    let cases: &[(&[&str], &str)] = &[
+        (&[], "rllr"),
+        (&["--left=id,4"], "llll"),
+        (&["--center=name"], "rccr"),
+        (&["--right=name", "--center=2", "--left=size"], "rcrl"),
+        (&["--right=1-99", "--center=3-", "--left=other,2"], "rlrr"),
+        (&["--no-numbers", "--right=2-2,size"], "lrlr"),
+        (&["--no-header", "--right=name"], "llll"),
+        (&["--no-header", "--right=2"], "lrll"),
+        (&["--center=1"], "cllr"),
+    ];
+    for (given, expected) in cases {
+        let words = spread_words(rt.alloc(), &words_of(rt.alloc(), given)?)?;
+        let Ok(request) = read_words(&words) else {
+            assert!(rt; false, "{given:?}");
+            return Ok(());
+        };
+        let sides = all_sides(rt.alloc(), request, &words, &rows)?;
+        let same = sides.len() == expected.len()
+            && sides.iter().zip(expected.bytes()).all(|(side, sign)| match side {
+                ColumnSide::Left => sign == b'l',
+                ColumnSide::Center => sign == b'c',
+                ColumnSide::Right => sign == b'r',
+            });
+        assert!(rt; same, "{given:?}");
+    }
+    Ok(())
+}
+
+#[test]
+fn the_first_row_has_the_headings(rt: HostRuntime) -> Result<(), Fail> {
+    let rows = rows_of(rt.alloc(), &[&["id", "name"], &["1", "2", "3"]])?;
+    let none = Request::of_no_words();
+    let headings = headings_of(none, &rows);
+    assert!(rt; headings.len() == 2 && headings[0].as_str() == "id" && headings[1].as_str() == "name");
+    assert!(rt; headings_of(Request { has_header: false, ..none }, &rows).is_empty());
+    assert!(rt; headings_of(none, &[]).is_empty());
+    Ok(())
+}
+
+#[test]
+fn many_parts_and_columns_are_quick(rt: HostRuntime) -> Result<(), Fail> {
+    let (mut row, mut word) = (Vec::new(rt.alloc()), String::new(rt.alloc()));
+    for _ in 0..40_000 {
+        row.push(String::from_str(rt.alloc(), "x")?)?;
+    }
+    for _ in 0..1_000 {
+        word.push_str("7,1-9,")?;
+    }
+    word.push_str("40000")?;
+    let (mut rows, mut words) = (Vec::new(rt.alloc()), Vec::new(rt.alloc()));
+    rows.push(row)?;
+    words.push(word)?;
+    let request = Request { right: Some(0), finds_numbers: false, ..Request::of_no_words() };
+    let sides = all_sides(rt.alloc(), request, &words, &rows)?;
+    let right = sides.iter().filter(|side| **side == ColumnSide::Right).count();
+    assert!(rt; sides.len() == 40_000 && right == 10 && sides[39_999] == ColumnSide::Right);
+    Ok(())
+}
+
+#[test]
+fn numbers_are_digits_alone(rt: HostRuntime) {
     assert!(rt; number_of("007") == Some(7) && number_of("").is_none() && number_of("1x").is_none());
+    assert!(rt; number_of("99999999999") == Some(999_999_999));
 }
 
 #[test]
 fn cells_are_named(rt: HostRuntime) -> Result<(), Fail> {
-    for (word, named) in [
-        ("1:1", ["+--", "---"]),
-        ("2:*", ["---", "+++"]),
-        ("*:3", ["--+", "--+"]),
-        ("*:*", ["+++", "+++"]),
-        ("1:2,2:03,7:7", ["-+-", "--+"]),
-    ] {
+    let all = Choice { is_all: true, number: None };
+    let one = |number| Choice { is_all: false, number: Some(number) };
+    for (word, rows, cols) in [("1:1", one(1), one(1)), ("2:*", one(2), all), ("*:007", all, one(7)), ("*:*", all, all), ("1:99999999999", one(1), one(999_999_999))] {
         assert!(rt; are_cells(word), "{word}");
         let read = named_cells(rt.alloc(), word)?;
-        for (row, signs) in named.iter().enumerate() {
-            for (col, sign) in signs.bytes().enumerate() {
-                assert!(rt; are_named(&read, row, col) == (sign == b'+'), "{word} {row} {col}");
-            }
-        }
+        assert!(rt; read.len() == 1 && read[0].rows == rows && read[0].cols == cols, "{word}");
     }
-    let read = named_cells(rt.alloc(), "1:99999999999")?;
-    assert!(rt; are_named(&read, 0, 999_999_998) && !are_named(&read, 0, 999_999_999));
+    let read = named_cells(rt.alloc(), "2:*,*:007,1:1")?;
+    assert!(rt; read.len() == 3 && read[0].rows == one(2) && read[1].cols == one(7) && read[2].cols == one(1));
     Ok(())
 }

@@ -47,10 +47,16 @@ impl Env for Called<'_> {
 
 /// What these variables say.
 fn told(variables: &[(&str, &str)]) -> Surroundings {
-    told_by(&Called {
+    told_on(variables, false)
+}
+
+/// What these variables say, and whether the output is a terminal.
+fn told_on(variables: &[(&str, &str)], is_terminal: bool) -> Surroundings {
+    let called = Called {
         arguments: &[],
         variables,
-    })
+    };
+    told_by(&called, is_terminal)
 }
 
 /// The words of a program that is called with these arguments.
@@ -70,6 +76,7 @@ fn nothing_is_told_without_variables(rt: HostRuntime) {
     let nothing = Surroundings {
         takes_utf8: false,
         forbids_color: false,
+        is_terminal: false,
         columns: None,
     };
     assert!(rt; told(&[]) == nothing);
@@ -102,6 +109,7 @@ fn the_first_locale_that_is_told_says_whether_there_is_utf8(rt: HostRuntime) {
 fn colors_and_columns_are_told(rt: HostRuntime) -> Result<(), Fail> {
     assert!(rt; told(&[("NO_COLOR", "1")]).forbids_color);
     assert!(rt; told(&[("NO_COLOR", "0")]).forbids_color);
+    assert!(rt; told_on(&[("NO_COLOR", "1")], true).is_terminal && !told(&[]).is_terminal);
     assert!(rt; told(&[("COLUMNS", "80")]).columns == Some(80));
     assert!(rt; told(&[("COLUMNS", "1")]).columns == Some(1));
     for text in ["0", "-1", "8x", " 80"] {
@@ -119,6 +127,7 @@ fn of_a_long_value_it_is_known_that_it_is_not_empty(rt: HostRuntime) -> Result<(
     let expected = Surroundings {
         takes_utf8: false,
         forbids_color: true,
+        is_terminal: false,
         columns: None,
     };
     assert!(rt; told(&variables) == expected);

@@ -1,3 +1,4 @@
 pub mod WordByWord
 pub mod ByColumn
 pub mod Endings
+pub mod KeptColumns

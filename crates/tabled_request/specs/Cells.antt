@@ -1,6 +1,6 @@
 -- Cells that words name, by a row and a column, each a number from 1 on or a star.
-use Rattle.std.specs.Prelude.{ℕ, ◌+◌, Bool, false, ◌==◌, ◌&&◌, ◌||◌, List, codes, map, Some, None, is_some}
-use Rattle.std.specs.List.{list_all, list_any, before_first, after_first, slice_split}
+use Rattle.std.specs.Prelude.{ℕ, Bool, ◌==◌, ◌&&◌, ◌||◌, List, codes, map, is_some}
+use Rattle.std.specs.List.{list_all, before_first, after_first, slice_split}
 use Rattle.std.specs.Str.{bytes_eq}
 use Rattle.tabled_request.specs.Columns.{is_comma}
 use Rattle.tabled_request.specs.Numerals.{from_one, number_of}
@@ -17,10 +17,6 @@ is_part word = bytes_eq word (codes "*") || is_some (from_one (number_of word))
 abbrev pub part_of : List ℕ → Choice
 part_of word = record { is_all = bytes_eq word (codes "*"); number = number_of word }
 
--- whether the row or the column of that number, counted from 0, is one of them
-abbrev pub has : Choice → ℕ → Bool
-has part n = part.is_all || elim (part.number) [ None ↦ false | Some number ↦ number == n + 1 ]
-
 -- whether a part of a word names cells: by a row and a column with a colon between them
 unfoldable pub is_cell : List ℕ → Bool
 is_cell part = is_part (before_first is_colon part) && is_part (after_first is_colon part)
@@ -33,12 +29,6 @@ cells_of part = record { rows = part_of (before_first is_colon part); cols = par
 unfoldable pub are_cells : List ℕ → Bool
 are_cells word = list_all is_cell (slice_split is_comma word)
 
--- whether some part of a word names a cell, its row and its column counted from 0
+-- the cells that each part of a word names
 abbrev pub named_cells : List ℕ → List NamedCells
 named_cells word = map cells_of (slice_split is_comma word)
-
-abbrev pub are_named : List NamedCells → ℕ → ℕ → Bool
-are_named named row col = list_any (λ cells. has cells.rows row && has cells.cols col) named
-
-unfoldable pub names_cell : List ℕ → ℕ → ℕ → Bool
-names_cell word row col = are_named (named_cells word) row col

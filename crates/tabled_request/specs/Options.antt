@@ -4,12 +4,13 @@ use Rattle.std.specs.List.{before_first, common_prefix_len}
 use Rattle.std.specs.Str.{bytes_eq}
 use Rattle.tabled_request.specs.declared.options.OptionName.{OptionName}
 use Rattle.tabled_request.specs.declared.options.OptionName.TheVariants as option
+use Rattle.tabled_request.specs.declared.request.Form.TheVariants as form
 use Rattle.tabled_request.specs.declared.request.Request.{Request}
 use Rattle.tabled_request.specs.declared.request.Shows.TheVariants as shows
 use Rattle.tabled_request.specs.Cells.{are_cells}
 use Rattle.tabled_request.specs.Columns.{are_columns}
 use Rattle.tabled_request.specs.Numerals.{from_one, number_of}
-use Rattle.tabled_request.specs.Values.{choice_named, color_named, is_line, separator_named}
+use Rattle.tabled_request.specs.Values.{color_named, is_line, separator_named, when_named}
 
 -- an option: its name, its letter, whether the word after it is its value, and the request with it, by the number and the text of that word, or
 -- of its own where it takes none; nothing where the word is no value of it
@@ -30,7 +31,8 @@ alone name letter sets = record { name = name; letter = letter; takes_value = fa
 unfoldable pub entry_of : OptionName → Entry
 entry_of option.Style = valued (codes "--style") (Some (codes "-s")) (λ n word request. Some (record request { style = Some n }))
 entry_of option.Separator = valued (codes "--separator") (Some (codes "-d")) (λ n word request. option_map (λ c. record request { separator = Some c }) (separator_named word))
-entry_of option.Csv = alone (codes "--csv") (Some (codes "-c")) (λ request. record request { is_csv = true })
+entry_of option.Csv = alone (codes "--csv") (Some (codes "-c")) (λ request. record request { form = Some form.Csv })
+entry_of option.Spaces = alone (codes "--spaces") None (λ request. record request { form = Some form.Spaces })
 entry_of option.Header = alone (codes "--header") None (λ request. record request { has_header = true })
 entry_of option.NoHeader = alone (codes "--no-header") None (λ request. record request { has_header = false })
 entry_of option.Title = valued (codes "--title") (Some (codes "-t")) (λ n word request. if is_line word then Some (record request { title = Some n }) else None)
@@ -43,12 +45,15 @@ entry_of option.Width = valued (codes "--width") (Some (codes "-w")) (λ n word 
 entry_of option.Wrap = alone (codes "--wrap") None (λ request. record request { cuts_off = false })
 entry_of option.Truncate = alone (codes "--truncate") None (λ request. record request { cuts_off = true })
 entry_of option.Terminal = alone (codes "--terminal") None (λ request. record request { fits_terminal = true })
-entry_of option.Color = valued (codes "--color") (Some (codes "-C")) (λ n word request. option_map (λ choice. record request { has_color = choice }) (choice_named word))
+entry_of option.Color = valued (codes "--color") (Some (codes "-C")) (λ n word request. option_map (λ choice. record request { color = choice }) (when_named word))
 entry_of option.Stripes = alone (codes "--stripes") None (λ request. record request { has_stripes = true })
 entry_of option.FrameColor = valued (codes "--frame-color") None (λ n word request. option_map (λ color. record request { frame_color = Some color }) (color_named word))
 entry_of option.Outline = valued (codes "--outline") (Some (codes "-o")) (λ n word request. if are_cells word then Some (record request { outline = Some n }) else None)
 entry_of option.Mark = valued (codes "--mark") (Some (codes "-m")) (λ n word request. Some (record request { mark = Some n }))
 entry_of option.Fill = alone (codes "--fill") None (λ request. record request { fills = true })
+entry_of option.Columns = valued (codes "--columns") None (λ n word request. if are_columns word then Some (record request { columns = Some n }) else None)
+entry_of option.Head = valued (codes "--head") (Some (codes "-n")) (λ n word request. option_map (λ count. record request { head = Some count }) (number_of word))
+entry_of option.RowNumbers = alone (codes "--row-numbers") None (λ request. record request { has_row_numbers = true })
 entry_of option.Raw = alone (codes "--raw") None (λ request. record request { is_raw = true })
 entry_of option.Help = alone (codes "--help") (Some (codes "-h")) (λ request. record request { shows = shows.Help })
 entry_of option.Version = alone (codes "--version") (Some (codes "-V")) (λ request. record request { shows = shows.Version })
@@ -57,8 +62,9 @@ entry_of option.Styles = alone (codes "--styles") None (λ request. record reque
 -- all options, in the order in which one that is near is looked for
 abbrev pub all_options : List OptionName
 all_options =
-    option.Style ∷ option.Separator ∷ option.Csv ∷ option.NoHeader ∷ option.Header ∷ option.Title ∷ option.Footer ∷ option.Left ∷ option.Center ∷ option.Right ∷ option.NoNumbers ∷ option.Width
-    ∷ option.Wrap ∷ option.Truncate ∷ option.Terminal ∷ option.Color ∷ option.Stripes ∷ option.FrameColor ∷ option.Outline ∷ option.Mark ∷ option.Fill ∷ option.Raw ∷ option.Help ∷ option.Version ∷ option.Styles ∷ []
+    option.Style ∷ option.Separator ∷ option.Csv ∷ option.Spaces ∷ option.NoHeader ∷ option.Header ∷ option.Title ∷ option.Footer ∷ option.Left ∷ option.Center ∷ option.Right ∷ option.NoNumbers ∷ option.Width
+    ∷ option.Wrap ∷ option.Truncate ∷ option.Terminal ∷ option.Color ∷ option.Stripes ∷ option.FrameColor ∷ option.Outline ∷ option.Mark ∷ option.Fill ∷ option.Columns ∷ option.Head ∷ option.RowNumbers
+    ∷ option.Raw ∷ option.Help ∷ option.Version ∷ option.Styles ∷ []
 
 abbrev pub name_of : OptionName → List ℕ
 name_of option = (entry_of option).name

@@ -37,10 +37,12 @@ abbrev pub columns_told : Option (List ℕ) → Option ℕ
 columns_told None = None
 columns_told (Some text) = from_one (number_of text)
 
--- what variables say: the locale is the first that is told of three, and colors are not wanted where NO_COLOR is
-abbrev pub told : Variables → Surroundings
-told variables = record {
+-- what variables say: the locale is the first that is told of three, and colors are not wanted where NO_COLOR is; and whether the output is a
+-- terminal
+abbrev pub told : Variables → Bool → Surroundings
+told variables is_terminal = record {
   takes_utf8 = takes_utf8 (or_else (option_copied variables.lc_all) (or_else (option_copied variables.lc_ctype) (option_copied variables.lang)));
   forbids_color = is_told (option_copied variables.no_color);
   columns = columns_told (option_copied variables.columns);
+  is_terminal = is_terminal;
 }

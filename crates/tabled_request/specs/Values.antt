@@ -1,9 +1,11 @@
 -- What the values of options may be, and what they mean.
-use Rattle.std.specs.Prelude.{ℕ, Bool, true, false, not, ◌==◌, ◌&&◌, ◌||◌, nat_lt, if◌then◌else◌, List, codes, length, slice_index, Option, Some, None}
+use Rattle.std.specs.Prelude.{ℕ, Bool, not, ◌==◌, ◌&&◌, ◌||◌, nat_lt, if◌then◌else◌, List, codes, length, slice_index, Option, Some, None}
 use Rattle.std.specs.List.{list_any}
 use Rattle.std.specs.Str.{bytes_eq}
 use Rattle.tabled_request.specs.declared.request.FrameColor.{FrameColor}
 use Rattle.tabled_request.specs.declared.request.FrameColor.TheVariants.{Black, Red, Green, Yellow, Blue, Magenta, Cyan, White}
+use Rattle.tabled_request.specs.declared.request.When.{When}
+use Rattle.tabled_request.specs.declared.request.When.TheVariants.{Auto, Always, Never}
 
 -- the color that a word names
 abbrev pub color_named : List ℕ → Option FrameColor
@@ -14,9 +16,11 @@ color_named word =
     else if bytes_eq word (codes "cyan") then Some Cyan else if bytes_eq word (codes "white") then Some White
     else None
 
--- whether a word says when there are colors
-abbrev pub choice_named : List ℕ → Option Bool
-choice_named word = if bytes_eq word (codes "always") then Some true else if bytes_eq word (codes "never") then Some false else None
+-- when there are colors, by the word that says so
+abbrev pub when_named : List ℕ → Option When
+when_named word =
+    if bytes_eq word (codes "auto") then Some Auto else if bytes_eq word (codes "always") then Some Always
+    else if bytes_eq word (codes "never") then Some Never else None
 
 -- a separator: one character of ASCII, but for a quote, a line feed and a carriage return; a backslash and t is the tabulator, one and 0 the character 0
 unfoldable pub separator_named : List ℕ → Option ℕ

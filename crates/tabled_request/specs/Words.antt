@@ -7,6 +7,7 @@ use Rattle.tabled_request.specs.declared.error.WordsError.{WordsError}
 use Rattle.tabled_request.specs.declared.error.WordsError.TheVariants.{UnknownOption, NoValue, BadValue, SecondFile}
 use Rattle.tabled_request.specs.declared.request.Request.{Request}
 use Rattle.tabled_request.specs.declared.request.Shows.TheVariants as shows
+use Rattle.tabled_request.specs.declared.request.When.TheVariants as when
 use Rattle.tabled_request.specs.declared.spread.Next.{Next}
 use Rattle.tabled_request.specs.declared.spread.Next.TheVariants.{Any, Value, File}
 use Rattle.tabled_request.specs.declared.words.Reading.{Reading}
@@ -19,7 +20,7 @@ first_request = record {
   file = None;
   style = None;
   separator = None;
-  is_csv = false;
+  form = None;
   has_header = true;
   title = None;
   footer = None;
@@ -30,12 +31,15 @@ first_request = record {
   width = None;
   cuts_off = false;
   fits_terminal = false;
-  has_color = false;
+  color = when.Auto;
   has_stripes = false;
   frame_color = None;
   outline = None;
   mark = None;
   fills = false;
+  columns = None;
+  head = None;
+  has_row_numbers = false;
   is_raw = false;
 }
 

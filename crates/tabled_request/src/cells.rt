@@ -3,7 +3,7 @@
 ghost use Rattle.std.specs.Prelude.{◌≡◌, codes, IfOk};
 ghost use Rattle.std.specs.List.{before_first, after_first};
 ghost use Rattle.std.specs.Str.{bytes_eq};
-ghost use Rattle.tabled_request.specs.Cells.{are_cells, are_named, cells_of, has, is_cell, is_colon, is_part, named_cells, part_of};
+ghost use Rattle.tabled_request.specs.Cells.{are_cells, cells_of, is_cell, is_colon, is_part, named_cells, part_of};
 
 use crate::numerals::{from_one, number_of};
 use std::alloc::{AllocError, Global};
@@ -26,9 +26,9 @@ fn is_part(word: &str) -> bool
 #[derive(Clone, Copy, Debug, PartialEq, Eq)]
 pub struct Choice {
     /// All of them.
-    is_all: bool,
+    pub is_all: bool,
     /// The one of this number, counted from 1.
-    number: Option<usize>,
+    pub number: Option<usize>,
 }
 
 impl Choice {
@@ -41,23 +41,15 @@ impl Choice {
             number: number_of(word),
         }
     }
-
-    /// Whether the row or the column of that number, counted from 0, is one of them.
-    fn has(&self, n: usize) -> bool
-        ensures { result ≡ has self.now n }
-    {
-        match self.number {
-            Some(number) => self.is_all || (n < number && number - n == 1),
-            None => self.is_all,
-        }
-    }
 }
 
 /// The cells that a part of a word names: those in these rows and these columns.
 #[derive(Clone, Copy, Debug, PartialEq, Eq)]
 pub struct NamedCells {
-    rows: Choice,
-    cols: Choice,
+    /// Their rows.
+    pub rows: Choice,
+    /// Their columns.
+    pub cols: Choice,
 }
 
 /// What stands before the first colon of a text, and what stands after it; without one the whole text, and nothing.
@@ -109,13 +101,4 @@ pub fn named_cells(alloc: Global, word: &str) -> Result<Vec<NamedCells>, AllocEr
         named.push(cells_of(part))?;
     }
     Ok(named)
-}
-
-/// Returns whether some part of a word names a cell, whose row and column are counted from 0 here.
-pub fn are_named(named: &[NamedCells], row: usize, col: usize) -> bool
-    ensures { result ≡ are_named named.now row col }
-{
-    named
-        .iter()
-        .any(|cells| cells.rows.has(row) && cells.cols.has(col))
 }

@@ -17,14 +17,14 @@ mod surroundings;
 mod values;
 mod words;
 
-pub use cells::{NamedCells, are_cells, are_named, named_cells};
-pub use columns::{are_columns, names_column};
+pub use cells::{Choice, NamedCells, are_cells, named_cells};
+pub use columns::{are_columns, columns_named, unknown_part};
 pub use error::WordsError;
 pub use given::{GivenError, all_words};
 pub use numerals::number_of;
 pub use options::OptionName;
-pub use request::{FrameColor, Request, Shows};
-pub use sides::{ColumnSide, all_sides};
+pub use request::{Form, FrameColor, Request, Shows, When};
+pub use sides::{ColumnSide, all_sides, headings_of};
 pub use spread::spread_words;
 pub use surroundings::{Surroundings, told_by};
 pub use words::{read_words, word_at};

@@ -12,6 +12,8 @@ pub enum OptionName {
     Separator,
     /// Cells may stand in quotes.
     Csv,
+    /// Cells have spaces between them.
+    Spaces,
     /// The first row is a header.
     Header,
     /// The first row is as the others.
@@ -36,7 +38,7 @@ pub enum OptionName {
     Truncate,
     /// The table takes no more columns than the terminal has.
     Terminal,
-    /// Whether there are colors.
+    /// When there are colors.
     Color,
     /// Every other row has a background.
     Stripes,
@@ -48,6 +50,12 @@ pub enum OptionName {
     Mark,
     /// Short rows are filled with empty cells.
     Fill,
+    /// Columns that are shown, in their order.
+    Columns,
+    /// How many rows are shown at most.
+    Head,
+    /// The number of each row stands before it.
+    RowNumbers,
     /// Texts are left as they are.
     Raw,
     /// Show what the options are.
@@ -60,13 +68,14 @@ pub enum OptionName {
 
 impl OptionName {
     /// Returns all options, in the order in which one that is near a word is looked for.
-    pub fn all() -> [OptionName; 25]
+    pub fn all() -> [OptionName; 29]
         ensures { result ≡ all_options }
     {
         [
             OptionName::Style,
             OptionName::Separator,
             OptionName::Csv,
+            OptionName::Spaces,
             OptionName::NoHeader,
             OptionName::Header,
             OptionName::Title,
@@ -85,6 +94,9 @@ impl OptionName {
             OptionName::Outline,
             OptionName::Mark,
             OptionName::Fill,
+            OptionName::Columns,
+            OptionName::Head,
+            OptionName::RowNumbers,
             OptionName::Raw,
             OptionName::Help,
             OptionName::Version,
@@ -103,6 +115,7 @@ impl OptionName {
             OptionName::Style => ("--style", Some("-s"), true),
             OptionName::Separator => ("--separator", Some("-d"), true),
             OptionName::Csv => ("--csv", Some("-c"), false),
+            OptionName::Spaces => ("--spaces", None, false),
             OptionName::Header => ("--header", None, false),
             OptionName::NoHeader => ("--no-header", None, false),
             OptionName::Title => ("--title", Some("-t"), true),
@@ -121,6 +134,9 @@ impl OptionName {
             OptionName::Outline => ("--outline", Some("-o"), true),
             OptionName::Mark => ("--mark", Some("-m"), true),
             OptionName::Fill => ("--fill", None, false),
+            OptionName::Columns => ("--columns", None, true),
+            OptionName::Head => ("--head", Some("-n"), true),
+            OptionName::RowNumbers => ("--row-numbers", None, false),
             OptionName::Raw => ("--raw", None, false),
             OptionName::Help => ("--help", Some("-h"), false),
             OptionName::Version => ("--version", Some("-V"), false),

@@ -1,7 +1,7 @@
 //! What is asked for.
 
 ghost use Rattle.std.specs.Prelude.{◌≡◌};
-ghost use Rattle.tabled_request.specs.Values.{color_named};
+ghost use Rattle.tabled_request.specs.Values.{color_named, when_named};
 ghost use Rattle.tabled_request.specs.Words.{first_request};
 
 /// What is shown.
@@ -15,6 +15,40 @@ pub enum Shows {
     Version,
     /// The styles.
     Styles,
+}
+
+/// How the cells of the input stand, where it is said.
+#[derive(Clone, Copy, Debug, PartialEq, Eq)]
+pub enum Form {
+    /// With a separator between two, each in quotes or without.
+    Csv,
+    /// With spaces between two.
+    Spaces,
+}
+
+/// When there are colors.
+#[derive(Clone, Copy, Debug, PartialEq, Eq)]
+pub enum When {
+    /// Where the output takes them.
+    Auto,
+    /// Always.
+    Always,
+    /// Never.
+    Never,
+}
+
+impl When {
+    /// Returns when there are colors, by the word that says so.
+    pub fn from_name(name: &str) -> Option<When>
+        ensures { result ≡ when_named name.now }
+    {
+        match name {
+            "auto" => Some(When::Auto),
+            "always" => Some(When::Always),
+            "never" => Some(When::Never),
+            _ => None,
+        }
+    }
 }
 
 /// The color of borders.
@@ -60,8 +94,8 @@ pub struct Request {
     pub style: Option<usize>,
     /// The character between two cells, where it is given.
     pub separator: Option<char>,
-    /// Whether cells may stand in quotes.
-    pub is_csv: bool,
+    /// How the cells of the input stand, where it is said.
+    pub form: Option<Form>,
     /// Whether the first row is a header.
     pub has_header: bool,
     /// The word that is the text above the table.
@@ -82,8 +116,8 @@ pub struct Request {
     pub cuts_off: bool,
     /// Whether the table may take the columns of the terminal.
     pub fits_terminal: bool,
-    /// Whether there are colors.
-    pub has_color: bool,
+    /// When there are colors.
+    pub color: When,
     /// Whether every other row has a background.
     pub has_stripes: bool,
     /// The color of borders.
@@ -94,6 +128,12 @@ pub struct Request {
     pub mark: Option<usize>,
     /// Whether short rows are filled with empty cells.
     pub fills: bool,
+    /// The word that names the columns that are shown, in their order; all, where none does.
+    pub columns: Option<usize>,
+    /// How many rows are shown at most, the header not counted.
+    pub head: Option<usize>,
+    /// Whether the number of each row stands before it.
+    pub has_row_numbers: bool,
     /// Whether texts are left as they are.
     pub is_raw: bool,
 }
@@ -108,7 +148,7 @@ impl Request {
             file: None,
             style: None,
             separator: None,
-            is_csv: false,
+            form: None,
             has_header: true,
             title: None,
             footer: None,
@@ -119,12 +159,15 @@ impl Request {
             width: None,
             cuts_off: false,
             fits_terminal: false,
-            has_color: false,
+            color: When::Auto,
             has_stripes: false,
             frame_color: None,
             outline: None,
             mark: None,
             fills: false,
+            columns: None,
+            head: None,
+            has_row_numbers: false,
             is_raw: false,
         }
     }

@@ -1,10 +1,12 @@
 //! Where the cells of each column stand.
 
-ghost use Rattle.std.specs.Prelude.{◌≡◌, map, string_bytes, IfOk};
-ghost use Rattle.tabled_numbers.specs.Columns.{cells_of};
-ghost use Rattle.tabled_request.specs.Sides.{below_header, is_named, side_of, sides_of};
+ghost use Rattle.std.specs.Prelude.{◌≡◌, ◌&&◌, if◌then◌else◌, map, string_bytes, unwrap_or, Some, None, IfOk};
+ghost use Rattle.std.specs.List.{range_with_len};
+ghost use Rattle.tabled_numbers.specs.Columns.{cells_of, column_count, is_numeric};
+ghost use Rattle.tabled_request.specs.Sides.{below_header, headings_of, is_named, sides_of};
+ghost use Rattle.tabled_request.specs.declared.sides.ColumnSide.TheVariants.{Left, Center, Right};
 
-use crate::columns::names_column;
+use crate::columns::{flags_of, no_flags};
 use crate::request::Request;
 use crate::words::word_at;
 use std::alloc::{AllocError, Global};
@@ -21,13 +23,13 @@ pub enum ColumnSide {
     Right,
 }
 
-/// Whether the word of that number names a column.
-fn is_named(words: &[String], number: Option<usize>, col: usize) -> bool
-    ensures { result ≡ is_named (map string_bytes words.now) number col }
+/// Returns the headings of the columns: the texts of the first row, where that is a header.
+pub fn headings_of(request: Request, rows: &[Vec<String>]) -> &[String]
+    ensures { map string_bytes result.now ≡ headings_of request (cells_of rows.now) }
 {
-    match word_at(words, number) {
-        Some(word) => names_column(word, col),
-        None => false,
+    match rows {
+        [row, ..] if request.has_header => row,
+        _ => &[],
     }
 }
 
@@ -41,27 +43,61 @@ fn below_header(rows: &[Vec<String>], has_header: bool) -> &[Vec<String>]
     }
 }
 
-/// Where the cells of a column stand: as the words say, and else at the right where they are numbers.
-fn side_of(request: Request, words: &[String], rows: &[Vec<String>], col: usize) -> ColumnSide
-    ensures { result ≡ side_of request (map string_bytes words.now) (cells_of rows.now) col }
+/// For each column, whether the word of that number names it.
+fn named(
+    alloc: Global,
+    request: Request,
+    words: &[String],
+    rows: &[Vec<String>],
+    number: Option<usize>,
+) -> Result<Vec<bool>, AllocError>
+    ensures { IfOk result (λ flags. flags.items ≡ map (is_named request (map string_bytes words.now) (cells_of rows.now) number) (range_with_len 0 (column_count (cells_of rows.now)))) }
 {
-    if is_named(words, request.left, col) {
-        return ColumnSide::Left;
+    let count = column_count(rows);
+    match word_at(words, number) {
+        Some(word) => flags_of(alloc, word, headings_of(request, rows), count),
+        None => no_flags(alloc, count),
     }
-    if is_named(words, request.center, col) {
-        return ColumnSide::Center;
+}
+
+/// Whether the cells of a column stand at the right by themselves, since they are numbers.
+fn is_found(request: Request, rows: &[Vec<String>], col: usize) -> bool
+    ensures { result ≡ (request.finds_numbers && is_numeric (below_header request.has_header (cells_of rows.now)) col) }
+{
+    request.finds_numbers && is_numeric(below_header(rows, request.has_header), col)
+}
+
+/// A side, by whether the word for the left side names a column, that for the middle, and that for the right.
+fn side_said(is_left: bool, is_center: bool, is_right: bool) -> Option<ColumnSide>
+    ensures { result ≡ (if is_left then Some Left else if is_center then Some Center else if is_right then Some Right else None) }
+{
+    match (is_left, is_center, is_right) {
+        (true, _, _) => Some(ColumnSide::Left),
+        (_, true, _) => Some(ColumnSide::Center),
+        (_, _, true) => Some(ColumnSide::Right),
+        _ => None,
     }
-    if is_named(words, request.right, col) {
-        return ColumnSide::Right;
+}
+
+/// The side of a column: one that is said, or else the right side where it is one of numbers.
+fn side_of(
+    request: Request,
+    rows: &[Vec<String>],
+    col: usize,
+    said: Option<ColumnSide>,
+) -> ColumnSide
+    ensures { result ≡ unwrap_or said (if request.finds_numbers && is_numeric (below_header request.has_header (cells_of rows.now)) col then Right else Left) }
+{
+    match said {
+        Some(side) => side,
+        None if is_found(request, rows, col) => ColumnSide::Right,
+        None => ColumnSide::Left,
     }
-    if request.finds_numbers && is_numeric(below_header(rows, request.has_header), col) {
-        return ColumnSide::Right;
-    }
-    ColumnSide::Left
 }
 
 /// Returns where the cells of each column stand: as the words say, and else at the right where those below the header are numbers or empty,
-/// one at least a number. Of the words that name a column, that for the left side comes first, then that for the middle.
+/// one at least a number. Of the words that name a column, by its number or its heading, that for the left side comes first, then that for
+/// the middle.
 pub fn all_sides(
     alloc: Global,
     request: Request,
@@ -70,9 +106,14 @@ pub fn all_sides(
 ) -> Result<Vec<ColumnSide>, AllocError>
     ensures { IfOk result (λ sides. sides.items ≡ sides_of request (map string_bytes words.now) (cells_of rows.now)) }
 {
+    let left = named(alloc, request, words, rows, request.left)?;
+    let center = named(alloc, request, words, rows, request.center)?;
+    let right = named(alloc, request, words, rows, request.right)?;
+    let (left, center, right) = (left.as_slice(), center.as_slice(), right.as_slice());
     let mut all = Vec::new(alloc);
     for col in 0..column_count(rows) {
-        all.push(side_of(request, words, rows, col))?;
+        let said = side_said(left[col], center[col], right[col]);
+        all.push(side_of(request, rows, col, said))?;
     }
     Ok(all)
 }

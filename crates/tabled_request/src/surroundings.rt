@@ -21,6 +21,8 @@ pub struct Surroundings {
     pub forbids_color: bool,
     /// How many columns the terminal has, where that is told.
     pub columns: Option<usize>,
+    /// Whether the output is a terminal.
+    pub is_terminal: bool,
 }
 
 /// The values of the variables that are asked for, each None where it is not set.
@@ -101,9 +103,9 @@ fn columns_told(value: Option<&[u8]>) -> Option<usize>
     }
 }
 
-/// What variables say.
-fn told(variables: Variables<'_>) -> Surroundings
-    ensures { result ≡ told variables.entry }
+/// What variables say, and whether the output is a terminal.
+fn told(variables: Variables<'_>, is_terminal: bool) -> Surroundings
+    ensures { result ≡ told variables.entry is_terminal }
 {
     let locale = or_else(
         variables.lc_all,
@@ -113,6 +115,7 @@ fn told(variables: Variables<'_>) -> Surroundings
         takes_utf8: takes_utf8(locale),
         forbids_color: is_told(variables.no_color),
         columns: columns_told(variables.columns),
+        is_terminal,
     }
 }
 
@@ -127,13 +130,19 @@ fn value<'a, E: Env>(env: &E, name: &str, room: &'a mut [u8; VALUE_LIMIT]) -> Op
 
 /// Returns what the surroundings say. The terminal takes UTF-8 where the first of `LC_ALL`, `LC_CTYPE` and `LANG` that is set and not empty
 /// has `utf8` or `utf-8` in it, in large or small letters; colors are not wanted where `NO_COLOR` is set and not empty; and it has as many
-/// columns as the number in `COLUMNS` says, from 1 on. Of a value of more than 256 bytes it is known that it is not empty.
-pub fn told_by<E: Env>(env: &E) -> Surroundings {
-    told(Variables {
-        lc_all: value(env, "LC_ALL", &mut [0; VALUE_LIMIT]),
-        lc_ctype: value(env, "LC_CTYPE", &mut [0; VALUE_LIMIT]),
-        lang: value(env, "LANG", &mut [0; VALUE_LIMIT]),
-        no_color: value(env, "NO_COLOR", &mut [0; VALUE_LIMIT]),
-        columns: value(env, "COLUMNS", &mut [0; VALUE_LIMIT]),
-    })
+/// columns as the number in `COLUMNS` says, from 1 on. Of a value of more than 256 bytes it is known that it is not empty. Whether the output is
+/// a terminal is known to the caller.
+pub fn told_by<E: Env>(env: &E, is_terminal: bool) -> Surroundings
+    ensures { result.is_terminal ≡ is_terminal }
+{
+    told(
+        Variables {
+            lc_all: value(env, "LC_ALL", &mut [0; VALUE_LIMIT]),
+            lc_ctype: value(env, "LC_CTYPE", &mut [0; VALUE_LIMIT]),
+            lang: value(env, "LANG", &mut [0; VALUE_LIMIT]),
+            no_color: value(env, "NO_COLOR", &mut [0; VALUE_LIMIT]),
+            columns: value(env, "COLUMNS", &mut [0; VALUE_LIMIT]),
+        },
+        is_terminal,
+    )
 }

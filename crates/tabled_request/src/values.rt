@@ -2,18 +2,7 @@
 
 ghost use Rattle.std.specs.Prelude.{◌≡◌, ◌==◌};
 ghost use Rattle.std.specs.List.{list_any};
-ghost use Rattle.tabled_request.specs.Values.{choice_named, is_line, separator_named};
-
-/// Whether a word says that there are colors, or that there are none.
-pub(crate) fn choice_named(word: &str) -> Option<bool>
-    ensures { result ≡ choice_named word.now }
-{
-    match word {
-        "always" => Some(true),
-        "never" => Some(false),
-        _ => None,
-    }
-}
+ghost use Rattle.tabled_request.specs.Values.{is_line, separator_named};
 
 /// The separator that a word is: one character of ASCII, but for a quote, a line feed and a carriage return, or what `\t` and `\0` stand for.
 #[tactic(auto, unfolding(crate::specs::Values::separator_named))]

@@ -11,9 +11,9 @@ use crate::columns::are_columns;
 use crate::error::WordsError;
 use crate::numerals::{from_one, number_of};
 use crate::options::OptionName;
-use crate::request::{FrameColor, Request, Shows};
+use crate::request::{Form, FrameColor, Request, Shows, When};
 use crate::spread::Next;
-use crate::values::{choice_named, is_line, separator_named};
+use crate::values::{is_line, separator_named};
 
 /// What the words so far ask for.
 #[derive(Clone, Copy, Debug, PartialEq, Eq)]
@@ -34,7 +34,8 @@ fn set(option: OptionName, n: usize, word: &str, request: Request) -> Option<Req
     match option {
         OptionName::Style => request.style = Some(n),
         OptionName::Separator => request.separator = Some(separator_named(word)?),
-        OptionName::Csv => request.is_csv = true,
+        OptionName::Csv => request.form = Some(Form::Csv),
+        OptionName::Spaces => request.form = Some(Form::Spaces),
         OptionName::Header => request.has_header = true,
         OptionName::NoHeader => request.has_header = false,
         OptionName::Title if is_line(word) => request.title = Some(n),
@@ -47,12 +48,15 @@ fn set(option: OptionName, n: usize, word: &str, request: Request) -> Option<Req
         OptionName::Wrap => request.cuts_off = false,
         OptionName::Truncate => request.cuts_off = true,
         OptionName::Terminal => request.fits_terminal = true,
-        OptionName::Color => request.has_color = choice_named(word)?,
+        OptionName::Color => request.color = When::from_name(word)?,
         OptionName::Stripes => request.has_stripes = true,
         OptionName::FrameColor => request.frame_color = Some(FrameColor::from_name(word)?),
         OptionName::Outline if are_cells(word) => request.outline = Some(n),
         OptionName::Mark => request.mark = Some(n),
         OptionName::Fill => request.fills = true,
+        OptionName::Columns if are_columns(word) => request.columns = Some(n),
+        OptionName::Head => request.head = Some(number_of(word)?),
+        OptionName::RowNumbers => request.has_row_numbers = true,
         OptionName::Raw => request.is_raw = true,
         OptionName::Help => request.shows = Shows::Help,
         OptionName::Version => request.shows = Shows::Version,

@@ -11,11 +11,11 @@ use Rattle.tabled_request.specs.Options.{all_options, are_near, name_of, option_
 use Rattle.tabled_request.proofs.options.OptionName.near.Goals as goal
 
 -- the iterator gives all options
-in_order : (c : goal.After-drop-into_iter) → YieldsList (array_steps {A = OptionName} {n = 25}) (λ option. option) c.into_iter.result all_options
+in_order : (c : goal.After-drop-into_iter) → YieldsList (array_steps {A = OptionName} {n = 29}) (λ option. option) c.into_iter.result all_options
 in_order c =
-    subst (λ options. YieldsList (array_steps {A = OptionName} {n = 25}) (λ option. option) c.into_iter.result options)
+    subst (λ options. YieldsList (array_steps {A = OptionName} {n = 29}) (λ option. option) c.into_iter.result options)
     (c.into_iter.ensures.into_iter_gives.0 ∙ c.all.ensures)
-    (YieldsList-from_shown (array_steps {A = OptionName} {n = 25}) (λ option. option) array_into_iter_items (λ s t h. h.0) (λ s x t h. h) c.into_iter.result)
+    (YieldsList-from_shown (array_steps {A = OptionName} {n = 29}) (λ option. option) array_into_iter_items (λ s t h. h.0) (λ s x t h. h) c.into_iter.result)
 
 pub returns : goal.returns
 unfolding option_near
