@@ -5,12 +5,12 @@ use std::alloc::Global;
 use std::env::{Env, FillError};
 use std::io;
 use std::io::{Cursor, ErrorKind, Write};
-use tabled_input::{CsvError, csv};
+use tabled_input::{CsvError, columns_of, csv, number_rows, spaced};
 use tabled_grid::OutOfMemory;
 use tabled_input::{Cells, InputError, read_input, read_rows};
 use tabled_pages::{ShowError, all_words, run};
-use tabled_request::{GivenError, Request, Surroundings, all_sides, named_cells, spread_words};
-use tabled_viewing::{ViewError, said, understood};
+use tabled_request::{GivenError, Request, Surroundings, all_sides, columns_named, named_cells, spread_words};
+use tabled_viewing::{Notes, ViewError, noted, said, understood};
 
 /// A writer that keeps what it is given, and takes no memory.
 #[derive(Drop)]
@@ -74,6 +74,7 @@ fn view(turn: &mut Turn, text: &str, input: &str, page: &str) -> Result<Outcome,
     let around = Surroundings {
         takes_utf8: false,
         forbids_color: true,
+        is_terminal: false,
         columns: None,
     };
     let (mut reader, mut writer) = (Cursor::new(input.as_bytes()), Page::new());
@@ -84,7 +85,7 @@ fn view(turn: &mut Turn, text: &str, input: &str, page: &str) -> Result<Outcome,
     };
     Ok(match returned {
         Err(_) if !writer.has("") => Outcome::Changed,
-        returned => made(returned.map(|()| writer.has(page)), ViewError::OutOfMemory),
+        returned => made(returned.map(|_| writer.has(page)), ViewError::OutOfMemory),
     })
 }
 
@@ -143,6 +144,9 @@ fn gather(turn: &mut Turn) -> Result<Outcome, OutOfMemory> {
     }
 }
 
+/// The page of a header and one row within nine columns, with a title and outlines around its first column.
+const FEWER: &str = "### x --+\n# a # b |\n#####---+\n# 1 # 2 |\n#   # 2 |\n#####---+\n";
+
 /// The page of two rows and two columns.
 const PAGE: &str = "+---+----+\n| a | b  |\n+---+----+\n| 1 | 22 |\n+---+----+\n";
 
@@ -168,10 +172,14 @@ pub(crate) fn calls() -> [Named; 6] {
 }
 
 /// The calls of the other program.
-pub(crate) fn views() -> [Named; 11] {
+pub(crate) fn views() -> [Named; 17] {
     [
         ("tabled_viewing::run", |turn| view(turn, "--style ascii --no-numbers", "a\tb\n1\t22\n", PAGE)),
         ("tabled_viewing::run (of CSV)", |turn| view(turn, "--style ascii --no-numbers --csv --fill", "a,b\n1,22\n", PAGE)),
+        ("tabled_viewing::run (of blanks)", |turn| {
+            let given = "--style ascii --no-numbers --spaces --columns a,2 --head 1 --title x --outline 1:1 --mark 1 --width 9";
+            view(turn, given, "a b\n1 22\n3 4\n", FEWER)
+        }),
         ("tabled_viewing::run (of itself)", |turn| view(turn, "--version", "", "tabled_view 0.1.0\n")),
         ("tabled_request::all_words", |turn| {
             turn.spend();
@@ -199,6 +207,37 @@ pub(crate) fn views() -> [Named; 11] {
             turn.spend();
             let says = said(turn.alloc(), &words, ViewError::WriteFailed);
             Ok(Outcome::of_value(says.map(|text| text.as_str().starts_with("the output can't be written"))))
+        }),
+        ("noted", |turn| {
+            let notes = Notes { too_wide: Some(5), lacks_color: true };
+            turn.spend();
+            let says = noted(turn.alloc(), notes);
+            Ok(Outcome::of_value(says.map(|text| text.as_str().starts_with("tabled_view: the table is wider"))))
+        }),
+        ("columns_named", |turn| {
+            let headings = words(turn.alloc(), "a b c")?;
+            turn.spend();
+            let named = columns_named(turn.alloc(), "c,1-2", &headings, 3);
+            Ok(Outcome::of_value(named.map(|named| named.as_slice() == [2, 0, 1].as_slice())))
+        }),
+        ("spaced", |turn| {
+            turn.spend();
+            let rows = spaced(turn.alloc(), "a  b\nc d e\n");
+            Ok(Outcome::of_value(rows.map(|rows| rows.len() == 2 && rows[1][1].as_str() == "d e")))
+        }),
+        ("columns_of", |turn| {
+            let mut rows = Vec::new(turn.alloc());
+            rows.push(words(turn.alloc(), "a 1")?)?;
+            turn.spend();
+            let shown = columns_of(turn.alloc(), &rows, &[1, 0]);
+            Ok(Outcome::of_value(shown.map(|shown| shown[0][0].as_str() == "1")))
+        }),
+        ("number_rows", |turn| {
+            let mut rows = Vec::new(turn.alloc());
+            rows.push(words(turn.alloc(), "a 1")?)?;
+            turn.spend();
+            let numbered = number_rows(turn.alloc(), &mut rows, false);
+            Ok(Outcome::of_value(numbered.map(|()| rows[0].len() == 3)))
         }),
         ("csv", |turn| {
             turn.spend();

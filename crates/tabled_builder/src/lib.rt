@@ -7,3 +7,4 @@ mod builder;
 mod records;
 
 pub use builder::Builder;
+pub use records::columns_of;

@@ -8,8 +8,8 @@ ghost use Rattle.tabled_builder.specs.Records.{columns};
 use std::alloc::Global;
 use tabled_border::OutOfMemory;
 
-/// How many texts the longest of records has.
-pub(crate) fn columns_of(records: &[Vec<String>]) -> usize
+/// Returns how many texts the longest of records has.
+pub fn columns_of(records: &[Vec<String>]) -> usize
     ensures { result ≡ columns (texts records.now) }
 {
     records.iter().map(|record| record.len()).max().unwrap_or(0)

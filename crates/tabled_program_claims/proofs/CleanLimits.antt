@@ -188,11 +188,15 @@ by_lines_clean change text keeps clean =
     let lines = split_clean 10 (lit< tt) text clean in
     joined_clean (map change (pieces text)) (All-map IsCleanText change (pieces text) (λ k d within. keeps (get_or (pieces text) k d) (lines k d within)))
 
+pub truncated_clean : (width : ℕ) (suffix text : List ℕ) → IsCleanText suffix → IsCleanText text → IsCleanText (truncated width suffix text)
+unfolding truncated
+truncated_clean width suffix text end clean =
+    by_lines_clean (cut_off width (suffix_shown width suffix)) text (λ line here. cut_off_clean width (suffix_shown width suffix) line (suffix_clean width suffix end) here) clean
+
 pub limited_clean : (how : Overflow) (width : ℕ) (text : List ℕ) → EndsClean how → IsCleanText text → IsCleanText (limited how width text)
-unfolding wrapped wrapped_words truncated
+unfolding wrapped wrapped_words
 limited_clean Wrap width text end clean =
     by_lines_clean (λ line. join_with_byte 10 (line_rows width line)) text (λ line here. joined_clean (line_rows width line) (line_rows_clean width line here)) clean
 limited_clean WrapWords width text end clean =
     by_lines_clean (λ line. join_with_byte 10 (word_rows width line)) text (λ line here. joined_clean (word_rows width line) (word_rows_clean width line here)) clean
-limited_clean (Truncate suffix) width text end clean =
-    by_lines_clean (cut_off width (suffix_shown width suffix.now)) text (λ line here. cut_off_clean width (suffix_shown width suffix.now) line (suffix_clean width suffix.now end) here) clean
+limited_clean (Truncate suffix) width text end clean = truncated_clean width suffix.now text end clean

@@ -1,5 +1,5 @@
 -- A ready style sets no spans and no padding.
-use Rattle.std.proofs.Common.{◌≡◌, ℕ, ◌==◌, ◌&&◌, true, List, [], ◌∷◌, ◌++◌, refl, ap, ◌∙◌}
+use Rattle.std.proofs.Common.{◌≡◌, ◌==◌, ◌&&◌, true, [], ◌∷◌, ◌++◌, ap, ◌∙◌}
 use Rattle.std.specs.FinMap.{len, len-empty}
 use Rattle.tabled_places.specs.declared.event.Event.TheVariants.{Erase as erase}
 use Rattle.tabled_places.specs.declared.event.Region.TheVariants.{All as every_site}

@@ -1,14 +1,14 @@
 -- The cells of an input are texts where it is one.
-use Rattle.std.proofs.Common.{◌≡◌, ◌==◌, ◌&&◌, ℕ, ◌-◌, ◌<◌, ◌≤◌, nat_lt, not, Bool, true, false, if◌then◌else◌, List, [], ◌∷◌, ◌++◌, take, length, get_or, chars, encode_utf8, lit<, append-nil, refl, sym, subst, arith, ⊎_elim}
+use Rattle.std.proofs.Common.{◌≡◌, ◌==◌, ◌&&◌, ℕ, ◌<◌, ◌≤◌, nat_lt, not, Bool, true, false, if◌then◌else◌, List, [], ◌∷◌, ◌++◌, length, get_or, chars, encode_utf8, append-nil, refl, sym, subst, arith, ⊎_elim}
 use Rattle.std.specs.List.{slice_index}
 use Rattle.std.specs.List.{All, filter, slice_split}
 use Rattle.std.specs.Str.{IsUtf8}
-use Rattle.std.specs.Str.Lines.{lines, lines_of_parts, strip_carriage_return}
+use Rattle.std.specs.Str.Lines.{lines}
 use Rattle.std.proofs.Math.Utf8.{scalar, scalars}
-use Rattle.std.proofs.lemmas.Bool.{and_parts, and_from, cases_lt, eqb-true, ltb-true}
+use Rattle.std.proofs.lemmas.Bool.{and_parts, and_from, cases_lt, ltb-true}
 use Rattle.std.proofs.lemmas.List.{get_or_past}
 use Rattle.std.proofs.lemmas.List.Elements.{All-nil, All-cons, All-head, All-tail, All-map, All-filter}
-use Rattle.std.proofs.lemmas.Str.{scalars-chars, IsUtf8-append, IsUtf8-nil, IsUtf8-take, IsCharBoundary-before_ascii}
+use Rattle.std.proofs.lemmas.Str.{scalars-chars, IsUtf8-append, IsUtf8-nil}
 use Rattle.tabled_input.specs.Lines.{cut_at, separated}
 use Rattle.tabled_input.specs.Quoted.{cell_before, csv_rows, left_at, letter_before, nothing_left, row_before, step_at, without_returns}
 use Rattle.tabled_input.specs.declared.reader.At.{At}
@@ -19,7 +19,7 @@ use Rattle.tabled_input.specs.Input.{rows_in, without_mark}
 use Rattle.tabled_input.proofs.Marks.{mark_text}
 use Rattle.tabled_input.specs.declared.rows.Cells.{Cells}
 use Rattle.tabled_input.specs.declared.rows.Cells.TheVariants as cells
-use Rattle.tabled_width.proofs.PieceFacts.{all_texts}
+use Rattle.tabled_input.proofs.SpacedTexts.{lines_of_text, parts_are_texts, spaced_texts}
 
 -- rows of texts
 abbrev pub AreTexts : List (List (List ℕ)) → Type 0
@@ -27,40 +27,18 @@ AreTexts rows = All (All IsUtf8) rows
 
 -- ---- lines, cut at separators
 
-stripped_text : (line : List ℕ) → IsUtf8 line → IsUtf8 (strip_carriage_return line)
-stripped_text [] text = text
-stripped_text (b ∷ bytes) text = by (length (b ∷ bytes) - 1) _ (omega arith) refl
-  where
-    by : (last : ℕ) (is : Bool) → last ≡ length bytes → (get_or (b ∷ bytes) last 0 == 13) ≡ is → IsUtf8 (if is then take last (b ∷ bytes) else b ∷ bytes)
-    by last true same e =
-        let here = eqb-true (get_or (b ∷ bytes) last 0) 13 e in
-        IsUtf8-take (b ∷ bytes) last text (IsCharBoundary-before_ascii (b ∷ bytes) last (omega arith) (omega (arith, here)))
-    by last false same e = text
-
-lines_are_texts : (parts : List (List ℕ)) → All IsUtf8 parts → All IsUtf8 (lines_of_parts parts)
-lines_are_texts [] all = All-nil IsUtf8
-lines_are_texts (part ∷ []) all = by (length part == 0)
-  where
-    by : (b : Bool) → All IsUtf8 (if b then [] else part ∷ [])
-    by true = All-nil IsUtf8
-    by false = all
-lines_are_texts (part ∷ next ∷ parts) all =
-    All-cons IsUtf8 (strip_carriage_return part) (lines_of_parts (next ∷ parts)) (stripped_text part (All-head IsUtf8 part (next ∷ parts) all))
-    (lines_are_texts (next ∷ parts) (All-tail IsUtf8 part (next ∷ parts) all))
-
 cut_texts : (separator : ℕ) (line : List ℕ) → IsUtf8 line → All IsUtf8 (cut_at separator line)
 cut_texts separator line text = by (nat_lt separator 128) refl
   where
     by : (b : Bool) → nat_lt separator 128 ≡ b → All IsUtf8 (if b then slice_split (λ b. b == separator) line else line ∷ [])
-    by true e = all_texts separator (ltb-true separator 128 e) line text
+    by true e = parts_are_texts separator (ltb-true separator 128 e) line text
     by false e = All-cons IsUtf8 line [] text (All-nil IsUtf8)
 
 separated_texts : (separator : ℕ) (text : List ℕ) → IsUtf8 text → AreTexts (separated separator text)
 unfolding separated
 separated_texts separator text read =
-    let all = lines_are_texts (slice_split (λ b. b == 10) text) (all_texts 10 (lit< tt) text read) in
     let is_full : List ℕ → Bool = λ line. not (length line == 0) in
-    let full = All-filter is_full IsUtf8 (lines text) all in
+    let full = All-filter is_full IsUtf8 (lines text) (lines_of_text text read) in
     All-map (All IsUtf8) (cut_at separator) (filter is_full (lines text)) (λ k d within. cut_texts separator (get_or (filter is_full (lines text)) k d) (full k d within))
 
 -- ---- CSV
@@ -128,17 +106,18 @@ quoted_texts separator text read = left_texts separator RowStart (without_return
 pub rows_are_texts : (how : Cells) (input : List ℕ) → IsUtf8 input → AreTexts (rows_in how input)
 rows_are_texts (cells.Separated separator) input read = separated_texts separator (without_mark input) (mark_text input read)
 rows_are_texts (cells.Quoted separator) input read = quoted_texts separator (without_mark input) (mark_text input read)
+rows_are_texts cells.Spaced input read = spaced_texts (without_mark input) (mark_text input read)
 
--- what holds of the empty text and of each cell of rows holds of what they say at any place
+-- what holds of the empty text and of each of some texts holds of what they say at any place; and of what rows of texts say
+pub at_place : (P : List ℕ → Type 0) (texts : List (List ℕ)) → P [] → All P texts → (place : ℕ) → P (get_or texts place [])
+at_place P texts none all place =
+    ⊎_elim (λ (inside : place < length texts). all place [] inside)
+    (λ (past : length texts ≤ place). subst P (sym (get_or_past texts place [] past)) none)
+    (cases_lt place (length texts))
+
 pub at_each : (P : List ℕ → Type 0) (rows : List (List (List ℕ))) → P [] → All (All P) rows → (row col : ℕ) → P (get_or (get_or rows row []) col [])
 at_each P rows none all row col =
     ⊎_elim
-    (λ (inside : row < length rows). in_row (get_or rows row []) (all row [] inside))
+    (λ (inside : row < length rows). at_place P (get_or rows row []) none (all row [] inside) col)
     (λ (past : length rows ≤ row). subst (λ cells. P (get_or cells col [])) (sym (get_or_past rows row [] past)) (subst P (sym (get_or_past [] col [] (omega arith))) none))
     (cases_lt row (length rows))
-  where
-    in_row : (cells : List (List ℕ)) → All P cells → P (get_or cells col [])
-    in_row cells each =
-        ⊎_elim (λ (inside : col < length cells). each col [] inside)
-        (λ (past : length cells ≤ col). subst P (sym (get_or_past cells col [] past)) none)
-        (cases_lt col (length cells))

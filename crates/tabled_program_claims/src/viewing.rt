@@ -1,10 +1,12 @@
 //! The program that shows tables of any input.
 
-ghost use Rattle.std.specs.Prelude.{◌≡◌, ◌≢◌, ◌⊎◌, ◌≤◌, ◌+◌, ℕ, List, Ok, Err, None, Some, true, false, length, map, string_bytes, IfErr, IfOk, IfSome, IsErrOf, OnOk};
+ghost use Rattle.std.specs.Prelude.{◌≡◌, ◌≢◌, ◌⊎◌, ◌≤◌, ◌+◌, ◌++◌, ◌∷◌, [], ℕ, List, Ok, Err, None, Some, true, false, length, map, string_bytes, IfErr, IfOk, IfSome, IsErrOf, OnOk};
 ghost use Rattle.std.specs.Io.KnownBytes.{Appends, Consumes, IsAtEnd, Keeps};
 ghost use Rattle.std.specs.List.{All};
 ghost use Rattle.std.specs.Str.{IsUtf8};
 ghost use Rattle.tabled_clean.specs.Steering.{is_clean};
+ghost use Rattle.tabled_painting.specs.Painted.{Painted, plain};
+ghost use Rattle.tabled_painting.specs.PaintedTable.{colored_text};
 ghost use Rattle.tabled_input.specs.declared.error.InputError.TheVariants as input_refusals;
 ghost use Rattle.tabled_request.specs.Words.{request_of, spread};
 ghost use Rattle.tabled_request.specs.declared.error.WordsError.{WordsError as Wrong};
@@ -16,19 +18,22 @@ ghost use Rattle.tabled_style.specs.declared.ready_style.ReadyStyle.{ReadyStyle 
 ghost use Rattle.tabled_viewing.specs.Asked.{is_about_itself, is_colored, style_asked};
 ghost use Rattle.tabled_viewing.specs.Itself.{told_of_itself};
 ghost use Rattle.tabled_viewing.specs.Refusal.{fault_of, status_of};
-ghost use Rattle.tabled_viewing.specs.Said.{said};
+ghost use Rattle.tabled_viewing.specs.Said.{noted, said};
+ghost use Rattle.tabled_viewing.specs.declared.error.ViewError.{ViewError as Refusal};
+ghost use Rattle.tabled_viewing.specs.Rows.{texts_shown};
 ghost use Rattle.tabled_viewing.specs.View.{FitsWidth, IsPage, IsView};
+ghost use Rattle.tabled_viewing.specs.declared.notes.Notes.{Notes as Said};
 ghost use Rattle.tabled_viewing.specs.declared.error.ViewError.TheVariants as refusals;
 
 use std::alloc::{AllocError, Global};
 use std::io::{Read, Write};
 use tabled_border::OutOfMemory;
 use tabled_request::{Request, Surroundings, spread_words};
-use tabled_viewing::{ViewError, run, said, understood};
+use tabled_viewing::{Notes, ViewError, run, said, understood};
 
 /// Over a reader and a writer that tell their bytes, the program reads the whole input and writes exactly its view, the table of its
-/// cells as the request asks for it; or it says the first fault that there is: the name of the style, then the input, then rows of unlike
-/// length, unless memory was refused, or reading or writing failed. It reads at most one byte past 268,435,456, and a refusal but that of a
+/// cells as the request asks for it; or it says the first fault that there is: the name of the style, then the input, then its rows and the
+/// columns that words name, unless memory was refused, or reading or writing failed. It reads at most one byte past 268,435,456, and a refusal but that of a
 /// failed write leaves the output as it was.
 pub fn page_of_the_request<R: Read, W: Write>(
     alloc: Global,
@@ -37,10 +42,10 @@ pub fn page_of_the_request<R: Read, W: Write>(
     around: Surroundings,
     input: &mut R,
     output: &mut W,
-) -> Result<(), ViewError>
+) -> Result<Notes, ViewError>
     ensures whole { is_about_itself request.shows ≡ false → OnOk result (IsAtEnd (R.remaining input.new)) }
-    ensures written { is_about_itself request.shows ≡ false → OnOk result (IfSome (R.remaining input.old) (λ bytes. (text : List ℕ)
-        × IsView request (map string_bytes words.now) around bytes text × Appends (W.contents output.old) (W.contents output.new) text)) }
+    ensures written { is_about_itself request.shows ≡ false → IfOk result (λ notes. IfSome (R.remaining input.old) (λ bytes. (text : List ℕ)
+        × IsView request (map string_bytes words.now) around bytes text notes × Appends (W.contents output.old) (W.contents output.new) text)) }
     ensures good { is_about_itself request.shows ≡ false → OnOk result (IfSome (R.remaining input.old) (λ bytes. fault_of request (map string_bytes words.now) around bytes ≡ None)) }
     ensures fault { is_about_itself request.shows ≡ false → IfErr result (λ e. (e ≡ refusals.OutOfMemory) ⊎ (e ≡ refusals.Input input_refusals.ReadFailed) ⊎ (e ≡ refusals.WriteFailed)
         ⊎ IfSome (R.remaining input.old) (λ bytes. fault_of request (map string_bytes words.now) around bytes ≡ Some e)) }
@@ -56,14 +61,25 @@ pub fn page_of_the_request<R: Read, W: Write>(
 /// No line of a page is wider than asked for, where its texts are of printable ASCII, nothing stands above or below its table, it has no
 /// color, and its table can be so narrow.
 pub fn no_line_is_wider()
-    ensures { (request : Asked) (style : Named) (words : List (List ℕ)) (around : Told) (texts : Table) (text : List ℕ) → IsPage request style words around texts text → FitsWidth request style words around texts text }
+    ensures { (request : Asked) (style : Named) (words : List (List ℕ)) (around : Told) (rows : Table) (text : List ℕ) (notes : Said)
+        → IsPage request style words around rows text notes → FitsWidth request style words around rows (texts_shown request rows) text }
 {}
 
-/// Nothing in a page steers the terminal, whatever the input and the words say, where texts are not to be left as they are and there is no
-/// color: no character of its cells, of its title and its footer, or of what is drawn around them.
+/// Nothing in a page steers the terminal, whatever the input and the words say, where texts are not to be left as they are: no character of its
+/// cells, of its title and its footer, or of what is drawn around them; in color, none but the texts of the colors.
 pub fn page_steers_nothing()
-    ensures { (request : Asked) (words : List (List ℕ)) (around : Told) (input text : List ℕ) → request.is_raw ≡ false → is_colored request around ≡ false
-        → All IsUtf8 words → IsUtf8 input → IsView request words around input text → is_clean text ≡ true }
+    ensures plain { (request : Asked) (words : List (List ℕ)) (around : Told) (input text : List ℕ) (notes : Said) → request.is_raw ≡ false → is_colored request around ≡ false
+        → All IsUtf8 words → IsUtf8 input → IsView request words around input text notes → is_clean text ≡ true }
+    ensures colored { (request : Asked) (words : List (List ℕ)) (around : Told) (input text : List ℕ) (notes : Said) → request.is_raw ≡ false → is_colored request around ≡ true
+        → All IsUtf8 words → IsUtf8 input → IsView request words around input text notes
+        → (text ≡ []) ⊎ ((above : List ℕ) × (below : List ℕ) × (lines : List Painted) × (text ≡ above ++ (colored_text lines ++ 10 ∷ []) ++ below)
+        × (is_clean above ≡ true) × All (λ line. is_clean (plain line) ≡ true) lines × (is_clean below ≡ true)) }
+{}
+
+/// Nothing that is said of a refusal, or beside a table, steers the terminal, whatever the words say.
+pub fn nothing_said_steers()
+    ensures refusals { (words : List (List ℕ)) (refusal : Refusal) → All IsUtf8 words → is_clean (said words refusal) ≡ true }
+    ensures notes { (notes : Said) → is_clean (noted notes) ≡ true }
 {}
 
 /// Where the program is asked about itself it writes exactly what it says of itself, and reads nothing.
@@ -74,9 +90,9 @@ pub fn asked_about_itself<R: Read, W: Write>(
     around: Surroundings,
     input: &mut R,
     output: &mut W,
-) -> Result<(), ViewError>
+) -> Result<Notes, ViewError>
     requires { is_about_itself request.shows ≡ true }
-    ensures told { OnOk result (Appends (W.contents output.old) (W.contents output.new) (told_of_itself request.shows)) }
+    ensures told { OnOk result (Appends (W.contents output.old) (W.contents output.new) (told_of_itself request (map string_bytes words.now))) }
     ensures refused { IfErr result (λ e. (e ≡ refusals.OutOfMemory) ⊎ (e ≡ refusals.WriteFailed)) }
     ensures unread { Keeps (R.remaining input.old) (R.remaining input.new) }
 {

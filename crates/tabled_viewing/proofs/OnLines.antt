@@ -26,7 +26,7 @@ use Rattle.tabled_measure.specs.Sizes.{column_count, column_widths, row_heights}
 use Rattle.tabled_text.specs.TextTable.{AreRead, Drawing, look_of, widths_with_spans, heights_with_spans}
 use Rattle.tabled_text.proofs.SpanLemmas.{spans_shown}
 use Rattle.tabled_request.specs.declared.request.Request.{Request}
-use Rattle.tabled_viewing.specs.Captions.{caption, has_room, lettering, on_line, written_on_line}
+use Rattle.tabled_viewing.specs.Captions.{has_room, lettering, on_line, written_on_line}
 use Rattle.tabled_viewing.specs.View.{draws_above, drawn, has_header_line, titled}
 
 -- events that set nothing beside borders leave sizes as the texts ask
@@ -98,8 +98,6 @@ nothing_on_line is_drawn before table line (Some text) = either (is_drawn && has
     either true = nothing_written before table text line
     either false = refl
 
-pub nothing_titled : (request : Request) (style : ReadyStyle) (words : List (List ℕ)) (before : List ConfigEvent) (table : Table) → settings_of before ≡ []
-    → settings_of (titled request style words before table) ≡ []
-nothing_titled request style words before table nothing =
-    filter_map-append setting_event before (on_line (draws_above style) before table 0 (caption request words request.title))
-    ∙ (λ i. nothing i ++ nothing_on_line (draws_above style) before table 0 (caption request words request.title) i)
+pub nothing_titled : (style : ReadyStyle) (title : Option (List ℕ)) (before : List ConfigEvent) (table : Table) → settings_of before ≡ [] → settings_of (titled style title before table) ≡ []
+nothing_titled style title before table nothing =
+    filter_map-append setting_event before (on_line (draws_above style) before table 0 title) ∙ (λ i. nothing i ++ nothing_on_line (draws_above style) before table 0 title i)

@@ -29,10 +29,8 @@ use Rattle.tabled_style.specs.declared.ready_style.ReadyStyle.{ReadyStyle}
 use Rattle.tabled_measure.specs.Sizes.{column_count}
 use Rattle.tabled_request.specs.declared.request.Request.{Request}
 use Rattle.tabled_request.specs.Words.{word_at}
-use Rattle.tabled_viewing.specs.Outlines.{chosen, draws_boxes, line_of, outlined, outlines, touch_of}
+use Rattle.tabled_viewing.specs.Outlines.{draws_boxes, line_of, marked, named, outlined, outlines, touch_of}
 use Rattle.tabled_viewing.specs.View.{drawn, framed}
-use Rattle.tabled_viewing.specs.declared.outlines.Choosing.{Choosing}
-use Rattle.tabled_viewing.specs.declared.outlines.Choosing.TheVariants.{ByPlace, ByText}
 use Rattle.tabled_viewing.proofs.Narrow.{characters_written, drawn_narrow}
 use Rattle.tabled_viewing.proofs.OnLines.{nothing_by_both, nothing_drawn}
 
@@ -147,21 +145,21 @@ gives_narrow false = record {
 
 -- ---- the outlines that are asked for
 
-module _ (style : ReadyStyle) (how : Choosing) (table : Table) where
-  abbrev around : List ℕ → List (Event ℕ)
-  around word = outline (length table, column_count table) (listed (chosen how word table) (length table) (column_count table)) (given_by (draws_boxes style))
+module _ (style : ReadyStyle) (table : Table) where
+  abbrev around : List Entity → List (Event ℕ)
+  around cells = outline (length table, column_count table) (listed cells (length table) (column_count table)) (given_by (draws_boxes style))
 
-  outlined_narrow : (word : Option (List ℕ)) → WritesNarrow (outlined style how word table)
+  outlined_narrow : (cells : Option (List Entity)) → WritesNarrow (outlined style cells table)
   unfolding outlined highlight_events
   outlined_narrow None = refl
-  outlined_narrow (Some word) =
-      ap (list_all is_narrow_write) (characters_written (around word) [])
-      ∙ outline_narrow (given_by (draws_boxes style)) (gives_narrow (draws_boxes style)) (listed (chosen how word table) (length table) (column_count table)) (length table, column_count table)
+  outlined_narrow (Some cells) =
+      ap (list_all is_narrow_write) (characters_written (around cells) [])
+      ∙ outline_narrow (given_by (draws_boxes style)) (gives_narrow (draws_boxes style)) (listed cells (length table) (column_count table)) (length table, column_count table)
 
-  nothing_outlined : (word : Option (List ℕ)) → settings_of (outlined style how word table) ≡ []
+  nothing_outlined : (cells : Option (List Entity)) → settings_of (outlined style cells table) ≡ []
   unfolding outlined highlight_events
   nothing_outlined None = refl
-  nothing_outlined (Some word) = nothing_by_both (around word) []
+  nothing_outlined (Some cells) = nothing_by_both (around cells) []
 
 -- events one after the other
 both_narrow : (first second : List ConfigEvent) → WritesNarrow first → WritesNarrow second → WritesNarrow (first ++ second)
@@ -172,33 +170,36 @@ both_narrow first second one other =
 both_nothing : (first second : List ConfigEvent) → settings_of first ≡ [] → settings_of second ≡ [] → settings_of (first ++ second) ≡ []
 both_nothing first second one other = filter_map-append setting_event first second ∙ (λ i. one i ++ other i)
 
-module _ (request : Request) (style : ReadyStyle) (words : List (List ℕ)) (table : Table) where
-  pub framed_narrow : WritesNarrow (framed request style words table)
-  framed_narrow =
-      both_narrow (drawn request style (length table)) (outlines request style words table) (drawn_narrow request style (length table))
-      (both_narrow (outlined style ByPlace (word_at words request.outline) table) (outlined style ByText (word_at words request.mark) table)
-      (outlined_narrow style ByPlace table (word_at words request.outline)) (outlined_narrow style ByText table (word_at words request.mark)))
+module _ (request : Request) (style : ReadyStyle) (words : List (List ℕ)) (rows texts : Table) where
+  abbrev places : Option (List Entity)
+  places = option_map named (word_at words request.outline)
 
-  pub nothing_framed : settings_of (framed request style words table) ≡ []
+  abbrev marks : Option (List Entity)
+  marks = option_map (marked rows) (word_at words request.mark)
+
+  pub framed_narrow : WritesNarrow (framed request style words rows texts)
+  framed_narrow =
+      both_narrow (drawn request style (length texts)) (outlines request style words rows texts) (drawn_narrow request style (length texts))
+      (both_narrow (outlined style places texts) (outlined style marks texts) (outlined_narrow style texts places) (outlined_narrow style texts marks))
+
+  pub nothing_framed : settings_of (framed request style words rows texts) ≡ []
   nothing_framed =
-      both_nothing (drawn request style (length table)) (outlines request style words table) (nothing_drawn request style (length table))
-      (both_nothing (outlined style ByPlace (word_at words request.outline) table) (outlined style ByText (word_at words request.mark) table)
-      (nothing_outlined style ByPlace table (word_at words request.outline)) (nothing_outlined style ByText table (word_at words request.mark)))
+      both_nothing (drawn request style (length texts)) (outlines request style words rows texts) (nothing_drawn request style (length texts))
+      (both_nothing (outlined style places texts) (outlined style marks texts) (nothing_outlined style texts places) (nothing_outlined style texts marks))
 
 -- ---- what putting an outline changes
 
-module _ (style : ReadyStyle) (how : Choosing) (table : Table) where
-  -- nothing, where no word chooses cells
-  pub put_none : (old : Colored) (given : Option (List ℕ)) → given ≡ None → Changes (outlined style how given table) old old
+module _ (style : ReadyStyle) (table : Table) where
+  -- nothing, where there are no cells for it
+  pub put_none : (old : Colored) (given : Option (List Entity)) → given ≡ None → Changes (outlined style given table) old old
   unfolding outlined
-  put_none old given is = subst (λ given. Changes (outlined style how given table) old old) (sym is) (none_change old)
+  put_none old given is = subst (λ given. Changes (outlined style given table) old old) (sym is) (none_change old)
 
-  pub put : {W : Type 0} (old new : Colored) (given : Option (List ℕ)) (word : List ℕ) (cells : Vec Entity W) (around : Highlighting (Vec Entity W)) → given ≡ Some word
-      → around ≡ record { target = cells; border = Some (line_of style); diagonal = Some (touch_of style); color = None } → cells.items ≡ chosen how word table
+  pub put : {W : Type 0} (old new : Colored) (given : Option (List Entity)) (cells : Vec Entity W) (around : Highlighting (Vec Entity W)) → given ≡ Some cells.items
+      → around ≡ record { target = cells; border = Some (line_of style); diagonal = Some (touch_of style); color = None }
       → Changes (highlight_events (length table, column_count table) around.target.items around.border around.diagonal around.color) old new
-      → Changes (outlined style how given table) old new
+      → Changes (outlined style given table) old new
   unfolding outlined
-  put {W} old new given word cells around is drawn_by are changes =
-      subst (λ given. Changes (outlined style how given table) old new) (sym is)
-      (subst (λ cells. Changes (highlight_events (length table, column_count table) cells (Some (line_of style)) (Some (touch_of style)) None) old new) are
-      (subst (λ (around : Highlighting (Vec Entity W)). Changes (highlight_events (length table, column_count table) around.target.items around.border around.diagonal around.color) old new) drawn_by changes))
+  put {W} old new given cells around is drawn_by changes =
+      subst (λ given. Changes (outlined style given table) old new) (sym is)
+      (subst (λ (around : Highlighting (Vec Entity W)). Changes (highlight_events (length table, column_count table) around.target.items around.border around.diagonal around.color) old new) drawn_by changes)

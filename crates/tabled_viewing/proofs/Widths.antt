@@ -1,5 +1,5 @@
 -- A page without captions and colors is as wide as its table in its style.
-use Rattle.std.proofs.Common.{◌≡◌, ℕ, ◌+◌, ◌≤◌, ◌==◌, ◌&&◌, Bool, true, false, nat_le, None, List, [], ◌∷◌, ◌++◌, length, slice_index, refl, sym, ap, subst, ◌∙◌, append-nil, arith}
+use Rattle.std.proofs.Common.{◌≡◌, ℕ, ◌+◌, ◌≤◌, ◌==◌, ◌&&◌, Bool, true, false, nat_le, Option, None, List, [], ◌∷◌, ◌++◌, length, slice_index, refl, sym, ap, subst, ◌∙◌, append-nil, arith}
 use Rattle.std.specs.FinMap.{len, len-empty}
 use Rattle.std.specs.List.{list_all}
 use Rattle.std.proofs.lemmas.Bool.{and_from, and_parts}
@@ -26,9 +26,8 @@ use Rattle.tabled_text.specs.TextTable.{look_of}
 use Rattle.tabled_request.specs.declared.request.Request.{Request}
 use Rattle.tabled_request.specs.declared.sides.ColumnSide.{ColumnSide}
 use Rattle.tabled_request.specs.declared.sides.ColumnSide.TheVariants as side
-use Rattle.tabled_viewing.specs.Captions.{caption, on_line}
 use Rattle.tabled_viewing.specs.Colors.{aligned, aligned_column, colored_if}
-use Rattle.tabled_viewing.specs.View.{captioned, draws_above, draws_below}
+use Rattle.tabled_viewing.specs.View.{captioned}
 
 -- ---- alignments are no borders, no spans, no padding and no margin
 
@@ -109,12 +108,10 @@ module _ (before : List ConfigEvent) (sides : List ColumnSide) where
 
 -- ---- all events, where there is no caption and no color
 
-pub plain_events : (request : Request) (style : ReadyStyle) (words : List (List ℕ)) (before : List ConfigEvent) (sides : List ColumnSide) (in_color : Bool) (first second : Table) → request.title ≡ None → request.footer ≡ None → in_color ≡ false
-    → (captioned request style words before first ++ aligned 0 sides) ++ colored_if in_color request second ≡ before ++ aligned 0 sides
-plain_events request style words before sides in_color first second untitled unfooted plain =
-    (λ i. (((before ++ on_line (draws_above style) before first 0 (caption request words (untitled i)))
-    ++ on_line (draws_below style) (before ++ on_line (draws_above style) before first 0 (caption request words (untitled i))) first (length first) (caption request words (unfooted i)))
-    ++ aligned 0 sides) ++ colored_if (plain i) request second)
+pub plain_events : (request : Request) (style : ReadyStyle) (title footer : Option (List ℕ)) (before : List ConfigEvent) (sides : List ColumnSide) (in_color : Bool) (first second : Table) → title ≡ None → footer ≡ None → in_color ≡ false
+    → (captioned style title footer before first ++ aligned 0 sides) ++ colored_if in_color request second ≡ before ++ aligned 0 sides
+plain_events request style title footer before sides in_color first second untitled unfooted plain =
+    (λ i. (captioned style (untitled i) (unfooted i) before first ++ aligned 0 sides) ++ colored_if (plain i) request second)
     ∙ append-nil (((before ++ []) ++ []) ++ aligned 0 sides) ∙ ap (λ es. es ++ aligned 0 sides) (append-nil (before ++ []) ∙ append-nil before)
 
 -- each line is no wider than asked for, where all are as wide as some less

@@ -1,5 +1,5 @@
 -- Texts above and below a table: on its first and last line, where these are drawn and have room, and else beside it.
-use Rattle.std.specs.Prelude.{ℕ, ◌+◌, Bool, ◌==◌, ◌&&◌, nat_le, if◌then◌else◌, List, [], ◌∷◌, ◌++◌, codes, chars, length, sum, false, Option, Some, None, option_map, unwrap_or}
+use Rattle.std.specs.Prelude.{ℕ, ◌+◌, Bool, ◌==◌, ◌&&◌, nat_le, if◌then◌else◌, List, [], ◌∷◌, ◌++◌, codes, chars, length, sum, false, Option, Some, None, unwrap_or}
 use Rattle.std.specs.List.{list_all}
 use Rattle.unicode_width.specs.Width.{char_width}
 use Rattle.tabled_clean.specs.Steering.{cleaned}
@@ -7,21 +7,27 @@ use Rattle.tabled_object.specs.declared.object.rows.Row.{Row}
 use Rattle.tabled_settings.specs.declared.alignment.AlignmentHorizontal.TheVariants.{Center}
 use Rattle.tabled_object.specs.declared.offset.Offset.{Offset}
 use Rattle.tabled_configuration.specs.Configuration.{ConfigEvent}
+use Rattle.tabled_width.specs.CutOff.{truncated}
 use Rattle.tabled_width.specs.Texts.{Table}
 use Rattle.tabled_formatting.specs.declared.alignment.Alignment.TheVariants.{Horizontal}
 use Rattle.tabled_options.specs.LineText.{Lettering, text_events}
 use Rattle.tabled_options.specs.NamedLine.{row_line}
 use Rattle.tabled_measure.specs.Sizes.{column_widths}
 use Rattle.tabled_text.specs.TextTable.{look_of}
-use Rattle.tabled_request.specs.Words.{word_at}
-use Rattle.tabled_request.specs.declared.request.Request.{Request}
 
 -- a text of the words as it is shown: cleaned, unless it is to be left as it is
 abbrev pub shown_text : Bool → List ℕ → List ℕ
 shown_text is_raw text = if is_raw then text else cleaned text
 
-abbrev pub caption : Request → List (List ℕ) → Option ℕ → Option (List ℕ)
-caption request words number = option_map (shown_text request.is_raw) (word_at words number)
+-- cut off before two dots where it is wider than the table may be
+abbrev pub cut_to : Option ℕ → List ℕ → List ℕ
+cut_to None text = text
+cut_to (Some width) text = truncated width (codes "..") text
+
+-- a text above or below a table; the empty one is none
+abbrev pub caption : Bool → Option ℕ → Option (List ℕ) → Option (List ℕ)
+caption is_raw width None = None
+caption is_raw width (Some text) = if length text == 0 then None else Some (cut_to width (shown_text is_raw text))
 
 -- a character that takes one column of the terminal
 abbrev pub takes_one : ℕ → Bool

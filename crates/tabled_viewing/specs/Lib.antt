@@ -1,8 +1,10 @@
 pub mod Asked
+pub mod Rows
 pub mod Refusal
 pub mod Captions
 pub mod Colors
 pub mod Outlines
+pub mod Notes
 pub mod View
 pub mod Itself
 pub mod Said

@@ -1,7 +1,6 @@
 -- What is written for an input: its table as a request asks for it.
 use Rattle.std.specs.Prelude.{◌≡◌, ℕ, ◌-◌, ◌≤◌, Bool, true, false, ◌&&◌, ◌||◌, nat_lt, nat_le, if◌then◌else◌, List, [], ◌∷◌, ◌++◌, codes, length, is_none, is_some, Option, Some, None}
 use Rattle.std.specs.List.{list_all}
-use Rattle.tabled_clean.specs.Steering.{cleaned}
 use Rattle.tabled_width.specs.declared.limit.Overflow.{Overflow}
 use Rattle.tabled_width.specs.declared.limit.Overflow.TheVariants.{Wrap, WrapWords, Truncate}
 use Rattle.tabled_configuration.specs.Configuration.{ConfigEvent, borders_replaced}
@@ -9,26 +8,21 @@ use Rattle.tabled_painting.specs.PaintedTable.{colored_text}
 use Rattle.tabled_width.specs.Texts.{Table, pieces, width_of_text}
 use Rattle.tabled_style.specs.declared.ready_style.ReadyStyle.{ReadyStyle}
 use Rattle.tabled_style.specs.Named.{shown, ready_applied}
-use Rattle.tabled_builder.specs.Records.{filled}
-use Rattle.tabled_measure.specs.Changed.{CellsArePrintable, cells_changed, each_text}
+use Rattle.tabled_measure.specs.Changed.{CellsArePrintable}
 use Rattle.tabled_text.specs.Fitted.{IsFitted, frame_width, least_width}
 use Rattle.tabled_text.specs.TextTable.{painted, text_of}
 use Rattle.tabled_input.specs.Input.{rows_in}
 use Rattle.tabled_request.specs.Sides.{sides_of}
+use Rattle.tabled_request.specs.Words.{word_at}
 use Rattle.tabled_request.specs.declared.request.Request.{Request}
 use Rattle.tabled_request.specs.declared.surroundings.Surroundings.{Surroundings}
 use Rattle.tabled_viewing.specs.Asked.{cells_asked, style_asked, width_asked, is_colored}
 use Rattle.tabled_viewing.specs.Captions.{beside, caption, on_line}
 use Rattle.tabled_viewing.specs.Colors.{aligned, colored_if}
+use Rattle.tabled_viewing.specs.Notes.{no_notes, notes_of}
 use Rattle.tabled_viewing.specs.Outlines.{outlines}
-
--- the texts of the table of some rows: filled with empty ones, if they are to be, and cleaned, unless they are to be left as they are
-abbrev pub rows_asked : Request → Table → Table
-rows_asked request rows = if request.fills then filled rows else rows
-
-unfoldable pub texts_asked : Request → Table → Table
-texts_asked request rows =
-    if request.is_raw then rows_asked request rows else cells_changed (each_text cleaned) (rows_asked request rows)
+use Rattle.tabled_viewing.specs.Rows.{rows_shown, texts_shown}
+use Rattle.tabled_viewing.specs.declared.notes.Notes.{Notes}
 
 -- the line below the header is drawn: there is a header, and either a row below it, or no other line that closes the table
 abbrev pub has_header_line : Request → ReadyStyle → ℕ → Bool
@@ -39,9 +33,9 @@ abbrev pub drawn : Request → ReadyStyle → ℕ → List ConfigEvent
 drawn request style rows =
     if has_header_line request style rows then ready_applied style else borders_replaced (shown style).borders [] []
 
--- the borders of a table: its style as it is drawn, and then the outlines around some of its cells
-abbrev pub framed : Request → ReadyStyle → List (List ℕ) → Table → List ConfigEvent
-framed request style words table = drawn request style (length table) ++ outlines request style words table
+-- the borders of the table of these texts, which has these rows: its style as it is drawn, and then the outlines around some of its cells
+abbrev pub framed : Request → ReadyStyle → List (List ℕ) → Table → Table → List ConfigEvent
+framed request style words rows texts = drawn request style (length texts) ++ outlines request style words rows texts
 
 -- how texts are kept within a width: they are cut off before two dots, or they go on in further lines, cut at their spaces
 abbrev pub IsKeptBy : Bool → Overflow → Type 0
@@ -64,58 +58,67 @@ draws_above style = is_some (shown style).borders.top
 abbrev pub draws_below : ReadyStyle → Bool
 draws_below style = is_some (shown style).borders.bottom
 
--- what is written for a table whose borders are drawn: the title on its first line, and then the footer on its last
-abbrev pub titled : Request → ReadyStyle → List (List ℕ) → List ConfigEvent → Table → List ConfigEvent
-titled request style words before table = before ++ on_line (draws_above style) before table 0 (caption request words request.title)
+-- the texts above and below a table, if there are any
+abbrev pub title_of : Request → List (List ℕ) → Surroundings → Option (List ℕ)
+title_of request words around = caption request.is_raw (width_asked request around) (word_at words request.title)
 
-abbrev pub captioned : Request → ReadyStyle → List (List ℕ) → List ConfigEvent → Table → List ConfigEvent
-captioned request style words before table =
-    titled request style words before table
-    ++ on_line (draws_below style) (titled request style words before table) table (length table) (caption request words request.footer)
+abbrev pub footer_of : Request → List (List ℕ) → Surroundings → Option (List ℕ)
+footer_of request words around = caption request.is_raw (width_asked request around) (word_at words request.footer)
+
+-- what is written for a table whose borders are drawn: the title on its first line, and then the footer on its last
+abbrev pub titled : ReadyStyle → Option (List ℕ) → List ConfigEvent → Table → List ConfigEvent
+titled style title before table = before ++ on_line (draws_above style) before table 0 title
+
+abbrev pub captioned : ReadyStyle → Option (List ℕ) → Option (List ℕ) → List ConfigEvent → Table → List ConfigEvent
+captioned style title footer before table =
+    titled style title before table ++ on_line (draws_below style) (titled style title before table) table (length table) footer
 
 -- the text of a table, in color or not
 abbrev pub written : Bool → List ConfigEvent → Table → List ℕ
 written is_colored events table = if is_colored then colored_text (painted events table) else text_of events table
 
 -- a table as it is written: a title that has no room on it, its lines, each of which ends in a line feed, and a footer likewise
-abbrev pub page : Request → ReadyStyle → List (List ℕ) → Bool → List ConfigEvent → Table → List ℕ
-page request style words is_colored events table =
-    beside (draws_above style) table (caption request words request.title)
-    ++ (written is_colored events table ++ 10 ∷ [])
-    ++ beside (draws_below style) table (caption request words request.footer)
+abbrev pub page : ReadyStyle → Option (List ℕ) → Option (List ℕ) → Bool → List ConfigEvent → Table → List ℕ
+page style title footer is_colored events table =
+    beside (draws_above style) table title ++ (written is_colored events table ++ 10 ∷ []) ++ beside (draws_below style) table footer
 
 -- all that is written for the table: the style with its outlines and its captions, the sides at which its cells stand, and the colors
-abbrev pub events_of : Request → ReadyStyle → List (List ℕ) → Bool → Table → Table → List ConfigEvent
-events_of request style words is_colored texts table =
-    (captioned request style words (framed request style words texts) table ++ aligned 0 (sides_of request words texts))
-    ++ colored_if is_colored request table
+abbrev pub events_of : Request → ReadyStyle → List (List ℕ) → Surroundings → Table → Table → Table → List ConfigEvent
+events_of request style words around rows texts table =
+    (captioned style (title_of request words around) (footer_of request words around) (framed request style words rows texts) table ++ aligned 0 (sides_of request words rows))
+    ++ colored_if (is_colored request around) request table
 
 -- no line of a page is wider than asked for: so it is where its texts are of printable ASCII, where nothing stands above and below its table, and
 -- no color in it, and where its table can be so narrow
-abbrev pub FitsWidth : Request → ReadyStyle → List (List ℕ) → Surroundings → Table → List ℕ → Type 0
-FitsWidth request style words around texts text =
+abbrev pub FitsWidth : Request → ReadyStyle → List (List ℕ) → Surroundings → Table → Table → List ℕ → Type 0
+FitsWidth request style words around rows texts text =
     (width : ℕ) → width_asked request around ≡ Some width → request.title ≡ None → request.footer ≡ None → is_colored request around ≡ false
-    → CellsArePrintable texts → least_width 1 (framed request style words texts) texts ≤ width
+    → CellsArePrintable texts → least_width 1 (framed request style words rows texts) texts ≤ width
     → (lines : List ℕ) × (text ≡ lines ++ 10 ∷ []) × (list_all (λ line. nat_le (width_of_text line) width) (pieces lines) ≡ true)
 
--- the page of a table of these texts
-pub record IsPage (request : Request) (style : ReadyStyle) (words : List (List ℕ)) (around : Surroundings) (texts : Table) (text : List ℕ) : Type 0 where
+-- the page of a table of these texts, which has these rows, and what is said beside it
+pub record IsPageOf (request : Request) (style : ReadyStyle) (words : List (List ℕ)) (around : Surroundings) (rows texts : Table) (text : List ℕ) (notes : Notes) : Type 0 where
   pub table : Table
-  pub within : IsWithin request.cuts_off (width_asked request around) (framed request style words texts) texts table
-  pub fits : FitsWidth request style words around texts text
-  pub text_is : text ≡ page request style words (is_colored request around) (events_of request style words (is_colored request around) texts table) table
+  pub within : IsWithin request.cuts_off (width_asked request around) (framed request style words rows texts) texts table
+  pub fits : FitsWidth request style words around rows texts text
+  pub text_is :
+      text ≡ page style (title_of request words around) (footer_of request words around) (is_colored request around) (events_of request style words around rows texts table) table
+  pub notes_are : notes ≡ notes_of request around (framed request style words rows texts) table
+
+abbrev pub IsPage : Request → ReadyStyle → List (List ℕ) → Surroundings → Table → List ℕ → Notes → Type 0
+IsPage request style words around rows text notes = IsPageOf request style words around rows (texts_shown request rows) text notes
 
 -- what is written for rows: nothing where there is none
-abbrev pub IsViewOfRows : Request → ReadyStyle → List (List ℕ) → Surroundings → Table → List ℕ → Type 0
-IsViewOfRows request style words around [] text = text ≡ []
-IsViewOfRows request style words around (row ∷ rows) text = IsPage request style words around (texts_asked request (row ∷ rows)) text
+abbrev pub IsViewOfRows : Request → ReadyStyle → List (List ℕ) → Surroundings → Table → List ℕ → Notes → Type 0
+IsViewOfRows request style words around [] text notes = (text ≡ []) × (notes ≡ no_notes)
+IsViewOfRows request style words around (row ∷ rows) text notes = IsPage request style words around (rows_shown request words (row ∷ rows)) text notes
 
 -- what is written for an input, in a style
-abbrev pub IsViewOfInput : Request → ReadyStyle → List (List ℕ) → Surroundings → List ℕ → List ℕ → Type 0
-IsViewOfInput request style words around input text = IsViewOfRows request style words around (rows_in (cells_asked request) input) text
+abbrev pub IsViewOfInput : Request → ReadyStyle → List (List ℕ) → Surroundings → List ℕ → List ℕ → Notes → Type 0
+IsViewOfInput request style words around input text notes = IsViewOfRows request style words around (rows_in (cells_asked request words) input) text notes
 
 -- the same in the style that is asked for
-abbrev pub IsView : Request → List (List ℕ) → Surroundings → List ℕ → List ℕ → Type 0
-IsView request words around input text =
+abbrev pub IsView : Request → List (List ℕ) → Surroundings → List ℕ → List ℕ → Notes → Type 0
+IsView request words around input text notes =
     (style : ReadyStyle) × (style_asked request words around ≡ Some style)
-    × IsViewOfInput request style words around input text
+    × IsViewOfInput request style words around input text notes

@@ -1,10 +1,10 @@
 //! Texts above and below a table.
 
-ghost use Rattle.std.specs.Prelude.{◌≡◌, ◌+◌, ◌==◌, ◌&&◌, ◌++◌, [], List, Some, chars, map, nat_le, sum, option_map, string_bytes, IfOk, OnOk};
+ghost use Rattle.std.specs.Prelude.{◌≡◌, ◌+◌, ◌==◌, ◌&&◌, ◌++◌, [], List, Some, chars, nat_le, sum, option_map, string_bytes, IfOk, OnOk};
 ghost use Rattle.std.specs.List.{list_all};
 ghost use Rattle.tabled_configuration.specs.Colored.{Changes, Shows};
 ghost use Rattle.tabled_configuration.specs.Configuration.{ConfigEvent, settings_of};
-ghost use Rattle.tabled_viewing.specs.Captions.{beside, caption, has_room, lettering, on_line, shown_text, takes_one, written_on_line};
+ghost use Rattle.tabled_viewing.specs.Captions.{beside, caption, cut_to, has_room, lettering, on_line, shown_text, takes_one, written_on_line};
 
 use std::alloc::Global;
 use tabled_border::OutOfMemory;
@@ -12,8 +12,8 @@ use tabled_clean::cleaned;
 use tabled_formatting::Alignment;
 use tabled_object::{Row, Rows};
 use tabled_options::LineText;
-use tabled_request::{Request, word_at};
 use tabled_text::TextTable;
+use tabled_width::truncated;
 use unicode_width::UnicodeWidthChar;
 
 /// Whether a character takes one column of the terminal.
@@ -60,18 +60,31 @@ fn shown_text(alloc: Global, text: &str, is_raw: bool) -> Result<String, OutOfMe
     cleaned(alloc, text)
 }
 
-/// The text that a word gives for above or below the table, as it is shown.
+/// A text cut off before two dots, where it is wider than the table may be.
+fn cut_to(alloc: Global, text: String, width: Option<usize>) -> Result<String, OutOfMemory>
+    ensures { IfOk result (λ shown. string_bytes shown ≡ cut_to width (string_bytes text)) }
+{
+    match width {
+        Some(width) => truncated(alloc, text.as_str(), width, ".."),
+        None => Ok(text),
+    }
+}
+
+/// Returns a text that is to stand above or below the table as it is shown there, within a width; the empty one is none.
 pub(crate) fn caption(
     alloc: Global,
-    request: Request,
-    words: &[String],
-    number: Option<usize>,
+    is_raw: bool,
+    width: Option<usize>,
+    text: Option<&str>,
 ) -> Result<Option<String>, OutOfMemory>
-    ensures { IfOk result (λ text. option_map string_bytes text ≡ caption request (map string_bytes words.now) number) }
+    ensures { IfOk result (λ shown. option_map string_bytes shown ≡ caption is_raw width (option_map (λ text. text.now) text.entry)) }
 {
-    match word_at(words, number) {
-        Some(text) => Ok(Some(shown_text(alloc, text, request.is_raw)?)),
-        None => Ok(None),
+    match text {
+        Some(text) if !text.is_empty() => {
+            let shown = shown_text(alloc, text, is_raw)?;
+            Ok(Some(cut_to(alloc, shown, width)?))
+        }
+        _ => Ok(None),
     }
 }
 

@@ -1,77 +1,31 @@
 //! The table of a request, with its style, within its width.
 
-ghost use Rattle.std.specs.Prelude.{◌≡◌, ◌≢◌, ◌≤◌, ◌⊎◌, ◌-◌, ℕ, true, [], List, None, Some, length, map, option_map, string_bytes, if◌then◌else◌, IfErr, IfOk, OnOk};
+ghost use Rattle.std.specs.Prelude.{◌≡◌, ◌≤◌, ◌-◌, ℕ, true, [], List, Some, length, map, string_bytes, if◌then◌else◌, IfOk, OnOk};
 ghost use Rattle.tabled_clean.specs.Steering.{cleaned};
 ghost use Rattle.tabled_configuration.specs.Colored.{Shows};
 ghost use Rattle.tabled_configuration.specs.Configuration.{ConfigEvent};
 ghost use Rattle.tabled_configuration.specs.Configuration as borders;
-ghost use Rattle.tabled_width.specs.Texts.{texts};
+ghost use Rattle.tabled_width.specs.Texts.{Table, texts};
 ghost use Rattle.tabled_painting.specs.Widths.{text_width};
 ghost use Rattle.tabled_measure.specs.Cells.{leaves_sizes, margin_set};
 ghost use Rattle.tabled_measure.specs.Changed.{CellsArePrintable, cells_changed, each_text};
 ghost use Rattle.tabled_text.specs.Fitted.{IsFitted, frame_width, least_width};
-ghost use Rattle.tabled_measure.specs.Sizes.{unequal_row};
 ghost use Rattle.tabled_text.specs.TextTable.{look_of};
 ghost use Rattle.tabled_width.specs.Limited.{ends_printable};
 ghost use Rattle.tabled_viewing.specs.Asked.{width_asked};
-ghost use Rattle.tabled_viewing.specs.Refusal.{fault_of_rows, unequal};
-ghost use Rattle.tabled_viewing.specs.View.{IsKeptWithin, IsWithin, drawn, framed, has_header_line, rows_asked, texts_asked};
-ghost use Rattle.tabled_viewing.specs.declared.error.ViewError.TheVariants as refusals;
+ghost use Rattle.tabled_viewing.specs.Outlines.{AreMarked};
+ghost use Rattle.tabled_viewing.specs.Rows.{texts_shown};
+ghost use Rattle.tabled_viewing.specs.View.{IsKeptWithin, IsWithin, drawn, framed, has_header_line};
 
 use crate::asked::width_asked;
-use crate::error::ViewError;
 use crate::outlines::outline;
 use std::alloc::Global;
 use tabled_border::OutOfMemory;
-use tabled_builder::Builder;
+use tabled_object::Entity;
 use tabled_request::{Request, Surroundings};
 use tabled_style::ReadyStyle;
-use tabled_text::{TableError, TextTable};
+use tabled_text::TextTable;
 use tabled_width::Overflow;
-
-/// A table of rows. They are refused where one has more or fewer cells than the first.
-fn equal_rows(alloc: Global, rows: Vec<Vec<String>>) -> Result<TextTable, ViewError>
-    ensures texts { IfOk result (λ table. table.texts ≡ texts rows.items) }
-    ensures config { IfOk result (λ table. Shows [] table.config) }
-    ensures equal { OnOk result (unequal_row (texts rows.items) ≡ None) }
-    ensures kinds { IfErr result (λ e. e ≢ refusals.WriteFailed) }
-    ensures refused { IfErr result (λ e. (e ≡ refusals.OutOfMemory) ⊎ (option_map (unequal (texts rows.items)) (unequal_row (texts rows.items)) ≡ Some e)) }
-{
-    match TextTable::from_rows(alloc, rows) {
-        Ok(table) => Ok(table),
-        Err(
-            TableError::UnequalRows {
-                row,
-                cells,
-                columns,
-            },
-        ) => Err(ViewError::UnequalRows {
-            row,
-            cells,
-            columns,
-        }),
-        Err(_) => Err(ViewError::OutOfMemory),
-    }
-}
-
-/// A table of rows, which are filled with empty cells up to the longest, if the request says so; else rows of unlike length are refused.
-fn rows_asked(
-    alloc: Global,
-    request: Request,
-    rows: Vec<Vec<String>>,
-) -> Result<TextTable, ViewError>
-    ensures texts { IfOk result (λ table. table.texts ≡ rows_asked request (texts rows.items)) }
-    ensures config { IfOk result (λ table. Shows [] table.config) }
-    ensures good { OnOk result (fault_of_rows request (texts rows.items) ≡ None) }
-    ensures kinds { IfErr result (λ e. e ≢ refusals.WriteFailed) }
-    ensures refused { IfErr result (λ e. (e ≡ refusals.OutOfMemory) ⊎ (fault_of_rows request (texts rows.items) ≡ Some e)) }
-{
-    if request.fills {
-        let table = Builder::from_rows(rows).build()?;
-        return Ok(table);
-    }
-    equal_rows(alloc, rows)
-}
 
 /// Cleans the texts of a table, unless they are to be left as they are.
 fn clean(table: &mut TextTable, is_raw: bool) -> Result<(), OutOfMemory>
@@ -84,19 +38,27 @@ fn clean(table: &mut TextTable, is_raw: bool) -> Result<(), OutOfMemory>
     table.clean()
 }
 
-/// A table of these rows, which are filled where the request says so, and cleaned unless it says no. It has no borders yet.
+/// A table of rows of one length. It has no borders yet.
+fn plain_table(alloc: Global, rows: Vec<Vec<String>>) -> Result<TextTable, OutOfMemory>
+    ensures texts { IfOk result (λ table. table.texts ≡ texts rows.items) }
+    ensures config { IfOk result (λ table. Shows [] table.config) }
+{
+    match TextTable::from_rows(alloc, rows) {
+        Ok(table) => Ok(table),
+        Err(_) => Err(OutOfMemory),
+    }
+}
+
+/// A table of these rows, which are of one length, cleaned unless the request says no. It has no borders yet.
 pub(crate) fn table_of(
     alloc: Global,
     request: Request,
     rows: Vec<Vec<String>>,
-) -> Result<TextTable, ViewError>
-    ensures texts { IfOk result (λ table. table.texts ≡ texts_asked request (texts rows.items)) }
+) -> Result<TextTable, OutOfMemory>
+    ensures texts { IfOk result (λ table. table.texts ≡ texts_shown request (texts rows.items)) }
     ensures config { IfOk result (λ table. Shows [] table.config) }
-    ensures good { OnOk result (fault_of_rows request (texts rows.items) ≡ None) }
-    ensures kinds { IfErr result (λ e. e ≢ refusals.WriteFailed) }
-    ensures refused { IfErr result (λ e. (e ≡ refusals.OutOfMemory) ⊎ (fault_of_rows request (texts rows.items) ≡ Some e)) }
 {
-    let mut table = rows_asked(alloc, request, rows)?;
+    let mut table = plain_table(alloc, rows)?;
     clean(&mut table, request.is_raw)?;
     Ok(table)
 }
@@ -161,20 +123,22 @@ fn fit(table: &mut TextTable, cuts_off: bool, width: Option<usize>) -> Result<()
     }
 }
 
-/// Draws the table in a style, with the outlines that are asked for.
+/// Draws the table in a style, with the outlines that are asked for, of which the cells whose text a word is are given.
 fn draw_borders(
     table: &mut TextTable,
     alloc: Global,
     request: Request,
     style: ReadyStyle,
     words: &[String],
+    marked: Option<Vec<Entity>>,
 ) -> Result<(), OutOfMemory>
     requires { Shows [] table.old.config }
-    ensures config { OnOk result (Shows (framed request style (map string_bytes words.now) table.old.texts) table.new.config) }
+    ensures config { (rows : Table) → AreMarked request (map string_bytes words.now) rows marked
+        → OnOk result (Shows (framed request style (map string_bytes words.now) rows table.old.texts) table.new.config) }
     ensures texts { table.new.texts ≡ table.old.texts }
 {
     draw(table, request, style)?;
-    outline(table, alloc, request, style, words)
+    outline(table, alloc, request, style, words, marked)
 }
 
 /// Draws the table in a style, with the outlines that are asked for, and keeps it within its width.
@@ -185,14 +149,18 @@ pub(crate) fn frame(
     style: ReadyStyle,
     words: &[String],
     around: Surroundings,
+    marked: Option<Vec<Entity>>,
 ) -> Result<(), OutOfMemory>
     requires { Shows [] table.old.config }
-    ensures config { OnOk result (Shows (framed request style (map string_bytes words.now) table.old.texts) table.new.config) }
-    ensures within { OnOk result (IsWithin request.cuts_off (width_asked request around) (framed request style (map string_bytes words.now) table.old.texts) table.old.texts table.new.texts) }
-    ensures fits { let events = framed request style (map string_bytes words.now) table.old.texts in
+    ensures config { (rows : Table) → AreMarked request (map string_bytes words.now) rows marked
+        → OnOk result (Shows (framed request style (map string_bytes words.now) rows table.old.texts) table.new.config) }
+    ensures within { (rows : Table) → AreMarked request (map string_bytes words.now) rows marked
+        → OnOk result (IsWithin request.cuts_off (width_asked request around) (framed request style (map string_bytes words.now) rows table.old.texts) table.old.texts table.new.texts) }
+    ensures fits { (rows : Table) → AreMarked request (map string_bytes words.now) rows marked
+        → let events = framed request style (map string_bytes words.now) rows table.old.texts in
         (most : ℕ) → width_asked request around ≡ Some most → CellsArePrintable table.old.texts → least_width 1 events table.old.texts ≤ most
         → OnOk result (text_width (look_of events table.new.texts) (margin_set events) ≤ most) }
 {
-    draw_borders(table, alloc, request, style, words)?;
+    draw_borders(table, alloc, request, style, words, marked)?;
     fit(table, request.cuts_off, width_asked(request, around))
 }

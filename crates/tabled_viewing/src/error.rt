@@ -6,7 +6,7 @@ ghost use Rattle.tabled_viewing.specs.declared.error.ViewError.TheVariants as re
 
 use std::alloc::{AllocError, AllocFailed};
 use tabled_input::InputError;
-use tabled_request::{GivenError, WordsError};
+use tabled_request::{GivenError, OptionName, WordsError};
 
 /// Why the program shows no table, in the order in which the reasons are tested. Memory may be refused at any point.
 #[derive(Clone, Copy, Debug, PartialEq, Eq)]
@@ -33,6 +33,17 @@ pub enum ViewError {
         cells: usize,
         columns: usize,
     },
+    /// Filled, the rows would have more cells than an input may have bytes.
+    TooManyCells {
+        rows: usize,
+        columns: usize,
+    },
+    /// The part of this number, counted from 0, of the value of an option, which is the word of that number, names no column that is shown.
+    UnknownColumn {
+        option: OptionName,
+        word: usize,
+        part: usize,
+    },
     /// Memory was asked for and refused.
     OutOfMemory,
     /// The output could not be written.
@@ -43,7 +54,7 @@ impl ViewError {
     ghost use Rattle.tabled_viewing.specs.Refusal.{status_of};
 
     /// Returns the status that the program ends with: 2 for its words, 3 for rows of unlike length, 4 for an input that is no text or no CSV,
-    /// 5 for one that is too long, and 1 for a failure.
+    /// 5 for one that is too long or would be filled too much, and 1 for a failure.
     pub fn status(&self) -> u8
         ensures { result ≡ status_of self.now }
     {
@@ -53,6 +64,8 @@ impl ViewError {
             ViewError::OpenFailed { .. } => 1,
             ViewError::Input { refusal } => status_of_input(*refusal),
             ViewError::UnequalRows { .. } => 3,
+            ViewError::TooManyCells { .. } => 5,
+            ViewError::UnknownColumn { .. } => 2,
             ViewError::OutOfMemory => 1,
             ViewError::WriteFailed => 1,
         }

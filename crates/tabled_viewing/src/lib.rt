@@ -8,13 +8,16 @@ mod captions;
 mod colors;
 mod drawing;
 mod error;
+mod notes;
 mod outlines;
 mod page;
 mod program;
+mod rows;
 mod saying;
 mod texts;
 
-pub use asked::{is_about_itself, understood};
+pub use asked::{is_about_itself, lacks_color, understood};
 pub use error::ViewError;
+pub use notes::Notes;
 pub use program::run;
-pub use saying::said;
+pub use saying::{noted, said};

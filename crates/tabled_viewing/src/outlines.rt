@@ -2,26 +2,17 @@
 
 ghost use Rattle.std.specs.Prelude.{◌≡◌, [], Some, None, map, option_map, string_bytes, IfOk, OnOk};
 ghost use Rattle.tabled_configuration.specs.Colored.{Changes};
-ghost use Rattle.tabled_width.specs.Texts.{texts};
-ghost use Rattle.tabled_request.specs.Cells.{named_cells};
-ghost use Rattle.tabled_viewing.specs.Outlines.{chooses, chosen, draws_boxes, line_of, outlined, outlines, text_at, touch_of};
+ghost use Rattle.tabled_width.specs.Texts.{Table, texts};
+ghost use Rattle.tabled_viewing.specs.Outlines.{AreMarked, draws_boxes, entity_of, index_of, line_of, marked, named, outlined, outlines, text_at, touch_of};
 
+use crate::rows::column_count;
 use std::alloc::Global;
 use tabled_border::OutOfMemory;
 use tabled_highlight::Highlight;
 use tabled_object::{Entity, Position};
-use tabled_request::{NamedCells, Request, are_named, named_cells, word_at};
+use tabled_request::{Choice, NamedCells, Request, named_cells, word_at};
 use tabled_style::{Border, On, ReadyStyle};
 use tabled_text::TextTable;
-
-/// How a word chooses cells.
-#[derive(Clone, Copy, Debug, PartialEq, Eq)]
-enum Choosing {
-    /// The word names cells by their rows and columns.
-    ByPlace,
-    /// The word is the text of the cells.
-    ByText,
-}
 
 /// The text of a cell, the empty one outside the table.
 fn text_at(rows: &[Vec<String>], pos: Position) -> &str
@@ -36,42 +27,79 @@ fn text_at(rows: &[Vec<String>], pos: Position) -> &str
     }
 }
 
-/// Whether a word chooses a cell of a table; `named` are the cells that it names.
-#[tactic(auto, unfolding(tabled_request::specs::Cells::names_cell))]
-fn chooses(
-    rows: &[Vec<String>],
-    how: Choosing,
-    word: &str,
-    named: &[NamedCells],
-    pos: Position,
-) -> bool
-    requires { named.now ≡ named_cells word.now }
-    ensures { result ≡ chooses how word.now (texts rows.now) pos }
+/// The cells of rows whose text a word is, in row order.
+fn marked(alloc: Global, rows: &[Vec<String>], word: &str) -> Result<Vec<Entity>, OutOfMemory>
+    ensures { IfOk result (λ cells. cells.items ≡ marked (texts rows.now) word.now) }
 {
-    match how {
-        Choosing::ByPlace => are_named(named, pos.row, pos.col),
-        Choosing::ByText => text_at(rows, pos) == word,
-    }
-}
-
-/// The cells of a table that a word chooses, in row order.
-fn chosen(
-    alloc: Global,
-    table: &TextTable,
-    how: Choosing,
-    word: &str,
-) -> Result<Vec<Entity>, OutOfMemory>
-    ensures { IfOk result (λ cells. cells.items ≡ chosen how word.now table.now.texts) }
-{
-    let named = named_cells(alloc, word)?;
     let mut cells = Vec::new(alloc);
-    let shape = table.shape();
-    for pos in Entity::Global.iter(shape.rows, shape.cols) {
-        if chooses(table.texts(), how, word, &named, pos) {
+    for pos in Entity::Global.iter(rows.len(), column_count(rows)) {
+        if text_at(rows, pos) == word {
             cells.push(Entity::Cell(pos.row, pos.col))?;
         }
     }
     Ok(cells)
+}
+
+/// Returns the cells of rows whose text a word is, as it stands in them, if there is a word.
+pub(crate) fn cells_marked(
+    alloc: Global,
+    rows: &[Vec<String>],
+    word: Option<&str>,
+) -> Result<Option<Vec<Entity>>, OutOfMemory>
+    ensures { IfOk result (λ cells. option_map (λ cells. cells.items) cells ≡ option_map (marked (texts rows.now)) (option_map (λ word. word.now) word.entry)) }
+{
+    match word {
+        Some(word) => Ok(Some(marked(alloc, rows, word)?)),
+        None => Ok(None),
+    }
+}
+
+/// The row or the column that a part of a word names, counted from 0.
+fn index_of(part: Choice) -> usize
+    ensures { result ≡ index_of part }
+{
+    part.number.unwrap_or(1).saturating_sub(1)
+}
+
+/// The cells that a part of a word names.
+fn entity_of(named: NamedCells) -> Entity
+    ensures { result ≡ entity_of named }
+{
+    match (named.rows.is_all, named.cols.is_all) {
+        (true, true) => Entity::Global,
+        (true, false) => Entity::Column(index_of(named.cols)),
+        (false, true) => Entity::Row(index_of(named.rows)),
+        (false, false) => Entity::Cell(index_of(named.rows), index_of(named.cols)),
+    }
+}
+
+/// The cells that parts of a word name.
+fn entities_of(alloc: Global, parts: &[NamedCells]) -> Result<Vec<Entity>, OutOfMemory>
+    ensures { IfOk result (λ cells. cells.items ≡ map entity_of parts.now) }
+{
+    let mut cells = Vec::new(alloc);
+    for part in parts {
+        cells.push(entity_of(*part))?;
+    }
+    Ok(cells)
+}
+
+/// The cells that a word names.
+fn named(alloc: Global, word: &str) -> Result<Vec<Entity>, OutOfMemory>
+    ensures { IfOk result (λ cells. cells.items ≡ named word.now) }
+{
+    let parts = named_cells(alloc, word)?;
+    entities_of(alloc, &parts)
+}
+
+/// The cells that a word names, if there is one.
+fn cells_named(alloc: Global, word: Option<&str>) -> Result<Option<Vec<Entity>>, OutOfMemory>
+    ensures { IfOk result (λ cells. option_map (λ cells. cells.items) cells ≡ option_map named (option_map (λ word. word.now) word.entry)) }
+{
+    match word {
+        Some(word) => Ok(Some(named(alloc, word)?)),
+        None => Ok(None),
+    }
 }
 
 /// Whether a style draws by box drawing characters.
@@ -115,37 +143,36 @@ fn outline_of(style: ReadyStyle, cells: Vec<Entity>) -> Highlight<Vec<Entity>>
         .diagonal(touch_of(style))
 }
 
-/// Puts an outline around the cells that a word chooses, if there is one.
+/// Puts an outline around cells of the table, if there are any to have one.
 fn put_outline(
     table: &mut TextTable,
-    alloc: Global,
     style: ReadyStyle,
-    how: Choosing,
-    word: Option<&str>,
+    cells: Option<Vec<Entity>>,
 ) -> Result<(), OutOfMemory>
-    ensures config { OnOk result (Changes (outlined style how (option_map (λ word. word.now) word.entry) table.old.texts) table.old.config table.new.config) }
+    ensures config { OnOk result (Changes (outlined style (option_map (λ cells. cells.items) cells) table.old.texts) table.old.config table.new.config) }
     ensures texts { table.new.texts ≡ table.old.texts }
 {
-    let Some(word) = word else {
-        return Ok(());
-    };
-    let cells = chosen(alloc, table, how, word)?;
-    table.apply(outline_of(style, cells))
+    match cells {
+        Some(cells) => table.apply(outline_of(style, cells)),
+        None => Ok(()),
+    }
 }
 
-/// Puts the outlines around cells that the request asks for: around those that a word names, and then around those whose text a word is.
+/// Puts the outlines around cells that the request asks for: around those that a word names, and then around those whose text a word is, which
+/// are given.
 pub(crate) fn outline(
     table: &mut TextTable,
     alloc: Global,
     request: Request,
     style: ReadyStyle,
     words: &[String],
+    marked: Option<Vec<Entity>>,
 ) -> Result<(), OutOfMemory>
-    ensures config { OnOk result (Changes (outlines request style (map string_bytes words.now) table.old.texts) table.old.config table.new.config) }
+    ensures config { (rows : Table) → AreMarked request (map string_bytes words.now) rows marked
+        → OnOk result (Changes (outlines request style (map string_bytes words.now) rows table.old.texts) table.old.config table.new.config) }
     ensures texts { table.new.texts ≡ table.old.texts }
 {
-    let places = word_at(words, request.outline);
-    put_outline(table, alloc, style, Choosing::ByPlace, places)?;
-    let text = word_at(words, request.mark);
-    put_outline(table, alloc, style, Choosing::ByText, text)
+    let places = cells_named(alloc, word_at(words, request.outline))?;
+    put_outline(table, style, places)?;
+    put_outline(table, style, marked)
 }

@@ -12,34 +12,27 @@ ghost use Rattle.tabled_measure.specs.Cells.{leaves_sizes, margin_set};
 ghost use Rattle.tabled_text.specs.TextTable.{look_of, text_of};
 ghost use Rattle.tabled_text.specs.declared.table_error.TableError.TheVariants as table_refusals;
 ghost use Rattle.tabled_request.specs.Sides.{sides_of};
-ghost use Rattle.tabled_viewing.specs.Captions.{beside, caption};
+ghost use Rattle.tabled_viewing.specs.Captions.{beside};
+ghost use Rattle.tabled_viewing.specs.Outlines.{AreMarked};
 ghost use Rattle.tabled_viewing.specs.Refusal.{fault_of_rows};
-ghost use Rattle.tabled_viewing.specs.View.{IsPage, IsViewOfRows, captioned, draws_above, draws_below, framed, titled, written};
+ghost use Rattle.tabled_viewing.specs.View.{IsPage, IsPageOf, IsViewOfRows, captioned, draws_above, draws_below, footer_of, framed, title_of, titled, written};
 ghost use Rattle.tabled_viewing.specs.declared.error.ViewError.TheVariants as refusals;
 
-use crate::asked::is_colored;
+use crate::asked::{is_colored, width_asked};
 use crate::captions::{caption, put_caption};
 use crate::colors::place_and_color;
 use crate::drawing::{frame, table_of};
 use crate::error::ViewError;
-use std::alloc::{AllocError, Global};
+use crate::notes::{Notes, notes_of};
+use crate::outlines::cells_marked;
+use crate::rows::rows_shown;
+use std::alloc::Global;
 use std::io::Write;
 use tabled_border::OutOfMemory;
-use tabled_request::{ColumnSide, Request, Surroundings, all_sides};
+use tabled_object::Entity;
+use tabled_request::{ColumnSide, Request, Surroundings, all_sides, word_at};
 use tabled_style::ReadyStyle;
 use tabled_text::{TableError, TextTable};
-
-/// Where the cells of each column of a table stand.
-fn sides_of(
-    table: &TextTable,
-    alloc: Global,
-    request: Request,
-    words: &[String],
-) -> Result<Vec<ColumnSide>, AllocError>
-    ensures { IfOk result (λ sides. sides.items ≡ sides_of request (map string_bytes words.now) table.now.texts) }
-{
-    all_sides(alloc, request, words, table.texts())
-}
 
 /// Writes the title on the first line of the table, or returns it where it stands above the table.
 fn put_title(
@@ -48,13 +41,15 @@ fn put_title(
     request: Request,
     style: ReadyStyle,
     words: &[String],
+    around: Surroundings,
 ) -> Result<String, OutOfMemory>
-    ensures config { (given : Table) → Shows (framed request style (map string_bytes words.now) given) table.old.config
-        → OnOk result (Shows (titled request style (map string_bytes words.now) (framed request style (map string_bytes words.now) given) table.old.texts) table.new.config) }
-    ensures above { IfOk result (λ above. string_bytes above ≡ beside (draws_above style) table.old.texts (caption request (map string_bytes words.now) request.title)) }
+    ensures config { (rows texts : Table) → Shows (framed request style (map string_bytes words.now) rows texts) table.old.config
+        → OnOk result (Shows (titled style (title_of request (map string_bytes words.now) around) (framed request style (map string_bytes words.now) rows texts) table.old.texts) table.new.config) }
+    ensures above { IfOk result (λ above. string_bytes above ≡ beside (draws_above style) table.old.texts (title_of request (map string_bytes words.now) around)) }
     ensures texts { table.new.texts ≡ table.old.texts }
 {
-    let text = caption(alloc, request, words, request.title)?;
+    let title = word_at(words, request.title);
+    let text = caption(alloc, request.is_raw, width_asked(request, around), title)?;
     put_caption(table, alloc, text, style.borders().top.is_some(), 0)
 }
 
@@ -65,13 +60,16 @@ fn put_footer(
     request: Request,
     style: ReadyStyle,
     words: &[String],
+    around: Surroundings,
 ) -> Result<String, OutOfMemory>
-    ensures config { (given : Table) → Shows (titled request style (map string_bytes words.now) (framed request style (map string_bytes words.now) given) table.old.texts) table.old.config
-        → OnOk result (Shows (captioned request style (map string_bytes words.now) (framed request style (map string_bytes words.now) given) table.old.texts) table.new.config) }
-    ensures below { IfOk result (λ below. string_bytes below ≡ beside (draws_below style) table.old.texts (caption request (map string_bytes words.now) request.footer)) }
+    ensures config { (rows texts : Table) → let words = map string_bytes words.now in let title = title_of request words around in let footer = footer_of request words around in
+        let before = framed request style words rows texts in
+        Shows (titled style title before table.old.texts) table.old.config → OnOk result (Shows (captioned style title footer before table.old.texts) table.new.config) }
+    ensures below { IfOk result (λ below. string_bytes below ≡ beside (draws_below style) table.old.texts (footer_of request (map string_bytes words.now) around)) }
     ensures texts { table.new.texts ≡ table.old.texts }
 {
-    let text = caption(alloc, request, words, request.footer)?;
+    let footer = word_at(words, request.footer);
+    let text = caption(alloc, request.is_raw, width_asked(request, around), footer)?;
     let rows = table.shape().rows;
     put_caption(table, alloc, text, style.borders().bottom.is_some(), rows)
 }
@@ -127,34 +125,63 @@ fn write_table<W: Write>(
     }
 }
 
-/// Writes the page of a table that has no borders yet. All memory is asked for before something is written.
+/// Writes the page of a table that has no borders yet, whose cells stand at these sides, and of which the cells whose text a word is are given.
+/// Returns what is said beside it. All memory is asked for before something is written.
 fn write_page_of_table<W: Write>(
     alloc: Global,
     request: Request,
     style: ReadyStyle,
     words: &[String],
     around: Surroundings,
+    sides: &[ColumnSide],
+    marked: Option<Vec<Entity>>,
     table: TextTable,
     output: &mut W,
-) -> Result<(), ViewError>
+) -> Result<Notes, ViewError>
     requires { Shows [] table.config }
-    ensures written { OnOk result ((text : List ℕ) × IsPage request style (map string_bytes words.now) around table.texts text
+    ensures written { (rows : Table) → AreMarked request (map string_bytes words.now) rows marked → sides.now ≡ sides_of request (map string_bytes words.now) rows
+        → IfOk result (λ notes. (text : List ℕ) × IsPageOf request style (map string_bytes words.now) around rows table.texts text notes
         × Appends (W.contents output.old) (W.contents output.new) text) }
     ensures refused { IfErr result (λ e. (e ≡ refusals.OutOfMemory) ⊎ (e ≡ refusals.WriteFailed)) }
     ensures unwritten { IfErr result (λ e. (e ≡ refusals.WriteFailed) ⊎ (output.new ≡ output.old)) }
 {
     let mut table = table;
-    let sides = sides_of(&table, alloc, request, words)?;
-    frame(&mut table, alloc, request, style, words, around)?;
-    let above = put_title(&mut table, alloc, request, style, words)?;
-    let below = put_footer(&mut table, alloc, request, style, words)?;
+    frame(&mut table, alloc, request, style, words, around, marked)?;
+    let notes = notes_of(&table, request, around);
+    let above = put_title(&mut table, alloc, request, style, words, around)?;
+    let below = put_footer(&mut table, alloc, request, style, words, around)?;
     let in_color = is_colored(request, around);
-    place_and_color(&mut table, alloc, request, &sides, in_color)?;
+    place_and_color(&mut table, alloc, request, sides, in_color)?;
     let after = after_table(alloc, below.as_str())?;
-    write_table(&table, in_color, above.as_str(), after.as_str(), output)
+    write_table(&table, in_color, above.as_str(), after.as_str(), output)?;
+    Ok(notes)
 }
 
-/// Writes the page of rows: nothing where there is none. All memory is asked for before something is written.
+/// Writes the page of rows of one length, and returns what is said beside it. All memory is asked for before something is written.
+fn write_page_of_rows<W: Write>(
+    alloc: Global,
+    request: Request,
+    style: ReadyStyle,
+    words: &[String],
+    around: Surroundings,
+    rows: Vec<Vec<String>>,
+    output: &mut W,
+) -> Result<Notes, ViewError>
+    ensures written { IfOk result (λ notes. (text : List ℕ) × IsPage request style (map string_bytes words.now) around (texts rows.items) text notes
+        × Appends (W.contents output.old) (W.contents output.new) text) }
+    ensures refused { IfErr result (λ e. (e ≡ refusals.OutOfMemory) ⊎ (e ≡ refusals.WriteFailed)) }
+    ensures unwritten { IfErr result (λ e. (e ≡ refusals.WriteFailed) ⊎ (output.new ≡ output.old)) }
+{
+    let sides = all_sides(alloc, request, words, &rows)?;
+    let marked = cells_marked(alloc, &rows, word_at(words, request.mark))?;
+    let table = table_of(alloc, request, rows)?;
+    write_page_of_table(
+        alloc, request, style, words, around, &sides, marked, table, output,
+    )
+}
+
+/// Writes the page of rows, nothing where there is none, and returns what is said beside it. All memory is asked for before something is
+/// written.
 pub(crate) fn write_page<W: Write>(
     alloc: Global,
     request: Request,
@@ -163,17 +190,17 @@ pub(crate) fn write_page<W: Write>(
     around: Surroundings,
     rows: Vec<Vec<String>>,
     output: &mut W,
-) -> Result<(), ViewError>
-    ensures written { OnOk result ((text : List ℕ) × IsViewOfRows request style (map string_bytes words.now) around (texts rows.items) text
+) -> Result<Notes, ViewError>
+    ensures written { IfOk result (λ notes. (text : List ℕ) × IsViewOfRows request style (map string_bytes words.now) around (texts rows.items) text notes
         × Appends (W.contents output.old) (W.contents output.new) text) }
-    ensures good { OnOk result (fault_of_rows request (texts rows.items) ≡ None) }
-    ensures write_failed { IsErrOf result refusals.WriteFailed → fault_of_rows request (texts rows.items) ≡ None }
-    ensures refused { IfErr result (λ e. (e ≡ refusals.OutOfMemory) ⊎ (e ≡ refusals.WriteFailed) ⊎ (fault_of_rows request (texts rows.items) ≡ Some e)) }
+    ensures good { OnOk result (fault_of_rows request (map string_bytes words.now) (texts rows.items) ≡ None) }
+    ensures write_failed { IsErrOf result refusals.WriteFailed → fault_of_rows request (map string_bytes words.now) (texts rows.items) ≡ None }
+    ensures refused { IfErr result (λ e. (e ≡ refusals.OutOfMemory) ⊎ (e ≡ refusals.WriteFailed) ⊎ (fault_of_rows request (map string_bytes words.now) (texts rows.items) ≡ Some e)) }
     ensures unwritten { IfErr result (λ e. (e ≡ refusals.WriteFailed) ⊎ (output.new ≡ output.old)) }
 {
     if rows.is_empty() {
-        return Ok(());
+        return Ok(Notes::none());
     }
-    let table = table_of(alloc, request, rows)?;
-    write_page_of_table(alloc, request, style, words, around, table, output)
+    let rows = rows_shown(alloc, request, words, rows)?;
+    write_page_of_rows(alloc, request, style, words, around, rows, output)
 }

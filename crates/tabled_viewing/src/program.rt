@@ -12,6 +12,7 @@ ghost use Rattle.tabled_viewing.specs.declared.error.ViewError.TheVariants as re
 
 use crate::asked::{cells_asked, is_about_itself, style_asked};
 use crate::error::ViewError;
+use crate::notes::Notes;
 use crate::page::write_page;
 use crate::texts::told_of_itself;
 use std::alloc::Global;
@@ -38,10 +39,10 @@ fn view<R: Read, W: Write>(
     around: Surroundings,
     input: &mut R,
     output: &mut W,
-) -> Result<(), ViewError>
+) -> Result<Notes, ViewError>
     ensures whole { OnOk result (IsAtEnd (R.remaining input.new)) }
-    ensures written { OnOk result (IfSome (R.remaining input.old) (λ bytes. (text : List ℕ)
-        × IsView request (map string_bytes words.now) around bytes text × Appends (W.contents output.old) (W.contents output.new) text)) }
+    ensures written { IfOk result (λ notes. IfSome (R.remaining input.old) (λ bytes. (text : List ℕ)
+        × IsView request (map string_bytes words.now) around bytes text notes × Appends (W.contents output.old) (W.contents output.new) text)) }
     ensures good { OnOk result (IfSome (R.remaining input.old) (λ bytes. fault_of request (map string_bytes words.now) around bytes ≡ None)) }
     ensures refused { IfErr result (λ e. (e ≡ refusals.OutOfMemory) ⊎ (e ≡ refusals.Input input_refusals.ReadFailed) ⊎ (e ≡ refusals.WriteFailed)
         ⊎ IfSome (R.remaining input.old) (λ bytes. fault_of request (map string_bytes words.now) around bytes ≡ Some e)) }
@@ -51,21 +52,26 @@ fn view<R: Read, W: Write>(
     ensures unwritten { IfErr result (λ e. e ≢ refusals.WriteFailed → Keeps (W.contents output.old) (W.contents output.new)) }
 {
     let style = style_asked(request, words, around)?;
-    let rows = read_rows(alloc, cells_asked(request), input)?;
+    let rows = read_rows(alloc, cells_asked(request, words), input)?;
     write_page(alloc, request, style, words, around, rows, output)
 }
 
 /// Writes what the program says of itself.
-fn tell<W: Write>(alloc: Global, request: Request, output: &mut W) -> Result<(), ViewError>
-    ensures written { OnOk result (Appends (W.contents output.old) (W.contents output.new) (told_of_itself request.shows)) }
+fn tell<W: Write>(
+    alloc: Global,
+    request: Request,
+    words: &[String],
+    output: &mut W,
+) -> Result<(), ViewError>
+    ensures written { OnOk result (Appends (W.contents output.old) (W.contents output.new) (told_of_itself request (map string_bytes words.now))) }
     ensures refused { IfErr result (λ e. (e ≡ refusals.OutOfMemory) ⊎ (e ≡ refusals.WriteFailed)) }
     ensures unwritten { IfErr result (λ e. e ≢ refusals.WriteFailed → Keeps (W.contents output.old) (W.contents output.new)) }
 {
-    let text = told_of_itself(alloc, request.shows)?;
+    let text = told_of_itself(alloc, request, words)?;
     write_text(output, text.as_str())
 }
 
-/// Writes what the request asks for: the table of what is read, or what the program says of itself. At most one byte past the limit of
+/// Writes what the request asks for: the table of what is read, or what the program says of itself; returns what is said beside it. At most one byte past the limit of
 /// 268,435,456 bytes is read. Nothing is written before all else was found good; how much was written before a write failed is left open.
 pub fn run<R: Read, W: Write>(
     alloc: Global,
@@ -74,14 +80,14 @@ pub fn run<R: Read, W: Write>(
     around: Surroundings,
     input: &mut R,
     output: &mut W,
-) -> Result<(), ViewError>
+) -> Result<Notes, ViewError>
     // Over a reader and a writer that tell their bytes: the whole input was read, and exactly its page written.
     ensures whole { is_about_itself request.shows ≡ false → OnOk result (IsAtEnd (R.remaining input.new)) }
-    ensures written { is_about_itself request.shows ≡ false → OnOk result (IfSome (R.remaining input.old) (λ bytes. (text : List ℕ)
-        × IsView request (map string_bytes words.now) around bytes text × Appends (W.contents output.old) (W.contents output.new) text)) }
+    ensures written { is_about_itself request.shows ≡ false → IfOk result (λ notes. IfSome (R.remaining input.old) (λ bytes. (text : List ℕ)
+        × IsView request (map string_bytes words.now) around bytes text notes × Appends (W.contents output.old) (W.contents output.new) text)) }
 
     // Where the program is asked about itself, exactly what it says of itself was written.
-    ensures told { is_about_itself request.shows ≡ true → OnOk result (Appends (W.contents output.old) (W.contents output.new) (told_of_itself request.shows)) }
+    ensures told { is_about_itself request.shows ≡ true → OnOk result (Appends (W.contents output.old) (W.contents output.new) (told_of_itself request (map string_bytes words.now))) }
     ensures unasked { is_about_itself request.shows ≡ true → Keeps (R.remaining input.old) (R.remaining input.new) }
 
     // When each refusal comes.
@@ -98,7 +104,8 @@ pub fn run<R: Read, W: Write>(
     ensures unwritten { IfErr result (λ e. e ≢ refusals.WriteFailed → Keeps (W.contents output.old) (W.contents output.new)) }
 {
     if is_about_itself(request) {
-        return tell(alloc, request, output);
+        tell(alloc, request, words, output)?;
+        return Ok(Notes::none());
     }
     view(alloc, request, words, around, input, output)
 }

@@ -1,9 +1,12 @@
 //! What refusals say.
 
-ghost use Rattle.std.specs.Prelude.{◌≡◌, map, string_bytes, IfOk};
-ghost use Rattle.tabled_viewing.specs.Said.{out_of_memory, quoted, said, said_of_bad_value, said_of_file, said_of_given, said_of_input, said_of_no_value, said_of_rows, said_of_second_file, said_of_unknown, said_of_words, values, word, write_failed};
+ghost use Rattle.std.specs.Prelude.{◌≡◌, [], map, slice_index_or, string_bytes, IfOk};
+ghost use Rattle.std.specs.List.{slice_split};
+ghost use Rattle.tabled_request.specs.Columns.{is_comma};
+ghost use Rattle.tabled_viewing.specs.Said.{noted, out_of_memory, quoted, said, said_of_bad_value, said_of_cells, said_of_color, said_of_column, said_of_file, said_of_given, said_of_input, said_of_no_value, said_of_rows, said_of_second_file, said_of_unknown, said_of_width, said_of_words, values, word, write_failed};
 
 use crate::error::ViewError;
+use crate::notes::Notes;
 use std::alloc::Global;
 use tabled_border::OutOfMemory;
 use tabled_clean::cleaned_line;
@@ -39,11 +42,13 @@ fn values(option: OptionName) -> &'static str
             "one character of ASCII, or \\t or \\0, but no quote and no line end",
         OptionName::Title => "a text without a line feed",
         OptionName::Footer => "a text without a line feed",
-        OptionName::Left => "numbers of columns from 1 on, as 1,3-5",
-        OptionName::Center => "numbers of columns from 1 on, as 1,3-5",
-        OptionName::Right => "numbers of columns from 1 on, as 1,3-5",
+        OptionName::Left => "headings, or numbers of columns from 1 on, as name,3-5",
+        OptionName::Center => "headings, or numbers of columns from 1 on, as name,3-5",
+        OptionName::Right => "headings, or numbers of columns from 1 on, as name,3-5",
+        OptionName::Columns => "headings, or numbers of columns from 1 on, as name,3-5",
+        OptionName::Head => "a number",
         OptionName::Width => "a number from 1 on",
-        OptionName::Color => "always or never",
+        OptionName::Color => "auto, always or never",
         OptionName::FrameColor => "black, red, green, yellow, blue, magenta, cyan or white",
         OptionName::Outline => "rows and columns from 1 on, or * for all, as 2:3,4:*",
         OptionName::Mark => "the text of cells",
@@ -125,7 +130,7 @@ fn said_of_given(alloc: Global, refusal: GivenError) -> Result<String, OutOfMemo
         GivenError::Unreadable { word } => {
             let word = word.saturating_add(1);
             Ok(format!(in alloc;
-                "word {word} is not UTF-8, or has more than 4096 bytes (give a shorter text)"
+                "word {word} is not UTF-8, or has more than 4096 bytes (give a shorter text, or the file by < FILE)"
             )?)
         }
         GivenError::OutOfMemory => out_of_memory(alloc),
@@ -145,7 +150,7 @@ fn said_of_input(alloc: Global, refusal: InputError) -> Result<String, OutOfMemo
         }
         InputError::NotUtf8 { line, byte } => {
             Ok(format!(in alloc;
-                "line {line} is not UTF-8 at its byte {byte} (convert the input to UTF-8)"
+                "line {line} is not UTF-8 at its byte {byte} (convert it, as by iconv -f LATIN1 -t UTF-8)"
             )?)
         }
         InputError::OpenQuote { line, row } => {
@@ -169,6 +174,41 @@ fn said_of_rows(
     let row = row.saturating_add(1);
     Ok(format!(in alloc;
         "row {row} has {cells} cells where row 1 has {columns} (--fill fills them)"
+    )?)
+}
+
+/// What is said of rows that would have too many cells.
+fn said_of_cells(alloc: Global, rows: usize, columns: usize) -> Result<String, OutOfMemory>
+    ensures { IfOk result (λ text. string_bytes text ≡ said_of_cells rows columns) }
+{
+    Ok(format!(in alloc;
+        "filled, {rows} rows of {columns} cells have more than {INPUT_LIMIT} together (give less of the input)"
+    )?)
+}
+
+/// The part of that number of a word, between commas; the empty text past the last.
+fn part(word: &str, number: usize) -> &str
+    ensures { result.now ≡ slice_index_or (slice_split is_comma word.now) number [] }
+{
+    match word.split(',').nth(number) {
+        Some(part) => part,
+        None => "",
+    }
+}
+
+/// What is said of a part of a word that names no column.
+fn said_of_column(
+    alloc: Global,
+    word: &str,
+    option: OptionName,
+    number: usize,
+) -> Result<String, OutOfMemory>
+    ensures { IfOk result (λ text. string_bytes text ≡ said_of_column word.now option number) }
+{
+    let given = quoted(alloc, part(word, number))?;
+    let name = option.name();
+    Ok(format!(in alloc;
+        "{given} of {name} is no column that is shown (give its heading, or its number)"
     )?)
 }
 
@@ -204,7 +244,46 @@ pub fn said(alloc: Global, words: &[String], refusal: ViewError) -> Result<Strin
             cells,
             columns,
         } => said_of_rows(alloc, row, cells, columns),
+        ViewError::TooManyCells { rows, columns } => said_of_cells(alloc, rows, columns),
+        ViewError::UnknownColumn {
+            option,
+            word: n,
+            part,
+        } => said_of_column(alloc, word(words, n), option, part),
         ViewError::OutOfMemory => out_of_memory(alloc),
         ViewError::WriteFailed => write_failed(alloc),
     }
+}
+
+/// What is said beside a table that takes more columns than so many, where it was asked not to.
+fn said_of_width(alloc: Global, too_wide: Option<usize>) -> Result<String, OutOfMemory>
+    ensures { IfOk result (λ text. string_bytes text ≡ said_of_width too_wide) }
+{
+    match too_wide {
+        Some(width) => Ok(format!(in alloc;
+            "tabled_view: the table is wider than {width} columns (its columns can't be narrower; --columns chooses some)\n"
+        )?),
+        None => Ok(String::new(alloc)),
+    }
+}
+
+/// What is said beside a table without the colors that were asked for.
+fn said_of_color(lacks_color: bool) -> &'static str
+    ensures { result.now ≡ said_of_color lacks_color }
+{
+    if lacks_color {
+        "tabled_view: without color nothing is in color (--color always)\n"
+    } else {
+        ""
+    }
+}
+
+/// Returns what is said beside a table that is shown, each on a line of its own: that it is wider than asked for, and that what was to be in
+/// color is not.
+pub fn noted(alloc: Global, notes: Notes) -> Result<String, OutOfMemory>
+    ensures { IfOk result (λ text. string_bytes text ≡ noted notes) }
+{
+    let mut text = said_of_width(alloc, notes.too_wide)?;
+    text.push_str(said_of_color(notes.lacks_color))?;
+    Ok(text)
 }
